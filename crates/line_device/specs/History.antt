@@ -1,0 +1,31 @@
+-- The values that a word has had since it was last made durable: the first is durable, the last is what a load gives.
+use Rattle.std.specs.Prelude.{◌≡◌, ◌⊎◌, ℕ, Bool, List, [], ◌∷◌, take, IsTrue}
+
+-- the last value alone
+abbrev pub latest : List ℕ → List ℕ
+latest [] = []
+latest (x ∷ []) = x ∷ []
+latest (x ∷ y ∷ ys) = latest (y ∷ ys)
+
+-- the last value, 0 where there is none
+abbrev pub newest : List ℕ → ℕ
+newest [] = 0
+newest (x ∷ []) = x
+newest (x ∷ y ∷ ys) = newest (y ∷ ys)
+
+-- v is one of the values
+abbrev pub IsIn : ℕ → List ℕ → Type 0
+IsIn v [] = ⊥
+IsIn v (x ∷ xs) = (v ≡ x) ⊎ IsIn v xs
+
+-- `part` is `whole` with some values left out
+abbrev pub IsPart : List ℕ → List ℕ → Type 0
+IsPart [] whole = Unit {0}
+IsPart (x ∷ xs) [] = ⊥
+IsPart (x ∷ xs) (y ∷ ys) = ((x ≡ y) × IsPart xs ys) ⊎ IsPart (x ∷ xs) ys
+
+-- Write-back and forgetting, of one word: values may be gone, but not the last one, nor the first in a weak line.
+pub record Fades (weak : Bool) (old new : List ℕ) : Type 0 where
+  pub part : IsPart new old
+  pub last : latest new ≡ latest old
+  pub first : IsTrue weak → take 1 new ≡ take 1 old

@@ -1,0 +1,16 @@
+//! The line device: 64-byte lines that a power cut, a media error or a failed call may meet at any moment, as a trait.
+#![tactic(auto)]
+
+mod counts;
+mod device;
+mod fault;
+mod line;
+mod lines;
+mod order;
+
+pub use counts::Counts;
+pub use device::{LineDevice, Peek};
+pub use fault::{DeviceFault, ResetFault};
+pub use line::{Choice, LineList, LineState};
+pub use lines::Lines;
+pub use order::Order;
