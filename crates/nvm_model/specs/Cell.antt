@@ -1,0 +1,71 @@
+-- A line of storage as the machine sees it.
+use Rattle.std.specs.Prelude.{◌≡◌, ◌+◌, ◌*◌, ◌/◌, ◌%◌, ◌<◌, ◌&&◌, ℕ, Bool, true, false, List, [], ◌∷◌, length, map, replicate, nat_le, nat_lt, Some, slice_get, slice_index_or, if◌then◌else◌}
+use Rattle.std.specs.Int.{byte_at}
+use Rattle.line_device.specs.History.{latest, newest, IsIn}
+use Rattle.line_device.specs.Medium.{Medium, word_stored}
+use Rattle.line_device.specs.History.{Fades}
+use Rattle.line_device.specs.Panel.{Image}
+use Rattle.line_device.specs.declared.line.Choice.{Choice}
+use Rattle.line_device.specs.declared.line.Choice.TheVariants.{Lasts}
+use Rattle.nvm_model.specs.Numbered.{map_from, list_from}
+
+-- a bad line; or whether the line is weak, and the histories of its eight words
+pub data Cell : Type 0 where
+  Bad : Cell
+  Kept : Bool → List (List ℕ) → Cell
+
+-- a line of zeros, healthy and durable
+abbrev pub zero_cell : Cell
+zero_cell = Kept false (replicate 8 (0 ∷ []))
+
+-- the span touches line n, or holds all of it
+abbrev pub touches : ℕ → ℕ → ℕ → Bool
+touches start len n = nat_lt start (64 * n + 64) && nat_lt (64 * n) (start + len)
+
+abbrev pub covers : ℕ → ℕ → ℕ → Bool
+covers start len n = nat_le start (64 * n) && nat_le (64 * n + 64) (start + len)
+
+-- Line n once bytes are put at an offset of the storage. A bad line that they cover is healthy again.
+abbrev pub put_cell : ℕ → List ℕ → ℕ → Cell → Cell
+put_cell at bytes n Bad =
+    if covers at (length bytes) n then Kept false (map_from (word_stored at bytes) (8 * n) (replicate 8 (0 ∷ []))) else Bad
+put_cell at bytes n (Kept weak words) = Kept weak (map_from (word_stored at bytes) (8 * n) words)
+
+-- a line made durable, which a weak line does not survive
+abbrev pub settle_cell : Cell → Cell
+settle_cell Bad = Bad
+settle_cell (Kept true words) = Bad
+settle_cell (Kept false words) = Kept false (map latest words)
+
+-- line n once the span is made durable
+abbrev pub persist_cell : ℕ → ℕ → ℕ → Cell → Cell
+persist_cell start len n cell = if touches start len n then settle_cell cell else cell
+
+-- byte i of the line as last stored
+abbrev pub cell_byte : Cell → ℕ → ℕ
+cell_byte Bad i = 0
+cell_byte (Kept weak words) i = byte_at (i % 8) (newest (slice_index_or words (i / 8) []))
+
+-- line n as a restart left it
+abbrev pub read_cell : Image → ℕ → Cell
+read_cell image n = if image.is_bad n then Bad else Kept (image.is_weak n) (list_from (λ p. image.word p ∷ []) (8 * n) 8)
+
+-- what a restart may leave of a word: one of its values, the last one where that was asked for
+pub record IsKept (choice : Choice) (history : List ℕ) (value : ℕ) : Type 0 where
+  pub was : IsIn value history
+  pub last : choice ≡ Lasts → value ≡ newest history
+
+-- what a restart may leave of line n
+abbrev pub KeepsCell : Choice → Image → ℕ → Cell → Type 0
+KeepsCell choice image n Bad = image.is_bad n ≡ true
+KeepsCell choice image n (Kept weak words) =
+    (image.is_bad n ≡ false) × (image.is_weak n ≡ weak)
+    × ((w : ℕ) (history : List ℕ) → slice_get words w ≡ Some history → IsKept choice history (image.word (8 * n + w)))
+
+-- The device's line stands for the cell: bad or weak where the cell is, and each word's history is that of the cell but for
+-- values that were written back or forgotten.
+abbrev pub CellStands : Medium → ℕ → Cell → Type 0
+CellStands m line Bad = m.is_bad line ≡ true
+CellStands m line (Kept weak words) =
+    (m.is_bad line ≡ false) × (m.is_weak line ≡ weak) × (length words ≡ 8)
+    × ((w : ℕ) (history : List ℕ) → slice_get words w ≡ Some history → Fades false history (m.history (8 * line + w)))

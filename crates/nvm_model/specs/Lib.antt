@@ -1,0 +1,4 @@
+pub mod Numbered
+pub mod Cell
+pub mod Page
+pub mod Storage
