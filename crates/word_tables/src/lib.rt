@@ -1,0 +1,13 @@
+//! The sizes of a medium, where its areas lie, and the places of the words of its tables.
+#![tactic(auto)]
+
+mod areas;
+mod geometry;
+mod words;
+
+pub use areas::areas_follow;
+pub use geometry::Geometry;
+pub use words::places_differ;
+
+#[cfg(test)]
+mod tests;
