@@ -5,4 +5,4 @@ mod buffer;
 mod units;
 
 pub use buffer::{Buffer, Bytes, Spans, Words};
-pub use units::{BLOCK, LINE, LineNo, MOST, PAGE, Span, WORD};
+pub use units::{BLOCK, LINE, LineNo, MOST, PAGE, Span, WORD, blocks_of, lines_of, overlaps, pages_of};
