@@ -1,5 +1,5 @@
 // A growable list whose room callers can reason about.
-ghost use Rattle.std.specs.Prelude.{◌≡◌, ◌+◌, ◌<◌, ◌≤◌, [], ◌∷◌, ◌++◌, length, take, ◌↔◌, IsTrue, IsOk, OnOk, OnErr};
+ghost use Rattle.std.specs.Prelude.{◌≡◌, ◌+◌, ◌<◌, ◌≤◌, [], ◌∷◌, ◌++◌, length, take, replicate, ◌↔◌, IsTrue, IsOk, OnOk, OnErr};
 
 use crate::Span;
 use std::alloc::{AllocError, Global};
@@ -121,6 +121,20 @@ impl<T: Copy + Drop> Buffer<T> {
     {
         self.list.reserve(items.len())?;
         self.list.extend_from_slice(items)?;
+        Ok(())
+    }
+
+    /// Adds so many equal items at the end, all of them or none.
+    pub fn repeat(&mut self, item: T, n: u64) -> Result<(), AllocError>
+        ensures ok { OnOk result (self.new.items ≡ self.old.items ++ replicate n item) }
+        ensures err { OnErr result (self.new ≡ self.old) }
+        ensures succeeds { n ≤ self.old.spare → IsOk result }
+        ensures spare { self.old.spare ≤ self.new.spare + n }
+    {
+        self.reserve(n)?;
+        for _ in 0..n {
+            self.push(item)?;
+        }
         Ok(())
     }
 }
