@@ -1,5 +1,5 @@
 // A growable list whose room callers can reason about.
-ghost use Rattle.std.specs.Prelude.{◌≡◌, ◌+◌, ◌<◌, ◌≤◌, [], ◌∷◌, ◌++◌, length, IsOk, OnOk, OnErr};
+ghost use Rattle.std.specs.Prelude.{◌≡◌, ◌+◌, ◌<◌, ◌≤◌, [], ◌∷◌, ◌++◌, length, take, replicate, ◌↔◌, IsTrue, IsOk, OnOk, OnErr};
 
 use crate::Span;
 use std::alloc::{AllocError, Global};
@@ -31,6 +31,9 @@ impl<T> Model for Buffer<T> {
 }
 
 impl<T: Drop> Buffer<T> {
+    ghost use Rattle.std.specs.Borrow.{sem};
+    ghost use Rattle.nvm_base.specs.Lends.{lends_items};
+
     /// An empty list, which takes no memory.
     pub fn new(alloc: Global) -> Self
         ensures { result.items ≡ [] }
@@ -68,5 +71,70 @@ impl<T: Drop> Buffer<T> {
         ensures { result.now ≡ self.now.items }
     {
         self.list.as_slice()
+    }
+
+    pub fn len(&self) -> u64
+        ensures { result ≡ length self.now.items }
+    {
+        self.list.len() as u64
+    }
+
+    pub fn is_empty(&self) -> bool
+        ensures { IsTrue result ↔ (self.now.items ≡ []) }
+    {
+        self.list.is_empty()
+    }
+
+    /// Drops the items and keeps the room.
+    pub fn clear(&mut self)
+        ensures items { self.new.items ≡ [] }
+        ensures spare { self.new.spare ≡ self.old.spare + length self.old.items }
+    {
+        self.list.clear();
+    }
+
+    /// Drops the items from that place on and keeps the room.
+    pub fn truncate(&mut self, n: u64)
+        requires { n ≤ length self.old.items }
+        ensures items { self.new.items ≡ take n self.old.items }
+        ensures spare { self.new.spare + n ≡ self.old.spare + length self.old.items }
+    {
+        self.list.truncate(n as usize);
+    }
+
+    /// The items, for writing.
+    pub fn as_mut_slice(&mut self) -> &mut [T]
+        ensures* writes_back { sem 𝓛 (lends_items T.row self.entry result) }
+        ensures value { result.now ≡ self.old.items }
+    {
+        self.list.as_mut_slice()
+    }
+}
+
+impl<T: Copy + Drop> Buffer<T> {
+    /// Adds items at the end, all of them or none.
+    pub fn extend(&mut self, items: &[T]) -> Result<(), AllocError>
+        ensures ok { OnOk result (self.new.items ≡ self.old.items ++ items.now) }
+        ensures err { OnErr result (self.new ≡ self.old) }
+        ensures succeeds { length items.now ≤ self.old.spare → IsOk result }
+        ensures spare { self.old.spare ≤ self.new.spare + length items.now }
+    {
+        self.list.reserve(items.len())?;
+        self.list.extend_from_slice(items)?;
+        Ok(())
+    }
+
+    /// Adds so many equal items at the end, all of them or none.
+    pub fn repeat(&mut self, item: T, n: u64) -> Result<(), AllocError>
+        ensures ok { OnOk result (self.new.items ≡ self.old.items ++ replicate n item) }
+        ensures err { OnErr result (self.new ≡ self.old) }
+        ensures succeeds { n ≤ self.old.spare → IsOk result }
+        ensures spare { self.old.spare ≤ self.new.spare + n }
+    {
+        self.reserve(n)?;
+        for _ in 0..n {
+            self.push(item)?;
+        }
+        Ok(())
     }
 }

@@ -2,7 +2,13 @@
 #![tactic(auto)]
 
 mod buffer;
+mod numbers;
+mod printing;
+mod reading;
 mod units;
 
 pub use buffer::{Buffer, Bytes, Spans, Words};
-pub use units::{BLOCK, LINE, LineNo, MOST, PAGE, Span, WORD};
+pub use numbers::{print_number, read_number};
+pub use printing::print_bytes;
+pub use reading::{TextFault, read_bytes};
+pub use units::{BLOCK, LINE, LineNo, MOST, PAGE, Span, WORD, blocks_of, lines_of, overlaps, pages_of};
