@@ -1,0 +1,8 @@
+//! The host of one machine over a line device: script text to commands, a command to device calls, an answer to text.
+#![tactic(auto)]
+
+mod mode;
+pub mod reply;
+pub mod script;
+
+pub use mode::Mode;

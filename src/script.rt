@@ -1,0 +1,4 @@
+// Script text.
+mod command;
+
+pub use command::Command;
