@@ -1,0 +1,5 @@
+pub mod Action
+pub mod Answer
+pub mod Script
+pub mod Machine
+pub mod Run
