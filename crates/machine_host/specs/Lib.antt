@@ -3,3 +3,4 @@ pub mod Answer
 pub mod Script
 pub mod Machine
 pub mod Run
+pub mod Rows

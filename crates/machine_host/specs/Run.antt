@@ -25,12 +25,12 @@ perform h [] starts = record { answers = []; state = h }
 perform h (Skipped ∷ inputs) starts = perform h inputs starts
 perform h (Malformed ∷ inputs) starts = said (Refused Syntax) (perform h inputs starts)
 perform h (Asked action ∷ inputs) starts = elim (fate h action) [
-      Gives answer next ↦ said answer (perform next inputs starts)
-    | Restarts choice ↦ elim starts [
-          [] ↦ record { answers = []; state = h }
-        | start ∷ others ↦ said (restart_answer h start.image) (perform (restarted h start.image) inputs others)
-        ]
-    ]
+  | Gives answer next ↦ said answer (perform next inputs starts)
+  | Restarts choice ↦ elim starts [
+    | [] ↦ record { answers = []; state = h }
+    | start ∷ others ↦ said (restart_answer h start.image) (perform (restarted h start.image) inputs others)
+  ]
+]
 
 -- The starts are as many as the run needs, and each is what its command may leave: asked for as the command asks, and with
 -- one of its values in each word.
@@ -39,12 +39,12 @@ Allows h [] starts = starts ≡ []
 Allows h (Skipped ∷ inputs) starts = Allows h inputs starts
 Allows h (Malformed ∷ inputs) starts = Allows h inputs starts
 Allows h (Asked action ∷ inputs) starts = elim (fate h action) as (λ _. Type 0) [
-      Gives answer next ↦ Allows next inputs starts
-    | Restarts choice ↦ elim starts as (λ _. Type 0) [
-          [] ↦ ⊥
-        | start ∷ others ↦ (start.choice ≡ choice) × KeepsPages choice start.image h.volume × Allows (restarted h start.image) inputs others
-        ]
-    ]
+  | Gives answer next ↦ Allows next inputs starts
+  | Restarts choice ↦ elim starts as (λ _. Type 0) [
+    | [] ↦ ⊥
+    | start ∷ others ↦ (start.choice ≡ choice) × KeepsPages choice start.image h.volume × Allows (restarted h start.image) inputs others
+  ]
+]
 
 -- a run from h over these inputs and starts, with these answers, to `end`
 pub record Run (h : Machine) (inputs : List Input) (starts : List Start) (answers : List Answer) (end : Machine) : Type 0 where

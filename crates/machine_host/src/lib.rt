@@ -3,6 +3,8 @@
 
 mod mode;
 pub mod reply;
+mod rows;
 pub mod script;
 
 pub use mode::Mode;
+pub use rows::worked_scripts;
