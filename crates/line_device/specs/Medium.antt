@@ -1,5 +1,5 @@
 -- The lines of a device, and what calls do to them. A word's place is 8 * line + word.
-use Rattle.std.specs.Prelude.{◌≡◌, ◌+◌, ◌*◌, ◌/◌, ◌%◌, ◌<◌, ◌≤◌, ◌^◌, ◌==◌, not, ℕ, Bool, true, false, List, [], ◌∷◌, ◌++◌, ◌⊎◌, length, if◌then◌else◌, nat_lt, IsTrue, take}
+use Rattle.std.specs.Prelude.{◌≡◌, ◌↔◌, ◌+◌, ◌*◌, ◌/◌, ◌%◌, ◌<◌, ◌≤◌, ◌^◌, ◌==◌, not, ℕ, Bool, true, false, List, [], ◌∷◌, ◌++◌, ◌⊎◌, length, if◌then◌else◌, nat_lt, IsTrue, take}
 use Rattle.line_device.specs.Word.{word_at, word_over, reaches}
 use Rattle.line_device.specs.History.{latest, newest, IsIn, Fades}
 use Rattle.line_device.specs.declared.line.LineState.{LineState}
@@ -130,3 +130,7 @@ pub record Waits (old new : Medium) : Type 0 where
   pub weak : (n : ℕ) → new.is_weak n ≡ old.is_weak n
   pub words : (p : ℕ) → Fades (old.is_weak (p / 8)) (old.history p) (new.history p)
       ⊎ ((value : ℕ) × IsIn value (old.history p) × (new.history p ≡ value ∷ []))
+
+-- what an effect may leave of the lines, is also what it may leave of lines that wandered before it
+abbrev pub IsBetweenWanders : (Medium → Medium) → Type 0
+IsBetweenWanders effect = (old new : Medium) → Wander (effect old) new ↔ ((between : Medium) × Wander old between × Wander (effect between) new)

@@ -4,6 +4,7 @@
 mod counts;
 mod device;
 mod fault;
+mod laws;
 mod line;
 mod lines;
 mod order;
@@ -11,6 +12,7 @@ mod order;
 pub use counts::Counts;
 pub use device::{LineDevice, Peek};
 pub use fault::{DeviceFault, ResetFault};
+pub use laws::{effect_stands_between_wanders, wander_leaves_fewer_images};
 pub use line::{Choice, LineList, LineState};
 pub use lines::Lines;
 pub use order::Order;

@@ -1,0 +1,4 @@
+pub mod HistoryLemmas
+pub mod WordLemmas
+pub mod PanelLemmas
+pub mod WanderLemmas
