@@ -1,3 +1,5 @@
+pub mod AppendLemmas
 pub mod NumberLemmas
 pub mod ReadingLemmas
+pub mod RunLemmas
 pub mod UnitLemmas

@@ -1,5 +1,5 @@
 -- Numbers in text.
-use Rattle.std.proofs.Common.{◌≡◌, ℕ, ◌+◌, ◌*◌, ◌-◌, ◌^◌, ◌<◌, ◌≤◌, ◌⊎◌, ◌&&◌, Bool, true, false, nat_lt, nat_le, get_or, drop, length, List, [], ◌∷◌, Option, Some, None, if◌then◌else◌, refl, sym, ap, ◌∙◌, inl, inr, arith, rules, tests, option_and_then}
+use Rattle.std.proofs.Common.{◌≡◌, ℕ, ◌+◌, ◌^◌, ◌<◌, ◌≤◌, ◌⊎◌, ◌&&◌, true, false, nat_lt, nat_le, get_or, drop, length, List, [], ◌∷◌, Some, None, if◌then◌else◌, refl, sym, ap, ◌∙◌, inl, inr, rules, tests, option_and_then}
 use Rattle.std.proofs.lemmas.List.{at_drop_more}
 use Rattle.std.proofs.Math.ListN.{drop_of_length-le}
 use Rattle.std.proofs.lemmas.Bool.{cases_lt}
@@ -38,12 +38,12 @@ number_of-all text value i some short rest h =
 pub then_some_fits : (value most : ℕ) → most ≡ 4294967295 → then_some (nat_le value most) value ≡ (if nat_lt value (2 ^ 32) then Some value else None)
 then_some_fits value most m =
     elim (cases_lt value (2 ^ 32)) [
-      inl small ↦
-        let a : nat_le value most ≡ true = search (rules, tests) in
-        let b : nat_lt value (2 ^ 32) ≡ true = search (rules, tests) in
-        rw (a, b) refl
-    | inr large ↦
-        let a : nat_le value most ≡ false = search (rules, tests) in
-        let b : nat_lt value (2 ^ 32) ≡ false = search (rules, tests) in
-        rw (a, b) refl
+      | inl small ↦
+          let a : nat_le value most ≡ true = search (rules, tests) in
+          let b : nat_lt value (2 ^ 32) ≡ true = search (rules, tests) in
+          rw (a, b) refl
+      | inr large ↦
+          let a : nat_le value most ≡ false = search (rules, tests) in
+          let b : nat_lt value (2 ^ 32) ≡ false = search (rules, tests) in
+          rw (a, b) refl
     ]

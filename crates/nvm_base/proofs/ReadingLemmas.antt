@@ -1,9 +1,13 @@
 -- Runs that are read part by part, and what is left of the room.
-use Rattle.std.proofs.Common.{append-nil, take, length, get_or, drop, IsSomeAnd, ◌≡◌, ℕ, ◌+◌, ◌-◌, ◌<◌, ◌≤◌, List, [], ◌∷◌, ◌++◌, replicate, Option, Some, None, refl, sym, ap, ◌∙◌, subst, arith, append_assoc}
+use Rattle.std.proofs.Common.{◌⊎◌, inl, inr, nat_le, true, false, Ok, Err, rules, tests, append-nil, take, length, get_or, drop, IsSomeAnd, ◌≡◌, ℕ, ◌+◌, ◌-◌, ◌<◌, ◌≤◌, List, [], ◌∷◌, ◌++◌, replicate, Option, Some, None, refl, sym, ap, ◌∙◌, arith, append_assoc}
 use Rattle.std.proofs.lemmas.Grind.{common_steps}
+use Rattle.std.proofs.lemmas.List.{at_drop_more}
+use Rattle.nvm_base.specs.declared.reading.TextFault.TheVariants.{Bad, TooLong, Memory}
+use Rattle.nvm_base.specs.declared.reading.TextFault.{TextFault}
+use Rattle.std.proofs.Math.ListN.{drop_of_length-le}
 use Rattle.nvm_base.specs.declared.reading.Reading.{Reading}
-use Rattle.nvm_base.specs.Data.{Run, size, spelled, run, followed, pair_of, pairs_of}
-use Rattle.nvm_base.specs.Reading.{HasRead, Adds}
+use Rattle.nvm_base.specs.Data.{Run, size, spelled, run, followed, pair_of, pairs_of, item_of, items_of, within}
+use Rattle.nvm_base.specs.Reading.{HasRead, Adds, Refuses}
 
 pub size-append : (xs ys : List Run) → size (xs ++ ys) ≡ size xs + size ys
 size-append [] ys = omega arith
@@ -37,17 +41,17 @@ gone room before runs bytes more h = let s = size-append before runs in omega ar
 pub Adds-kept : (old new : Reading) (byte count left : ℕ) → old.left ≡ Some left → new.left ≡ Some (left - count) → count ≤ left → new.bytes.items ≡ old.bytes.items ++ replicate count byte → Adds (run byte count) old new
 Adds-kept old new byte count left was is fits e = record {
   reads = λ room before h.
-    rw is (kept room byte count left before old.bytes.items new.bytes.items fits e (rw was at h))
+      rw is (kept room byte count left before old.bytes.items new.bytes.items fits e (rw was at h));
 }
 
 pub Adds-passed : (old new : Reading) (byte count left : ℕ) → old.left ≡ Some left → new.left ≡ None → left < count → Adds (run byte count) old new
 Adds-passed old new byte count left was is h = record {
-  reads = λ room before r. rw is (passed room byte count left before old.bytes.items new.bytes.items h (rw was at r))
+  reads = λ room before r. rw is (passed room byte count left before old.bytes.items new.bytes.items h (rw was at r));
 }
 
 pub Adds-gone : (old new : Reading) (runs : List Run) → old.left ≡ None → new.left ≡ None → Adds runs old new
 Adds-gone old new runs was is = record {
-  reads = λ room before r. rw is (gone room before runs old.bytes.items new.bytes.items (rw was at r))
+  reads = λ room before r. rw is (gone room before runs old.bytes.items new.bytes.items (rw was at r));
 }
 
 pub Adds-nothing : (reading : Reading) → Adds [] reading reading
@@ -55,7 +59,7 @@ Adds-nothing reading = record { reads = λ room before h. rw (append-nil before)
 
 pub Adds-then : (a b c : Reading) (xs ys : List Run) → Adds xs a b → Adds ys b c → Adds (xs ++ ys) a c
 Adds-then a b c xs ys p q = record {
-  reads = λ room before h. rw (← append_assoc) (q.reads room (before ++ xs) (p.reads room before h))
+  reads = λ room before h. rw (← append_assoc) (q.reads room (before ++ xs) (p.reads room before h));
 }
 
 -- the whole text spells some runs, which were read, and then what the rest spells
@@ -79,7 +83,7 @@ pub Taken-more : (whole rest next : Option (List Run)) (more : List Run) (a b c 
 Taken-more whole rest next more a b c t e p = record {
   done = t.done ++ more;
   split = t.split ∙ ap (followed (Some t.done)) e ∙ followed_assoc t.done more next;
-  adds = Adds-then a b c t.done more t.adds p
+  adds = Adds-then a b c t.done more t.adds p;
 }
 
 pub Taken-bad : (whole rest : Option (List Run)) (a b : Reading) → Taken whole rest a b → rest ≡ None → whole ≡ None
@@ -108,3 +112,52 @@ pairs_of-odd (a ∷ b ∷ text) h = absurd (omega arith)
 pub pairs_of-end : (text : List ℕ) → length text ≡ 0 → pairs_of text ≡ Some []
 pairs_of-end [] h = refl
 pairs_of-end (a ∷ text) h = absurd (omega arith)
+
+pub items_of-more : (items : List (List ℕ)) (n : ℕ) (item : List ℕ) → (n < length items) × (item ≡ get_or items n item) → items_of (drop n items) ≡ followed (item_of item) (items_of (drop (n + 1) items))
+items_of-more items n item h = at_drop_more items_of items n item h.0 ∙ ap (λ i. followed (item_of i) (items_of (drop (n + 1) items))) (sym h.1)
+
+bad_first : (o more : Option (List Run)) → o ≡ None → followed o more ≡ None
+bad_first o more e = rw e refl
+
+-- one more item, read or refused
+pub Taken-item : (whole : Option (List Run)) (items : List (List ℕ)) (n : ℕ) (item : List ℕ) (a b c : Reading) → Taken whole (items_of (drop n items)) a b → (n < length items) × (item ≡ get_or items n item) → IsSomeAnd (item_of item) (λ runs. Adds runs b c) → Taken whole (items_of (drop (n + 1) items)) a c
+Taken-item whole items n item a b c t at p =
+    let step = items_of-more items n item at in
+    go (item_of item) p step
+  where
+    go : (o : Option (List Run)) → IsSomeAnd o (λ runs. Adds runs b c) → items_of (drop n items) ≡ followed o (items_of (drop (n + 1) items)) → Taken whole (items_of (drop (n + 1) items)) a c
+    go None p step = absurd p
+    go (Some runs) p step = Taken-more whole _ _ runs a b c t step p
+
+pub Taken-refused : (whole : Option (List Run)) (items : List (List ℕ)) (n : ℕ) (item : List ℕ) (a b : Reading) → Taken whole (items_of (drop n items)) a b → (n < length items) × (item ≡ get_or items n item) → item_of item ≡ None → whole ≡ None
+Taken-refused whole items n item a b t at e = Taken-bad whole _ a b t (items_of-more items n item at ∙ bad_first (item_of item) _ e)
+
+-- what the reading has at its end
+pub read_all : (room : ℕ) (whole rest : Option (List Run)) (a b : Reading) → Taken whole rest a b → rest ≡ Some [] → HasRead room [] a.bytes.items a.left → IsSomeAnd whole (λ runs. HasRead room runs b.bytes.items b.left)
+read_all room whole rest a b t e start = go whole (Taken-all whole rest a b t e)
+  where
+    go : (o : Option (List Run)) → IsSomeAnd o (λ runs. Adds runs a b) → IsSomeAnd o (λ runs. HasRead room runs b.bytes.items b.left)
+    go None p = absurd p
+    go (Some runs) p = p.reads room [] start
+
+pub within-ok : (room : ℕ) (o : Option (List Run)) (bytes : List ℕ) (left : ℕ) → IsSomeAnd o (λ runs. HasRead room runs bytes (Some left)) → within room o ≡ Ok bytes
+within-ok room None bytes left h = absurd h
+within-ok room (Some runs) bytes left h =
+    let k = h.0 in
+    let e : nat_le (size runs) room ≡ true = search (rules, tests) in
+    rw (e, within) (ap Ok (sym h.1))
+
+pub within-long : (room : ℕ) (o : Option (List Run)) (bytes : List ℕ) → IsSomeAnd o (λ runs. HasRead room runs bytes None) → within room o ≡ Err TooLong
+within-long room None bytes h = absurd h
+within-long room (Some runs) bytes h =
+    let e : nat_le (size runs) room ≡ false = search (rules, tests) in
+    rw (e, within) refl
+
+pub items_of-all : (items : List (List ℕ)) (n : ℕ) → n ≡ length items → items_of (drop n items) ≡ Some []
+items_of-all items n e = ap items_of (drop_of_length-le items (omega arith))
+
+-- a refusal of the whole, from that of one item
+pub refused : (room : ℕ) (whole item : Option (List Run)) (fault : TextFault) → (item ≡ None → whole ≡ None) → Refuses item fault → (fault ≡ Memory) ⊎ (within room whole ≡ Err fault)
+refused room whole item Bad bad r = inr (ap (within room) (bad r))
+refused room whole item TooLong bad r = absurd r
+refused room whole item Memory bad r = inl refl

@@ -23,13 +23,13 @@ touched unit s k h some t =
     let low = t.from in
     let high = t.below in
     elim (cases_lt (s.start / unit) k) [
-      inl above ↦
-        let from : s.start < k * unit = (div-lt_iff_lt-mul h).0 above in
-        let last : k ≤ (s.start + s.len - 1) / unit = omega arith in
-        let below : k * unit ≤ s.start + s.len - 1 = (le-div_iff_mul-le h).0 last in
-        record { byte = k * unit; held = record { from = omega arith; below = omega arith }; within = mul-div_left k h }
-    | inr here ↦
-        record { byte = s.start; held = record { from = omega arith; below = omega arith }; within = omega arith }
+      | inl above ↦
+          let from : s.start < k * unit = (div-lt_iff_lt-mul h).0 above in
+          let last : k ≤ (s.start + s.len - 1) / unit = omega arith in
+          let below : k * unit ≤ s.start + s.len - 1 = (le-div_iff_mul-le h).0 last in
+          record { byte = k * unit; held = record { from = omega arith; below = omega arith }; within = mul-div_left k h }
+      | inr here ↦
+          record { byte = s.start; held = record { from = omega arith; below = omega arith }; within = omega arith }
     ]
 
 pub Holds-units_of : (unit : ℕ) (s : Span) → 0 < unit → 1 ≤ s.len → (k : ℕ) → Holds (units_of unit s) k ↔ Touches unit s k
@@ -39,8 +39,8 @@ Holds-units_of unit s h some k = (touched unit s k h some, held unit s k h)
 pub SharesByte-after : (a b : Span) → 1 ≤ a.len → 1 ≤ b.len → a.start < b.start + b.len → b.start < a.start + a.len → SharesByte a b
 SharesByte-after a b some_a some_b below_a below_b =
     elim (cases_lt a.start b.start) [
-      inl later ↦ record { byte = b.start; first = record { from = omega arith; below = omega arith }; second = record { from = omega arith; below = omega arith } }
-    | inr later ↦ record { byte = a.start; first = record { from = omega arith; below = omega arith }; second = record { from = omega arith; below = omega arith } }
+      | inl later ↦ record { byte = b.start; first = record { from = omega arith; below = omega arith }; second = record { from = omega arith; below = omega arith } }
+      | inr later ↦ record { byte = a.start; first = record { from = omega arith; below = omega arith }; second = record { from = omega arith; below = omega arith } }
     ]
 
 pub starts_below : (a b : Span) → SharesByte a b → (a.start < b.start + b.len) × (b.start < a.start + a.len)

@@ -1,5 +1,5 @@
 -- DATA: bytes in text, as runs of equal bytes.
-use Rattle.std.specs.Prelude.{ℕ, ◌+◌, ◌*◌, ◌/◌, ◌%◌, Bool, true, false, ◌&&◌, ◌==◌, nat_lt, nat_le, List, [], ◌∷◌, ◌++◌, map, replicate, Option, Some, None, option_map, Result, Ok, Err, if◌then◌else◌, decimal}
+use Rattle.std.specs.Prelude.{ℕ, ◌+◌, ◌*◌, ◌/◌, ◌%◌, true, false, ◌&&◌, ◌==◌, nat_lt, nat_le, List, [], ◌∷◌, ◌++◌, map, replicate, Option, Some, None, option_map, Result, Ok, Err, if◌then◌else◌, decimal}
 use Rattle.std.specs.Char.{digit_value}
 use Rattle.std.specs.Fmt.{digit_glyph}
 use Rattle.std.specs.List.{slice_split, join_with_byte}
@@ -70,12 +70,14 @@ runs_of text = items_of (slice_split (λ c. c == 44) text)
 unfoldable pub data_of : List ℕ → Option (List ℕ)
 data_of text = option_map spelled (runs_of text)
 
--- the same where they are at most so many, and else why not
+-- the bytes of the runs where they are at most so many, and else why not
+abbrev pub within : ℕ → Option (List Run) → Result (List ℕ) TextFault
+within room None = Err Bad
+within room (Some runs) = elim (nat_le (size runs) room) [ true ↦ Ok (spelled runs) | false ↦ Err TooLong ]
+
+-- the bytes that DATA spells where they are at most so many, and else why not
 unfoldable pub data_within : ℕ → List ℕ → Result (List ℕ) TextFault
-data_within room text = elim (runs_of text) [
-      None ↦ Err Bad
-    | Some runs ↦ elim (nat_le (size runs) room) [ true ↦ Ok (spelled runs) | false ↦ Err TooLong ]
-    ]
+data_within room text = within room (runs_of text)
 
 -- the runs with one more byte in front
 abbrev pub onto : ℕ → List Run → List Run

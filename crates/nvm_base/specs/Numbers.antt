@@ -12,6 +12,6 @@ digits_after value (c ∷ cs) =
 unfoldable pub number_of : List ℕ → Option ℕ
 number_of text =
     elim (nat_le 1 (length text) && nat_le (length text) 10) [
-      true ↦ option_and_then (λ n. if nat_lt n (2 ^ 32) then Some n else None) (digits_after 0 text)
-    | false ↦ None
+      | true ↦ option_and_then (λ n. if nat_lt n (2 ^ 32) then Some n else None) (digits_after 0 text)
+      | false ↦ None
     ]

@@ -11,4 +11,6 @@ pub use buffer::{Buffer, Bytes, Spans, Words};
 pub use numbers::{print_number, read_number};
 pub use printing::print_bytes;
 pub use reading::{TextFault, read_bytes};
-pub use units::{BLOCK, LINE, LineNo, MOST, PAGE, Span, WORD, blocks_of, lines_of, overlaps, pages_of};
+pub use units::{
+    BLOCK, LINE, LineNo, MOST, PAGE, Span, WORD, blocks_of, lines_of, overlaps, pages_of,
+};

@@ -85,7 +85,11 @@ impl Reading {
             self.take_run(byte, 1)?;
             rest = more;
         }
-        if rest.is_empty() { Ok(()) } else { Err(TextFault::Bad) }
+        if rest.is_empty() {
+            Ok(())
+        } else {
+            Err(TextFault::Bad)
+        }
     }
 
     fn take_run(&mut self, byte: u8, count: u64) -> Result<(), AllocError>

@@ -1,4 +1,4 @@
-use Rattle.std.proofs.Common.{rules, tests, arith, sym, ◌∙◌, inl, inr, ◌≡◌, ◌<◌, ◌≤◌, length, get_or, false}
+use Rattle.std.proofs.Common.{rules, tests, arith, sym, ◌∙◌, inl, inr, ◌≡◌, get_or, false}
 use Rattle.std.specs.Char.{is_ascii_digit}
 use Rattle.nvm_base.proofs.NumberLemmas.{number_of-outside, number_of-bad, number_of-all, then_some_fits}
 use Rattle.nvm_base.proofs.numbers.read_number.Goals as goal
@@ -6,9 +6,9 @@ use Rattle.nvm_base.proofs.numbers.read_number.Goals.{then-is_empty-via-then-is_
 
 pub returns-then-is_empty : goal.returns-then-is_empty
 returns-then-is_empty c = sym (number_of-outside c.args.text.now (elim c.then-is_empty.branch [
-      then-is_empty-via-then-is_empty w ↦ inl (search (rules, tests, w.if-is_empty.true))
-    | then-is_empty-via-else-is_empty+then-text-gt10 w ↦ inr (omega (arith, w.if-text-gt10.true))
-    ]))
+  | then-is_empty-via-then-is_empty w ↦ inl (search (rules, tests, w.if-is_empty.true))
+  | then-is_empty-via-else-is_empty+then-text-gt10 w ↦ inr (omega (arith, w.if-text-gt10.true))
+]))
 
 pub returns-then-not-is_ascii_digit : goal.returns-then-not-is_ascii_digit
 returns-then-not-is_ascii_digit c =

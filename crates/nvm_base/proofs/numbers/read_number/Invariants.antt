@@ -7,5 +7,5 @@ invariant-loop-c l = record {
   rest : digits_after l.value (drop l.c-index l.text) ≡ digits_after 0 l.text;
   below : l.value < 10 ^ l.c-index;
   some : 0 < length l.text;
-  short : length l.text ≤ 10
+  short : length l.text ≤ 10;
 }

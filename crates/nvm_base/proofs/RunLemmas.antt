@@ -1,0 +1,77 @@
+-- Maximal runs and their text.
+use Rattle.std.proofs.Common.{◌≡◌, ℕ, zero, suc, ◌+◌, ◌==◌, ◌<◌, ◌≤◌, Bool, true, false, List, [], ◌∷◌, ◌++◌, map, replicate, length, get_or, drop, refl, sym, ap, ◌∙◌, arith, rules, tests, append_assoc}
+use Rattle.std.proofs.Math.ListN.{drop_of_length-le}
+use Rattle.std.proofs.lemmas.List.{at_drop_more, replicate_more}
+use Rattle.std.specs.List.{join_with_byte}
+use Rattle.nvm_base.specs.Data.{Run, onto, runs_in, run_text, data_text}
+
+-- the runs do not begin with that byte
+abbrev pub Apart : ℕ → List Run → Type 0
+Apart byte [] = Unit {0}
+Apart byte (r ∷ rs) = (byte == r.byte) ≡ false
+
+same : (n : ℕ) → (n == n) ≡ true
+same n = search (rules, tests)
+
+onto-apart : (byte : ℕ) (rs : List Run) → Apart byte rs → onto byte rs ≡ record { byte = byte; count = 1 } ∷ rs
+onto-apart byte [] h = refl
+onto-apart byte (r ∷ rs) h = rw (h, onto) refl
+
+-- so many equal bytes before other ones are one run
+runs_in-replicate : (n byte : ℕ) (bytes : List ℕ) → Apart byte (runs_in bytes) → runs_in (replicate (suc n) byte ++ bytes) ≡ record { byte = byte; count = suc n } ∷ runs_in bytes
+runs_in-replicate zero byte bytes h = onto-apart byte (runs_in bytes) h
+runs_in-replicate (suc n) byte bytes h =
+    let more : suc n + 1 ≡ suc (suc n) = omega arith in
+    ap (onto byte) (runs_in-replicate n byte bytes h) ∙ rw (same byte, onto) (ap (λ k. record { byte = byte; count = k } ∷ runs_in bytes) more)
+
+-- the first run of bytes has the first byte
+record Begins (byte : ℕ) (runs : List Run) : Type 0 where
+  pub first : Run
+  pub rest : List Run
+  pub is : runs ≡ first ∷ rest
+  pub byte_is : first.byte ≡ byte
+
+Begins-onto : (byte : ℕ) (rs : List Run) → Begins byte (onto byte rs)
+Begins-onto byte [] = record { first = record { byte = byte; count = 1 }; rest = []; is = refl; byte_is = refl }
+Begins-onto byte (r ∷ rs) = go (byte == r.byte) refl
+  where
+    go : (b : Bool) → (byte == r.byte) ≡ b → Begins byte (onto byte (r ∷ rs))
+    go true e = record { first = record r { count = r.count + 1 }; rest = rs; is = rw (e, onto) refl; byte_is = search (rules, tests) }
+    go false e = record { first = record { byte = byte; count = 1 }; rest = r ∷ rs; is = rw (e, onto) refl; byte_is = refl }
+
+joined : (r : Run) (rs : List Run) (byte : ℕ) → Begins byte rs → join_with_byte 44 (map run_text (r ∷ rs)) ≡ run_text r ++ ((44 ∷ []) ++ join_with_byte 44 (map run_text rs))
+joined r rs byte b = rw b.is refl
+
+-- the text of bytes that begin with a whole run
+data_text-runs : (n byte next : ℕ) (bytes : List ℕ) → 0 < n → (next ≡ byte → ⊥) → data_text (replicate n byte ++ (next ∷ bytes)) ≡ run_text (record { byte = byte; count = n }) ++ ((44 ∷ []) ++ data_text (next ∷ bytes))
+unfolding data_text
+data_text-runs zero byte next bytes h ne = absurd (omega arith)
+data_text-runs (suc n) byte next bytes h ne =
+    let b = Begins-onto next (runs_in bytes) in
+    let apart : Apart byte (onto next (runs_in bytes)) = rw b.is (search (rules, tests)) in
+    ap (λ rs. join_with_byte 44 (map run_text rs)) (runs_in-replicate n byte (next ∷ bytes) apart) ∙ joined (record { byte = byte; count = suc n }) (onto next (runs_in bytes)) next b
+
+-- the next byte ends the run
+pub data_text-other : (count byte i : ℕ) (rest : List ℕ) → 0 < count → i < length rest → (get_or rest i 0 ≡ byte → ⊥) → data_text (replicate count byte ++ drop i rest) ≡ run_text (record { byte = byte; count = count }) ++ ((44 ∷ []) ++ data_text (replicate 1 (get_or rest i 0) ++ drop (i + 1) rest))
+data_text-other count byte i rest some h ne =
+    at_drop_more (λ bytes. data_text (replicate count byte ++ bytes)) rest i 0 h ∙ data_text-runs count byte (get_or rest i 0) (drop (i + 1) rest) some ne
+
+-- the next byte goes on with it
+pub data_text-same : (count byte i : ℕ) (rest : List ℕ) → i < length rest → get_or rest i 0 ≡ byte → data_text (replicate count byte ++ drop i rest) ≡ data_text (replicate (count + 1) byte ++ drop (i + 1) rest)
+data_text-same count byte i rest h e =
+    at_drop_more (λ bytes. data_text (replicate count byte ++ bytes)) rest i 0 h ∙ ap (λ b. data_text (replicate count byte ++ (b ∷ drop (i + 1) rest))) e ∙ ap data_text (sym (append_assoc (replicate count byte) (byte ∷ []) (drop (i + 1) rest)) ∙ ap (λ bytes. bytes ++ drop (i + 1) rest) (replicate_more count byte))
+
+-- nothing follows the run
+data_text-run : (n byte : ℕ) → 0 < n → data_text (replicate n byte ++ []) ≡ run_text (record { byte = byte; count = n })
+unfolding data_text
+data_text-run zero byte h = absurd (omega arith)
+data_text-run (suc n) byte h = ap (λ rs. join_with_byte 44 (map run_text rs)) (runs_in-replicate n byte [] tt)
+
+pub data_text-last : (count byte i : ℕ) (rest : List ℕ) → 0 < count → length rest ≤ i → data_text (replicate count byte ++ drop i rest) ≡ run_text (record { byte = byte; count = count })
+data_text-last count byte i rest some h =
+    ap (λ bytes. data_text (replicate count byte ++ bytes)) (drop_of_length-le rest h) ∙ data_text-run count byte some
+
+pub data_text-none : (bytes : List ℕ) → length bytes < 1 → data_text bytes ≡ []
+unfolding data_text
+data_text-none [] h = refl
+data_text-none (b ∷ bytes) h = absurd (omega arith)
