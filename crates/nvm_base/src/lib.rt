@@ -2,12 +2,14 @@
 #![tactic(auto)]
 
 mod buffer;
+mod counts;
 mod numbers;
 mod printing;
 mod reading;
 mod units;
 
 pub use buffer::{Buffer, Bytes, Spans, Words};
+pub use counts::raise;
 pub use numbers::{print_number, read_number};
 pub use printing::print_bytes;
 pub use reading::{TextFault, read_bytes};
