@@ -1,0 +1,15 @@
+//! Where scripts are read from, where replies are written to and where images are kept: as traits, in memory, and over the runtime.
+#![tactic(auto)]
+
+mod failures;
+mod mem_sink;
+mod mem_source;
+mod sink;
+mod source;
+mod stdio;
+
+pub use mem_sink::MemSink;
+pub use mem_source::MemSource;
+pub use sink::{Sink, WriteFault};
+pub use source::{ReadFailed, Source};
+pub use stdio::{StdinSource, StdoutSink};
