@@ -3,4 +3,5 @@ pub mod Answer
 pub mod Script
 pub mod Machine
 pub mod Run
+pub mod Volume
 pub mod Rows
