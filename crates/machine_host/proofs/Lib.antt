@@ -1,3 +1,2 @@
-pub mod NumberedLemmas
 pub mod SpanLemmas
 pub mod LoadLemmas
