@@ -1,2 +1,3 @@
+pub mod BoundLemmas
 pub mod LineLemmas
 pub mod WordLemmas

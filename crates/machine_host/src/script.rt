@@ -3,13 +3,12 @@ ghost use Rattle.std.specs.Prelude.{◌≡◌, ◌<◌, ◌∷◌, length, IfOk,
 ghost use Rattle.std.specs.Io.BufRead.{strip_last};
 ghost use Rattle.machine_host.specs.Action.{action_of};
 ghost use Rattle.machine_host.specs.Parsing.{BringsData, InBounds, Parses};
-ghost use Rattle.machine_host.specs.Script.{line_input, lines_of, words_of};
+ghost use Rattle.machine_host.specs.Script.{line_input, lines_of, words_input, words_of};
 
 mod command;
 mod words;
 
 pub use command::Command;
-
 use command::read_command;
 use memchr::memchr;
 use nvm_base::MOST;
@@ -35,6 +34,7 @@ pub fn split_line(script: &[u8]) -> (&[u8], &[u8])
     }
 }
 
+#[tactic(auto, unfolding(crate::specs::Script::line_input))]
 /// The command that a line asks for, None where there is nothing to do.
 pub fn parse(alloc: Global, line: &[u8]) -> Result<Option<Command>, LineFault>
     ensures input { Parses (line_input line.now) result }
@@ -44,7 +44,14 @@ pub fn parse(alloc: Global, line: &[u8]) -> Result<Option<Command>, LineFault>
     if line.len() as u64 > MOST {
         return Err(LineFault::Syntax);
     }
-    match next_word(without_return(line)) {
+    parse_words(alloc, without_return(line))
+}
+
+fn parse_words(alloc: Global, text: &[u8]) -> Result<Option<Command>, LineFault>
+    ensures input { Parses (words_input (words_of text.now)) result }
+    ensures memory { IfErr result (λ e. e ≡ LineFault.Memory → BringsData (words_of text.now)) }
+{
+    match next_word(text) {
         None | Some(([b'#', ..], _)) => Ok(None),
         Some((name, words)) => Ok(Some(read_command(alloc, name, words)?)),
     }

@@ -21,6 +21,7 @@ pub enum Command {
 }
 
 // The command of that name with those words after it.
+#[tactic(auto, unfolding(crate::specs::Script::command_action))]
 pub(super) fn read_command(alloc: Global, name: &[u8], words: &[u8]) -> Result<Command, LineFault>
     ensures command { Reads (command_action name.now (words_of words.now)) result }
     ensures memory { IfErr result (λ e. e ≡ LineFault.Memory → name.now ≡ codes "vstore") }
@@ -33,16 +34,21 @@ pub(super) fn read_command(alloc: Global, name: &[u8], words: &[u8]) -> Result<C
 }
 
 // A command that brings no bytes.
+#[tactic(auto, unfolding(crate::specs::Script::command_action))]
 fn read_plain(name: &[u8], words: &[u8]) -> Option<Command>
     requires { name.now ≢ codes "vstore" }
     ensures { option_map action_of result ≡ command_action name.now (words_of words.now) }
 {
-    match name {
-        b"vload" => read_span(words).map(|(offset, len)| Command::VLoad { offset, len }),
-        b"vsync" => read_span(words).map(|(offset, len)| Command::VSync { offset, len }),
-        b"cut" => next_word(words).is_none().then_some(Command::Cut),
-        b"restart" => read_choice(words).map(|choice| Command::Restart { choice }),
-        _ => None,
+    if name == b"vload".as_slice() {
+        read_span(words).map(|(offset, len)| Command::VLoad { offset, len })
+    } else if name == b"vsync".as_slice() {
+        read_span(words).map(|(offset, len)| Command::VSync { offset, len })
+    } else if name == b"cut".as_slice() {
+        next_word(words).is_none().then_some(Command::Cut)
+    } else if name == b"restart".as_slice() {
+        read_choice(words).map(|choice| Command::Restart { choice })
+    } else {
+        None
     }
 }
 
@@ -72,9 +78,12 @@ fn read_span(words: &[u8]) -> Option<(u64, u64)>
 fn read_choice(words: &[u8]) -> Option<Choice>
     ensures { option_map Restart result ≡ restart_action (words_of words.now) }
 {
-    match only_word(words)? {
-        b"none" => Some(Choice::Firsts),
-        b"all" => Some(Choice::Lasts),
-        _ => None,
+    let word = only_word(words)?;
+    if word == b"none".as_slice() {
+        Some(Choice::Firsts)
+    } else if word == b"all".as_slice() {
+        Some(Choice::Lasts)
+    } else {
+        None
     }
 }

@@ -10,5 +10,5 @@ pub split_at-requires : goal.split_at-requires
 split_at-requires c = rw c.unwrap_or-end.ensures (rw c.first_blank.ensures (first_within _))
 
 pub returns : goal.returns
-returns c = 
-  rw (c.split_at.ensures.front, c.split_at.ensures.back, take_rest) (words_of-first c.args.text.now c.in_ok-start.start c.unwrap_or-end.result (sym c.first_other.ensures ∙ c.in_ok-start.was) (c.unwrap_or-end.ensures ∙ rw (c.first_blank.ensures, take_rest) refl))
+returns c =
+    rw (c.split_at.ensures.front, c.split_at.ensures.back, take_rest) (words_of-first c.args.text.now c.in_ok-start.start c.unwrap_or-end.result (sym c.first_other.ensures ∙ c.in_ok-start.was) (c.unwrap_or-end.ensures ∙ rw (c.first_blank.ensures, take_rest) refl))
