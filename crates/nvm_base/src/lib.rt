@@ -7,6 +7,8 @@ mod numbers;
 mod printing;
 mod reading;
 mod spelling;
+#[cfg(test)]
+mod tests;
 mod units;
 
 pub use buffer::{Buffer, Bytes, Spans, Words};

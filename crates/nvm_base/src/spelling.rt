@@ -24,5 +24,4 @@ pub fn spellings()
     ensures singles { data_text (codes "rec 1") ≡ codes "72,65,63,20,31" }
     ensures runs { data_text (7 ∷ 7 ∷ 255 ∷ 7 ∷ []) ≡ codes "07*2,ff,07" }
     ensures nothing { data_text [] ≡ [] }
-{
-}
+{}

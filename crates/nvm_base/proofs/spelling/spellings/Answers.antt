@@ -24,5 +24,5 @@ returns c = record {
   run = refl;
   singles = refl;
   runs = refl;
-  nothing = refl
+  nothing = refl;
 }
