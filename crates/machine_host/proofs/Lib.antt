@@ -1,3 +1,6 @@
+pub mod NumberedLemmas
+pub mod SpanLemmas
+pub mod LoadLemmas
 pub mod BoundLemmas
 pub mod LineLemmas
 pub mod WordLemmas

@@ -4,4 +4,5 @@ pub mod Script
 pub mod Parsing
 pub mod Machine
 pub mod Run
+pub mod Volume
 pub mod Rows

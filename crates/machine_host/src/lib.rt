@@ -5,6 +5,7 @@ mod mode;
 pub mod reply;
 mod rows;
 pub mod script;
+mod volume;
 
 pub use mode::Mode;
 pub use rows::worked_scripts;

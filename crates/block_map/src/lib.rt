@@ -1,0 +1,13 @@
+//! The block map: for each logical block whether it is there, and on which physical block.
+#![tactic(auto)]
+
+mod map;
+mod state;
+mod table;
+
+pub use map::BlockMap;
+pub use state::BlockState;
+pub use table::TableFault;
+
+#[cfg(test)]
+mod tests;

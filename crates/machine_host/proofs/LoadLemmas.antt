@@ -1,0 +1,60 @@
+-- Bytes of a line that a load lent, as bytes of a span.
+use Rattle.std.proofs.Common.{◌≡◌, ℕ, ◌+◌, ◌-◌, ◌*◌, ◌/◌, ◌%◌, ◌<◌, ◌≤◌, ◌^◌, List, length, get_or, take, drop, refl, sym, ap, ◌∙◌, arith, length-take, length-drop, ◌++◌, append_assoc, append-nil}
+use Rattle.std.proofs.lemmas.List.{get_or-take, get_or-drop}
+use Rattle.std.specs.Int.{byte_at}
+use Rattle.line_device.specs.Word.{word_at}
+use Rattle.line_device.specs.History.{newest}
+use Rattle.line_device.specs.Medium.{Medium, IsLine, Wander}
+use Rattle.line_device.proofs.WordLemmas.{byte_at-word_from}
+use Rattle.line_device.proofs.WanderLemmas.{newest-wander}
+use Rattle.nvm_model.specs.Numbered.{list_from}
+use Rattle.machine_host.specs.Volume.{shown_byte, span_shown, line_byte}
+use Rattle.machine_host.proofs.NumberedLemmas.{list_from-is, list_from-same, list_from-append}
+
+-- bytes that spell words, one by one
+pub line_byte-is : (bytes : List ℕ) (i : ℕ) → ((k : ℕ) → get_or bytes k 0 < 256) → get_or bytes i 0 ≡ line_byte bytes i
+line_byte-is bytes i small =
+    sym (byte_at-word_from (λ k. get_or bytes (8 * (i / 8) + k) 0) (i % 8) (λ k _. small (8 * (i / 8) + k)) (omega arith) ∙ ap (λ k. get_or bytes k 0) here)
+  where
+    here : 8 * (i / 8) + i % 8 ≡ i
+    here = omega arith
+
+-- a stretch of them
+pub list_from-line : (bytes : List ℕ) (start len : ℕ) → start + len ≤ length bytes → ((k : ℕ) → get_or bytes k 0 < 256)
+    → take len (drop start bytes) ≡ list_from (line_byte bytes) start len
+list_from-line bytes start len fits small = list_from-is (line_byte bytes) start _ each ∙ ap (list_from (line_byte bytes) start) size
+  where
+    size : length (take len (drop start bytes)) ≡ len
+    size = omega (arith, length-take {A = ℕ}, length-drop {A = ℕ})
+
+    each : (k : ℕ) → k < length (take len (drop start bytes)) → get_or (take len (drop start bytes)) k 0 ≡ line_byte bytes (start + k)
+    each k lt = get_or-take len (drop start bytes) k 0 (omega (arith, size)) ∙ get_or-drop start bytes k 0 ∙ line_byte-is bytes (start + k) small
+
+-- what a load lends is what the span shows
+pub span_shown-line : (m : Medium) (start len : ℕ) (bytes : List ℕ) → IsLine m (start / 64) bytes → start % 64 + len ≤ 64
+    → list_from (line_byte bytes) (start % 64) len ≡ span_shown m start len
+span_shown-line m start len bytes is fits = list_from-same (line_byte bytes) (shown_byte m) (start % 64) start len each
+  where
+    each : (k : ℕ) → k < len → line_byte bytes (start % 64 + k) ≡ shown_byte m (start + k)
+    each k lt =
+        let i : (start % 64 + k) % 8 ≡ (start + k) % 8 = omega arith in
+        let p : 8 * (start / 64) + (start % 64 + k) / 8 ≡ (start + k) / 8 = omega arith in
+        ap (byte_at ((start % 64 + k) % 8)) (sym (is.words ((start % 64 + k) / 8) (omega arith)))
+        ∙ ap (λ q. byte_at ((start % 64 + k) % 8) (newest (m.history q))) p
+        ∙ ap (λ j. byte_at j (newest (m.history ((start + k) / 8)))) i
+
+-- lines that only wandered show what they showed
+pub span_shown-wander : (a b : Medium) (start len : ℕ) → Wander a b → span_shown b start len ≡ span_shown a start len
+span_shown-wander a b start len w =
+    list_from-same (shown_byte b) (shown_byte a) start start len (λ k lt. ap (byte_at ((start + k) % 8)) (newest-wander a b w ((start + k) / 8)))
+
+-- one stretch more
+pub said-next : (f : ℕ → ℕ) (out a b : List ℕ) (start n from len more : ℕ) → a ≡ out ++ list_from f start n → b ≡ a ++ list_from f from len
+    → from ≡ start + n → more ≡ n + len → b ≡ out ++ list_from f start more
+said-next f out a b start n from len more one two place size =
+    two ∙ ap (λ xs. xs ++ list_from f from len) one ∙ append_assoc out (list_from f start n) (list_from f from len)
+    ∙ ap (λ xs. out ++ xs) (ap (λ x. list_from f start n ++ list_from f x len) place ∙ sym (list_from-append f start n len) ∙ ap (list_from f start) (sym size))
+
+-- nothing yet
+pub said-none : (f : ℕ → ℕ) (out : List ℕ) (start n : ℕ) → n ≡ 0 → out ≡ out ++ list_from f start n
+said-none f out start n none = sym (append-nil out) ∙ ap (λ k. out ++ list_from f start k) (sym none)

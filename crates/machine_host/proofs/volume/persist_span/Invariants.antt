@@ -1,0 +1,16 @@
+use Rattle.std.proofs.Common.{◌-◌, ◌/◌}
+use Rattle.line_device.specs.Medium.{Wander}
+use Rattle.line_device.specs.Panel.{Runs}
+use Rattle.line_device.specs.Panel.Outcome.{went}
+use Rattle.machine_host.specs.Volume.{each, below, settled_within}
+use Rattle.machine_host.proofs.volume.persist_span.Given as goal
+
+-- the lines below this one are durable
+abbrev pub invariant-loop-line : goal.invariant-loop-line
+invariant-loop-line g l =
+    let old = g.L.Lines.state l.fn.device in
+    let now = g.L.Lines.state l.device in
+    record {
+      lines : Wander (each old.medium (below l.line (settled_within l.fn.span.start l.fn.span.len))) now.medium;
+      runs : Runs (l.line - l.fn.span.start / 64) (l.line - l.fn.span.start / 64) went old.panel now.panel;
+    }

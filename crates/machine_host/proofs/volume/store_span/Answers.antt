@@ -1,0 +1,33 @@
+use Rattle.std.proofs.Common.{ℕ, length-take, length-drop, ◌≡◌, ◌+◌, ◌-◌, ◌*◌, ◌/◌, ◌<◌, ◌≤◌, length, ap, ◌∙◌, inl, inr, arith}
+use Rattle.std.proofs.lemmas.List.{get_or-take, get_or-drop}
+use Rattle.line_device.specs.Medium.{word_stored}
+use Rattle.line_device.proofs.PanelLemmas.{runs-refl, runs_then, runs_within}
+use Rattle.machine_host.proofs.SpanLemmas.{below-first, below-last, span_stored-next, word_stored-out}
+use Rattle.machine_host.proofs.volume.store_span.Goals as goal
+
+pub loop-line-init : goal.loop-line-init
+loop-line-init g c =
+    let first : c.lines_of-lines.result.start ≡ c.args.offset / 64 = ap (λ s. s.start) c.lines_of-lines.ensures.value in
+    record {
+      lines = below-first _ _ _ (λ p h lt. word_stored-out c.args.offset p c.args.bytes.now h (inl (omega arith)));
+      runs = runs_within 0 0 _ _ _ _ _ (runs-refl _) (omega arith) (omega arith);
+    }
+
+pub loop-line-preserved : goal.loop-line-preserved
+loop-line-preserved g c =
+    let first : c.lines_of-lines.result.start ≡ c.args.offset / 64 = ap (λ s. s.start) c.lines_of-lines.ensures.value in
+    let count = ap (λ s. s.len) c.lines_of-lines.ensures.value in
+    let from : c.args.offset / 64 ≤ c.loop-line.line = omega arith in
+    let start = ap (λ s. s.start) c.part_in-part.ensures in
+    let len = ap (λ s. s.len) c.part_in-part.ensures in
+    let skipped = length-drop (c.part_in-part.result.start - c.args.offset) c.args.bytes.now in
+    record {
+      lines = span_stored-next (g.L.Lines.state c.args.device.now).medium _ _ c.args.offset c.loop-line.line _ c.args.bytes.now _ start (omega (arith, length-take {A = ℕ}, skipped)) (omega arith) (omega arith) (λ k lt. get_or-take _ _ k 0 (omega (arith, length-take {A = ℕ})) ∙ get_or-drop _ _ k 0) c.loop-line.invariant.lines c.in_ok-store_part.ensures.ok;
+      runs = runs_within _ _ _ _ _ _ _ (runs_then _ _ 1 0 _ _ _ _ c.loop-line.invariant.runs c.in_ok-store_part.ensures.runs) (omega arith) (omega arith);
+    }
+
+pub returns-clause-ok : goal.returns-clause-ok
+returns-clause-ok g c =
+    let count = ap (λ s. s.len) c.lines_of-lines.ensures.value in
+    let first : c.lines_of-lines.result.start ≡ c.args.offset / 64 = ap (λ s. s.start) c.lines_of-lines.ensures.value in
+    below-last (g.L.Lines.state c.args.device.now).medium _ _ (word_stored c.args.offset c.args.bytes.now) (λ p h le. word_stored-out c.args.offset p c.args.bytes.now h (inr (omega arith))) c.loop-line.invariant.lines

@@ -1,0 +1,16 @@
+use Rattle.std.proofs.Common.{◌-◌, ◌/◌}
+use Rattle.line_device.specs.Medium.{Wander, word_stored}
+use Rattle.line_device.specs.Panel.{Runs}
+use Rattle.line_device.specs.Panel.Outcome.{went}
+use Rattle.machine_host.specs.Volume.{each, below}
+use Rattle.machine_host.proofs.volume.store_span.Given as goal
+
+-- the lines below this one have their bytes
+abbrev pub invariant-loop-line : goal.invariant-loop-line
+invariant-loop-line g l =
+    let old = g.L.Lines.state l.fn.device in
+    let now = g.L.Lines.state l.device in
+    record {
+      lines : Wander (each old.medium (below l.line (word_stored l.offset l.bytes))) now.medium;
+      runs : Runs (l.line - l.offset / 64) 0 went old.panel now.panel;
+    }
