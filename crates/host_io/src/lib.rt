@@ -2,14 +2,20 @@
 #![tactic(auto)]
 
 mod failures;
+mod images;
+mod mem_images;
 mod mem_sink;
 mod mem_source;
 mod sink;
 mod source;
 mod stdio;
+mod writing;
 
+pub use images::{FetchFault, ImageCounts, Images};
+pub use mem_images::MemImages;
 pub use mem_sink::MemSink;
 pub use mem_source::MemSource;
 pub use sink::{Sink, WriteFault};
 pub use source::{ReadFailed, Source};
 pub use stdio::{StdinSource, StdoutSink};
+pub use writing::write_all;

@@ -1,2 +1,5 @@
 pub mod SpanLemmas
 pub mod LoadLemmas
+pub mod BoundLemmas
+pub mod LineLemmas
+pub mod WordLemmas

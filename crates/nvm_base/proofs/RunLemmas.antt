@@ -1,9 +1,12 @@
 -- Maximal runs and their text.
-use Rattle.std.proofs.Common.{◌≡◌, ℕ, zero, suc, ◌+◌, ◌==◌, ◌<◌, ◌≤◌, Bool, true, false, List, [], ◌∷◌, ◌++◌, map, replicate, length, get_or, drop, refl, sym, ap, ◌∙◌, arith, rules, tests, append_assoc}
+use Rattle.std.proofs.Common.{◌≡◌, ℕ, zero, suc, ◌+◌, ◌==◌, ◌<◌, ◌≤◌, Bool, true, false, List, [], ◌∷◌, ◌++◌, map, replicate, length, get_or, drop, refl, sym, ap, ◌∙◌, arith, rules, tests, append_assoc, length-append, ◌*◌, ◌/◌, ◌%◌, ◌^◌, ◌≢◌, inl, inr, decimal}
 use Rattle.std.proofs.Math.ListN.{drop_of_length-le}
 use Rattle.std.proofs.lemmas.List.{at_drop_more, replicate_more}
+use Rattle.std.proofs.lemmas.Bool.{cases_lt}
+use Rattle.std.proofs.lemmas.Fmt.{decimal_digit, length-decimal-le_succ}
+use Rattle.std.specs.Fmt.{digits, digits_onto, digit_glyph}
 use Rattle.std.specs.List.{join_with_byte}
-use Rattle.nvm_base.specs.Data.{Run, onto, runs_in, run_text, data_text}
+use Rattle.nvm_base.specs.Data.{Run, size, onto, runs_in, run_text, data_text}
 
 -- the runs do not begin with that byte
 abbrev pub Apart : ℕ → List Run → Type 0
@@ -75,3 +78,81 @@ pub data_text-none : (bytes : List ℕ) → length bytes < 1 → data_text bytes
 unfolding data_text
 data_text-none [] h = refl
 data_text-none (b ∷ bytes) h = absurd (omega arith)
+
+-- each run of bytes has one at least
+Counted : List Run → Type 0
+Counted [] = Unit {0}
+Counted (r ∷ rs) = (1 ≤ r.count) × Counted rs
+
+Counted-onto : (byte : ℕ) (rs : List Run) → Counted rs → Counted (onto byte rs)
+unfolding Counted
+Counted-onto byte [] h = (omega arith, tt)
+Counted-onto byte (r ∷ rs) h = go (byte == r.byte) refl
+  where
+    go : (b : Bool) → (byte == r.byte) ≡ b → Counted (onto byte (r ∷ rs))
+    go true e = rw (e, onto) (omega arith, h.1)
+    go false e = rw (e, onto) (omega arith, h)
+
+Counted-runs_in : (bytes : List ℕ) → Counted (runs_in bytes)
+unfolding Counted
+Counted-runs_in [] = tt
+Counted-runs_in (b ∷ bytes) = Counted-onto b (runs_in bytes) (Counted-runs_in bytes)
+
+size-onto : (byte : ℕ) (rs : List Run) → size (onto byte rs) ≡ size rs + 1
+size-onto byte [] = refl
+size-onto byte (r ∷ rs) = go (byte == r.byte) refl
+  where
+    go : (b : Bool) → (byte == r.byte) ≡ b → size (onto byte (r ∷ rs)) ≡ size (r ∷ rs) + 1
+    go true e = rw (e, onto) (omega arith)
+    go false e = rw (e, onto) (omega arith)
+
+size-runs_in : (bytes : List ℕ) → size (runs_in bytes) ≡ length bytes
+size-runs_in [] = refl
+size-runs_in (b ∷ bytes) = size-onto b (runs_in bytes) ∙ omega (arith, size-runs_in bytes)
+
+length-digits_onto : (k n : ℕ) (ds : List ℕ) → length (digits_onto k 10 false n ds) ≤ k + length ds
+length-digits_onto zero n ds = omega arith
+length-digits_onto (suc k) n ds = go (n / 10 == 0) refl (length-digits_onto k (n / 10) (digit_glyph false (n % 10) ∷ ds))
+  where
+    go : (b : Bool) → (n / 10 == 0) ≡ b → length (digits_onto k 10 false (n / 10) (digit_glyph false (n % 10) ∷ ds)) ≤ k + length (digit_glyph false (n % 10) ∷ ds) → length (digits_onto (suc k) 10 false n ds) ≤ suc k + length ds
+    go true e h = rw (e, digits_onto) (omega arith)
+    go false e h = rw (e, digits_onto) (omega (arith, h))
+
+-- a number has no more digits than it counts
+length-decimal : (n : ℕ) → 2 ≤ n → length (decimal n) + 4 ≤ 3 * n
+unfolding digits
+length-decimal n h =
+    elim (cases_lt n 10) [
+      | inl small ↦ omega (arith, ap length (decimal_digit n small))
+      | inr large ↦
+          elim (cases_lt n (2 ^ 64)) [
+            | inl fits ↦ omega (arith, length-decimal-le_succ n fits)
+            | inr huge ↦ omega (arith, length-digits_onto 64 n [])
+          ]
+    ]
+
+-- a run's text and a comma take at most three bytes for each of its own
+length-run_text : (r : Run) → 1 ≤ r.count → length (run_text r) + 1 ≤ 3 * r.count
+length-run_text r some = go (r.count == 1) refl
+  where
+    go : (b : Bool) → (r.count == 1) ≡ b → length (run_text r) + 1 ≤ 3 * r.count
+    go true e = rw (e, run_text) (omega arith)
+    go false e =
+        let other : r.count ≢ 1 = search (rules, tests) in
+        rw (e, run_text) (omega (arith, length-decimal r.count (omega arith)))
+
+length-joined : (rs : List Run) → Counted rs → length (join_with_byte 44 (map run_text rs)) ≤ 3 * size rs
+unfolding Counted
+length-joined [] h = omega arith
+length-joined (r ∷ []) h = let l = length-run_text r h.0 in omega arith
+length-joined (r ∷ q ∷ rs) h =
+    let l = length-run_text r h.0 in
+    let m = length-joined (q ∷ rs) h.1 in
+    omega (arith, length-append (run_text r) (44 ∷ join_with_byte 44 (map run_text (q ∷ rs))))
+
+pub length-data_text : (bytes : List ℕ) → length (data_text bytes) ≤ 3 * length bytes
+unfolding data_text
+length-data_text bytes =
+    let n = size-runs_in bytes in
+    let l = length-joined (runs_in bytes) (Counted-runs_in bytes) in
+    omega arith

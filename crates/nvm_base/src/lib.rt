@@ -6,6 +6,9 @@ mod counts;
 mod numbers;
 mod printing;
 mod reading;
+mod spelling;
+#[cfg(test)]
+mod tests;
 mod units;
 
 pub use buffer::{Buffer, Bytes, Spans, Words};
@@ -13,6 +16,7 @@ pub use counts::raise;
 pub use numbers::{print_number, read_number};
 pub use printing::print_bytes;
 pub use reading::{TextFault, read_bytes};
+pub use spelling::spellings;
 pub use units::{
     BLOCK, LINE, LineNo, MOST, PAGE, Span, WORD, blocks_of, lines_of, overlaps, pages_of,
 };

@@ -28,6 +28,7 @@ pub fn print_number(n: u64, out: &mut Bytes) -> Result<(), AllocError>
     ensures err { OnErr result (out.new ≡ out.old) }
     ensures succeeds { length (decimal n) ≤ out.old.spare → IsOk result }
     ensures spare { out.old.spare ≤ out.new.spare + length (decimal n) }
+    ensures short { length (decimal n) ≤ 20 }
 {
     out.extend(itoa::Buffer::new().format(n).as_bytes())
 }

@@ -1,5 +1,5 @@
 // Bytes as printed DATA: maximal runs joined by commas, `HH` for one byte and `HH*N` for more.
-ghost use Rattle.std.specs.Prelude.{◌≡◌, ◌+◌, ◌≤◌, ◌<◌, ◌++◌, length, IsOk, OnOk, OnErr};
+ghost use Rattle.std.specs.Prelude.{◌≡◌, ◌+◌, ◌*◌, ◌≤◌, ◌<◌, ◌++◌, length, IsOk, OnOk, OnErr};
 ghost use Rattle.std.specs.Prelude.{false};
 ghost use Rattle.std.specs.Fmt.{digit_glyph};
 ghost use Rattle.nvm_base.specs.Data.{data_text, run_text};
@@ -14,6 +14,7 @@ pub fn print_bytes(bytes: &[u8], out: &mut Bytes) -> Result<(), AllocError>
     ensures err { OnErr result (out.new.items ≡ out.old.items) }
     ensures succeeds { length (data_text bytes.now) ≤ out.old.spare → IsOk result }
     ensures spare { out.old.spare ≤ out.new.spare + length (data_text bytes.now) }
+    ensures short { length (data_text bytes.now) ≤ 3 * length bytes.now }
 {
     let before = out.len();
     let printed = print_runs(bytes, out);

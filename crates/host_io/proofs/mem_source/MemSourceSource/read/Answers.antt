@@ -9,6 +9,7 @@ returns-clause-bytes c =
     let n = c.min-n.result in
     let left : c.as_slice.result.now ≡ s.bytes.items = c.as_slice.ensures in
     let out : c.copy_from_slice.new.self ≡ take n (drop s.at s.bytes.items) = grind (arith, common_steps, c.copy_from_slice.ensures.after) in
-    let bound : n ≡ min (min s.piece (length c.args.buf.now)) (length (drop s.at s.bytes.items)) = grind (arith, common_steps) in
-    (rw (← c.self.view_is) (given s.bytes.items c.args.buf.now c.copy_from_slice.new.self s.at n out (omega arith)),
-     λ none room. ended s.bytes.items c.args.buf.now c.copy_from_slice.new.self s.at n s.piece bound c.self.invariant.1 none room out)
+    let bound : n ≡ min (min s.piece (length c.args.buf.now)) (length (drop s.at s.bytes.items)) = grind (arith, common_steps) in (
+      rw (← c.self.view_is) (given s.bytes.items c.args.buf.now c.copy_from_slice.new.self s.at n out (omega arith)),
+      λ none room. ended s.bytes.items c.args.buf.now c.copy_from_slice.new.self s.at n s.piece bound c.self.invariant.1 none room out,
+    )
