@@ -7,6 +7,8 @@ use Rattle.nvm_base.specs.Units.{units_of}
 use Rattle.nvm_model.specs.Page.{PagesStand, KeepsPages}
 use Rattle.machine_host.specs.declared.mode.Mode.{Mode}
 use Rattle.machine_host.specs.declared.mode.Mode.TheVariants as modes
+use Rattle.machine_host.specs.declared.volume.Interruption.{Interruption}
+use Rattle.machine_host.specs.declared.volume.Interruption.TheVariants as interruption
 use Rattle.machine_host.specs.Action.{Action}
 use Rattle.machine_host.specs.Action.Action.{VLoad, VStore, VSync, Cut, Restart}
 use Rattle.machine_host.specs.Answer.{Answer, answer_line}
@@ -80,14 +82,6 @@ pub record Steps (h : Machine) (action : Action) (out_old out_new : List ℕ) (h
   pub comes : Comes h (fate h action) answer host old new
   pub line : out_new ≡ out_old ++ answer_line answer
 
--- numbers and bytes as a script can give them
-abbrev pub IsBounded : Action → Type 0
-IsBounded (VLoad offset len) = (offset ≤ 4294967295) × (len ≤ 4294967295)
-IsBounded (VStore offset bytes) = (offset ≤ 4294967295) × (1 ≤ length bytes) × (length bytes ≤ 65536)
-IsBounded (VSync offset len) = (offset ≤ 4294967295) × (len ≤ 4294967295)
-IsBounded Cut = Unit {0}
-IsBounded (Restart choice) = Unit {0}
-
 -- how many counted calls a command makes at most, and how many persists: one for each line that its span touches
 abbrev pub lines_in : ℕ → ℕ → ℕ
 lines_in start len = (units_of 64 (record { start = start; len = len })).len
@@ -128,3 +122,13 @@ pub record Costs (action : Action) (old new : Panel) : Type 0 where
 abbrev pub Leaves : Action → Device → Device → Type 0
 Leaves (Restart choice) old new = (new ≡ old) ⊎ Waited old new
 Leaves _ old new = new ≡ old
+
+-- room for the reply's line, before the data is known
+abbrev pub longest : Action → ℕ
+longest (VLoad offset len) = 32 + 3 * len
+longest _ = 32
+
+-- the mode after an interruption
+abbrev pub interrupted_mode : Interruption → Mode
+interrupted_mode interruption.Failed = modes.Unsettled
+interrupted_mode interruption.PowerLost = modes.Off
