@@ -1,5 +1,6 @@
 pub mod Action
 pub mod Answer
+pub mod Room
 pub mod Script
 pub mod Parsing
 pub mod Machine

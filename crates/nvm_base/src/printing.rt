@@ -13,7 +13,7 @@ pub fn print_bytes(bytes: &[u8], out: &mut Bytes) -> Result<(), AllocError>
     ensures ok { OnOk result (out.new.items ≡ out.old.items ++ data_text bytes.now) }
     ensures err { OnErr result (out.new.items ≡ out.old.items) }
     ensures succeeds { length (data_text bytes.now) ≤ out.old.spare → IsOk result }
-    ensures spare { out.old.spare ≤ out.new.spare + length (data_text bytes.now) }
+    ensures room { out.old.spare + length out.old.items ≤ out.new.spare + length out.new.items }
     ensures short { length (data_text bytes.now) ≤ 3 * length bytes.now }
 {
     let before = out.len();
