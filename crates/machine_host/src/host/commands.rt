@@ -77,10 +77,10 @@ impl Host {
         let mut bytes = Bytes::new(self.alloc);
         bytes.reserve(len)?;
         let span = Span { start: offset, len };
-        Ok(match load_span(device, span, &mut bytes) {
-            Ok(()) => Reply::Bytes(bytes),
-            Err(interruption) => self.interrupt(interruption),
-        })
+        match load_span(device, span, &mut bytes) {
+            Ok(()) => Ok(Reply::Bytes(bytes)),
+            Err(interruption) => Ok(self.interrupt(interruption)),
+        }
     }
 
     fn vstore<D: LineDevice>(&mut self, device: &mut D, offset: u64, bytes: &[u8]) -> Reply
