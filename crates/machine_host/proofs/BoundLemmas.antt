@@ -26,6 +26,7 @@ number_of-below text n e = go (nat_le 1 (length text) && nat_le (length text) 10
     fits : (m : ℕ) (b : Bool) → nat_lt m (2 ^ 32) ≡ b → (if b then Some m else None) ≡ Some n → n < 2 ^ 32
     fits m true t e = let same : m ≡ n = cc in search (rules, tests)
     fits m false t e = absurd (cc)
+
     go : (b : Bool) (o : Option ℕ) → elim b [ true ↦ option_and_then (λ m. if nat_lt m (2 ^ 32) then Some m else None) o | false ↦ None ] ≡ Some n → n < 2 ^ 32
     go true None e = absurd (cc)
     go true (Some m) e = fits m (nat_lt m (2 ^ 32)) refl e
@@ -90,6 +91,7 @@ data_within-size room text bytes e = go (items_of (slice_split (λ c. c == 44) t
         let count = length-spelled runs in
         (omega (arith, ap length is), omega (arith, ap length is))
     sized runs false t some e = absurd (cc)
+
     go : (o : Option (List Run)) → items_of (slice_split (λ c. c == 44) text) ≡ o → within room o ≡ Ok bytes → (0 < length bytes) × (length bytes ≤ room)
     go None is e = absurd (cc)
     go (Some runs) is e =
