@@ -5,6 +5,9 @@ ghost use Rattle.machine_host.specs.Answer.{answer_line, answer_of, answer_text,
 ghost use Rattle.machine_host.specs.Answer.Answer.{DoneBad};
 ghost use Rattle.machine_host.specs.Room.{most_of};
 
+#[cfg(test)]
+mod tests;
+
 use nvm_base::{Bytes, print_bytes, print_number};
 use std::alloc::AllocError;
 

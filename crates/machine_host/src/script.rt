@@ -6,6 +6,8 @@ ghost use Rattle.machine_host.specs.Parsing.{BringsData, InBounds, Parses};
 ghost use Rattle.machine_host.specs.Script.{line_input, lines_of, words_input, words_of};
 
 mod command;
+#[cfg(test)]
+mod tests;
 mod words;
 
 pub use command::Command;
