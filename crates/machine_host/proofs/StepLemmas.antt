@@ -1,5 +1,5 @@
 -- What a host and its device stand for, after work on the lines that went well.
-use Rattle.std.proofs.Common.{◌≡◌, ℕ, ◌+◌, ◌*◌, ◌/◌, ◌%◌, ◌<◌, ◌≤◌, Bool, true, false, IsTrue, cond, List, [], ◌∷◌, length, refl, sym, ap, subst, ◌∙◌, arith}
+use Rattle.std.proofs.Common.{◌≡◌, ℕ, ◌+◌, ◌*◌, ◌/◌, ◌%◌, ◌<◌, ◌≤◌, Bool, true, false, IsTrue, cond, Option, Some, List, [], ◌∷◌, length, refl, sym, ap, subst, ◌∙◌, arith}
 use Rattle.line_device.specs.History.{Fades, latest, newest}
 use Rattle.line_device.specs.Medium.{Medium, Wander, word_stored}
 use Rattle.line_device.specs.Panel.{Panel, Runs, Outcome, Image, Start, after_power_off}
@@ -14,8 +14,9 @@ use Rattle.nvm_model.proofs.PageLemmas.{bad_lines-none}
 use Rattle.nvm_model.proofs.StandLemmas.{AreIntact, fades-strong, pages_stand-put, pages_stand-persist, pages_stand-wander, pages_stand-read, keeps_pages, byte_in-stand}
 use Rattle.machine_host.specs.Action.{Action}
 use Rattle.machine_host.specs.Answer.{Answer}
-use Rattle.machine_host.specs.Answer.Answer.{Done, DoneBad, Bytes}
-use Rattle.machine_host.specs.Machine.{Machine, Fate, reading, restarted}
+use Rattle.machine_host.specs.Answer.Answer.{Done, DoneBad, Bytes, Refused}
+use Rattle.machine_host.specs.declared.reply.Why.{Why}
+use Rattle.machine_host.specs.Machine.{Machine, Fate, refusal, fate_of, fate, reading, restarted}
 use Rattle.machine_host.specs.Machine.Fate.{Gives, Restarts}
 use Rattle.machine_host.specs.declared.mode.Mode.TheVariants as modes
 use Rattle.machine_host.specs.Volume.{IsIntact, SameMarks, shown_byte, span_shown, span_stored, span_settled}
@@ -89,19 +90,19 @@ after_wander m b count marks intact n lt = let was = intact n lt in (marks.bad n
 pub stand-loaded : (m b : Medium) (count : ℕ) (pages : List Page) → PagesStand m count pages → AreIntact m count → Wander m b → PagesStand b count pages
 stand-loaded m b count pages stand intact w =
     pages_stand-wander m b count pages stand intact (after_wander m b count (record { count = w.count; bad = w.bad; weak = w.weak }) intact)
-      (λ p. fades-strong (m.is_weak (p / 8)) _ _ (w.fades p))
+    (λ p. fades-strong (m.is_weak (p / 8)) _ _ (w.fades p))
 
 pub stand-stored : (m b : Medium) (at len count : ℕ) (bytes : List ℕ) (pages : List Page) → PagesStand m count pages → AreIntact m count
     → Wander (span_stored m at bytes) b → PagesStand b count (put at bytes (fill at len pages))
 stand-stored m b at len count bytes pages stand intact w =
     pages_stand-put m b at len count bytes pages stand intact (after_wander m b count (record { count = w.count; bad = w.bad; weak = w.weak }) intact)
-      (λ p. fades-strong (m.is_weak (p / 8)) _ _ (w.fades p))
+    (λ p. fades-strong (m.is_weak (p / 8)) _ _ (w.fades p))
 
 pub stand-settled : (m b : Medium) (start len count : ℕ) (pages : List Page) → PagesStand m count pages → AreIntact m count
     → Wander (span_settled m start len) b → PagesStand b count (persist start len pages)
 stand-settled m b start len count pages stand intact w =
     pages_stand-persist m b start len count pages stand intact (after_wander m b count (record { count = w.count; bad = w.bad; weak = w.weak }) intact)
-      (λ p. fades-strong (m.is_weak (p / 8)) _ _ (w.fades p))
+    (λ p. fades-strong (m.is_weak (p / 8)) _ _ (w.fades p))
 
 -- A load comes to the bytes that the machine sees.
 pub comes_of_load : (host : HostState) (old new : Device) (h : Machine) (offset len : ℕ) (bytes : List ℕ) (a b : ℕ) → Stands host old h → IsUnarmed old.panel
@@ -172,17 +173,34 @@ comes_of_restart host old new h choice start stands serves left = record {
   where
     intact : AreIntact old.medium h.geometry.vpages
     intact = intact_pages host old h.geometry.vpages serves stands.vpages
+
     there : 64 * h.geometry.vpages ≤ old.medium.count
     there = omega (arith, serves.lines, stands.vpages)
+
     keeps : KeepsPages choice start.image h.volume
     keeps = keeps_pages choice old.medium new.medium start.image h.geometry.vpages h.volume stands.device.pages stands.device.volume intact there left.lines left.image
+
     after : AreIntact new.medium h.geometry.vpages
     after n lt = let was = intact n lt in (left.lines.bad n ∙ was.0, left.lines.weak n ∙ was.1)
+
     good : (n : ℕ) → n < 64 * h.geometry.vpages → (start.image.is_bad n ≡ false) × (start.image.is_weak n ≡ false)
     good n lt = let now = after n lt in (left.image.bad n ∙ now.0, left.image.weak n ∙ now.1)
+
     one : (p : ℕ) → p < 512 * h.geometry.vpages → new.medium.history p ≡ start.image.word p ∷ []
     one p lt =
         let here : p / 8 < 64 * h.geometry.vpages = omega arith in
         left.image.words p (omega (arith, left.lines.count), (after (p / 8) here).0)
+
     none_bad : bad_lines (read_pages start.image h.geometry.vpages) ≡ 0
     none_bad = bad_lines-none start.image h.geometry.vpages (λ k lt. (good k lt).0)
+
+-- A refusal comes to itself.
+pub comes_of_refusal : (host : HostState) (d : Device) (h : Machine) (action : Action) (why : Why) → Stands host d h
+    → refusal host.mode host.vpages action ≡ Some why → Comes h (fate h action) (Refused why) host d d
+comes_of_refusal host d h action why stands is = subst (λ r. Comes h (fate_of h action r) (Refused why) host d d) there comes
+  where
+    there : Some why ≡ refusal h.mode h.geometry.vpages action
+    there = sym is ∙ ap (λ m. refusal m host.vpages action) stands.mode ∙ ap (λ n. refusal h.mode n action) stands.vpages
+
+    comes : Comes h (Gives (Refused why) h) (Refused why) host d d
+    comes = record { starts = []; next = h; takes = (refl, refl, refl); told_starts = refl; restarts = refl; stands = stands }

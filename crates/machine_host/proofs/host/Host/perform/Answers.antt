@@ -1,4 +1,4 @@
-use Rattle.std.proofs.Common.{◌≡◌, None, subst, sym}
+use Rattle.std.proofs.Common.{◌≡◌, ◌+◌, ◌*◌, ◌≤◌, None, length, subst, sym}
 use Rattle.machine_host.specs.Action.{action_of}
 use Rattle.machine_host.specs.Machine.{refusal}
 use Rattle.machine_host.proofs.RefusalLemmas.{load_allowed, store_allowed, sync_allowed, cut_allowed, restart_allowed}
@@ -26,7 +26,8 @@ pub vsync-requires-clause-within : goal.vsync-requires-clause-within
 vsync-requires-clause-within g c = (sync_allowed _ _ _ _ (subst (λ k. refusal c.args.self.now.mode c.args.self.now.vpages (action_of k) ≡ None) c.in-VSync.is c.requires.allowed)).2
 
 pub vstore-requires-clause-within : goal.vstore-requires-clause-within
-vstore-requires-clause-within g c = ?
+vstore-requires-clause-within g c =
+    subst (λ xs. c.in-VStore.offset + length xs ≤ 4096 * c.args.self.now.vpages) (sym c.as_slice.ensures) (store_allowed _ _ _ _ (subst (λ k. refusal c.args.self.now.mode c.args.self.now.vpages (action_of k) ≡ None) c.in-VStore.is c.requires.allowed)).1
 
 pub cut-requires-clause-powered : goal.cut-requires-clause-powered
 cut-requires-clause-powered g c = cut_allowed _ _ (subst (λ k. refusal c.args.self.now.mode c.args.self.now.vpages (action_of k) ≡ None) c.in-Cut.is c.requires.allowed)

@@ -7,7 +7,7 @@ pub returns-in-Ok-clause-step : goal.returns-in-Ok-clause-step
 returns-in-Ok-clause-step g c h stands unarmed =
     let ran = c.in-Ok.ensures in
     comes_of_work c.args.self.now _ _ h _ Done _ _ stands unarmed ran.runs (length-persist c.args.offset c.args.len h.volume)
-      (stand-settled _ _ c.args.offset c.args.len h.geometry.vpages h.volume stands.device.volume (intact_pages _ _ _ c.requires.serves stands.vpages) ran.ok)
+    (stand-settled _ _ c.args.offset c.args.len h.geometry.vpages h.volume stands.device.volume (intact_pages _ _ _ c.requires.serves stands.vpages) ran.ok)
 
 pub returns-in-Ok-clause-short : goal.returns-in-Ok-clause-short
 returns-in-Ok-clause-short g c = length-answer_line-done
