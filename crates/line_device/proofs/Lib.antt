@@ -2,3 +2,4 @@ pub mod HistoryLemmas
 pub mod WordLemmas
 pub mod PanelLemmas
 pub mod WanderLemmas
+pub mod CellsLemmas

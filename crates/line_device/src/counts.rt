@@ -1,5 +1,5 @@
 /// What a device counts. No count falls, and each stands still at its last value.
-#[derive(Clone, Copy, Debug, PartialEq, Eq)]
+#[derive(Clone, Copy, Debug, Default, PartialEq, Eq)]
 pub struct Counts {
     /// Calls that failed.
     pub faults: u64,

@@ -8,6 +8,8 @@ mod laws;
 mod line;
 mod lines;
 mod order;
+mod plain;
+mod switches;
 
 pub use counts::Counts;
 pub use device::{LineDevice, Peek};
@@ -16,3 +18,4 @@ pub use laws::{effect_stands_between_wanders, wander_leaves_fewer_images};
 pub use line::{Choice, LineList, LineState};
 pub use lines::Lines;
 pub use order::Order;
+pub use switches::Switches;
