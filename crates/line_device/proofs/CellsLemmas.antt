@@ -6,13 +6,13 @@ use Rattle.std.proofs.lemmas.List.{length-replicate, length-take, length-drop, g
 use Rattle.std.proofs.lemmas.Option.{slice_get-get_or, slice_get_past}
 use Rattle.line_device.specs.Word.{word_from, word_at, byte_over, word_over, reaches, IsPut}
 use Rattle.line_device.specs.History.{latest, newest, IsIn, IsPart, Fades}
-use Rattle.line_device.specs.Medium.{Medium, Wander, zeros, with_at, on_line, word_stored, stored, renewed, settled, IsLine}
+use Rattle.line_device.specs.Medium.{Medium, Wander, Weakens, zeros, with_at, on_line, word_stored, stored, renewed, settled, IsLine}
 use Rattle.line_device.specs.Cells.{first_and_last, ends, ends_of, kept, is_bad_mark, is_weak_mark, has_words, good_mark, memory, weakened}
 use Rattle.line_device.specs.declared.line.Choice.TheVariants.{Firsts, Lasts}
 use Rattle.line_device.specs.declared.plain.cells.Mark.{Mark}
 use Rattle.line_device.specs.declared.plain.cells.Mark.TheVariants.{Healthy, Weak, Bad}
-use Rattle.line_device.proofs.HistoryLemmas.{latest-cons}
-use Rattle.line_device.proofs.WanderLemmas.{on_line-in, on_line-out}
+use Rattle.line_device.proofs.HistoryLemmas.{latest-cons, fades-refl}
+use Rattle.line_device.proofs.WanderLemmas.{wander-refl, on_line-in, on_line-out}
 use Rattle.line_device.proofs.WordLemmas.{word_from-cong, word_at-cong, word_at-put_in, word_at-put_out, word_at-put_past, word_at-put_line}
 
 -- one value or two
@@ -139,9 +139,6 @@ memory-stored count line at marks bytes durable last last' small fits put has =
 words-last : (mark : Option Mark) (x y : ℕ) → words mark y y ≡ latest (words mark x y)
 words-last mark x y = elim (has_words mark) as (λ b. (if b then first_and_last y y else []) ≡ latest (if b then first_and_last x y else [])) [ true ↦ one_value y ∙ sym (latest-first_and_last x y) | false ↦ refl ]
 
-words-first : (mark : Option Mark) (x y : ℕ) → words mark x x ≡ take 1 (words mark x y)
-words-first mark x y = elim (has_words mark) as (λ b. (if b then first_and_last x x else []) ≡ take 1 (if b then first_and_last x y else [])) [ true ↦ one_value x ∙ sym (first-first_and_last x y) | false ↦ refl ]
-
 -- a line's last bytes become the durable ones
 pub memory-settled : (count line : ℕ) (marks : List Mark) (bytes durable durable' last : List ℕ) → length bytes ≡ 64 → ((k : ℕ) → k < 64 → get_or bytes k 0 ≡ get_or last (64 * line + k) 0) → IsPut (64 * line) bytes durable durable' → memory count marks durable' last ≡ settled (memory count marks durable last) line
 memory-settled count line marks bytes durable durable' last whole piece put =
@@ -164,17 +161,6 @@ memory-settled count line marks bytes durable durable' last whole piece put =
   where
     place : (p k : ℕ) → p / 8 ≡ line → 64 * line + (8 * (p % 8) + k) ≡ 8 * p + k
     place p k is = omega arith
-
--- all lines keep their last values, or their first ones
-pub memory-lasts : (count : ℕ) (marks : List Mark) (durable last : List ℕ) → memory count marks last last ≡ kept Lasts (memory count marks durable last)
-memory-lasts count marks durable last =
-    same_medium (memory count marks last last) (kept Lasts (memory count marks durable last)) refl (λ n. refl) (λ n. refl)
-    (λ p. words-last (slice_get marks (p / 8)) (word_at durable p) (word_at last p))
-
-pub memory-firsts : (count : ℕ) (marks : List Mark) (durable last : List ℕ) → memory count marks durable durable ≡ kept Firsts (memory count marks durable last)
-memory-firsts count marks durable last =
-    same_medium (memory count marks durable durable) (kept Firsts (memory count marks durable last)) refl (λ n. refl) (λ n. refl)
-    (λ p. words-first (slice_get marks (p / 8)) (word_at durable p) (word_at last p))
 
 -- the line's last bytes
 pub is_line-memory : (count line : ℕ) (marks : List Mark) (durable last bytes : List ℕ) → length bytes ≡ 64 → ((k : ℕ) → k < 64 → get_or bytes k 0 ≡ get_or last (64 * line + k) 0) → has_words (slice_get marks line) ≡ true → IsLine (memory count marks durable last) line bytes
@@ -267,3 +253,25 @@ length-line line lines seen long within = omega (arith, length-take (64 * line +
 pub get_or-line : (line : ℕ) (seen all : List ℕ) → seen ≡ all → (k : ℕ) → k < 64 → get_or (take (64 * line + 64 - 64 * line) (drop (64 * line) seen)) k 0 ≡ get_or all (64 * line + k) 0
 get_or-line line seen all is k below =
     get_or-take (64 * line + 64 - 64 * line) (drop (64 * line) seen) k 0 (omega arith) ∙ get_or-drop (64 * line) seen k 0 ∙ ap (λ l. get_or l (64 * line + k) 0) is
+
+part_newest : (x : ℕ) (xs : List ℕ) → IsPart (newest (x ∷ xs) ∷ []) (x ∷ xs)
+part_newest x [] = inl (refl, tt)
+part_newest x (y ∷ ys) = inr (part_newest y ys)
+
+fades-ends : (weak : Bool) (h : List ℕ) → Fades weak h (ends h)
+fades-ends weak [] = record { part = tt; last = refl; first = λ _. refl }
+fades-ends weak (x ∷ []) = subst (Fades weak (x ∷ [])) (sym (one_value x)) (fades-refl weak (x ∷ []))
+fades-ends weak (x ∷ y ∷ ys) = record {
+  part = first_and_last-cases (λ l. IsPart l (x ∷ y ∷ ys)) x (newest (y ∷ ys)) (λ _. inr (part_newest y ys)) (inl (refl, part_newest y ys));
+  last = latest-first_and_last x (newest (y ∷ ys)) ∙ sym (latest-cons y ys);
+  first = λ _. first-first_and_last x (newest (y ∷ ys));
+}
+
+pub wander-ends_of : (m : Medium) → Wander m (ends_of m)
+wander-ends_of m = record { count = refl; bad = λ n. refl; weak = λ n. refl; fades = λ p. fades-ends (m.is_weak (p / 8)) (m.history p) }
+
+pub wander_from-ends_of : (a b : Medium) → b ≡ ends_of a → Wander a b
+wander_from-ends_of a b is = subst (Wander a) (sym is) (wander-ends_of a)
+
+pub weakens_from-weakened : (a b : Medium) (line : ℕ) → b ≡ weakened a line → Weakens line a b
+weakens_from-weakened a b line is = subst (Weakens line a) (sym is) (record { marks = λ n. refl; wander = wander-refl a })

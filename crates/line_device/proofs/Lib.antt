@@ -3,3 +3,4 @@ pub mod WordLemmas
 pub mod PanelLemmas
 pub mod WanderLemmas
 pub mod CellsLemmas
+pub mod RestartLemmas

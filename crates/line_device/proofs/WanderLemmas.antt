@@ -9,6 +9,9 @@ use Rattle.line_device.proofs.HistoryLemmas.{fades-refl, fades-trans, fades-late
 pub wander-refl : (m : Medium) → Wander m m
 wander-refl m = record { count = refl; bad = λ _. refl; weak = λ _. refl; fades = λ p. fades-refl (m.is_weak (p / 8)) (m.history p) }
 
+pub wander_same : (a b : Medium) → b ≡ a → Wander a b
+wander_same a b same = subst (Wander a) (sym same) (wander-refl a)
+
 pub wander-trans : (a b c : Medium) → Wander a b → Wander b c → Wander a c
 wander-trans a b c x y = record {
   count = y.count ∙ x.count;

@@ -6,3 +6,5 @@ pub mod Device
 pub mod Arming
 pub mod Switches
 pub mod Cells
+pub mod Plain
+pub mod PlainSound

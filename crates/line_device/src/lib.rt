@@ -18,4 +18,5 @@ pub use laws::{effect_stands_between_wanders, wander_leaves_fewer_images};
 pub use line::{Choice, LineList, LineState};
 pub use lines::Lines;
 pub use order::Order;
+pub use plain::Plain;
 pub use switches::Switches;
