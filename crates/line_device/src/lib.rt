@@ -10,6 +10,8 @@ mod lines;
 mod order;
 mod plain;
 mod switches;
+#[cfg(test)]
+mod tests;
 
 pub use counts::Counts;
 pub use device::{LineDevice, Peek};
