@@ -48,8 +48,8 @@ image_of m = record { count = m.count; is_bad = m.is_bad; is_weak = m.is_weak; w
 pub depicts-survivors : (choice : Choice) (old new : Medium) → Survivors choice old new → Depicts new (image_of new)
 depicts-survivors choice old new x = record {
   count = refl;
-  bad = λ n. refl;
-  weak = λ n. refl;
+  bad = λ n _. refl;
+  weak = λ n _. refl;
   words = λ p healthy.
       let one = (x.words p (subst (λ c. p / 8 < c) x.count healthy.0, sym (x.bad (p / 8)) ∙ healthy.1)).1.one in
       one ∙ ap (λ v. v ∷ []) (sym (ap newest one));

@@ -5,7 +5,7 @@ ghost use Rattle.line_device.specs.Panel.{Runs, outcome, bumped, after_arm_cut, 
 ghost use Rattle.line_device.specs.Panel.Outcome.{went};
 ghost use Rattle.line_device.specs.Switches.{panel_of, cut_left, fail_left, answer_of, after_call, after_persist, after_evict, after_restart, powered};
 
-use crate::{Counts, DeviceFault};
+use crate::{Counts, DeviceFault, bump};
 
 /// The power, an armed cut, an armed failure and the counts. At first the power is off and nothing is armed.
 #[derive(Clone, Copy, Debug, Default, PartialEq, Eq)]
@@ -155,12 +155,4 @@ fn fail_after(cut: Option<u64>, fail: Option<u64>) -> Option<u64>
     } else {
         counted_down(fail)
     }
-}
-
-fn bump(count: &mut u64)
-    ensures value { count.new ≡ bumped count.old }
-    ensures later { count.old ≤ count.new }
-    ensures once { count.new ≤ count.old + 1 }
-{
-    *count = count.saturating_add(1);
 }

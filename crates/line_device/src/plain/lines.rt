@@ -6,7 +6,7 @@ ghost use Rattle.line_device.specs.Panel.{Runs, outcome};
 ghost use Rattle.line_device.specs.Device.{Poisons};
 ghost use Rattle.line_device.specs.Cells.{ends_of, weakened};
 ghost use Rattle.line_device.specs.Switches.{end_of, after_call, after_persist};
-ghost use Rattle.line_device.specs.Plain.{device_of, lines_of, switches_of};
+ghost use Rattle.line_device.specs.Plain.{device_of, lines_of, switches_of, OnlyCounts};
 ghost use Rattle.line_device.specs.contracts.plain.Plain.{the_row};
 
 use super::Plain;
@@ -18,6 +18,8 @@ impl Lines for Plain {
     ghost use Rattle.line_device.specs.PlainSound.{is_sound-plain};
 
     ghost state = { device_of };
+
+    ghost load_leaves = { OnlyCounts };
 
     fn lines(&self) -> u64 {
         self.cells.lines()
@@ -47,7 +49,8 @@ impl Lines for Plain {
         ensures fires { outcome result ≡ end_of (switches_of self.old) }
         ensures* after { sem 𝓛 (Rests the_row self.entry (λ new.
             Wander (lines_of self.old) (lines_of new)
-            × Runs 1 0 (outcome result) (device_of self.old).panel (device_of new).panel)) }
+            × Runs 1 0 (outcome result) (device_of self.old).panel (device_of new).panel
+            × OnlyCounts self.old new)) }
     {
         self.switches.count_call()?;
         if self.cells.is_bad(line) {
