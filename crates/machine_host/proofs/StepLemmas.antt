@@ -184,7 +184,9 @@ comes_of_restart host old new h choice start stands serves left = record {
     after n lt = let was = intact n lt in (left.lines.bad n ∙ was.0, left.lines.weak n ∙ was.1)
 
     good : (n : ℕ) → n < 64 * h.geometry.vpages → (start.image.is_bad n ≡ false) × (start.image.is_weak n ≡ false)
-    good n lt = let now = after n lt in (left.image.bad n ∙ now.0, left.image.weak n ∙ now.1)
+    good n lt =
+        let now = after n lt in
+        let here : n < new.medium.count = omega (arith, left.lines.count) in (left.image.bad n here ∙ now.0, left.image.weak n here ∙ now.1)
 
     one : (p : ℕ) → p < 512 * h.geometry.vpages → new.medium.history p ≡ start.image.word p ∷ []
     one p lt =

@@ -176,7 +176,7 @@ keeps_pages choice m b image count pages size stand intact there left depicts n 
         by_page None found is = cc
         by_page (Some page) found is = omega (arith, slice_get_within pages (n / 64) page found)
     of_words : (words : List (List ℕ)) → CellStands m n (Kept false words) → n < 64 * count → KeepsCell choice image n (Kept false words)
-    of_words words stands lt = (depicts.bad n ∙ left.bad n ∙ stands.0, depicts.weak n ∙ left.weak n ∙ stands.1, λ w history found.
+    of_words words stands lt = (depicts.bad n (omega (arith, left.count)) ∙ left.bad n ∙ stands.0, depicts.weak n (omega (arith, left.count)) ∙ left.weak n ∙ stands.1, λ w history found.
         let small : w < 8 = omega (arith, slice_get_within words w history found, stands.2) in
         let here : (8 * n + w) / 8 ≡ n = omega arith in
         let healthy : IsHealthy m ((8 * n + w) / 8) = (omega arith, ap m.is_bad here ∙ stands.0) in
