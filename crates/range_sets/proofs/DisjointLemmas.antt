@@ -9,7 +9,7 @@ use Rattle.std.proofs.lemmas.List.Folds.{list_any-append}
 use Rattle.nvm_base.specs.declared.units.Span.{Span}
 use Rattle.nvm_base.specs.Units.{overlap}
 use Rattle.range_sets.specs.Faults.{first_empty, IsFirstOverlap}
-use Rattle.range_sets.specs.Ranges.{is_disjoint, total_of, IsRangeSet}
+use Rattle.range_sets.specs.Ranges.{HasBytes, IsInReach, is_disjoint, total_of, IsRangeSet}
 
 shuffle : (a o d b : Bool) → (not (a || (o || false)) && (d && not b)) ≡ ((not a && d) && not (o || b))
 shuffle true o d b = refl
@@ -35,7 +35,7 @@ pub first_overlap_is : (ranges : List Span) (i : ℕ) (d : Span) → i < length 
 first_overlap_is ranges i d within so_far meets = record { before = so_far; with_it = is_disjoint_more ranges i d true within so_far meets }
 
 -- no range is empty where none is the first that is
-pub some_bytes : (ranges : List Span) → first_empty ranges ≡ None → All (λ (r : Span). 1 ≤ r.len) ranges
+pub some_bytes : (ranges : List Span) → first_empty ranges ≡ None → All HasBytes ranges
 some_bytes ranges none k d within =
     let p = λ (r : Span). eqb r.len 0 in
     let past : length ranges ≤ position_or_len p ranges = elim (cases_lt (position_or_len p ranges) (length ranges)) [
@@ -46,5 +46,5 @@ some_bytes ranges none k d within =
     let not_zero = eqb-false _ _ here in
     omega arith
 
-pub range_set : (ranges : List Span) → All (λ (r : Span). r.start + r.len ≤ 2 ^ 40) ranges → total_of ranges ≤ 2 ^ 40 → first_empty ranges ≡ None → is_disjoint ranges ≡ true → IsRangeSet ranges
+pub range_set : (ranges : List Span) → All IsInReach ranges → total_of ranges ≤ 2 ^ 40 → first_empty ranges ≡ None → is_disjoint ranges ≡ true → IsRangeSet ranges
 range_set ranges ends total none disjoint = record { some = some_bytes ranges none; ends = ends; total = total; disjoint = disjoint }

@@ -1,5 +1,5 @@
 -- Ranges as one stretch of bytes: byte `offset` is counted through the ranges in their order.
-use Rattle.std.specs.Prelude.{◌≡◌, ◌<◌, ◌≤◌, ◌+◌, ◌-◌, ◌^◌, ◌&&◌, ℕ, Bool, true, not, List, [], ◌∷◌, Option, Some, None, All, nat_le, nat_lt, sum_by, if◌then◌else◌}
+use Rattle.std.specs.Prelude.{◌≡◌, ◌≤◌, ◌+◌, ◌-◌, ◌^◌, ◌&&◌, ℕ, Bool, true, not, List, [], ◌∷◌, Option, Some, None, All, nat_le, nat_lt, sum_by, if◌then◌else◌}
 use Rattle.std.specs.List.{list_any}
 use Rattle.std.specs.Option.{option_map}
 use Rattle.nvm_base.specs.declared.units.Span.{Span}
@@ -8,6 +8,14 @@ use Rattle.nvm_base.specs.Units.{overlap}
 -- the bytes of all ranges
 abbrev pub total_of : List Span → ℕ
 total_of ranges = sum_by (λ (r : Span). r.len) ranges
+
+-- the range has a byte
+abbrev pub HasBytes : Span → Type 0
+HasBytes range = 1 ≤ range.len
+
+-- the range ends where addresses end, or before
+abbrev pub IsInReach : Span → Type 0
+IsInReach range = range.start + range.len ≤ 2 ^ 40
 
 -- whether a range has an address
 abbrev pub has_address : Span → ℕ → Bool
@@ -30,7 +38,7 @@ is_disjoint (r ∷ rs) = not (list_any (overlap r) rs) && is_disjoint rs
 
 -- each range has a byte, and no two share one
 pub record IsRangeSet (ranges : List Span) : Type 0 where
-  pub some : All (λ (r : Span). 1 ≤ r.len) ranges
-  pub ends : All (λ (r : Span). r.start + r.len ≤ 2 ^ 40) ranges
+  pub some : All HasBytes ranges
+  pub ends : All IsInReach ranges
   pub total : total_of ranges ≤ 2 ^ 40
   pub disjoint : is_disjoint ranges ≡ true

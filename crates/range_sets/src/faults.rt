@@ -1,10 +1,9 @@
 // What keeps ranges from being a set.
-ghost use Rattle.std.specs.Prelude.{◌≡◌, ◌+◌, ◌^◌, ◌≤◌, All, MatchOption, true};
+ghost use Rattle.std.specs.Prelude.{◌≡◌, All, MatchOption, true};
 ghost use Rattle.std.specs.List.{list_any};
-ghost use Rattle.nvm_base.specs.declared.units.Span.{Span as ASpan};
 ghost use Rattle.nvm_base.specs.Units.{overlap};
 ghost use Rattle.range_sets.specs.Faults.{IsFirstOverlap, first_empty};
-ghost use Rattle.range_sets.specs.Ranges.{is_disjoint};
+ghost use Rattle.range_sets.specs.Ranges.{HasBytes, IsInReach, is_disjoint};
 
 use nvm_base::Span;
 
@@ -15,8 +14,8 @@ pub(crate) fn first_empty(ranges: &[Span]) -> Option<usize>
 }
 
 pub(crate) fn first_overlap(ranges: &[Span]) -> Option<usize>
-    requires some { All (λ (r : ASpan). 1 ≤ r.len) ranges.now }
-    requires ends { All (λ (r : ASpan). r.start + r.len ≤ 2 ^ 40) ranges.now }
+    requires some { All HasBytes ranges.now }
+    requires ends { All IsInReach ranges.now }
     ensures { MatchOption result (is_disjoint ranges.now ≡ true) (IsFirstOverlap ranges.now) }
 {
     for i in 0..ranges.len() {
@@ -29,10 +28,10 @@ pub(crate) fn first_overlap(ranges: &[Span]) -> Option<usize>
 
 // Whether a range shares a byte with one of these.
 fn meets(ranges: &[Span], range: Span) -> bool
-    requires some { All (λ (r : ASpan). 1 ≤ r.len) ranges.now }
-    requires ends { All (λ (r : ASpan). r.start + r.len ≤ 2 ^ 40) ranges.now }
-    requires some_byte { 1 ≤ range.len }
-    requires end { range.start + range.len ≤ 2 ^ 40 }
+    requires some { All HasBytes ranges.now }
+    requires ends { All IsInReach ranges.now }
+    requires some_byte { HasBytes range }
+    requires end { IsInReach range }
     ensures { result ≡ list_any (λ r. overlap r range) ranges.now }
 {
     for earlier in ranges {

@@ -1,8 +1,7 @@
-ghost use Rattle.std.specs.Prelude.{◌≡◌, ◌+◌, ◌^◌, ◌≤◌, ◌↔◌, All, IfErr, IfOk, IfSome, IsNone, None, OnOk, Some, true};
-ghost use Rattle.nvm_base.specs.declared.units.Span.{Span as ASpan};
+ghost use Rattle.std.specs.Prelude.{◌≡◌, ◌^◌, ◌≤◌, ◌↔◌, All, IfErr, IfOk, IfSome, IsNone, None, OnOk, Some, true};
 ghost use Rattle.nvm_base.specs.Units.{Holds};
 ghost use Rattle.range_sets.specs.Faults.{IsCause, first_empty};
-ghost use Rattle.range_sets.specs.Ranges.{IsRangeSet, is_disjoint, offset_of, place, total_of};
+ghost use Rattle.range_sets.specs.Ranges.{IsInReach, IsRangeSet, is_disjoint, offset_of, place, total_of};
 
 use crate::{faults, walk};
 use nvm_base::Span;
@@ -40,7 +39,7 @@ impl Model for RangeSet {
 
 impl RangeSet {
     pub fn make(alloc: Global, ranges: &[Span]) -> Result<Self, RangeFault>
-        requires ends { All (λ (r : ASpan). r.start + r.len ≤ 2 ^ 40) ranges.now }
+        requires ends { All IsInReach ranges.now }
         requires total { total_of ranges.now ≤ 2 ^ 40 }
         ensures ok { IfOk result (λ set. set ≡ ranges.now) }
         ensures set { IfOk result IsRangeSet }

@@ -1,7 +1,6 @@
 // Bytes and addresses, counted through ranges in their order.
-ghost use Rattle.std.specs.Prelude.{◌≡◌, ◌+◌, ◌^◌, ◌≤◌, All};
-ghost use Rattle.nvm_base.specs.declared.units.Span.{Span as ASpan};
-ghost use Rattle.range_sets.specs.Ranges.{offset_of, place, total_of};
+ghost use Rattle.std.specs.Prelude.{◌≡◌, ◌^◌, ◌≤◌, All};
+ghost use Rattle.range_sets.specs.Ranges.{IsInReach, offset_of, place, total_of};
 
 use nvm_base::Span;
 
@@ -13,7 +12,7 @@ pub(crate) fn total_of(ranges: &[Span]) -> u64
 }
 
 pub(crate) fn place(ranges: &[Span], offset: u64) -> Option<u64>
-    requires { All (λ (r : ASpan). r.start + r.len ≤ 2 ^ 40) ranges.now }
+    requires { All IsInReach ranges.now }
     ensures { result ≡ place ranges.now offset }
 {
     let mut rest = offset;

@@ -1,5 +1,4 @@
-use Rattle.std.proofs.Common.{List, ap, sym, subst, ◌∙◌}
-use Rattle.nvm_base.specs.declared.units.Span.{Span}
+use Rattle.std.proofs.Common.{ap, sym, subst, ◌∙◌}
 use Rattle.range_sets.specs.Ranges.{total_of, IsRangeSet}
 use Rattle.range_sets.proofs.DisjointLemmas.{some_bytes, range_set}
 use Rattle.range_sets.proofs.set.RangeSet.make.Goals as goal

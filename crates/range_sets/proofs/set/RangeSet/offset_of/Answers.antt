@@ -1,4 +1,4 @@
-use Rattle.std.proofs.Common.{List, ap, sym, ◌∙◌}
+use Rattle.std.proofs.Common.{List, ap, ◌∙◌}
 use Rattle.nvm_base.specs.declared.units.Span.{Span}
 use Rattle.range_sets.specs.Ranges.{offset_of}
 use Rattle.range_sets.proofs.PlaceLemmas.{offset_is_none, offset_leads_back}

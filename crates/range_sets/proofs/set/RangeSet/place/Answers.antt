@@ -1,4 +1,4 @@
-use Rattle.std.proofs.Common.{◌≡◌, true, List, subst, ap, sym, ◌∙◌}
+use Rattle.std.proofs.Common.{◌≡◌, true, List, subst, ap, ◌∙◌}
 use Rattle.nvm_base.specs.declared.units.Span.{Span}
 use Rattle.range_sets.specs.Ranges.{is_disjoint, place}
 use Rattle.range_sets.proofs.PlaceLemmas.{place_is_none, place_leads_back}
