@@ -6,3 +6,5 @@ pub mod WordLemmas
 pub mod StepLemmas
 pub mod ShortLemmas
 pub mod RefusalLemmas
+pub mod RunLemmas
+pub mod CostLemmas

@@ -12,6 +12,8 @@ use Rattle.machine_host.specs.declared.volume.Interruption.TheVariants as interr
 use Rattle.machine_host.specs.Action.{Action}
 use Rattle.machine_host.specs.Action.Action.{VLoad, VStore, VSync, Cut, Restart}
 use Rattle.machine_host.specs.Answer.{Answer, answer_line}
+use Rattle.machine_host.specs.Script.{Input}
+use Rattle.machine_host.specs.Script.Input.{Skipped, Malformed, Asked}
 use Rattle.machine_host.specs.Machine.{Machine, Fate, fate, restarted, restart_answer}
 use Rattle.machine_host.specs.Machine.Fate.{Gives, Restarts}
 use Rattle.machine_host.specs.Volume.{IsIntact}
@@ -132,3 +134,22 @@ longest _ = 32
 abbrev pub interrupted_mode : Interruption → Mode
 interrupted_mode interruption.Failed = modes.Unsettled
 interrupted_mode interruption.PowerLost = modes.Off
+
+-- a cost of each command, over all inputs
+abbrev pub total : (Action → ℕ) → List Input → ℕ
+total most [] = 0
+total most (Asked action ∷ inputs) = most action + total most inputs
+total most (Skipped ∷ inputs) = total most inputs
+total most (Malformed ∷ inputs) = total most inputs
+
+-- what the commands of some inputs do to the device's counts at most
+pub record Spends (inputs : List Input) (old new : Panel) : Type 0 where
+  pub calls : new.counts.calls ≤ old.counts.calls + total most_calls inputs
+  pub persists : new.counts.persists ≤ old.counts.persists + total most_persists inputs
+  pub offs : new.counts.offs ≤ old.counts.offs + total most_offs inputs
+  pub restarts : new.counts.restarts ≤ old.counts.restarts + total most_restarts inputs
+  pub arms : new.counts.arms ≡ old.counts.arms
+  pub evicts : new.counts.evicts ≡ old.counts.evicts
+  pub disarms : new.counts.disarms ≡ old.counts.disarms
+  pub last_order : new.last_order ≡ old.last_order
+  pub armed : ArmsNothing old new
