@@ -1,6 +1,6 @@
 -- What a whole call did: over which lines of which script, with which answers, and what the device is left as.
 use Rattle.std.specs.Prelude.{◌≡◌, ◌≢◌, ◌≤◌, ◌<◌, ℕ, List, [], ◌++◌, length, Option, IfSome, Result, Ok, Err}
-use Rattle.std.specs.Io.KnownBytes.{Appends, Consumes}
+use Rattle.std.specs.Io.KnownBytes.{Appends, Consumes, IsAtEnd}
 use Rattle.nvm_base.specs.Counts.{Rose}
 use Rattle.line_device.specs.Panel.{Panel, Start, told}
 use Rattle.line_device.specs.Device.{Device}
@@ -35,7 +35,7 @@ pub record Completes (geo : Geometry) (left_old left_new written_old written_new
   pub script : List ℕ
   pub answers : List Answer
   pub read : Consumes left_old left_new script
-  pub ended : IfSome left_new (λ bytes. bytes ≡ [])
+  pub ended : IsAtEnd left_new
   pub short : length script < 1073741824
   pub ran : Ran geo (lines_of script) answers old new
   pub wrote : Appends written_old written_new (reply_text answers)
@@ -69,7 +69,7 @@ pub record Costs (left_old left_new : Option (List ℕ)) (old new : Panel) : Typ
 
 -- Reading all of a script: it is what the source told, unless it is too long or the source fails.
 abbrev pub ReadsTo : List ℕ → Option (List ℕ) → Result (Stock ℕ) Ending → Type 0
-ReadsTo script left (Ok bytes) = (bytes.items ≡ script) × IfSome left (λ rest. rest ≡ []) × (length script < 1073741824)
+ReadsTo script left (Ok bytes) = (bytes.items ≡ script) × IsAtEnd left × (length script < 1073741824)
 ReadsTo script left (Err Script) = length script ≡ 1073741824
 ReadsTo script left (Err Read) = Unit {0}
 ReadsTo script left (Err Memory) = Unit {0}
@@ -81,3 +81,18 @@ pub record Reads (left_old left_new : Option (List ℕ)) (result : Result (Stock
   pub script : List ℕ
   pub read : Consumes left_old left_new script
   pub outcome : ReadsTo script left_new result
+
+-- Reading some more of it: at most so many bytes, none only at the end.
+abbrev pub TakesTo : List ℕ → ℕ → Option (List ℕ) → List ℕ → List ℕ → Result ℕ Ending → Type 0
+TakesTo taken most left old new (Ok count) = (new ≡ old ++ taken) × (length taken ≡ count) × (count ≤ most) × (count ≡ 0 → IsAtEnd left)
+TakesTo taken most left old new (Err Read) = Unit {0}
+TakesTo taken most left old new (Err Memory) = Unit {0}
+TakesTo taken most left old new (Err Usage) = ⊥
+TakesTo taken most left old new (Err Write) = ⊥
+TakesTo taken most left old new (Err Script) = ⊥
+TakesTo taken most left old new (Err endings.Device) = ⊥
+
+pub record Takes (most : ℕ) (left_old left_new : Option (List ℕ)) (old new : List ℕ) (result : Result ℕ Ending) : Type 0 where
+  pub taken : List ℕ
+  pub read : Consumes left_old left_new taken
+  pub outcome : TakesTo taken most left_new old new result

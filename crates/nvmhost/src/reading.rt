@@ -1,7 +1,7 @@
 // Reading a whole script.
-ghost use Rattle.std.specs.Prelude.{◌≡◌, ◌≤◌, IfErr};
+ghost use Rattle.std.specs.Prelude.{◌≡◌, ◌<◌, ◌≤◌, IfErr, length};
 ghost use Rattle.nvm_base.specs.Counts.{Rose};
-ghost use Rattle.nvmhost.specs.Whole.{Reads};
+ghost use Rattle.nvmhost.specs.Whole.{Reads, Takes};
 
 use crate::ending::Ending;
 use host_io::Source;
@@ -23,11 +23,30 @@ pub fn read_all<T: Source>(alloc: Global, source: &mut T) -> Result<Bytes, Endin
     let mut piece = vec![in alloc; 0u8; PIECE as usize]?;
     while script.len() < TOO_LONG {
         let room = PIECE.min(TOO_LONG - script.len()) as usize;
-        let count = source.read(&mut piece[..room])?;
-        if count == 0 {
+        if read_piece(source, &mut piece[..room], &mut script)? == 0 {
             return Ok(script);
         }
-        script.extend(&piece[..count])?;
     }
     Err(Ending::Script)
+}
+
+// Reads some bytes to the end of the script, and says how many: none at the source's end.
+fn read_piece<T: Source>(
+    source: &mut T,
+    piece: &mut [u8],
+    script: &mut Bytes,
+) -> Result<usize, Ending>
+    requires { 0 < length piece.old }
+    ensures takes { Takes (length piece.old) (T.left source.old) (T.left source.new) script.old.items script.new.items result }
+    ensures later { T.count source.old ≤ T.count source.new }
+    ensures cause { IfErr result (λ e. e ≡ Ending.Read → Rose (T.count source.old) (T.count source.new)) }
+{
+    let count = match source.read(piece) {
+        Ok(count) => count,
+        Err(_) => return Err(Ending::Read),
+    };
+    match script.extend(&piece[..count]) {
+        Ok(()) => Ok(count),
+        Err(_) => Err(Ending::Memory),
+    }
 }
