@@ -1,12 +1,12 @@
 -- Words with none that is wrong stand for a map.
-use Rattle.std.proofs.Common.{◌≡◌, ◌<◌, ◌≤◌, ◌+◌, ℕ, zero, suc, true, false, List, [], ◌∷◌, Option, Some, None, length, get_or, map, refl, sym, ap, ap₂, ◌∙◌, inl, inr, arith}
+use Rattle.std.proofs.Common.{◌≡◌, ◌<◌, ◌+◌, ℕ, zero, suc, List, [], ◌∷◌, None, length, get_or, map, refl, sym, ap, ap₂, ◌∙◌, inl, inr, arith}
 use Rattle.std.proofs.lemmas.Bool.{cases_lt, cases_order, false≢true}
 use Rattle.std.proofs.lemmas.List.{length-map}
 use Rattle.std.proofs.lemmas.Option.{slice_get-map, slice_get-get_or, slice_get_within, same_Some}
 use Rattle.std.specs.Option.{option_map}
-use Rattle.block_map.specs.declared.state.BlockState.TheVariants.{Absent, Scarred, At}
+use Rattle.block_map.specs.declared.state.BlockState.TheVariants.{At}
 use Rattle.block_map.specs.States.{state_of, word_of, IsAt, IsMap}
-use Rattle.block_map.specs.Wrong.{is_wrong, first_wrong}
+use Rattle.block_map.specs.Wrong.{first_wrong}
 use Rattle.block_map.proofs.WrongLemmas.{wrong_too_high, wrong_twice, right_from_none}
 
 word_of-state_of : (word : ℕ) → word_of (state_of word) ≡ word

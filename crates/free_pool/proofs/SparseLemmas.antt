@@ -1,13 +1,11 @@
 -- What an order of units, with the free ones first, says of the pool.
-use Rattle.std.proofs.Common.{◌≡◌, ◌≢◌, ◌⊎◌, ◌<◌, ◌≤◌, ◌+◌, ◌-◌, ℕ, Bool, true, false, ltb, List, slice_get, length, get_or, set, map, Some, arith, refl, sym, ◌∙◌, inl, inr, ap, length-set, replicate, cond, get_or-set_same, get_or-set_other}
+use Rattle.std.proofs.Common.{◌≡◌, ◌≢◌, ◌⊎◌, ◌<◌, ◌≤◌, ◌+◌, ◌-◌, ℕ, Bool, true, false, ltb, List, slice_get, length, get_or, set, Some, arith, refl, sym, ◌∙◌, inl, inr, ap, length-set, replicate, cond, get_or-set_same, get_or-set_other}
 use Rattle.std.proofs.lemmas.List.{same_lists, get_or-map, length-map, length-replicate, get_or-replicate}
 use Rattle.std.proofs.lemmas.List.FromFn.{length-range_with_len, get_or-range_with_len, length-map-range_with_len, get_or-map-range_with_len}
 use Rattle.std.proofs.lemmas.List.Folds.{sum_by-replicate}
 use Rattle.std.specs.List.{range_with_len}
 use Rattle.std.proofs.lemmas.Option.{slice_get-get_or, slice_get_within, get_or_from_slice_get}
 use Rattle.std.proofs.lemmas.Bool.{cases_eq, cases_lt, lt-ltb, le-ltb, ltb-true, ltb-false}
-use Rattle.std.proofs.lemmas.Bool.Decides.{nat_tests}
-use Rattle.std.proofs.lemmas.Grind.{common_steps}
 use Rattle.free_pool.specs.Units.{IsFree, IsTaken, free_count}
 use Rattle.free_pool.specs.Sparse.{pool_of, IsIndex, IsKept}
 use Rattle.free_pool.proofs.CountLemmas.{free_count-taken, free_count-given, free_count-le}

@@ -9,6 +9,8 @@ mod mem_source;
 mod sink;
 mod source;
 mod stdio;
+#[cfg(test)]
+mod tests;
 mod writing;
 
 pub use images::{FetchFault, ImageCounts, Images};

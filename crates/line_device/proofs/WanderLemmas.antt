@@ -3,11 +3,14 @@ use Rattle.std.proofs.Common.{◌≡◌, ◌⊎◌, inl, inr, ℕ, Bool, true, f
 use Rattle.std.proofs.lemmas.Bool.{cases_eq, eq-eqb, ne_eqb}
 use Rattle.line_device.specs.Word.{word_over, reaches}
 use Rattle.line_device.specs.History.{latest, newest, IsIn, Fades}
-use Rattle.line_device.specs.Medium.{Medium, Wander, IsHealthy, IsSound, IsImage, last_image, with_at, on_line, word_stored, stored, poisoned, settled, persisted, cleared, IsBetweenWanders}
+use Rattle.line_device.specs.Medium.{Medium, Wander, IsHealthy, IsSound, IsImage, last_image, with_at, on_line, word_stored, stored, renewed, poisoned, settled, persisted, cleared, IsBetweenWanders}
 use Rattle.line_device.proofs.HistoryLemmas.{fades-refl, fades-trans, fades-latest, fades-latest_both, fades-push, newest-fades, is_in-fades, is_in-push, is_in-latest}
 
 pub wander-refl : (m : Medium) → Wander m m
 wander-refl m = record { count = refl; bad = λ _. refl; weak = λ _. refl; fades = λ p. fades-refl (m.is_weak (p / 8)) (m.history p) }
+
+pub wander_same : (a b : Medium) → b ≡ a → Wander a b
+wander_same a b same = subst (Wander a) (sym same) (wander-refl a)
 
 pub wander-trans : (a b c : Medium) → Wander a b → Wander b c → Wander a c
 wander-trans a b c x y = record {
@@ -41,12 +44,7 @@ wander-on_line line change keeps a b x = record {
       ];
 }
 
--- a line's words and marks, whatever they were
-abbrev pub renewed : ℕ → Bool → Bool → (ℕ → List ℕ) → Medium → Medium
-renewed line bad weak words m =
-    record m { is_bad = with_at m.is_bad line bad; is_weak = with_at m.is_weak line weak; history = on_line line (λ w _. words w) m.history }
-
-pub wander-renewed : (line : ℕ) (bad weak : Bool) (words : ℕ → List ℕ) (a b : Medium) → Wander a b → Wander (renewed line bad weak words a) (renewed line bad weak words b)
+pub wander-renewed : (line : ℕ) (bad weak : Bool) (words : ℕ → List ℕ) (a b : Medium) → Wander a b → Wander (renewed a line bad weak words) (renewed b line bad weak words)
 wander-renewed line bad weak words a b x = record {
   count = x.count;
   bad = λ n. with_at-cong a.is_bad b.is_bad line bad n (x.bad n);

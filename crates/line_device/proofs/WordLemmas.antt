@@ -4,7 +4,7 @@ use Rattle.std.proofs.lemmas.Bool.{cases_lt}
 use Rattle.std.proofs.lemmas.Bool.Decides.{nat_tests}
 use Rattle.std.proofs.lemmas.Nat.{le_bytes_8, from_le_bytes-to_le_bytes_8}
 use Rattle.std.specs.Int.{w64, to_le_bytes, from_le_bytes, sum_through, byte_worth, byte_at}
-use Rattle.line_device.specs.Word.{word_from, word_at, byte_over, word_over, reaches}
+use Rattle.line_device.specs.Word.{word_from, word_at, byte_over, word_over, reaches, IsPut}
 
 -- what holds of each of eight holds of all
 pub below_eight : (P : ℕ → Type 0) → P 0 → P 1 → P 2 → P 3 → P 4 → P 5 → P 6 → P 7 → (k : ℕ) → k < 8 → P k
@@ -154,6 +154,21 @@ pub reaches-out : (at len w : ℕ) → (8 * w + 8 ≤ at) ⊎ (at + len ≤ 8 * 
 unfolding reaches
 reaches-out at len w out = grind (arith, nat_tests)
 
+pub reaches-false : (at len w : ℕ) → reaches at len w ≡ false → (8 * w + 8 ≤ at) ⊎ (at + len ≤ 8 * w)
+unfolding reaches
+reaches-false at len w out =
+    elim (cases_lt at (8 * w + 8)) as (λ _. (8 * w + 8 ≤ at) ⊎ (at + len ≤ 8 * w)) [
+      | inl from ↦
+          elim (cases_lt (8 * w) (at + len)) as (λ _. (8 * w + 8 ≤ at) ⊎ (at + len ≤ 8 * w)) [
+            | inl to ↦ absurd (true_is_not_false (sym (reaches-in at len w from to) ∙ out))
+            | inr past ↦ inr past
+          ]
+      | inr before ↦ inl before
+    ]
+  where
+    true_is_not_false : true ≡ false → ⊥
+    true_is_not_false h = cc
+
 length-word : (v : ℕ) → length (to_le_bytes w64 v) ≡ 8
 length-word v = refl
 
@@ -179,3 +194,49 @@ reaches-word w = reaches-in (8 * w) 8 w (omega arith) (omega arith)
 pub reaches-other_word : (w v : ℕ) → (w ≡ v → ⊥) → reaches (8 * w) 8 v ≡ false
 reaches-other_word w v other =
     elim (cases_lt w v) as (λ _. reaches (8 * w) 8 v ≡ false) [ inl less ↦ reaches-out (8 * w) 8 v (inr (omega arith)) | inr not_less ↦ reaches-out (8 * w) 8 v (inl (omega arith)) ]
+
+-- a word that lies wholly under the bytes
+pub word_over-whole : (at w old : ℕ) (bytes : List ℕ) → at ≤ 8 * w → 8 * w + 8 ≤ at + length bytes → word_over at bytes w old ≡ word_from (λ k. get_or bytes (8 * w + k - at) 0)
+unfolding word_over
+word_over-whole at w old bytes from to =
+    word_from-cong (λ k. byte_over at bytes (8 * w + k) (byte_at k old)) (λ k. get_or bytes (8 * w + k - at) 0)
+    (λ k h. byte_over-in at (8 * w + k) (byte_at k old) bytes (omega arith) (omega arith))
+
+-- bytes that are put into a line: the words of the other lines
+pub word_at-put_out : (line at p : ℕ) (bytes old new : List ℕ) → at + length bytes ≤ 64 → IsPut (64 * line + at) bytes old new → (p / 8 ≡ line → ⊥) → word_at new p ≡ word_at old p
+word_at-put_out line at p bytes old new fits put out =
+    word_at-cong new old p p
+    (λ k h.
+    put (8 * p + k)
+    ∙ byte_over-out (64 * line + at) (8 * p + k) (get_or old (8 * p + k) 0) bytes
+    (elim (cases_lt (p / 8) line) as (λ _. (8 * p + k < 64 * line + at) ⊎ (64 * line + at + length bytes ≤ 8 * p + k)) [ inl before ↦ inl (omega arith) | inr not_before ↦ inr (omega arith) ]))
+
+-- and the words of that line
+pub word_at-put_in : (line at p : ℕ) (bytes old new : List ℕ) → ((k : ℕ) → get_or old k 0 < 256) → IsPut (64 * line + at) bytes old new → p / 8 ≡ line → word_at new p ≡ word_over at bytes (p % 8) (word_at old p)
+word_at-put_in line at p bytes old new small put on =
+    let place : p ≡ p % 8 + 8 * line = omega arith in
+    let first : 64 * line + at ≡ at + 64 * line = omega arith in
+    word_at-over (64 * line + at) p bytes old new (λ k h. small (8 * p + k)) (λ k h. put (8 * p + k))
+    ∙ ap (λ a. word_over a bytes p (word_at old p)) first
+    ∙ ap (λ q. word_over (at + 64 * line) bytes q (word_at old p)) place
+    ∙ word_over-line line at (p % 8) (word_at old p) bytes
+
+-- a word of that line that the bytes don't reach
+pub word_at-put_past : (line at p : ℕ) (bytes old new : List ℕ) → IsPut (64 * line + at) bytes old new → p / 8 ≡ line → reaches at (length bytes) (p % 8) ≡ false → word_at new p ≡ word_at old p
+word_at-put_past line at p bytes old new put on past =
+    let out = reaches-false at (length bytes) (p % 8) past in
+    word_at-cong new old p p
+    (λ k h.
+    put (8 * p + k)
+    ∙ byte_over-out (64 * line + at) (8 * p + k) (get_or old (8 * p + k) 0) bytes
+    (elim out as (λ _. (8 * p + k < 64 * line + at) ⊎ (64 * line + at + length bytes ≤ 8 * p + k)) [ inl before ↦ inl (omega arith) | inr after ↦ inr (omega arith) ]))
+
+-- the words of a line that is put whole
+pub word_at-put_line : (line p : ℕ) (bytes old new : List ℕ) → length bytes ≡ 64 → IsPut (64 * line) bytes old new → p / 8 ≡ line → word_at new p ≡ word_at bytes (p % 8)
+word_at-put_line line p bytes old new whole put on =
+    word_at-cong new bytes p (p % 8)
+    (λ k h.
+    let place : 8 * p + k - 64 * line ≡ 8 * (p % 8) + k = omega arith in
+    put (8 * p + k)
+    ∙ byte_over-in (64 * line) (8 * p + k) (get_or old (8 * p + k) 0) bytes (omega arith) (omega arith)
+    ∙ ap (λ i. get_or bytes i 0) place)

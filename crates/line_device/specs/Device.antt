@@ -1,5 +1,5 @@
 -- The whole meaning of a device, and what its calls say of it.
-use Rattle.std.specs.Prelude.{◌≡◌, ◌/◌, ℕ, Bool, true, false, [], ◌∷◌, Result, Ok, Err}
+use Rattle.std.specs.Prelude.{◌≡◌, ◌/◌, ◌<◌, ℕ, Bool, true, false, [], ◌∷◌, Result, Ok, Err}
 use Rattle.line_device.specs.Medium.{Medium, Survivors, Waits, IsHealthy}
 use Rattle.line_device.specs.Panel.{Panel, Image, Start, Outcome, RestartRefused, after_restart}
 use Rattle.line_device.specs.Panel.Outcome.{went, failed}
@@ -29,8 +29,8 @@ setup_outcome (Err setup.Memory) = went
 -- the lines have one value each, those of the image
 pub record Depicts (m : Medium) (image : Image) : Type 0 where
   pub count : image.count ≡ m.count
-  pub bad : (n : ℕ) → image.is_bad n ≡ m.is_bad n
-  pub weak : (n : ℕ) → image.is_weak n ≡ m.is_weak n
+  pub bad : (n : ℕ) → n < m.count → image.is_bad n ≡ m.is_bad n
+  pub weak : (n : ℕ) → n < m.count → image.is_weak n ≡ m.is_weak n
   pub words : (p : ℕ) → IsHealthy m (p / 8) → m.history p ≡ image.word p ∷ []
 
 -- the power came back: each word has one of its values, and this start was told

@@ -3,3 +3,8 @@ pub mod History
 pub mod Medium
 pub mod Panel
 pub mod Device
+pub mod Arming
+pub mod Switches
+pub mod Cells
+pub mod Plain
+pub mod PlainSound

@@ -57,10 +57,14 @@ word_stored at bytes w old = if reaches at (length bytes) w then old ++ word_ove
 abbrev pub stored : Medium → ℕ → ℕ → List ℕ → Medium
 stored m line at bytes = record m { history = on_line line (word_stored at bytes) m.history }
 
+-- a line with these marks and these values of its words, whatever it was
+abbrev pub renewed : Medium → ℕ → Bool → Bool → (ℕ → List ℕ) → Medium
+renewed m line bad weak words =
+    record m { is_bad = with_at m.is_bad line bad; is_weak = with_at m.is_weak line weak; history = on_line line (λ w _. words w) m.history }
+
 -- the line is lost
 abbrev pub poisoned : Medium → ℕ → Medium
-poisoned m line =
-    record m { is_bad = with_at m.is_bad line true; is_weak = with_at m.is_weak line false; history = on_line line (λ _ _. []) m.history }
+poisoned m line = renewed m line true false (λ _. [])
 
 -- what the line's words have is durable
 abbrev pub settled : Medium → ℕ → Medium
@@ -72,8 +76,7 @@ persisted m line = if m.is_weak line then poisoned m line else settled m line
 
 -- a line of zeros, healthy and durable
 abbrev pub cleared : Medium → ℕ → Medium
-cleared m line =
-    record m { is_bad = with_at m.is_bad line false; is_weak = with_at m.is_weak line false; history = on_line line (λ _ _. 0 ∷ []) m.history }
+cleared m line = renewed m line false false (λ _. 0 ∷ [])
 
 -- A line is weak from now on, if it is healthy. Before it is, it may be written back, so but for the mark the lines wander.
 pub record Weakens (line : ℕ) (old new : Medium) : Type 0 where
@@ -91,10 +94,8 @@ zeros count = record {
 
 -- the line is as told, and durable
 abbrev pub installed : Medium → ℕ → LineState → Medium
-installed m line (Healthy bytes) =
-    record m { is_bad = with_at m.is_bad line false; is_weak = with_at m.is_weak line false; history = on_line line (λ w _. word_at bytes w ∷ []) m.history }
-installed m line (Weak bytes) =
-    record m { is_bad = with_at m.is_bad line false; is_weak = with_at m.is_weak line true; history = on_line line (λ w _. word_at bytes w ∷ []) m.history }
+installed m line (Healthy bytes) = renewed m line false false (λ w. word_at bytes w ∷ [])
+installed m line (Weak bytes) = renewed m line false true (λ w. word_at bytes w ∷ [])
 installed m line Bad = poisoned m line
 
 -- a load of the line gives these bytes

@@ -8,11 +8,17 @@ mod laws;
 mod line;
 mod lines;
 mod order;
+mod plain;
+mod switches;
+#[cfg(test)]
+mod tests;
 
-pub use counts::Counts;
+pub use counts::{Counts, bump};
 pub use device::{LineDevice, Peek};
 pub use fault::{DeviceFault, ResetFault};
 pub use laws::{effect_stands_between_wanders, wander_leaves_fewer_images};
 pub use line::{Choice, LineList, LineState};
 pub use lines::Lines;
 pub use order::Order;
+pub use plain::Plain;
+pub use switches::Switches;

@@ -15,6 +15,9 @@ pub trait Lines {
     /// Its lines, and what it shows beside them.
     ghost state: { Self → Device };
 
+    /// What a load leaves besides, on a device that tells more than its state.
+    ghost load_leaves: { Self → Self → Type 0 } = { λ _ _. Unit {0} };
+
     fn lines(&self) -> u64
         ensures { result ≡ (state self.now).medium.count };
 
@@ -40,7 +43,8 @@ pub trait Lines {
         ensures poison { Poisons line.0 ((state self.old).medium.is_bad line.0) result }
         ensures* after { sem 𝓛 (Rests Self.row self.entry (λ new.
             Wander (state self.old).medium (state new).medium
-            × Runs 1 0 (outcome result) (state self.old).panel (state new).panel)) };
+            × Runs 1 0 (outcome result) (state self.old).panel (state new).panel
+            × load_leaves self.old new)) };
 
     /// Puts bytes at an offset of the line. Until a persist, a cut may lose them, word by word.
     fn store(&mut self, line: LineNo, at: u64, bytes: &[u8]) -> Result<(), DeviceFault>

@@ -9,7 +9,7 @@ use Rattle.line_device.proofs.WordLemmas.{byte_at-word_from}
 use Rattle.line_device.proofs.WanderLemmas.{newest-wander}
 use Rattle.nvm_model.specs.Numbered.{list_from}
 use Rattle.machine_host.specs.Volume.{shown_byte, span_shown, line_byte}
-use Rattle.machine_host.proofs.NumberedLemmas.{list_from-is, list_from-same, list_from-append}
+use Rattle.nvm_model.proofs.NumberedLemmas.{list_from-is, list_from-same, list_from-append}
 
 -- bytes that spell words, one by one
 pub line_byte-is : (bytes : List ℕ) (i : ℕ) → ((k : ℕ) → get_or bytes k 0 < 256) → get_or bytes i 0 ≡ line_byte bytes i

@@ -6,4 +6,5 @@ pub mod Parsing
 pub mod Machine
 pub mod Run
 pub mod Volume
+pub mod Stands
 pub mod Rows

@@ -1,11 +1,13 @@
 //! The host of one machine over a line device: script text to commands, a command to device calls, an answer to text.
 #![tactic(auto)]
 
+mod host;
 mod mode;
 pub mod reply;
 mod rows;
 pub mod script;
 mod volume;
 
+pub use host::Host;
 pub use mode::Mode;
 pub use rows::worked_scripts;

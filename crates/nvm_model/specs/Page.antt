@@ -1,9 +1,10 @@
 -- Pages of 64 lines, of the volume and of files. Lines and bytes are counted from the first page on.
 use Rattle.std.specs.Prelude.{◌≡◌, ◌+◌, ◌*◌, ◌/◌, ◌%◌, ◌<◌, ◌&&◌, ℕ, suc, List, [], ◌∷◌, length, nat_lt, Option, Some, None, option_and_then, slice_get, replicate, if◌then◌else◌}
+use Rattle.line_device.specs.Medium.{Medium}
 use Rattle.line_device.specs.Panel.{Image}
 use Rattle.line_device.specs.declared.line.Choice.{Choice}
 use Rattle.nvm_model.specs.Numbered.{map_from, list_from}
-use Rattle.nvm_model.specs.Cell.{Cell, zero_cell, put_cell, persist_cell, cell_byte, read_cell, KeepsCell}
+use Rattle.nvm_model.specs.Cell.{Cell, zero_cell, put_cell, persist_cell, cell_byte, read_cell, KeepsCell, CellStands}
 use Rattle.nvm_model.specs.Cell.Cell.{Bad, Kept}
 
 -- a page that no storage stands for, a hole in a file among them; or its 64 lines
@@ -67,3 +68,13 @@ abbrev pub bad_lines : List Page → ℕ
 bad_lines [] = 0
 bad_lines (Absent ∷ pages) = bad_lines pages
 bad_lines (Present cells ∷ pages) = bad_cells cells + bad_lines pages
+
+-- the device's line stands for that line of the pages
+pub record LineStands (m : Medium) (pages : List Page) (n : ℕ) : Type 0 where
+  pub cell : Cell
+  pub is : cell_of pages n ≡ Some cell
+  pub stands : CellStands m n cell
+
+-- The lines from 0 on stand for so many pages.
+abbrev pub PagesStand : Medium → ℕ → List Page → Type 0
+PagesStand m count pages = (n : ℕ) → n < 64 * count → LineStands m pages n

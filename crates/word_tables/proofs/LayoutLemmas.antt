@@ -40,7 +40,7 @@ module _ (geo : Geometry) where
   unfolding first_line size total_lines
   area_within a = sum_by_more_le (λ x. x) (sizes geo) (rank a) 0 (rank_below a)
 
-  whole_pages : IsValid geo → (a : Area) → 9 ≤ rank a → first_line geo a % 64 ≡ 0
+  whole_pages : IsValid geo → (a : Area) → rank first_range ≤ rank a → first_line geo a % 64 ≡ 0
   unfolding first_line
   whole_pages valid first_range late = omega arith
   whole_pages valid blocks late = omega arith

@@ -1,5 +1,5 @@
 -- Words have places of their own.
-use Rattle.std.proofs.Common.{◌≡◌, ℕ, ◌+◌, ◌*◌, ◌/◌, ◌<◌, ap, ap₂, arith, ⊎_elim, subst, refl}
+use Rattle.std.proofs.Common.{◌≡◌, ◌/◌, ◌<◌, ap, ap₂, arith}
 use Rattle.word_tables.specs.declared.geometry.Geometry.{Geometry}
 use Rattle.word_tables.specs.Bounds.{IsValid}
 use Rattle.word_tables.specs.Layout.{Area, block_log, volume_log, file_log, rank, first_line, size, meta_lines, HasLine, IsLog}

@@ -94,8 +94,8 @@ IsLog volume_log = Unit {0}
 IsLog file_log = Unit {0}
 IsLog _ = ⊥
 
--- areas follow each other and end with the medium
+-- areas follow each other and end with the medium; those of data begin at whole pages
 pub record IsLaidOut (geo : Geometry) : Type 0 where
   pub apart : (a b : Area) → rank a < rank b → first_line geo a + size geo a ≤ first_line geo b
   pub within : (a : Area) → first_line geo a + size geo a ≤ total_lines geo
-  pub whole_pages : (a : Area) → 9 ≤ rank a → first_line geo a % 64 ≡ 0
+  pub whole_pages : (a : Area) → rank first_range ≤ rank a → first_line geo a % 64 ≡ 0

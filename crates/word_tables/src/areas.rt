@@ -8,8 +8,6 @@ use nvm_base::{LINE, Span};
 
 const BLOCK_LOG: Span = Span { start: 1, len: 17 };
 
-const BLOCK_MAP: u64 = 18;
-
 const VOLUME_LOG_LINES: u64 = 65;
 
 const FILE_LOG_LINES: u64 = 69;
@@ -111,7 +109,7 @@ impl Geometry {
     pub(crate) fn block_map(&self) -> u64
         ensures { result ≡ first_line self.now block_map }
     {
-        BLOCK_MAP
+        BLOCK_LOG.start + BLOCK_LOG.len
     }
 
     pub(crate) fn presence(&self) -> u64

@@ -1,5 +1,5 @@
-use Rattle.std.proofs.Common.{List, map, ◌∙◌, ap, sym, subst}
-use Rattle.block_map.specs.States.{IsMap, state_of, word_of}
+use Rattle.std.proofs.Common.{map, ◌∙◌, ap, sym, subst}
+use Rattle.block_map.specs.States.{IsMap, word_of}
 use Rattle.block_map.proofs.MapLemmas.{is_map, words_of_states}
 use Rattle.block_map.proofs.map.BlockMap.read.Goals as goal
 

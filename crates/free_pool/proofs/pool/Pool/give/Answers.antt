@@ -1,4 +1,4 @@
-use Rattle.std.proofs.Common.{◌≡◌, ◌-◌, ◌<◌, ◌+◌, ℕ, List, Bool, true, set, subst, sym, ap, ◌∙◌, arith}
+use Rattle.std.proofs.Common.{◌≡◌, ◌+◌, ℕ, List, Bool, true, set, subst, sym, ap, ◌∙◌}
 use Rattle.free_pool.specs.Units.{IsTaken}
 use Rattle.free_pool.specs.Sparse.{pool_of}
 use Rattle.free_pool.proofs.SparseLemmas.{place_of_taken, room_to_give, moved_given, kept_given}

@@ -1,4 +1,4 @@
-use Rattle.std.proofs.Common.{◌≡◌, ◌-◌, ◌<◌, ◌+◌, ℕ, List, Bool, false, set, subst, sym, ap, ◌∙◌, arith}
+use Rattle.std.proofs.Common.{◌≡◌, ◌-◌, ℕ, List, Bool, false, set, subst, sym, ap, ◌∙◌, arith}
 use Rattle.free_pool.specs.Units.{IsFree}
 use Rattle.free_pool.specs.Sparse.{pool_of}
 use Rattle.free_pool.proofs.SparseLemmas.{place_of_free, moved_taken, kept_taken}

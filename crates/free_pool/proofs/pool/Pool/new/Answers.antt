@@ -1,5 +1,5 @@
-use Rattle.std.proofs.Common.{ℕ, List, ◌∙◌, ap, subst, sym, Bool}
-use Rattle.free_pool.specs.Sparse.{IsKept, pool_of}
+use Rattle.std.proofs.Common.{ℕ, List, ◌∙◌, ap}
+use Rattle.free_pool.specs.Sparse.{pool_of}
 use Rattle.free_pool.proofs.SparseLemmas.{range_kept, all_free}
 use Rattle.free_pool.proofs.pool.Pool.new.Goals as goal
 

@@ -1,5 +1,5 @@
 -- Lists made by number.
-use Rattle.std.proofs.Common.{◌≡◌, ℕ, zero, suc, ◌+◌, ◌<◌, List, [], ◌∷◌, ◌++◌, length, get_or, refl, sym, ap, ◌∙◌, arith, add-suc}
+use Rattle.std.proofs.Common.{◌≡◌, ℕ, zero, suc, ◌+◌, ◌<◌, Option, Some, None, option_map, slice_get, List, [], ◌∷◌, ◌++◌, length, get_or, refl, sym, ap, ◌∙◌, arith, add-suc}
 use Rattle.nvm_model.specs.Numbered.{list_from, map_from}
 
 pub length-list_from : {A : Type 0} (f : ℕ → A) (n count : ℕ) → length (list_from f n count) ≡ count
@@ -36,3 +36,21 @@ list_from-same f g a b (suc count) h =
     λ k lt. let e3 : suc a + k ≡ a + suc k = omega arith in let e4 : b + suc k ≡ suc b + k = omega arith in
     ap f e3 ∙ h (suc k) (omega arith) ∙ ap g e4 in
     rw head (ap (λ xs. g b ∷ xs) (list_from-same f g (suc a) (suc b) count rest))
+
+-- the item of a number
+pub slice_get-map_from : {A B : Type 0} (f : ℕ → A → B) (n : ℕ) (xs : List A) (i : ℕ)
+    → slice_get (map_from f n xs) i ≡ option_map (f (n + i)) (slice_get xs i)
+slice_get-map_from f n [] i = refl
+slice_get-map_from f n (x ∷ xs) zero = let e : n + 0 ≡ n = omega arith in rw e refl
+slice_get-map_from f n (x ∷ xs) (suc i) =
+    let e : n + suc i ≡ suc n + i = omega arith in rw e (slice_get-map_from f (suc n) xs i)
+
+pub slice_get-list_from : {A : Type 0} (f : ℕ → A) (n count i : ℕ) → i < count → slice_get (list_from f n count) i ≡ Some (f (n + i))
+slice_get-list_from f n zero i lt = absurd (omega arith)
+slice_get-list_from f n (suc count) zero lt = let e : n + 0 ≡ n = omega arith in rw e refl
+slice_get-list_from f n (suc count) (suc i) lt =
+    let e : n + suc i ≡ suc n + i = omega arith in rw e (slice_get-list_from f (suc n) count i (omega arith))
+
+pub length-map_from : {A B : Type 0} (f : ℕ → A → B) (n : ℕ) (xs : List A) → length (map_from f n xs) ≡ length xs
+length-map_from f n [] = refl
+length-map_from f n (x ∷ xs) = ap suc (length-map_from f (suc n) xs)

@@ -1,0 +1,49 @@
+use Rattle.std.proofs.Common.{◌≡◌, ℕ, ◌+◌, ◌-◌, ◌<◌, ◌≤◌, List, ◌++◌, length, get_or, take, drop, inl, inr, sym, ◌∙◌, ap, subst, arith, rules, length-append, length-take, length-drop}
+use Rattle.std.proofs.lemmas.Bool.{cases_lt}
+use Rattle.std.proofs.lemmas.List.{places, take_all, append-nil}
+use Rattle.std.proofs.lemmas.List.{drop_all}
+use Rattle.line_device.specs.Word.{byte_over, IsPut}
+use Rattle.line_device.proofs.WordLemmas.{byte_over-in, byte_over-out}
+use Rattle.line_device.proofs.plain.bytes.put.Goals as goal
+
+-- the list with the bytes in its midst
+abbrev mid : ℕ → List ℕ → List ℕ → List ℕ
+mid at bytes xs = take at xs ++ (bytes ++ drop (length bytes) (drop at xs))
+
+length-mid : (at : ℕ) (bytes xs : List ℕ) → at + length bytes ≤ length xs → length (mid at bytes xs) ≡ length xs
+length-mid at bytes xs fits =
+    omega (arith, length-append (take at xs) (bytes ++ drop (length bytes) (drop at xs)), length-append bytes (drop (length bytes) (drop at xs)), length-take at xs, length-drop at xs, length-drop (length bytes) (drop at xs))
+
+is_put-mid : (at : ℕ) (bytes xs : List ℕ) → at + length bytes ≤ length xs → IsPut at bytes xs (mid at bytes xs)
+is_put-mid at bytes xs fits k =
+    elim (cases_lt k at) as (λ _. get_or (mid at bytes xs) k 0 ≡ byte_over at bytes k (get_or xs k 0)) [
+      | inl before ↦
+          let same : get_or (mid at bytes xs) k 0 ≡ get_or xs k 0 = search (rules, places) in same ∙ sym (byte_over-out at k (get_or xs k 0) bytes (inl before))
+      | inr from ↦
+          elim (cases_lt k (at + length bytes)) as (λ _. get_or (mid at bytes xs) k 0 ≡ byte_over at bytes k (get_or xs k 0)) [
+            | inl to ↦
+                let put : get_or (mid at bytes xs) k 0 ≡ get_or bytes (k - at) 0 = search (rules, places) in put ∙ sym (byte_over-in at k (get_or xs k 0) bytes from to)
+            | inr past ↦
+                let same : get_or (mid at bytes xs) k 0 ≡ get_or xs k 0 = search (rules, places) in same ∙ sym (byte_over-out at k (get_or xs k 0) bytes (inr past))
+          ]
+    ]
+
+is_put-written : (len at n : ℕ) (xs seen copied bytes : List ℕ) → seen ≡ xs → copied ≡ bytes → length xs ≡ len → n ≡ length bytes → at + length bytes ≤ len → IsPut at bytes xs (take len ((take at seen ++ (copied ++ drop n (drop at seen))) ++ drop (length (take at seen ++ (copied ++ drop n (drop at seen)))) xs))
+is_put-written len at n xs seen copied bytes is_seen is_copied is_len is_n fits =
+    let whole = take at seen ++ (copied ++ drop n (drop at seen)) in
+    let fits_in : at + length bytes ≤ length xs = omega arith in
+    let long = length-mid at bytes xs fits_in in
+    let is_whole : whole ≡ mid at bytes xs = cc in
+    let is : take len (whole ++ drop (length whole) xs) ≡ mid at bytes xs =
+    ap (λ l. take len (l ++ drop (length l) xs)) is_whole
+    ∙ ap (λ l. take len (mid at bytes xs ++ l)) (drop_all (length (mid at bytes xs)) xs (omega arith))
+    ∙ ap (take len) (append-nil (mid at bytes xs))
+    ∙ take_all len (mid at bytes xs) (omega arith) in
+    subst (IsPut at bytes xs) (sym is) (is_put-mid at bytes xs fits_in)
+
+pub returns-clause-bytes : goal.returns-clause-bytes
+returns-clause-bytes c =
+    is_put-written c.args.list.now.len c.args.at (c.args.at + length c.args.bytes.now - c.args.at) c.args.list.now.items c.deref_mut.result.now c.copy_from_slice.new.self c.args.bytes.now c.deref_mut.ensures.value c.copy_from_slice.ensures.after
+    (sym (ap length c.deref_mut.ensures.value) ∙ c.deref_mut.ensures.len)
+    (omega arith)
+    c.requires

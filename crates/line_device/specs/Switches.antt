@@ -1,0 +1,66 @@
+-- A device's power, what is armed, and its counts.
+use Rattle.std.specs.Prelude.{◌≡◌, ℕ, Bool, true, false, None, Option, Result, Ok, Err, if◌then◌else◌}
+use Rattle.std.specs.Option.{is_some}
+use Rattle.line_device.specs.Panel.{Panel, Outcome, bumped}
+use Rattle.line_device.specs.Panel.Outcome.{went, failed, lost}
+use Rattle.line_device.specs.Arming.{is_due, counted_down, next_end, fail_after}
+use Rattle.line_device.specs.declared.counts.Counts.{Counts}
+use Rattle.line_device.specs.declared.fault.DeviceFault.{DeviceFault}
+use Rattle.line_device.specs.declared.fault.DeviceFault.TheVariants.{Failed, PowerLost}
+use Rattle.line_device.specs.declared.switches.Switches.{Switches}
+
+-- the panel of a device that tells no starts and no orders
+abbrev pub panel_of : Switches → Panel
+panel_of s = record {
+  power = s.power;
+  cut_armed = is_some s.cut;
+  fail_armed = is_some s.fail;
+  counts = s.counts;
+  starts = None;
+  last_order = None;
+}
+
+-- the counted calls left until the armed cut, and until the armed failure
+abbrev pub cut_left : Switches → Option ℕ
+cut_left s = s.cut
+
+abbrev pub fail_left : Switches → Option ℕ
+fail_left s = s.fail
+
+-- how the next counted call ends
+abbrev pub end_of : Switches → Outcome
+end_of s = next_end s.cut s.fail
+
+-- whether the next counted call is done, or why not
+abbrev pub answer_of : Switches → Result (Unit {0}) DeviceFault
+answer_of s = if is_due s.cut then Err PowerLost else (if is_due s.fail then Err Failed else Ok tt)
+
+-- the counts after a counted call that ended so
+abbrev pub counts_after : Outcome → Counts → Counts
+counts_after went c = record c { calls = bumped c.calls }
+counts_after failed c = record c { calls = bumped c.calls; faults = bumped c.faults }
+counts_after lost c = record c { calls = bumped c.calls; cuts = bumped c.cuts }
+
+-- after a counted call
+abbrev pub after_call : Switches → Switches
+after_call s = record {
+  power = if is_due s.cut then false else s.power;
+  cut = counted_down s.cut;
+  fail = fail_after s.cut s.fail;
+  counts = counts_after (end_of s) s.counts;
+}
+
+-- after what only counts a persist, or an order to write back
+abbrev pub after_persist : Switches → Switches
+after_persist s = record s { counts = record s.counts { persists = bumped s.counts.persists } }
+
+abbrev pub after_evict : Switches → Switches
+after_evict s = record s { counts = record s.counts { evicts = bumped s.counts.evicts } }
+
+-- with the power on
+abbrev pub powered : Switches → Switches
+powered s = record s { power = true }
+
+-- after a restart
+abbrev pub after_restart : Switches → Switches
+after_restart s = record s { power = true; counts = record s.counts { restarts = bumped s.counts.restarts } }

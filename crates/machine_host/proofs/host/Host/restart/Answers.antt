@@ -1,0 +1,13 @@
+use Rattle.std.proofs.Common.{subst, sym}
+use Rattle.machine_host.specs.Stands.{Serves, Stands}
+use Rattle.machine_host.proofs.ShortLemmas.{length-answer_line-none_bad}
+use Rattle.machine_host.proofs.StepLemmas.{comes_of_restart}
+use Rattle.machine_host.proofs.host.Host.restart.Goals as goal
+
+pub returns-clause-step : goal.returns-clause-step
+returns-clause-step g c h stands unarmed =
+    let left = c.in_ok-restart.ensures in
+    comes_of_restart (record { vpages = c.self.inside.vpages; mode = c.self.inside.mode }) _ _ h c.args.choice left.0 (subst (λ host. Stands host (g.D.Lines.state c.args.device.now) h) (sym c.self.view_is) stands) (subst (λ host. Serves host (g.D.Lines.state c.args.device.now)) (sym c.self.view_is) c.requires.serves) left.1
+
+pub returns-clause-short : goal.returns-clause-short
+returns-clause-short g c = length-answer_line-none_bad

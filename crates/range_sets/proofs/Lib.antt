@@ -1,0 +1,2 @@
+pub mod DisjointLemmas
+pub mod PlaceLemmas

@@ -1,0 +1,40 @@
+// Bytes and addresses, counted through ranges in their order.
+ghost use Rattle.std.specs.Prelude.{◌≡◌, ◌^◌, ◌≤◌, All};
+ghost use Rattle.range_sets.specs.Ranges.{IsInReach, offset_of, place, total_of};
+
+use nvm_base::Span;
+
+pub(crate) fn total_of(ranges: &[Span]) -> u64
+    requires { total_of ranges.now ≤ 2 ^ 40 }
+    ensures { result ≡ total_of ranges.now }
+{
+    ranges.iter().map(|range| range.len).sum()
+}
+
+pub(crate) fn place(ranges: &[Span], offset: u64) -> Option<u64>
+    requires { All IsInReach ranges.now }
+    ensures { result ≡ place ranges.now offset }
+{
+    let mut rest = offset;
+    for range in ranges {
+        if rest < range.len {
+            return Some(range.start + rest);
+        }
+        rest -= range.len;
+    }
+    None
+}
+
+pub(crate) fn offset_of(ranges: &[Span], address: u64) -> Option<u64>
+    requires { total_of ranges.now ≤ 2 ^ 40 }
+    ensures { result ≡ offset_of ranges.now address }
+{
+    let mut before = 0;
+    for range in ranges {
+        if range.start <= address && address - range.start < range.len {
+            return Some(before + (address - range.start));
+        }
+        before += range.len;
+    }
+    None
+}
