@@ -70,7 +70,7 @@ pub record Costs (left_old left_new : Option (List ℕ)) (old new : Panel) : Typ
 -- Reading all of a script: it is what the source told, unless it is too long or the source fails.
 abbrev pub ReadsTo : List ℕ → Option (List ℕ) → Result (Stock ℕ) Ending → Type 0
 ReadsTo script left (Ok bytes) = (bytes.items ≡ script) × IsAtEnd left × (length script < 1073741824)
-ReadsTo script left (Err Script) = length script ≡ 1073741824
+ReadsTo script left (Err Script) = 1073741824 ≤ length script
 ReadsTo script left (Err Read) = Unit {0}
 ReadsTo script left (Err Memory) = Unit {0}
 ReadsTo script left (Err Usage) = ⊥
@@ -82,17 +82,17 @@ pub record Reads (left_old left_new : Option (List ℕ)) (result : Result (Stock
   pub read : Consumes left_old left_new script
   pub outcome : ReadsTo script left_new result
 
--- Reading some more of it: at most so many bytes, none only at the end.
-abbrev pub TakesTo : List ℕ → ℕ → Option (List ℕ) → List ℕ → List ℕ → Result ℕ Ending → Type 0
-TakesTo taken most left old new (Ok count) = (new ≡ old ++ taken) × (length taken ≡ count) × (count ≤ most) × (count ≡ 0 → IsAtEnd left)
-TakesTo taken most left old new (Err Read) = Unit {0}
-TakesTo taken most left old new (Err Memory) = Unit {0}
-TakesTo taken most left old new (Err Usage) = ⊥
-TakesTo taken most left old new (Err Write) = ⊥
-TakesTo taken most left old new (Err Script) = ⊥
-TakesTo taken most left old new (Err endings.Device) = ⊥
+-- Reading some more of it: none only at the end.
+abbrev pub TakesTo : List ℕ → Option (List ℕ) → List ℕ → List ℕ → Result ℕ Ending → Type 0
+TakesTo taken left old new (Ok count) = (new ≡ old ++ taken) × (length taken ≡ count) × (count ≡ 0 → IsAtEnd left)
+TakesTo taken left old new (Err Read) = Unit {0}
+TakesTo taken left old new (Err Memory) = Unit {0}
+TakesTo taken left old new (Err Usage) = ⊥
+TakesTo taken left old new (Err Write) = ⊥
+TakesTo taken left old new (Err Script) = ⊥
+TakesTo taken left old new (Err endings.Device) = ⊥
 
-pub record Takes (most : ℕ) (left_old left_new : Option (List ℕ)) (old new : List ℕ) (result : Result ℕ Ending) : Type 0 where
+pub record Takes (left_old left_new : Option (List ℕ)) (old new : List ℕ) (result : Result ℕ Ending) : Type 0 where
   pub taken : List ℕ
   pub read : Consumes left_old left_new taken
-  pub outcome : TakesTo taken most left_new old new result
+  pub outcome : TakesTo taken left_new old new result

@@ -12,7 +12,7 @@ use std::alloc::Global;
 const TOO_LONG: u64 = 1 << 30;
 
 /// How many bytes are asked for at a time.
-const PIECE: u64 = 65536;
+const PIECE: usize = 65536;
 
 /// Reads the source to its end.
 pub fn read_all<T: Source>(alloc: Global, source: &mut T) -> Result<Bytes, Ending>
@@ -20,10 +20,10 @@ pub fn read_all<T: Source>(alloc: Global, source: &mut T) -> Result<Bytes, Endin
     ensures cause { IfErr result (λ e. e ≡ Ending.Read → Rose (T.count source.old) (T.count source.new)) }
 {
     let mut script = Bytes::new(alloc);
-    let mut piece = vec![in alloc; 0u8; PIECE as usize]?;
+    let mut piece = vec![in alloc; 0u8; PIECE]?;
     while script.len() < TOO_LONG {
-        let room = PIECE.min(TOO_LONG - script.len()) as usize;
-        if read_piece(source, &mut piece[..room], &mut script)? == 0 {
+        let count = read_piece(source, &mut piece, &mut script)?;
+        if count == 0 {
             return Ok(script);
         }
     }
@@ -37,7 +37,7 @@ fn read_piece<T: Source>(
     script: &mut Bytes,
 ) -> Result<usize, Ending>
     requires { 0 < length piece.old }
-    ensures takes { Takes (length piece.old) (T.left source.old) (T.left source.new) script.old.items script.new.items result }
+    ensures takes { Takes (T.left source.old) (T.left source.new) script.old.items script.new.items result }
     ensures later { T.count source.old ≤ T.count source.new }
     ensures cause { IfErr result (λ e. e ≡ Ending.Read → Rose (T.count source.old) (T.count source.new)) }
 {
