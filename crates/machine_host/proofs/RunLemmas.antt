@@ -11,17 +11,8 @@ use Rattle.machine_host.specs.Script.{Input}
 use Rattle.machine_host.specs.Script.Input.{Skipped, Malformed, Asked}
 use Rattle.machine_host.specs.Machine.{Machine, Fate, fate, restarted, restart_answer}
 use Rattle.machine_host.specs.Machine.Fate.{Gives, Restarts}
-use Rattle.machine_host.specs.Run.{Transcript, said, perform, Allows, Run}
+use Rattle.machine_host.specs.Run.{Transcript, said, perform, Allows, Run, Goes, after}
 use Rattle.machine_host.specs.Stands.{HostState, Takes, Comes, bumped_by}
-
--- a transcript with answers before
-abbrev pub after : List Answer → Transcript → Transcript
-after answers rest = record { answers = answers ++ rest.answers; state = rest.state }
-
--- The inputs lead from one state to another: whatever is done from there on, the whole does from here.
-pub record Goes (from : Machine) (inputs : List Input) (starts : List Start) (answers : List Answer) (to : Machine) : Type 0 where
-  pub allows : (more : List Input) (others : List Start) → Allows to more others → Allows from (inputs ++ more) (starts ++ others)
-  pub performs : (more : List Input) (others : List Start) → perform from (inputs ++ more) (starts ++ others) ≡ after answers (perform to more others)
 
 pub goes-none : (h : Machine) → Goes h [] [] [] h
 goes-none h = record { allows = λ more others a. a; performs = λ more others. refl }

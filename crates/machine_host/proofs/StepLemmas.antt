@@ -22,7 +22,7 @@ use Rattle.machine_host.specs.declared.mode.Mode.TheVariants as modes
 use Rattle.machine_host.specs.Volume.{IsIntact, SameMarks, shown_byte, span_shown, span_stored, span_settled}
 use Rattle.machine_host.specs.Stands.{HostState, Serves, DeviceStands, Stands, IsUnarmed, Comes}
 
-not_true : (b : Bool) → (IsTrue b → ⊥) → b ≡ false
+pub not_true : (b : Bool) → (IsTrue b → ⊥) → b ≡ false
 not_true true h = absurd (h refl)
 not_true false h = refl
 

@@ -1,2 +1,4 @@
 pub mod BytesLemmas
 pub mod ReadLemmas
+pub mod LineLemmas
+pub mod GoingLemmas

@@ -1,15 +1,15 @@
 -- What a whole call did: over which lines of which script, with which answers, and what the device is left as.
-use Rattle.std.specs.Prelude.{◌≡◌, ◌≢◌, ◌≤◌, ◌<◌, ℕ, List, [], ◌++◌, length, Option, IfSome, Result, Ok, Err}
+use Rattle.std.specs.Prelude.{◌≡◌, ◌≢◌, ◌≤◌, ◌<◌, ℕ, List, [], ◌∷◌, ◌++◌, length, Option, Result, Ok, Err, OnOk}
 use Rattle.std.specs.Io.KnownBytes.{Appends, Consumes, IsAtEnd}
 use Rattle.nvm_base.specs.Counts.{Rose}
 use Rattle.line_device.specs.Panel.{Panel, Start, told}
 use Rattle.line_device.specs.Device.{Device}
 use Rattle.word_tables.specs.declared.geometry.Geometry.{Geometry}
 use Rattle.machine_host.specs.Answer.{Answer, reply_text}
-use Rattle.machine_host.specs.Script.{inputs_of, lines_of}
+use Rattle.machine_host.specs.Script.{Input, inputs_of, lines_of}
 use Rattle.machine_host.specs.Machine.{Machine, fresh}
-use Rattle.machine_host.specs.Run.{Run}
-use Rattle.machine_host.specs.Stands.{DeviceStands, IsUnarmed, Spends, bumped_by}
+use Rattle.machine_host.specs.Run.{Run, Goes}
+use Rattle.machine_host.specs.Stands.{HostState, DeviceStands, Stands, IsUnarmed, Spends, bumped_by}
 use Rattle.nvm_base.specs.Stock.{Stock}
 use Rattle.nvmhost.specs.declared.ending.Ending.{Ending}
 use Rattle.nvmhost.specs.declared.ending.Ending.TheVariants.{Usage, Read, Write, Memory, Script}
@@ -96,3 +96,50 @@ pub record Takes (left_old left_new : Option (List ℕ)) (old new : List ℕ) (r
   pub taken : List ℕ
   pub read : Consumes left_old left_new taken
   pub outcome : TakesTo taken left_new old new result
+
+-- One line: it led the machine on, and its answers are appended.
+pub record LineGoes (h : Machine) (input : Input) (out_old out_new : List ℕ) (host : HostState) (old new : Device) : Type 0 where
+  pub starts : List Start
+  pub answers : List Answer
+  pub next : Machine
+  pub goes : Goes h (input ∷ []) starts answers next
+  pub text : out_new ≡ out_old ++ reply_text answers
+  pub told_starts : new.panel.starts ≡ told old.panel.starts starts
+  pub restarts : new.panel.counts.restarts ≡ bumped_by starts old.panel.counts.restarts
+  pub stands : Stands host new next
+
+-- replies that wait are written from the front
+pub record Flushes (out_old out_new : List ℕ) (written_old written_new : Option (List ℕ)) : Type 0 where
+  pub part : List ℕ
+  pub wrote : Appends written_old written_new part
+  pub kept : part ++ out_new ≡ out_old
+
+-- a run of which nothing is left to do or to write
+pub record IsWhole (starts : List Start) (answers : List Answer) (end : Machine) (said : List ℕ) (others : List (List ℕ)) (old new : Device) : Type 0 where
+  pub all : said ≡ reply_text answers
+  pub none_left : others ≡ []
+  pub told_starts : new.panel.starts ≡ told old.panel.starts starts
+  pub restarts : new.panel.counts.restarts ≡ bumped_by starts old.panel.counts.restarts
+  pub stands : DeviceStands new end
+
+-- what was said over some first lines of a script, all of it at Ok
+pub record Says (geo : Geometry) (script : List ℕ) (result : Result (Unit {0}) Ending) (written_old written_new : Option (List ℕ)) (old new : Device) : Type 0 where
+  pub lines : List (List ℕ)
+  pub others : List (List ℕ)
+  pub starts : List Start
+  pub answers : List Answer
+  pub end : Machine
+  pub said : List ℕ
+  pub split : lines_of script ≡ lines ++ others
+  pub run : Run (fresh geo) (inputs_of lines) starts answers end
+  pub front : IsFront said (reply_text answers)
+  pub wrote : Appends written_old written_new said
+  pub whole : OnOk result (IsWhole starts answers end said others old new)
+
+-- A script was performed up to some line. Where the device stood for zeros with nothing armed, it is a run.
+pub record Performs (geo : Geometry) (script : List ℕ) (result : Result (Unit {0}) Ending) (written_old written_new : Option (List ℕ)) (old new : Device) : Type 0 where
+  pub begun : List (List ℕ)
+  pub others : List (List ℕ)
+  pub split : lines_of script ≡ begun ++ others
+  pub spends : Spends (inputs_of begun) old.panel new.panel
+  pub says : DeviceStands old (fresh geo) → IsUnarmed old.panel → Says geo script result written_old written_new old new

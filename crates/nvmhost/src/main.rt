@@ -3,6 +3,7 @@
 
 mod ending;
 mod reading;
+mod running;
 mod words;
 
 fn main() {}
