@@ -1,5 +1,5 @@
 // Performing a script line by line, and writing the replies.
-ghost use Rattle.std.specs.Prelude.{◌≡◌, ◌++◌, [], ◌∷◌, IfErr, OnOk, OnErr, MatchResult};
+ghost use Rattle.std.specs.Prelude.{◌≡◌, ◌≤◌, ◌++◌, [], ◌∷◌, IfErr, OnOk, OnErr, MatchResult};
 ghost use Rattle.std.specs.Io.KnownBytes.{Appends};
 ghost use Rattle.nvm_base.specs.Counts.{Rose};
 ghost use Rattle.host_io.specs.Writing.{AppendsSome};
@@ -74,6 +74,7 @@ fn perform_line<D: LineDevice>(
 fn flush_long<K: Sink>(out: &mut Bytes, replies: &mut K) -> Result<(), WriteFault>
     ensures bytes { MatchResult result (λ _. Flushes out.old.items out.new.items (K.written replies.old) (K.written replies.new))
         (λ _. AppendsSome out.old.items (K.written replies.old) (K.written replies.new)) }
+    ensures later { K.count replies.old ≤ K.count replies.new }
     ensures cause { IfErr result (λ e. e ≡ WriteFault.Failed → Rose (K.count replies.old) (K.count replies.new)) }
 {
     if out.len() < PIECE {
@@ -87,6 +88,7 @@ fn flush<K: Sink>(out: &mut Bytes, replies: &mut K) -> Result<(), WriteFault>
     ensures bytes { MatchResult result (λ _. Flushes out.old.items out.new.items (K.written replies.old) (K.written replies.new))
         (λ _. AppendsSome out.old.items (K.written replies.old) (K.written replies.new)) }
     ensures none { OnOk result (out.new.items ≡ []) }
+    ensures later { K.count replies.old ≤ K.count replies.new }
     ensures cause { IfErr result (λ e. e ≡ WriteFault.Failed → Rose (K.count replies.old) (K.count replies.new)) }
 {
     write_all(replies, out.as_slice())?;
