@@ -1,5 +1,5 @@
 -- What a whole call did: over which lines of which script, with which answers, and what the device is left as.
-use Rattle.std.specs.Prelude.{◌≡◌, ◌≢◌, ◌≤◌, ◌<◌, ℕ, List, [], ◌∷◌, ◌++◌, length, Option, Result, Ok, Err, OnOk}
+use Rattle.std.specs.Prelude.{◌≡◌, ◌≢◌, ◌≤◌, ◌<◌, ℕ, List, [], ◌∷◌, ◌++◌, length, Option, IfSome, Result, Ok, Err, OnOk}
 use Rattle.std.specs.Io.KnownBytes.{Appends, Consumes, IsAtEnd}
 use Rattle.nvm_base.specs.Counts.{Rose}
 use Rattle.line_device.specs.Panel.{Panel, Start, told}
@@ -9,8 +9,9 @@ use Rattle.machine_host.specs.Answer.{Answer, reply_text}
 use Rattle.machine_host.specs.Script.{Input, inputs_of, lines_of}
 use Rattle.machine_host.specs.Machine.{Machine, fresh}
 use Rattle.machine_host.specs.Run.{Run, Goes}
-use Rattle.machine_host.specs.Stands.{HostState, DeviceStands, Stands, IsUnarmed, Spends, bumped_by}
+use Rattle.machine_host.specs.Stands.{HostState, Serves, DeviceStands, Stands, IsUnarmed, Spends, bumped_by}
 use Rattle.nvm_base.specs.Stock.{Stock}
+use Rattle.machine_host.specs.declared.mode.Mode.TheVariants.{On}
 use Rattle.nvmhost.specs.declared.ending.Ending.{Ending}
 use Rattle.nvmhost.specs.declared.ending.Ending.TheVariants.{Usage, Read, Write, Memory, Script}
 use Rattle.nvmhost.specs.declared.ending.Ending.TheVariants as endings
@@ -40,32 +41,54 @@ pub record Completes (geo : Geometry) (left_old left_new written_old written_new
   pub ran : Ran geo (lines_of script) answers old new
   pub wrote : Appends written_old written_new (reply_text answers)
 
--- A call that ended early: what was written is how the text of a run begins, over some first lines of what was read, and then
--- how the ending's line begins.
-pub record BreaksOff (geo : Geometry) (ending : Ending) (left_old left_new written_old written_new : Option (List ℕ)) : Type 0 where
+-- some of the text was written, from the front
+pub record WritesFront (text : List ℕ) (old new : Option (List ℕ)) : Type 0 where
+  pub part : List ℕ
+  pub front : IsFront part text
+  pub wrote : Appends old new part
+
+-- A call that came to no end: what was written is how the text of a run begins, over some first lines of what was read.
+pub record Halts (geo : Geometry) (left_old left_new written_old written_new : Option (List ℕ)) : Type 0 where
   pub script : List ℕ
   pub lines : List (List ℕ)
   pub others : List (List ℕ)
   pub starts : List Start
   pub answers : List Answer
   pub end : Machine
-  pub said : List ℕ
-  pub last : List ℕ
   pub read : Consumes left_old left_new script
   pub split : lines_of script ≡ lines ++ others
   pub run : Run (fresh geo) (inputs_of lines) starts answers end
-  pub front : IsFront said (reply_text answers)
-  pub line : IsFront last (ending_text ending)
-  pub wrote : Appends written_old written_new (said ++ last)
+  pub wrote : WritesFront (reply_text answers) written_old written_new
 
--- What the call did to the device's counts: no more than the commands of the lines that it performed.
+-- A call that ended early: it came to no end, and then some of the ending's line was written.
+pub record BreaksOff (geo : Geometry) (ending : Ending) (left_old left_new written_old written_new : Option (List ℕ)) : Type 0 where
+  pub between : Option (List ℕ)
+  pub halts : Halts geo left_old left_new written_old between
+  pub line : WritesFront (ending_text ending) between written_new
+
+-- What the call did to the device's counts: no more than the commands of the lines that it began.
 pub record Costs (left_old left_new : Option (List ℕ)) (old new : Panel) : Type 0 where
   pub script : List ℕ
-  pub lines : List (List ℕ)
+  pub begun : List (List ℕ)
   pub others : List (List ℕ)
   pub read : Consumes left_old left_new script
-  pub split : lines_of script ≡ lines ++ others
-  pub spends : Spends (inputs_of lines) old new
+  pub split : lines_of script ≡ begun ++ others
+  pub spends : Spends (inputs_of begun) old new
+
+-- The device was made one of zeros for a host.
+pub record IsReady (geo : Geometry) (old new : Device) : Type 0 where
+  pub serves : Serves (record { vpages = geo.vpages; mode = On }) new
+  pub starts : new.panel.starts ≡ old.panel.starts
+  pub restarts : new.panel.counts.restarts ≡ old.panel.counts.restarts
+  pub stands : IsUnarmed old.panel → DeviceStands new (fresh geo)
+  pub unarmed : IsUnarmed old.panel → IsUnarmed new.panel
+
+-- why a call ended early, by the counts of what failed
+pub record IsCaused (ending : Ending) (read_old read_new write_old write_new setups_old setups_new : ℕ) (left_old : Option (List ℕ)) : Type 0 where
+  pub read : ending ≡ Read → Rose read_old read_new
+  pub write : ending ≡ Write → Rose write_old write_new
+  pub device : ending ≡ endings.Device → Rose setups_old setups_new
+  pub script : ending ≡ Script → IfSome left_old (λ script. 1073741824 ≤ length script)
 
 -- Reading all of a script: it is what the source told, unless it is too long or the source fails.
 abbrev pub ReadsTo : List ℕ → Option (List ℕ) → Result (Stock ℕ) Ending → Type 0

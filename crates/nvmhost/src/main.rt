@@ -4,6 +4,7 @@
 mod ending;
 mod reading;
 mod running;
+mod top;
 mod words;
 
 fn main() {}
