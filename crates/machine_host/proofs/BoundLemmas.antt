@@ -1,5 +1,5 @@
 -- How large what a line asks for can be.
-use Rattle.std.proofs.Common.{◌≡◌, ◌==◌, ◌&&◌, ℕ, ◌+◌, ◌^◌, ◌<◌, ◌≤◌, Bool, true, false, nat_lt, nat_le, List, [], ◌∷◌, ◌++◌, length, replicate, Option, Some, None, Result, Ok, Err, option_map, option_and_then, if◌then◌else◌, codes, IfOk, IfSome, refl, sym, subst, ap, ◌∙◌, arith, rules, tests, length-append}
+use Rattle.std.proofs.Common.{◌≡◌, ◌==◌, ◌&&◌, ℕ, ◌^◌, ◌<◌, ◌≤◌, Bool, true, false, nat_lt, nat_le, List, [], ◌∷◌, ◌++◌, length, replicate, Option, Some, None, Result, Ok, Err, option_map, option_and_then, if◌then◌else◌, codes, IfOk, IfSome, refl, subst, ap, arith, rules, tests, length-append}
 use Rattle.std.specs.List.{slice_split}
 use Rattle.std.specs.Str.{bytes_eq}
 use Rattle.std.proofs.lemmas.List.Splits.{length-slice_split}

@@ -36,11 +36,12 @@ pub fn split_line(script: &[u8]) -> (&[u8], &[u8])
     }
 }
 
-#[tactic(auto, unfolding(crate::specs::Script::line_input))]
 /// The command that a line asks for, None where there is nothing to do.
+#[tactic(auto, unfolding(crate::specs::Script::line_input))]
 pub fn parse(alloc: Global, line: &[u8]) -> Result<Option<Command>, LineFault>
     ensures input { Parses (line_input line.now) result }
-    ensures memory { IfErr result (λ e. e ≡ LineFault.Memory → BringsData (words_of (strip_last 13 line.now))) }
+    ensures memory { IfErr result
+        (λ e. e ≡ LineFault.Memory → BringsData (words_of (strip_last 13 line.now))) }
     ensures bounds { IfOk result (λ parsed. IfSome parsed (λ command. InBounds (action_of command))) }
 {
     if line.len() as u64 > MOST {

@@ -69,7 +69,8 @@ fn read_store(alloc: Global, words: &[u8]) -> Result<Command, LineFault>
 }
 
 fn read_span(words: &[u8]) -> Option<(u64, u64)>
-    ensures { (make : ℕ → ℕ → Action) → option_map (λ p. make p.0 p.1) result ≡ span_action make (words_of words.now) }
+    ensures { (make : ℕ → ℕ → Action)
+        → option_map (λ p. make p.0 p.1) result ≡ span_action make (words_of words.now) }
 {
     let (offset, len) = two_words(words)?;
     Some((read_number(offset)?, read_number(len)?))

@@ -5,7 +5,8 @@ ghost use Rattle.machine_host.specs.Script.{is_blank, words_of};
 
 // The first word and what comes after it.
 pub(super) fn next_word(text: &[u8]) -> Option<(&[u8], &[u8])>
-    ensures { MatchOption result (words_of text.now ≡ []) (λ p. words_of text.now ≡ p.0.now ∷ words_of p.1.now) }
+    ensures { MatchOption result (words_of text.now ≡ [])
+        (λ p. words_of text.now ≡ p.0.now ∷ words_of p.1.now) }
 {
     let start = first_other(text)?;
     let text = &text[start..];
@@ -27,25 +28,21 @@ fn first_blank(text: &[u8]) -> Option<usize>
 
 // The word, where there is just one.
 pub(super) fn only_word(text: &[u8]) -> Option<&[u8]>
-    ensures { MatchOption result (one_of (words_of text.now) ≡ None) (λ word. words_of text.now ≡ word.now ∷ []) }
+    ensures { MatchOption result (one_of (words_of text.now) ≡ None)
+        (λ word. words_of text.now ≡ word.now ∷ []) }
 {
     let (word, rest) = next_word(text)?;
-    match next_word(rest) {
-        None => Some(word),
-        Some(_) => None,
-    }
+    next_word(rest).is_none().then_some(word)
 }
 
 // The two words, where there are just two.
 pub(super) fn two_words(text: &[u8]) -> Option<(&[u8], &[u8])>
-    ensures { MatchOption result (two_of (words_of text.now) ≡ None) (λ p. words_of text.now ≡ p.0.now ∷ p.1.now ∷ []) }
+    ensures { MatchOption result (two_of (words_of text.now) ≡ None)
+        (λ p. words_of text.now ≡ p.0.now ∷ p.1.now ∷ []) }
 {
     let (first, rest) = next_word(text)?;
     let (second, rest) = next_word(rest)?;
-    match next_word(rest) {
-        None => Some((first, second)),
-        Some(_) => None,
-    }
+    next_word(rest).is_none().then_some((first, second))
 }
 
 fn is_blank(c: u8) -> bool

@@ -1,4 +1,3 @@
-use Rattle.std.proofs.Common.{add-one}
 use Rattle.std.proofs.lemmas.List.{take_rest}
 use Rattle.machine_host.proofs.LineLemmas.{lines_of-first, lines_of-last}
 use Rattle.machine_host.specs.Script.{lines_of}
@@ -7,7 +6,7 @@ use Rattle.machine_host.proofs.script.split_line.Goals as goal
 pub returns-in-Some-clause-lines : goal.returns-in-Some-clause-lines
 returns-in-Some-clause-lines c =
     let found = c.in-Some.ensures in
-    rw (take_rest, add-one) (lines_of-first c.args.script.now c.in-Some.end found.0.high found.0.before found.1)
+    rw take_rest (lines_of-first c.args.script.now c.in-Some.end found.0.high found.0.before found.1)
 
 pub returns-in-None-clause-lines : goal.returns-in-None-clause-lines
 unfolding lines_of

@@ -1,4 +1,4 @@
-use Rattle.std.proofs.Common.{length, take, drop, refl, sym, ◌∙◌, ◌-◌}
+use Rattle.std.proofs.Common.{refl, sym, ◌∙◌}
 use Rattle.std.proofs.lemmas.List.{take_rest}
 use Rattle.machine_host.proofs.WordLemmas.{words_of-blank, words_of-first, first_within}
 use Rattle.machine_host.proofs.script.words.next_word.Goals as goal
