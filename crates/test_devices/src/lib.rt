@@ -1,0 +1,8 @@
+//! Devices of tests: one that records how it was restarted and what it was told to do, and one that cuts the power.
+#![tactic(auto)]
+
+mod recorder;
+mod start;
+
+pub use recorder::Recorder;
+pub use start::Start;
