@@ -34,10 +34,10 @@ depicts-lines choice old m lines sound survivors long shows = record {
   bad = λ n below. ap is_bad_line (found n below) ∙ bad_shown m n (line n) (shown n below);
   weak = λ n below. ap is_weak_line (found n below) ∙ weak_shown m n (line n) sound (shown n below);
   words = λ p healthy.
-  let one = (survivors.words p (subst (λ c. p / 8 < c) survivors.count healthy.0, sym (survivors.bad (p / 8)) ∙ healthy.1)).1.one in
-  let place : 8 * (p / 8) + p % 8 ≡ p = omega arith in
-  let word = ap (λ q. newest (m.history q)) (sym place) ∙ word_shown m (p / 8) (p % 8) (line (p / 8)) (omega arith) healthy.1 (shown (p / 8) healthy.0) in
-  one ∙ ap (λ v. v ∷ []) (sym (ap newest one) ∙ word ∙ sym (ap (λ o. word_of_line o (p % 8)) (found (p / 8) healthy.0)));
+      let one = (survivors.words p (subst (λ c. p / 8 < c) survivors.count healthy.0, sym (survivors.bad (p / 8)) ∙ healthy.1)).1.one in
+      let place : 8 * (p / 8) + p % 8 ≡ p = omega arith in
+      let word = ap (λ q. newest (m.history q)) (sym place) ∙ word_shown m (p / 8) (p % 8) (line (p / 8)) (omega arith) healthy.1 (shown (p / 8) healthy.0) in
+      one ∙ ap (λ v. v ∷ []) (sym (ap newest one) ∙ word ∙ sym (ap (λ o. word_of_line o (p % 8)) (found (p / 8) healthy.0)));
 }
   where
     line : ℕ → LineState

@@ -1,8 +1,10 @@
 //! Devices of tests: one that records how it was restarted and what it was told to do, and one that cuts the power.
 #![tactic(auto)]
 
+mod fuse;
 mod recorder;
 mod start;
 
+pub use fuse::Fuse;
 pub use recorder::Recorder;
 pub use start::Start;

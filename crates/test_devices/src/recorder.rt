@@ -5,7 +5,9 @@ ghost use Rattle.test_devices.specs.Starts.{told_start};
 ghost use Rattle.test_devices.specs.Recorder.{recorded};
 
 use crate::Start;
-use line_device::{Choice, Counts, DeviceFault, LineDevice, LineList, LineState, Lines, Order, Peek, ResetFault};
+use line_device::{
+    Choice, Counts, DeviceFault, LineDevice, LineList, LineState, Lines, Order, Peek, ResetFault,
+};
 use nvm_base::{Buffer, LineNo};
 use std::alloc::{AllocError, Global};
 
@@ -21,8 +23,8 @@ pub struct Recorder<D> {
 impl<D: Peek> Recorder<D> {
     pub fn new(alloc: Global, inner: D) -> Self
         ensures { recorded D.state result ≡ record {
-            medium = (D.state inner).medium;
-            panel = record (D.state inner).panel { starts = Some []; last_order = Some None };
+          medium = (D.state inner).medium;
+          panel = record (D.state inner).panel { starts = Some []; last_order = Some None };
         } }
     {
         Recorder {

@@ -18,7 +18,7 @@ returns g c =
     let choice = c.args.choice in
     let before = c.room.new.self in
     let start : Start = record { choice = choice; lines = c.look.new.lines } in
-    let pushed : c.push.new.self.items ≡ before.starts.items ++ start ∷ [] = IfOk-at_ok _ c.unwrap.ensures c.push.ensures.ok in
+    let pushed : c.push.new.self.items ≡ before.starts.items ++ start ∷ [] = IfOk-at_ok (λ _. c.push.new.self.items ≡ before.starts.items ++ start ∷ []) c.unwrap.ensures c.push.ensures.ok in
     let told : map told_start c.push.new.self.items ≡ map told_start before.starts.items ++ told_start start ∷ [] =
     ap (map told_start) pushed ∙ map-append told_start before.starts.items (start ∷ []) in
     let new = g.D.Lines.state c.restart.new.self in
