@@ -4,6 +4,8 @@
 mod fuse;
 mod recorder;
 mod start;
+#[cfg(test)]
+mod tests;
 
 pub use fuse::Fuse;
 pub use recorder::Recorder;
