@@ -100,11 +100,23 @@ impl<D: LineDevice> Lines for Fuse<D> {
         self.inner.clear(line)
     }
 
-    fn poison(&mut self, line: LineNo) {
+    fn poison(&mut self, line: LineNo)
+        requires { line.0 < (fused D.state self.old).medium.count }
+        ensures lines { Wander (poisoned (fused D.state self.old).medium line.0) (fused D.state self.new).medium }
+        ensures panel { (fused D.state self.new).panel ≡ (fused D.state self.old).panel }
+        ensures left { passes_left self.new ≡ passes_left self.old }
+    {
         self.inner.poison(line);
     }
 
-    fn weaken(&mut self, line: LineNo) -> Result<(), AllocError> {
+    fn weaken(&mut self, line: LineNo) -> Result<(), AllocError>
+        requires { line.0 < (fused D.state self.old).medium.count }
+        ensures lines { MatchResult result
+            (λ _. Weakens line.0 (fused D.state self.old).medium (fused D.state self.new).medium)
+            (λ _. Wander (fused D.state self.old).medium (fused D.state self.new).medium) }
+        ensures panel { (fused D.state self.new).panel ≡ (fused D.state self.old).panel }
+        ensures left { passes_left self.new ≡ passes_left self.old }
+    {
         self.inner.weaken(line)
     }
 
