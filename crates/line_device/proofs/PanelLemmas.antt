@@ -1,5 +1,5 @@
 -- Work on lines, one piece after another.
-use Rattle.std.proofs.Common.{◌≡◌, ℕ, false, ◌+◌, ◌≤◌, min, IsTrue, refl, ◌∙◌, arith}
+use Rattle.std.proofs.Common.{ℕ, ◌+◌, ◌≤◌, refl, ◌∙◌, arith}
 use Rattle.line_device.specs.Panel.{Panel, Outcome, HasCause, Rose, SameOrders, ArmsNothing, Runs}
 use Rattle.line_device.specs.Panel.Outcome.{went, failed, lost}
 

@@ -1,13 +1,14 @@
 -- Restarts after which each word has its first value, or its last one.
-use Rattle.std.proofs.Common.{◌≡◌, inl, ℕ, Bool, List, [], ◌∷◌, ◌/◌, ◌<◌, take, refl, sym, ◌∙◌, ap, subst}
+use Rattle.std.proofs.Common.{◌≡◌, inl, ℕ, Bool, List, [], ◌∷◌, ◌/◌, ◌<◌, take, refl, sym, ◌∙◌, ap, subst, arith}
 use Rattle.line_device.specs.History.{latest, newest, IsIn}
-use Rattle.line_device.specs.Medium.{Medium, IsSound, IsHealthy, Survives, Survivors, last_image}
+use Rattle.line_device.specs.Medium.{Medium, IsSound, Survives, Survivors, last_image}
 use Rattle.line_device.specs.Panel.{Image}
-use Rattle.line_device.specs.Device.{Depicts}
+use Rattle.line_device.specs.Device.{Device, Depicts, Waited}
 use Rattle.line_device.specs.Cells.{kept}
 use Rattle.line_device.specs.declared.line.Choice.{Choice}
 use Rattle.line_device.specs.declared.line.Choice.TheVariants.{Firsts, Lasts, Seed}
-use Rattle.line_device.proofs.HistoryLemmas.{latest-cons, is_in-newest}
+use Rattle.line_device.proofs.HistoryLemmas.{latest-cons, is_in-newest, fades-refl}
+use Rattle.line_device.proofs.PanelLemmas.{arms_nothing-refl}
 
 survives-first : (choice : Choice) (weak : Bool) (h : List ℕ) → IsIn (newest h) h → (choice ≡ Lasts → ⊥) → (value : ℕ) × Survives choice weak h (take 1 h) value
 survives-first choice weak [] some other = absurd some
@@ -54,3 +55,13 @@ depicts-survivors choice old new x = record {
       let one = (x.words p (subst (λ c. p / 8 < c) x.count healthy.0, sym (x.bad (p / 8)) ∙ healthy.1)).1.one in
       one ∙ ap (λ v. v ∷ []) (sym (ap newest one));
 }
+
+-- a restart that was refused at once
+pub waited-refl : (d : Device) → Waited d d
+waited-refl d = record {
+  lines = record { count = refl; bad = λ n. refl; weak = λ n. refl; words = λ p. inl (fades-refl (d.medium.is_weak (p / 8)) (d.medium.history p)) };
+  panel = record { power = refl; armed = arms_nothing-refl d.panel; restarts = omega arith; once = omega arith; counts = refl; starts = refl; last_order = refl };
+}
+
+pub waited_same : (a b : Device) → b ≡ a → Waited a b
+waited_same a b same = subst (Waited a) (sym same) (waited-refl a)

@@ -1,5 +1,5 @@
 -- A device's power, what is armed, and its counts.
-use Rattle.std.specs.Prelude.{◌≡◌, ℕ, Bool, true, false, None, Option, Result, Ok, Err, if◌then◌else◌}
+use Rattle.std.specs.Prelude.{ℕ, true, false, None, Option, Result, Ok, Err, if◌then◌else◌}
 use Rattle.std.specs.Option.{is_some}
 use Rattle.line_device.specs.Panel.{Panel, Outcome, bumped}
 use Rattle.line_device.specs.Panel.Outcome.{went, failed, lost}

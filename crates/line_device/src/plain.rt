@@ -1,10 +1,13 @@
 // A device of memory that keeps of each word its first and its last value, and never writes back by itself.
-ghost use Rattle.std.specs.Prelude.{◌≡◌, false, None};
-ghost use Rattle.line_device.specs.Switches.{cut_left, fail_left};
-ghost use Rattle.line_device.specs.Plain.{device_of, switches_of};
+ghost use Rattle.std.specs.Prelude.{◌≡◌, ◌<◌, false, None};
+ghost use Rattle.line_device.specs.Panel.{Runs, outcome};
+ghost use Rattle.line_device.specs.Device.{Poisons};
+ghost use Rattle.line_device.specs.Switches.{cut_left, fail_left, end_of, after_call};
+ghost use Rattle.line_device.specs.Plain.{device_of, lines_of, switches_of};
 
-use crate::Switches;
+use crate::{DeviceFault, Switches};
 use cells::Cells;
+use nvm_base::LineNo;
 use std::alloc::Global;
 
 mod bytes;
@@ -31,5 +34,21 @@ impl Plain {
             cells: Cells::new(alloc),
             switches: Switches::default(),
         }
+    }
+
+    // Counts a call on a line, and says why it is not done.
+    fn reach(&mut self, line: LineNo) -> Result<(), DeviceFault>
+        requires { line.0 < (lines_of self.old).count }
+        ensures poison { Poisons line.0 ((lines_of self.old).is_bad line.0) result }
+        ensures runs { Runs 1 0 (outcome result) (device_of self.old).panel (device_of self.new).panel }
+        ensures fires { outcome result ≡ end_of (switches_of self.old) }
+        ensures switches { switches_of self.new ≡ after_call (switches_of self.old) }
+        ensures cells { self.new.cells ≡ self.old.cells }
+    {
+        self.switches.count_call()?;
+        if self.cells.is_bad(line) {
+            return Err(DeviceFault::Poisoned(line));
+        }
+        Ok(())
     }
 }

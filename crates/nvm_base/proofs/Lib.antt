@@ -2,4 +2,5 @@ pub mod AppendLemmas
 pub mod NumberLemmas
 pub mod ReadingLemmas
 pub mod RunLemmas
+pub mod SpellLemmas
 pub mod UnitLemmas

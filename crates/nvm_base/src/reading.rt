@@ -38,6 +38,7 @@ pub(crate) struct Reading {
 pub fn read_bytes(alloc: Global, text: &[u8], room: u64) -> Result<Bytes, TextFault>
     requires { room ≤ 65536 }
     ensures ok { IfOk result (λ bytes. data_within room text.now ≡ Ok bytes.items) }
+    ensures some { IfOk result (λ bytes. 0 < length bytes.items) }
     ensures err { IfErr result (λ e. (e ≡ TextFault.Memory) ⊎ (data_within room text.now ≡ Err e)) }
 {
     let mut reading = Reading {

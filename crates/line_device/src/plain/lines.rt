@@ -52,10 +52,7 @@ impl Lines for Plain {
             × Runs 1 0 (outcome result) (device_of self.old).panel (device_of new).panel
             × OnlyCounts self.old new)) }
     {
-        self.switches.count_call()?;
-        if self.cells.is_bad(line) {
-            return Err(DeviceFault::Poisoned(line));
-        }
+        self.reach(line)?;
         Ok(self.cells.line(line))
     }
 
@@ -75,10 +72,7 @@ impl Lines for Plain {
         ensures fires { outcome result ≡ end_of (switches_of self.old) }
         ensures switches { switches_of self.new ≡ after_call (switches_of self.old) }
     {
-        self.switches.count_call()?;
-        if self.cells.is_bad(line) {
-            return Err(DeviceFault::Poisoned(line));
-        }
+        self.reach(line)?;
         self.cells.store(line, at, bytes);
         Ok(())
     }
@@ -98,10 +92,7 @@ impl Lines for Plain {
         ensures switches { switches_of self.new ≡ after_call (after_persist (switches_of self.old)) }
     {
         self.switches.count_persist();
-        self.switches.count_call()?;
-        if self.cells.is_bad(line) {
-            return Err(DeviceFault::Poisoned(line));
-        }
+        self.reach(line)?;
         self.cells.persist(line);
         Ok(())
     }

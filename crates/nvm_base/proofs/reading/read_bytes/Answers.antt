@@ -4,6 +4,7 @@ use Rattle.std.proofs.lemmas.Iterator.Consumers.{YieldsList-turn, YieldsList-end
 use Rattle.std.proofs.lemmas.Result.{err_from_is_err_and}
 use Rattle.std.proofs.lemmas.Iterator.Splits.{YieldsList-from_slice_split}
 use Rattle.nvm_base.specs.Data.{data_within, runs_of}
+use Rattle.nvm_base.proofs.SpellLemmas.{read_some, Spells-runs_of}
 use Rattle.nvm_base.proofs.ReadingLemmas.{items_of-all, refused, Taken-item, Taken-refused, read_all, within-ok, within-long}
 use Rattle.nvm_base.proofs.reading.read_bytes.Goals as goal
 
@@ -35,3 +36,10 @@ returns-in-None-left-clause-err c =
     let all = YieldsList-end (YieldsList-from_slice_split _ (λ b. b == 44) c.args.text.now (cc) (cc) (cc) (λ x b q k. search (rules, tests))) c.loop-item.yielded _ c.loop-item.yielded_by _ _ c.in-None.is c.next.ensures.steps in
     let end = read_all c.args.room _ _ _ _ c.loop-item.invariant.taken (items_of-all _ _ all.1) c.loop-item.invariant.start in
     inr (within-long c.args.room _ c.loop-item.reading.bytes.items (rw c.in-None-left.is at end))
+
+pub returns-in-Some-left-clause-some : goal.returns-in-Some-left-clause-some
+unfolding runs_of
+returns-in-Some-left-clause-some c =
+    let all = YieldsList-end (YieldsList-from_slice_split _ (λ b. b == 44) c.args.text.now (cc) (cc) (cc) (λ x b q k. search (rules, tests))) c.loop-item.yielded _ c.loop-item.yielded_by _ _ c.in-None.is c.next.ensures.steps in
+    let end = read_all c.args.room _ _ _ _ c.loop-item.invariant.taken (items_of-all _ _ all.1) c.loop-item.invariant.start in
+    read_some c.args.room _ _ c.in-Some-left.field-0 (Spells-runs_of c.args.text.now) (rw c.in-Some-left.is at end)
