@@ -1,6 +1,7 @@
 -- Runs, one input after another.
 use Rattle.std.proofs.Common.{◌≡◌, ℕ, Option, List, [], ◌∷◌, ◌++◌, refl, sym, ap, subst, ◌∙◌, append_assoc, append-nil}
-use Rattle.line_device.specs.Panel.{Start, told, bumped}
+use Rattle.nvm_base.specs.Counts.{raised}
+use Rattle.line_device.specs.Panel.{Start, told}
 use Rattle.line_device.specs.Device.{Device}
 use Rattle.nvm_model.specs.Page.{KeepsPages}
 use Rattle.machine_host.specs.declared.reply.Why.TheVariants.{Syntax}
@@ -92,4 +93,4 @@ told-append before (start ∷ s) t = told-append _ s t
 
 pub bumped_by-append : (s t : List Start) (n : ℕ) → bumped_by (s ++ t) n ≡ bumped_by t (bumped_by s n)
 bumped_by-append [] t n = refl
-bumped_by-append (start ∷ s) t n = bumped_by-append s t (bumped n)
+bumped_by-append (start ∷ s) t n = bumped_by-append s t (raised n)

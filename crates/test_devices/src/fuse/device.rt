@@ -6,8 +6,8 @@ ghost use Rattle.line_device.specs.declared.fault.DeviceFault.TheVariants.{Poiso
 ghost use Rattle.test_devices.specs.Fuse.{fused, passes_left};
 
 use super::Fuse;
-use line_device::{Choice, DeviceFault, LineDevice, LineState, Peek, ResetFault, bump};
-use nvm_base::LineNo;
+use line_device::{Choice, DeviceFault, LineDevice, LineState, Peek, ResetFault};
+use nvm_base::{LineNo, raise};
 use std::alloc::AllocError;
 
 impl<D: LineDevice> LineDevice for Fuse<D> {
@@ -53,7 +53,7 @@ impl<D: LineDevice> LineDevice for Fuse<D> {
 
     fn power_off(&mut self) {
         self.left = None;
-        bump(&mut self.offs);
+        raise(&mut self.offs);
         self.inner.power_off();
     }
 
