@@ -2,3 +2,4 @@ pub mod BytesLemmas
 pub mod ReadLemmas
 pub mod LineLemmas
 pub mod GoingLemmas
+pub mod TopLemmas

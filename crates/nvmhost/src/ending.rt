@@ -43,7 +43,8 @@ impl Ending {
         ensures { result.now ≡ ending_text self }
     {
         match self {
-            Ending::Usage => b"usage: new IMAGE BLOCKS VPAGES FPAGES, run IN OUT, check IN, bench SEED N\n",
+            Ending::Usage =>
+                b"usage: new IMAGE BLOCKS VPAGES FPAGES, run IN OUT, check IN, bench SEED N\n",
             Ending::Read => b"error read\n",
             Ending::Script => b"error script\n",
             Ending::Device => b"error device\n",

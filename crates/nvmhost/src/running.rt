@@ -1,5 +1,5 @@
 // Performing a script line by line, and writing the replies.
-ghost use Rattle.std.specs.Prelude.{◌≡◌, ◌≤◌, ◌++◌, [], ◌∷◌, IfErr, OnOk, OnErr, MatchResult};
+ghost use Rattle.std.specs.Prelude.{◌≡◌, ◌≤◌, ◌++◌, ◌⊎◌, [], ◌∷◌, IfErr, OnOk, OnErr, MatchResult};
 ghost use Rattle.std.specs.Io.KnownBytes.{Appends};
 ghost use Rattle.nvm_base.specs.Counts.{Rose};
 ghost use Rattle.host_io.specs.Writing.{AppendsSome};
@@ -34,6 +34,7 @@ pub fn run_script<D: LineDevice, K: Sink>(
     ensures performs { Performs geometry script.now result (K.written replies.old) (K.written replies.new)
         (D.state device.old) (D.state device.new) }
     ensures cause { IfErr result (λ e. e ≡ Ending.Write → Rose (K.count replies.old) (K.count replies.new)) }
+    ensures others { IfErr result (λ e. (e ≡ Ending.Write) ⊎ (e ≡ Ending.Memory)) }
 {
     let mut host = Host::start(alloc, geometry.vpages);
     let mut out = Bytes::new(alloc);

@@ -34,13 +34,13 @@ pub fn nvmhost<D: LineDevice, F: Images, T: Source, K: Sink>(
     ensures run { result ≡ 0 → (geo : Sizes) → IsForm (map (λ word. string_bytes word) words.now) geo
         → IsUnarmed (D.state device.old).panel
         → Completes geo (T.left script.old) (T.left script.new) (K.written replies.old) (K.written replies.new)
-            (D.state device.old) (D.state device.new) }
+        (D.state device.old) (D.state device.new) }
 
     // What was written begins as such a run, and then as the status's line.
     ensures early_end { result ≢ 0 → (geo : Sizes) → IsForm (map (λ word. string_bytes word) words.now) geo
         → IsUnarmed (D.state device.old).panel
         → (ending : Early) × (result ≡ status ending) × BreaksOff geo ending (T.left script.old) (T.left script.new)
-            (K.written replies.old) (K.written replies.new) }
+        (K.written replies.old) (K.written replies.new) }
     ensures usage_line { result ≡ 2 → WritesFront (ending_text Usage) (K.written replies.old) (K.written replies.new) }
 
     // Each status has its cause; want of memory alone is free.
@@ -73,9 +73,9 @@ fn perform<D: LineDevice, T: Source, K: Sink>(
 ) -> Result<(), Ending>
     ensures run { (geo : Sizes) → IsForm (map (λ word. string_bytes word) words.now) geo → IsUnarmed (D.state device.old).panel
         → MatchResult result
-            (λ _. Completes geo (T.left script.old) (T.left script.new) (K.written replies.old) (K.written replies.new)
-                (D.state device.old) (D.state device.new))
-            (λ _. Halts geo (T.left script.old) (T.left script.new) (K.written replies.old) (K.written replies.new)) }
+        (λ _. Completes geo (T.left script.old) (T.left script.new) (K.written replies.old) (K.written replies.new)
+        (D.state device.old) (D.state device.new))
+        (λ _. Halts geo (T.left script.old) (T.left script.new) (K.written replies.old) (K.written replies.new)) }
     ensures usage { (result ≡ Err Usage) ↔ ((geo : Sizes) → IsForm (map (λ word. string_bytes word) words.now) geo → ⊥) }
     ensures untouched { result ≡ Err Usage → K.written replies.new ≡ K.written replies.old }
     ensures causes { IfErr result (λ ending. IsCaused ending (T.count script.old) (T.count script.new)

@@ -10,7 +10,7 @@ loop-source-init g c =
     let left = g.T.Source.left c.args.source.now in
     record {
       read = subst (λ xs. Consumes left left xs) (sym c.new-script.ensures) (consumes-none left);
-          piece = c.in_ok-piece.ensures.len;
+      piece = c.in_ok-piece.ensures.len;
       later = omega arith;
     }
 

@@ -14,7 +14,7 @@ loop-rest-init g c =
     let start = going-start c.args.geometry c.args.script.now written device in
     record {
       going = subst (λ out. Going c.args.geometry c.args.script.now c.args.script.now c.start-host.result out written written device device) (sym c.new-out.ensures)
-        (subst (λ host. Going c.args.geometry c.args.script.now c.args.script.now host [] written written device device) (sym c.start-host.ensures) start);
+          (subst (λ host. Going c.args.geometry c.args.script.now c.args.script.now host [] written written device device) (sym c.start-host.ensures) start);
       serves = subst (λ host. Serves host device) (sym c.start-host.ensures) c.requires;
       later = omega arith;
     }
@@ -53,5 +53,5 @@ returns-clause-performs g c =
     let now = g.D.Lines.state c.loop-rest.device in
     let flushed = going-flush _ _ _ _ _ _ _ _ _ _ _ c.loop-rest.invariant.going c.in_ok-flush.ensures.bytes in
     going-end c.args.geometry c.args.script.now c.loop-rest.host written done old now
-      (subst (λ rest. Going c.args.geometry c.args.script.now rest c.loop-rest.host [] written done old now) none
-        (subst (λ out. Going c.args.geometry c.args.script.now c.loop-rest.rest.now c.loop-rest.host out written done old now) c.in_ok-flush.ensures.none flushed))
+    (subst (λ rest. Going c.args.geometry c.args.script.now rest c.loop-rest.host [] written done old now) none
+    (subst (λ out. Going c.args.geometry c.args.script.now c.loop-rest.rest.now c.loop-rest.host out written done old now) c.in_ok-flush.ensures.none flushed))
