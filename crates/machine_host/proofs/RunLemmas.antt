@@ -1,7 +1,6 @@
 -- Runs, one input after another.
 use Rattle.std.proofs.Common.{◌≡◌, ℕ, Option, List, [], ◌∷◌, ◌++◌, refl, sym, ap, subst, ◌∙◌, append_assoc, append-nil}
 use Rattle.line_device.specs.Panel.{Start, told, bumped}
-use Rattle.line_device.specs.Device.{Device}
 use Rattle.nvm_model.specs.Page.{KeepsPages}
 use Rattle.machine_host.specs.declared.reply.Why.TheVariants.{Syntax}
 use Rattle.machine_host.specs.Action.{Action}
@@ -12,7 +11,7 @@ use Rattle.machine_host.specs.Script.Input.{Skipped, Malformed, Asked}
 use Rattle.machine_host.specs.Machine.{Machine, Fate, fate, restarted, restart_answer}
 use Rattle.machine_host.specs.Machine.Fate.{Gives, Restarts}
 use Rattle.machine_host.specs.Run.{Transcript, said, perform, Allows, Run}
-use Rattle.machine_host.specs.Stands.{HostState, Takes, Comes, bumped_by}
+use Rattle.machine_host.specs.Stands.{Takes, bumped_by}
 
 -- a transcript with answers before
 abbrev pub after : List Answer → Transcript → Transcript
