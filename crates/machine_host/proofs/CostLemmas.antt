@@ -1,6 +1,6 @@
 -- Costs, one input after another.
-use Rattle.std.proofs.Common.{◌≡◌, ℕ, ◌+◌, ◌≤◌, List, [], ◌∷◌, ◌++◌, refl, ◌∙◌, arith}
-use Rattle.line_device.specs.Panel.{Panel, ArmsNothing}
+use Rattle.std.proofs.Common.{◌≡◌, ℕ, ◌+◌, List, [], ◌∷◌, ◌++◌, refl, ◌∙◌, arith}
+use Rattle.line_device.specs.Panel.{Panel}
 use Rattle.line_device.proofs.PanelLemmas.{arms_nothing-refl, arms_nothing-trans}
 use Rattle.machine_host.specs.Action.{Action}
 use Rattle.machine_host.specs.Script.{Input}

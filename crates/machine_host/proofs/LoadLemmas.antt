@@ -1,14 +1,14 @@
 -- Bytes of a line that a load lent, as bytes of a span.
-use Rattle.std.proofs.Common.{◌≡◌, ℕ, ◌+◌, ◌-◌, ◌*◌, ◌/◌, ◌%◌, ◌<◌, ◌≤◌, ◌^◌, List, length, get_or, take, drop, refl, sym, ap, ◌∙◌, arith, length-take, length-drop, ◌++◌, append_assoc, append-nil}
+use Rattle.std.proofs.Common.{◌≡◌, ℕ, ◌+◌, ◌*◌, ◌/◌, ◌%◌, ◌<◌, ◌≤◌, List, length, get_or, take, drop, sym, ap, ◌∙◌, arith, length-take, length-drop, ◌++◌, append_assoc, append-nil}
 use Rattle.std.proofs.lemmas.List.{get_or-take, get_or-drop}
 use Rattle.std.specs.Int.{byte_at}
-use Rattle.line_device.specs.Word.{word_at}
 use Rattle.line_device.specs.History.{newest}
 use Rattle.line_device.specs.Medium.{Medium, IsLine, Wander}
 use Rattle.line_device.proofs.WordLemmas.{byte_at-word_from}
 use Rattle.line_device.proofs.WanderLemmas.{newest-wander}
 use Rattle.nvm_model.specs.Numbered.{list_from}
-use Rattle.machine_host.specs.Volume.{shown_byte, span_shown, line_byte}
+use Rattle.nvm_model.specs.Lines.{shown_byte, span_shown}
+use Rattle.machine_host.specs.Volume.{line_byte}
 use Rattle.nvm_model.proofs.NumberedLemmas.{list_from-is, list_from-same, list_from-append}
 
 -- bytes that spell words, one by one

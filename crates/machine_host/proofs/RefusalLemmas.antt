@@ -1,13 +1,12 @@
 -- What is known of a command that nothing refuses.
-use Rattle.std.proofs.Common.{◌≡◌, ℕ, ◌+◌, ◌*◌, ◌<◌, ◌≤◌, Bool, true, false, cond, ltb, eqb, Option, Some, None, List, length, refl, ap, ◌∙◌, arith}
+use Rattle.std.proofs.Common.{◌≡◌, ℕ, ◌+◌, ◌*◌, ◌≤◌, Bool, true, false, cond, ltb, eqb, Some, None, List, length, refl, arith}
 use Rattle.std.proofs.lemmas.Bool.Decides.{nat_tests}
 use Rattle.machine_host.specs.declared.mode.Mode.{Mode}
 use Rattle.machine_host.specs.declared.mode.Mode.TheVariants.{On, Off, Unsettled}
-use Rattle.machine_host.specs.declared.reply.Why.{Why}
 use Rattle.machine_host.specs.declared.reply.Why.TheVariants.{Range, Length}
 use Rattle.line_device.specs.declared.line.Choice.{Choice}
 use Rattle.machine_host.specs.Action.Action.{VLoad, VStore, VSync, Cut, Restart}
-use Rattle.machine_host.specs.Machine.{refusal, span_refusal, volume_size}
+use Rattle.machine_host.specs.Machine.{refusal, span_refusal}
 
 span_allowed : (size offset len : ℕ) → span_refusal size offset len ≡ None → (1 ≤ len) × (offset + len ≤ size)
 span_allowed size offset len = by_tests (ltb size (offset + len)) (eqb len 0) refl refl

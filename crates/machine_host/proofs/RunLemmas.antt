@@ -2,7 +2,6 @@
 use Rattle.std.proofs.Common.{◌≡◌, ℕ, Option, List, [], ◌∷◌, ◌++◌, refl, sym, ap, subst, ◌∙◌, append_assoc, append-nil}
 use Rattle.nvm_base.specs.Counts.{raised}
 use Rattle.line_device.specs.Panel.{Start, told}
-use Rattle.line_device.specs.Device.{Device}
 use Rattle.nvm_model.specs.Page.{KeepsPages}
 use Rattle.machine_host.specs.declared.reply.Why.TheVariants.{Syntax}
 use Rattle.machine_host.specs.Action.{Action}
@@ -13,7 +12,7 @@ use Rattle.machine_host.specs.Script.Input.{Skipped, Malformed, Asked}
 use Rattle.machine_host.specs.Machine.{Machine, Fate, fate, restarted, restart_answer}
 use Rattle.machine_host.specs.Machine.Fate.{Gives, Restarts}
 use Rattle.machine_host.specs.Run.{Transcript, said, perform, Allows, Run, Goes, after}
-use Rattle.machine_host.specs.Stands.{HostState, Takes, Comes, bumped_by}
+use Rattle.machine_host.specs.Stands.{Takes, bumped_by}
 
 pub goes-none : (h : Machine) → Goes h [] [] [] h
 goes-none h = record { allows = λ more others a. a; performs = λ more others. refl }
@@ -49,21 +48,21 @@ goes-malformed h = record { allows = λ more others a. a; performs = λ more oth
 -- what follows what came of a command
 abbrev performed : Machine → Fate → List Input → List Start → Transcript
 performed h f inputs starts = elim f [
-      Gives answer next ↦ said answer (perform next inputs starts)
-    | Restarts choice ↦ elim starts [
-          [] ↦ record { answers = []; state = h }
-        | start ∷ others ↦ said (restart_answer h start.image) (perform (restarted h start.image) inputs others)
-        ]
-    ]
+  | Gives answer next ↦ said answer (perform next inputs starts)
+  | Restarts choice ↦ elim starts [
+    | [] ↦ record { answers = []; state = h }
+    | start ∷ others ↦ said (restart_answer h start.image) (perform (restarted h start.image) inputs others)
+  ]
+]
 
 abbrev allowed : Machine → Fate → List Input → List Start → Type 0
 allowed h f inputs starts = elim f as (λ _. Type 0) [
-      Gives answer next ↦ Allows next inputs starts
-    | Restarts choice ↦ elim starts as (λ _. Type 0) [
-          [] ↦ ⊥
-        | start ∷ others ↦ (start.choice ≡ choice) × KeepsPages choice start.image h.volume × Allows (restarted h start.image) inputs others
-        ]
-    ]
+  | Gives answer next ↦ Allows next inputs starts
+  | Restarts choice ↦ elim starts as (λ _. Type 0) [
+    | [] ↦ ⊥
+    | start ∷ others ↦ (start.choice ≡ choice) × KeepsPages choice start.image h.volume × Allows (restarted h start.image) inputs others
+  ]
+]
 
 -- a command, by what came of it
 pub goes-asked : (h next : Machine) (action : Action) (starts : List Start) (answer : Answer) → Takes h (fate h action) starts answer next
@@ -76,6 +75,7 @@ goes-asked h next action starts answer takes = record {
     allows_by : (f : Fate) → Takes h f starts answer next → (more : List Input) (others : List Start) → Allows next more others → allowed h f more (starts ++ others)
     allows_by (Gives told state) t more others a = rw t.0 (subst (λ m. Allows m more others) t.2 a)
     allows_by (Restarts choice) t more others a = rw t.1 (t.2, t.3, subst (λ m. Allows m more others) t.5 a)
+
     performs_by : (f : Fate) → Takes h f starts answer next → (more : List Input) (others : List Start)
         → performed h f more (starts ++ others) ≡ after (answer ∷ []) (perform next more others)
     performs_by (Gives told state) t more others = rw (t.0, t.1, t.2) refl

@@ -3,15 +3,14 @@ use Rattle.std.proofs.Common.{◌≡◌, ◌⊎◌, inl, inr, ℕ, ◌+◌, ◌-
 use Rattle.std.proofs.lemmas.Bool.Decides.{nat_tests}
 use Rattle.std.proofs.lemmas.Bool.{cases_lt}
 use Rattle.line_device.specs.Word.{word_over, reaches}
-use Rattle.line_device.specs.History.{Fades, latest, newest}
+use Rattle.line_device.specs.History.{latest, newest}
 use Rattle.line_device.specs.Medium.{Medium, Wander, on_line, stored, settled, persisted, word_stored}
-use Rattle.line_device.specs.Panel.{Panel, Runs}
-use Rattle.line_device.specs.Panel.Outcome.{went}
 use Rattle.line_device.proofs.HistoryLemmas.{fades-refl}
 use Rattle.line_device.proofs.WanderLemmas.{wander-trans, wander-stored, wander-settled, persisted-strong}
 use Rattle.line_device.proofs.WordLemmas.{word_over-line, word_over-piece, reaches-out}
 use Rattle.nvm_model.specs.Cell.{touches}
-use Rattle.machine_host.specs.Volume.{IsIntact, SameMarks, each, below, settled_within}
+use Rattle.nvm_model.specs.Lines.{IsIntact, SameMarks, each, settled_within}
+use Rattle.machine_host.specs.Volume.{below}
 
 -- media that agree place by place
 pub wander-same : (a b : Medium) → SameMarks a b → ((p : ℕ) → b.history p ≡ a.history p) → Wander a b

@@ -1,6 +1,6 @@
 -- Worked scripts: what the machine writes, from the script's bytes and what each restart left.
 use Rattle.std.specs.Prelude.{◌≡◌, ◌==◌, ℕ, List, [], ◌∷◌, ◌++◌, codes, if◌then◌else◌}
-use Rattle.line_device.specs.Panel.{Image, Start}
+use Rattle.line_device.specs.Panel.{Start}
 use Rattle.line_device.specs.declared.line.Choice.{Choice}
 use Rattle.line_device.specs.declared.line.Choice.TheVariants.{Firsts, Lasts}
 use Rattle.word_tables.specs.declared.geometry.Geometry.{Geometry}

@@ -7,7 +7,7 @@ use Rattle.machine_host.specs.Answer.{Answer}
 use Rattle.machine_host.specs.Answer.Answer.{Refused}
 use Rattle.machine_host.specs.Script.{Input}
 use Rattle.machine_host.specs.Script.Input.{Skipped, Malformed, Asked}
-use Rattle.machine_host.specs.Machine.{Machine, Fate, fate, restarted, restart_answer}
+use Rattle.machine_host.specs.Machine.{Machine, fate, restarted, restart_answer}
 use Rattle.machine_host.specs.Machine.Fate.{Gives, Restarts}
 
 -- the answers to a script, and the state after it

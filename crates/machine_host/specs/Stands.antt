@@ -1,7 +1,6 @@
 -- When a host and its device stand for a state of the machine, and what one step is.
 use Rattle.std.specs.Prelude.{◌≡◌, ◌+◌, ◌*◌, ◌≤◌, ◌++◌, ◌⊎◌, ℕ, Bool, true, false, List, [], ◌∷◌, length, None}
 use Rattle.nvm_base.specs.Counts.{raised}
-use Rattle.line_device.specs.Medium.{Medium}
 use Rattle.line_device.specs.Panel.{Panel, Start, ArmsNothing, told}
 use Rattle.line_device.specs.Device.{Device, Waited}
 use Rattle.nvm_base.specs.Units.{units_of}
@@ -17,7 +16,7 @@ use Rattle.machine_host.specs.Script.{Input}
 use Rattle.machine_host.specs.Script.Input.{Skipped, Malformed, Asked}
 use Rattle.machine_host.specs.Machine.{Machine, Fate, fate, restarted, restart_answer}
 use Rattle.machine_host.specs.Machine.Fate.{Gives, Restarts}
-use Rattle.machine_host.specs.Volume.{IsIntact}
+use Rattle.nvm_model.specs.Lines.{IsIntact}
 
 -- what callers see of a host: how many volume pages its device has, and its mode
 pub record HostState : Type 0 where

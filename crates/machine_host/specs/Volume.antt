@@ -1,50 +1,15 @@
 -- The volume's bytes over the lines of a device: byte i lies in line i / 64.
-use Rattle.std.specs.Prelude.{◌≡◌, ◌+◌, ◌-◌, ◌*◌, ◌/◌, ◌%◌, ◌<◌, ◌≤◌, ℕ, min, max, false, List, length, nat_lt, Result, Ok, Err, if◌then◌else◌}
+use Rattle.std.specs.Prelude.{◌+◌, ◌-◌, ◌*◌, ◌/◌, ◌%◌, ◌<◌, ◌≤◌, ℕ, min, max, List, nat_lt, Result, Ok, Err, if◌then◌else◌}
 use Rattle.std.specs.Int.{byte_at}
 use Rattle.line_device.specs.Word.{word_at}
-use Rattle.line_device.specs.History.{latest, newest}
-use Rattle.line_device.specs.Medium.{Medium, word_stored}
+use Rattle.line_device.specs.Medium.{Medium}
 use Rattle.line_device.specs.Panel.{Outcome}
 use Rattle.line_device.specs.Panel.Outcome.{went, failed, lost}
 use Rattle.line_device.specs.declared.fault.DeviceFault.{DeviceFault}
 use Rattle.line_device.specs.declared.fault.DeviceFault.TheVariants.{Poisoned, Failed, PowerLost}
 use Rattle.nvm_base.specs.declared.units.Span.{Span}
-use Rattle.nvm_model.specs.Numbered.{list_from}
-use Rattle.nvm_model.specs.Cell.{touches}
 use Rattle.machine_host.specs.declared.volume.Interruption.{Interruption}
 use Rattle.machine_host.specs.declared.volume.Interruption.TheVariants as interruption
-
--- no line is bad or weak
-abbrev pub IsIntact : Medium → Type 0
-IsIntact m = (n : ℕ) → n < m.count → (m.is_bad n ≡ false) × (m.is_weak n ≡ false)
-
--- as many lines, with the same marks
-pub record SameMarks (old new : Medium) : Type 0 where
-  pub count : new.count ≡ old.count
-  pub bad : (n : ℕ) → new.is_bad n ≡ old.is_bad n
-  pub weak : (n : ℕ) → new.is_weak n ≡ old.is_weak n
-
--- each word changed by what is done to it at its place
-abbrev pub each : Medium → (ℕ → List ℕ → List ℕ) → Medium
-each m change = record m { history = λ p. change p (m.history p) }
-
--- bytes put at an offset of the volume
-abbrev pub span_stored : Medium → ℕ → List ℕ → Medium
-span_stored m at bytes = each m (word_stored at bytes)
-
--- the lines that a span touches made durable
-abbrev pub settled_within : ℕ → ℕ → ℕ → List ℕ → List ℕ
-settled_within start len p old = if touches start len (p / 8) then latest old else old
-
-abbrev pub span_settled : Medium → ℕ → ℕ → Medium
-span_settled m start len = each m (settled_within start len)
-
--- byte i as last stored, and the bytes of a span
-abbrev pub shown_byte : Medium → ℕ → ℕ
-shown_byte m i = byte_at (i % 8) (newest (m.history (i / 8)))
-
-abbrev pub span_shown : Medium → ℕ → ℕ → List ℕ
-span_shown m start len = list_from (shown_byte m) start len
 
 -- bytes of a line, word by word
 abbrev pub line_byte : List ℕ → ℕ → ℕ

@@ -1,6 +1,8 @@
 // The host: it refuses a command, or performs it on the device and answers it by one line.
 mod commands;
 mod refusals;
+#[cfg(test)]
+mod tests;
 
 use crate::Mode;
 use crate::reply::{Reply, print};

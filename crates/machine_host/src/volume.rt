@@ -4,7 +4,8 @@ ghost use Rattle.nvm_base.specs.Units.{units_of};
 ghost use Rattle.line_device.specs.Medium.{Wander, stored, persisted};
 ghost use Rattle.line_device.specs.Panel.{Runs};
 ghost use Rattle.nvm_model.specs.Numbered.{list_from};
-ghost use Rattle.machine_host.specs.Volume.{IsIntact, SameMarks, Interrupts, span_stored, span_settled, span_shown, line_byte, part_in as part_of, IsReachable, ended, fault_outcome, interruption_outcome};
+ghost use Rattle.nvm_model.specs.Lines.{IsIntact, SameMarks, span_stored, span_settled, span_shown};
+ghost use Rattle.machine_host.specs.Volume.{Interrupts, line_byte, part_in as part_of, IsReachable, ended, fault_outcome, interruption_outcome};
 
 use line_device::{DeviceFault, Lines};
 use nvm_base::{Bytes, LINE, LineNo, Span, lines_of};

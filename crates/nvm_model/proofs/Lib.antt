@@ -1,3 +1,5 @@
 pub mod NumberedLemmas
 pub mod PageLemmas
+pub mod PutLemmas
 pub mod StandLemmas
+pub mod RestartLemmas

@@ -1,5 +1,5 @@
 -- Lists made by number.
-use Rattle.std.proofs.Common.{◌≡◌, ℕ, zero, suc, ◌+◌, ◌<◌, Option, Some, None, option_map, slice_get, List, [], ◌∷◌, ◌++◌, length, get_or, refl, sym, ap, ◌∙◌, arith, add-suc}
+use Rattle.std.proofs.Common.{◌≡◌, ℕ, zero, suc, ◌+◌, ◌<◌, Some, option_map, slice_get, List, [], ◌∷◌, ◌++◌, length, get_or, refl, sym, ap, ◌∙◌, arith}
 use Rattle.nvm_model.specs.Numbered.{list_from, map_from}
 
 pub length-list_from : {A : Type 0} (f : ℕ → A) (n count : ℕ) → length (list_from f n count) ≡ count

@@ -1,12 +1,12 @@
 -- Pages line by line.
-use Rattle.std.proofs.Common.{◌≡◌, ℕ, zero, suc, ◌+◌, ◌*◌, ◌/◌, ◌%◌, ◌<◌, ◌≤◌, false, cond, Option, Some, None, option_map, option_and_then, List, [], ◌∷◌, length, slice_get, refl, sym, ap, ◌∙◌, arith}
+use Rattle.std.proofs.Common.{◌≡◌, ℕ, zero, suc, ◌+◌, ◌*◌, ◌/◌, ◌%◌, ◌<◌, ◌≤◌, false, cond, Option, Some, None, option_map, option_and_then, List, [], ◌∷◌, length, slice_get, refl, ap, ◌∙◌, arith}
 use Rattle.line_device.specs.Panel.{Image}
 use Rattle.nvm_model.specs.Numbered.{map_from, list_from}
 use Rattle.nvm_model.specs.Cell.{Cell, put_cell, persist_cell, read_cell}
 use Rattle.nvm_model.specs.Cell.Cell.{Bad, Kept}
 use Rattle.nvm_model.specs.Page.{Page, map_lines, cell_in, cell_of, fill_page, fill, put, persist, read_pages, bad_cells, bad_lines}
 use Rattle.nvm_model.specs.Page.Page.{Absent, Present}
-use Rattle.nvm_model.proofs.NumberedLemmas.{slice_get-map_from, slice_get-list_from}
+use Rattle.nvm_model.proofs.NumberedLemmas.{slice_get-map_from, slice_get-list_from, length-map_from, length-list_from}
 
 cell_in-map_lines : (f : ℕ → Cell → Cell) (i k : ℕ) (page : Page) → cell_in (map_lines f i page) k ≡ option_map (f (64 * i + k)) (cell_in page k)
 cell_in-map_lines f i k Absent = refl
@@ -19,6 +19,7 @@ cell_of-map f pages n =
   where
     line : 64 * (0 + n / 64) + n % 64 ≡ n
     line = omega arith
+
     by_page : (page : Option Page) → option_and_then (λ p. cell_in p (n % 64)) (option_map (map_lines f (0 + n / 64)) page)
         ≡ option_map (f n) (option_and_then (λ p. cell_in p (n % 64)) page)
     by_page None = refl
@@ -71,3 +72,16 @@ bad_lines-from image n (suc count) good =
 pub bad_lines-none : (image : Image) (count : ℕ) → ((k : ℕ) → k < 64 * count → image.is_bad k ≡ false) → bad_lines (read_pages image count) ≡ 0
 unfolding read_pages
 bad_lines-none image count good = bad_lines-from image 0 count (λ k le lt. good k (omega arith))
+
+-- actions keep how many pages there are
+pub length-put_fill : (at len : ℕ) (bytes : List ℕ) (pages : List Page) → length (put at bytes (fill at len pages)) ≡ length pages
+unfolding put fill
+length-put_fill at len bytes pages = length-map_from _ 0 _ ∙ length-map_from _ 0 pages
+
+pub length-read_pages : (image : Image) (count : ℕ) → length (read_pages image count) ≡ count
+unfolding read_pages
+length-read_pages image count = length-list_from _ 0 count
+
+pub length-persist : (start len : ℕ) (pages : List Page) → length (persist start len pages) ≡ length pages
+unfolding persist
+length-persist start len pages = length-map_from _ 0 pages

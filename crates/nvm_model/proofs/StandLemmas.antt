@@ -1,21 +1,20 @@
 -- What a device stands for, after its lines and the pages change alike.
-use Rattle.std.proofs.Common.{◌≡◌, ℕ, ◌+◌, ◌*◌, ◌/◌, ◌%◌, ◌<◌, ◌≤◌, Bool, true, false, cond, Option, Some, None, option_map, option_and_then, List, [], ◌∷◌, ◌++◌, length, map, slice_get, slice_index_or, refl, sym, ap, subst, ◌∙◌, arith}
+use Rattle.std.proofs.Common.{◌≡◌, ℕ, ◌+◌, ◌*◌, ◌/◌, ◌%◌, ◌<◌, ◌≤◌, Bool, true, false, cond, eqb, Option, Some, None, option_map, List, [], ◌∷◌, ◌++◌, length, map, slice_get, slice_index_or, refl, sym, ap, subst, ◌∙◌, arith}
+use Rattle.std.proofs.lemmas.Bool.Decides.{nat_tests}
 use Rattle.std.proofs.lemmas.List.{length-map}
 use Rattle.std.proofs.lemmas.Option.{slice_get-map, slice_get-get_or, slice_get_within}
 use Rattle.std.specs.Int.{byte_at}
 use Rattle.line_device.specs.Word.{reaches, word_over}
-use Rattle.line_device.specs.History.{Fades, latest, newest, IsIn}
-use Rattle.line_device.specs.Medium.{Medium, IsHealthy, Wander, Survivors, word_stored}
-use Rattle.line_device.specs.Panel.{Image}
-use Rattle.line_device.specs.Device.{Depicts}
-use Rattle.line_device.specs.declared.line.Choice.{Choice}
-use Rattle.line_device.proofs.HistoryLemmas.{fades-refl, fades-trans, fades-push, fades-latest_both, newest-fades, is_in-part}
-use Rattle.nvm_model.specs.Numbered.{map_from, list_from}
-use Rattle.nvm_model.specs.Cell.{Cell, put_cell, persist_cell, settle_cell, cell_byte, read_cell, touches, CellStands, KeepsCell, IsKept}
+use Rattle.line_device.specs.History.{Fades, latest, newest}
+use Rattle.line_device.specs.Medium.{Medium, Wander, word_stored, persisted, poisoned, settled}
+use Rattle.line_device.proofs.HistoryLemmas.{fades-trans, fades-push, fades-latest_both, newest-fades}
+use Rattle.nvm_model.specs.Numbered.{map_from}
+use Rattle.nvm_model.specs.Cell.{Cell, put_cell, persist_cell, settle_cell, cell_byte, touches, CellStands}
 use Rattle.nvm_model.specs.Cell.Cell.{Bad, Kept}
-use Rattle.nvm_model.specs.Page.{Page, cell_of, fill, put, persist, byte_in, read_pages, cell_in, LineStands, PagesStand, KeepsPages}
-use Rattle.nvm_model.proofs.NumberedLemmas.{slice_get-map_from, slice_get-list_from, length-map_from, length-list_from}
-use Rattle.nvm_model.proofs.PageLemmas.{cell_of-put, cell_of-persist, cell_of-fill, cell_of-read_pages}
+use Rattle.nvm_model.specs.Lines.{AreIntact, SameMarks, shown_byte, span_shown, span_stored, span_settled}
+use Rattle.nvm_model.specs.Page.{Page, look, cell_of, fill, put, persist, byte_in, LineStands, PagesStand}
+use Rattle.nvm_model.proofs.NumberedLemmas.{list_from-same, slice_get-map_from, length-map_from}
+use Rattle.nvm_model.proofs.PageLemmas.{cell_of-put, cell_of-persist, cell_of-fill}
 
 -- what may fade from any word may from one that is not weak
 pub fades-strong : (weak : Bool) (a b : List ℕ) → Fades weak a b → Fades false a b
@@ -27,6 +26,7 @@ fades-word_stored at p bytes a b f = by_test (reaches at (length bytes) p)
   where
     same : newest b ≡ newest a
     same = newest-fades false a b f
+
     by_test : (r : Bool) → Fades false (cond r (a ++ word_over at bytes p (newest a) ∷ []) a) (cond r (b ++ word_over at bytes p (newest b) ∷ []) b)
     by_test true = rw same (fades-push false a b (word_over at bytes p (newest a)) f)
     by_test false = f
@@ -51,21 +51,17 @@ cell_stands-each m b n weak change words alike stands healthy mark fades =
         let small : w < 8 = omega (arith, slice_get_within words w was.0 was.1, stands.2) in
         let here : (8 * n + w) / 8 ≡ n = omega arith in
         subst (λ h. Fades false h (b.history (8 * n + w))) (sym was.2)
-          (fades-trans false _ _ _ (alike (8 * n + w) was.0 (m.history (8 * n + w)) (stands.3 w was.0 was.1)) (fades (8 * n + w) here))
-
--- no line of so many pages is bad or weak
-abbrev pub AreIntact : Medium → ℕ → Type 0
-AreIntact m count = (n : ℕ) → n < 64 * count → (m.is_bad n ≡ false) × (m.is_weak n ≡ false)
+        (fades-trans false _ _ _ (alike (8 * n + w) was.0 (m.history (8 * n + w)) (stands.3 w was.0 was.1)) (fades (8 * n + w) here))
 
 -- a line that is not bad or weak stands for words
-words_of : (m : Medium) (n : ℕ) (cell : Cell) → CellStands m n cell → m.is_bad n ≡ false → m.is_weak n ≡ false
+pub words_of : (m : Medium) (n : ℕ) (cell : Cell) → CellStands m n cell → m.is_bad n ≡ false → m.is_weak n ≡ false
     → (words : List (List ℕ)) × (cell ≡ Kept false words) × CellStands m n (Kept false words)
 words_of m n Bad stands healthy strong = cc
 words_of m n (Kept true words) stands healthy strong = cc
 words_of m n (Kept false words) stands healthy strong = (words, refl, stands)
 
 -- pages that were changed as the device was, word by word
-pub pages_stand-put : (m b : Medium) (at len count : ℕ) (bytes : List ℕ) (pages : List Page) → PagesStand m count pages → AreIntact m count → AreIntact b count
+pub pages_stand-put : (m b : Medium) (at len count : ℕ) (bytes : List ℕ) (pages : List Page) → PagesStand m count pages → AreIntact m (64 * count) → AreIntact b (64 * count)
     → ((p : ℕ) → Fades false (word_stored at bytes p (m.history p)) (b.history p)) → PagesStand b count (put at bytes (fill at len pages))
 pages_stand-put m b at len count bytes pages stand intact after fades n lt =
     let line = stand n lt in
@@ -77,7 +73,7 @@ pages_stand-put m b at len count bytes pages stand intact after fades n lt =
       stands = cell_stands-each m b n false (word_stored at bytes) kept.0 (λ p x y f. fades-word_stored at p bytes x y f) kept.2 (after n lt).0 (after n lt).1 (λ p here. fades p);
     }
 
-pub pages_stand-persist : (m b : Medium) (start len count : ℕ) (pages : List Page) → PagesStand m count pages → AreIntact m count → AreIntact b count
+pub pages_stand-persist : (m b : Medium) (start len count : ℕ) (pages : List Page) → PagesStand m count pages → AreIntact m (64 * count) → AreIntact b (64 * count)
     → ((p : ℕ) → Fades false (cond (touches start len (p / 8)) (latest (m.history p)) (m.history p)) (b.history p)) → PagesStand b count (persist start len pages)
 pages_stand-persist m b start len count pages stand intact after fades n lt =
     let line = stand n lt in
@@ -89,27 +85,38 @@ pages_stand-persist m b start len count pages stand intact after fades n lt =
     at_line t is w small =
         let here : (8 * n + w) / 8 ≡ n = omega arith in
         subst (λ x. Fades false (cond x (latest (m.history (8 * n + w))) (m.history (8 * n + w))) (b.history (8 * n + w))) (ap (touches start len) here ∙ is) (fades (8 * n + w))
+
     by_test : (words : List (List ℕ)) → CellStands m n (Kept false words) → (t : Bool) → touches start len n ≡ t
         → cell_of (persist start len pages) n ≡ Some (cond (touches start len n) (settle_cell (Kept false words)) (Kept false words)) → LineStands b (persist start len pages) n
     by_test words stands true is changed = record {
       cell = Kept false (map latest words);
       is = changed ∙ ap (λ t. Some (cond t (settle_cell (Kept false words)) (Kept false words))) is;
-      stands = ((after n lt).0, (after n lt).1, omega (arith, length-map words latest, stands.2), λ w history found.
-          let was = changed_from latest (slice_get words w) history (sym (slice_get-map latest words w) ∙ found) in
-          let small : w < 8 = omega (arith, slice_get_within words w was.0 was.1, stands.2) in
-          subst (λ h. Fades false h (b.history (8 * n + w))) (sym was.2)
-            (fades-trans false _ _ _ (fades-latest_both false _ _ (stands.3 w was.0 was.1)) (at_line true is w small)));
+      stands = (
+        (after n lt).0,
+        (after n lt).1,
+        omega (arith, length-map words latest, stands.2),
+        λ w history found.
+            let was = changed_from latest (slice_get words w) history (sym (slice_get-map latest words w) ∙ found) in
+            let small : w < 8 = omega (arith, slice_get_within words w was.0 was.1, stands.2) in
+            subst (λ h. Fades false h (b.history (8 * n + w))) (sym was.2)
+            (fades-trans false _ _ _ (fades-latest_both false _ _ (stands.3 w was.0 was.1)) (at_line true is w small)),
+      );
     }
     by_test words stands false is changed = record {
       cell = Kept false words;
       is = changed ∙ ap (λ t. Some (cond t (settle_cell (Kept false words)) (Kept false words))) is;
-      stands = ((after n lt).0, (after n lt).1, stands.2, λ w history found.
-          let small : w < 8 = omega (arith, slice_get_within words w history found, stands.2) in
-          fades-trans false _ _ _ (stands.3 w history found) (at_line false is w small));
+      stands = (
+        (after n lt).0,
+        (after n lt).1,
+        stands.2,
+        λ w history found.
+            let small : w < 8 = omega (arith, slice_get_within words w history found, stands.2) in
+            fades-trans false _ _ _ (stands.3 w history found) (at_line false is w small),
+      );
     }
 
 -- lines that only wandered
-pub pages_stand-wander : (m b : Medium) (count : ℕ) (pages : List Page) → PagesStand m count pages → AreIntact m count → AreIntact b count
+pub pages_stand-wander : (m b : Medium) (count : ℕ) (pages : List Page) → PagesStand m count pages → AreIntact m (64 * count) → AreIntact b (64 * count)
     → ((p : ℕ) → Fades false (m.history p) (b.history p)) → PagesStand b count pages
 pages_stand-wander m b count pages stand intact after fades n lt =
     let line = stand n lt in
@@ -121,7 +128,7 @@ pages_stand-wander m b count pages stand intact after fades n lt =
     }
 
 -- a byte of the pages is that of the device's last values
-pub byte_in-stand : (m : Medium) (count : ℕ) (pages : List Page) (i : ℕ) → PagesStand m count pages → AreIntact m count → i < 4096 * count
+pub byte_in-stand : (m : Medium) (count : ℕ) (pages : List Page) (i : ℕ) → PagesStand m count pages → AreIntact m (64 * count) → i < 4096 * count
     → byte_in pages i ≡ byte_at (i % 8) (newest (m.history (i / 8)))
 byte_in-stand m count pages i stand intact lt =
     let here : i / 64 < 64 * count = omega arith in
@@ -132,10 +139,13 @@ byte_in-stand m count pages i stand intact lt =
     in_cell : Option Cell → ℕ
     in_cell None = 0
     in_cell (Some cell) = cell_byte cell (i % 64)
+
     byte : (i % 64) % 8 ≡ i % 8
     byte = omega arith
+
     place : 8 * (i / 64) + (i % 64) / 8 ≡ i / 8
     place = omega arith
+
     in_words : (words : List (List ℕ)) → CellStands m (i / 64) (Kept false words)
         → byte_at ((i % 64) % 8) (newest (slice_index_or words ((i % 64) / 8) [])) ≡ byte_at (i % 8) (newest (m.history (i / 8)))
     in_words words stands =
@@ -144,47 +154,56 @@ byte_in-stand m count pages i stand intact lt =
         ap (λ k. byte_at k (newest (slice_index_or words ((i % 64) / 8) []))) byte
         ∙ ap (byte_at (i % 8)) (sym (newest-fades false _ _ (stands.3 ((i % 64) / 8) _ found)) ∙ ap (λ p. newest (m.history p)) place)
 
--- lines of one value each stand for what a restart reads in them
-pub pages_stand-read : (b : Medium) (image : Image) (count : ℕ) → AreIntact b count → ((n : ℕ) → n < 64 * count → (image.is_bad n ≡ false) × (image.is_weak n ≡ false))
-    → ((p : ℕ) → p < 512 * count → b.history p ≡ image.word p ∷ []) → PagesStand b count (read_pages image count)
-pages_stand-read b image count after good one n lt = record {
-  cell = Kept false (list_from (λ p. image.word p ∷ []) (8 * n) 8);
-  is = cell_of-read_pages image count n lt
-      ∙ ap (λ t. Some (cond t Bad (Kept (image.is_weak n) (list_from (λ p. image.word p ∷ []) (8 * n) 8)))) (good n lt).0
-      ∙ ap (λ t. Some (Kept t (list_from (λ p. image.word p ∷ []) (8 * n) 8))) (good n lt).1;
-  stands = ((after n lt).0, (after n lt).1, length-list_from (λ p. image.word p ∷ []) (8 * n) 8, λ w history found.
-      let small : w < 8 = omega (arith, slice_get_within (list_from (λ p. image.word p ∷ []) (8 * n) 8) w history found, length-list_from (λ p. image.word p ∷ []) (8 * n) 8) in
-      let is : image.word (8 * n + w) ∷ [] ≡ history = cc (slice_get-list_from (λ p. image.word p ∷ []) (8 * n) 8 w small) in
-      subst (λ h. Fades false h (b.history (8 * n + w))) is
-        (subst (λ h. Fades false (image.word (8 * n + w) ∷ []) h) (sym (one (8 * n + w) (omega arith))) (fades-refl false _)));
-}
+-- what a span shows is what the machine sees there
+pub look-stand : (m : Medium) (count : ℕ) (pages : List Page) (offset len : ℕ) → PagesStand m count pages → AreIntact m (64 * count) → offset + len ≤ 4096 * count
+    → span_shown m offset len ≡ look pages offset len
+unfolding look
+look-stand m count pages offset len stand intact within =
+    list_from-same (shown_byte m) (byte_in pages) offset offset len (λ k lt. sym (byte_in-stand m count pages (offset + k) stand intact (omega arith)))
 
--- what the power's return left is what it may leave of the pages that the device stood for
-pub keeps_pages : (choice : Choice) (m b : Medium) (image : Image) (count : ℕ) (pages : List Page) → length pages ≡ count → PagesStand m count pages
-    → AreIntact m count → 64 * count ≤ m.count → Survivors choice m b → Depicts b image → KeepsPages choice image pages
-keeps_pages choice m b image count pages size stand intact there left depicts n cell is =
-    let lt : n < 64 * count = below pages n cell size is in
-    let line = stand n lt in
-    let kept = words_of m n line.cell line.stands (intact n lt).0 (intact n lt).1 in
-    let same : Kept false kept.0 ≡ cell = cc (line.is, is, kept.1) in
-    subst (KeepsCell choice image n) same (of_words kept.0 kept.2 lt)
+after_wander : (m b : Medium) (count : ℕ) → SameMarks m b → AreIntact m (64 * count) → AreIntact b (64 * count)
+after_wander m b count marks intact n lt = let was = intact n lt in (marks.bad n ∙ was.0, marks.weak n ∙ was.1)
+
+pub stand-loaded : (m b : Medium) (count : ℕ) (pages : List Page) → PagesStand m count pages → AreIntact m (64 * count) → Wander m b → PagesStand b count pages
+stand-loaded m b count pages stand intact w =
+    pages_stand-wander m b count pages stand intact (after_wander m b count (record { count = w.count; bad = w.bad; weak = w.weak }) intact)
+    (λ p. fades-strong (m.is_weak (p / 8)) _ _ (w.fades p))
+
+pub stand-stored : (m b : Medium) (at len count : ℕ) (bytes : List ℕ) (pages : List Page) → PagesStand m count pages → AreIntact m (64 * count)
+    → Wander (span_stored m at bytes) b → PagesStand b count (put at bytes (fill at len pages))
+stand-stored m b at len count bytes pages stand intact w =
+    pages_stand-put m b at len count bytes pages stand intact (after_wander m b count (record { count = w.count; bad = w.bad; weak = w.weak }) intact)
+    (λ p. fades-strong (m.is_weak (p / 8)) _ _ (w.fades p))
+
+pub stand-settled : (m b : Medium) (start len count : ℕ) (pages : List Page) → PagesStand m count pages → AreIntact m (64 * count)
+    → Wander (span_settled m start len) b → PagesStand b count (persist start len pages)
+stand-settled m b start len count pages stand intact w =
+    pages_stand-persist m b start len count pages stand intact (after_wander m b count (record { count = w.count; bad = w.bad; weak = w.weak }) intact)
+    (λ p. fades-strong (m.is_weak (p / 8)) _ _ (w.fades p))
+
+-- a line and its cell, both made durable
+pub cell_stands-persisted : (m : Medium) (n : ℕ) (cell : Cell) → CellStands m n cell → CellStands (persisted m n) n (settle_cell cell)
+cell_stands-persisted m n Bad bad = by_mark (m.is_weak n)
   where
-    below : (pages : List Page) (n : ℕ) (cell : Cell) → length pages ≡ count → cell_of pages n ≡ Some cell → n < 64 * count
-    below pages n cell size is = by_page (slice_get pages (n / 64)) refl is
-      where
-        by_page : (page : Option Page) → slice_get pages (n / 64) ≡ page → option_and_then (λ p. cell_in p (n % 64)) page ≡ Some cell → n < 64 * count
-        by_page None found is = cc
-        by_page (Some page) found is = omega (arith, slice_get_within pages (n / 64) page found)
-    of_words : (words : List (List ℕ)) → CellStands m n (Kept false words) → n < 64 * count → KeepsCell choice image n (Kept false words)
-    of_words words stands lt = (depicts.bad n (omega (arith, left.count)) ∙ left.bad n ∙ stands.0, depicts.weak n (omega (arith, left.count)) ∙ left.weak n ∙ stands.1, λ w history found.
-        let small : w < 8 = omega (arith, slice_get_within words w history found, stands.2) in
-        let here : (8 * n + w) / 8 ≡ n = omega arith in
-        let healthy : IsHealthy m ((8 * n + w) / 8) = (omega arith, ap m.is_bad here ∙ stands.0) in
-        let after : IsHealthy b ((8 * n + w) / 8) = (omega (arith, left.count), left.bad ((8 * n + w) / 8) ∙ healthy.1) in
-        let word = left.words (8 * n + w) healthy in
-        let value : image.word (8 * n + w) ≡ word.0 = cc (depicts.words (8 * n + w) after, word.1.one) in
-        let fades = stands.3 w history found in
-        record {
-          was = subst (λ v. IsIn v history) (sym value) (is_in-part word.0 _ history fades.part word.1.was);
-          last = λ lasts. value ∙ word.1.last lasts ∙ newest-fades false history _ fades;
-        })
+    here : eqb n n ≡ true
+    here = grind (arith, nat_tests)
+
+    by_mark : (weak : Bool) → (cond weak (poisoned m n) (settled m n)).is_bad n ≡ true
+    by_mark true = ap (λ b. cond b true (m.is_bad n)) here
+    by_mark false = bad
+cell_stands-persisted m n (Kept true words) stands =
+    let here : eqb n n ≡ true = grind (arith, nat_tests) in
+    ap (λ weak. (cond weak (poisoned m n) (settled m n)).is_bad n) stands.1 ∙ ap (λ b. cond b true (m.is_bad n)) here
+cell_stands-persisted m n (Kept false words) stands =
+    subst (λ weak. CellStands (cond weak (poisoned m n) (settled m n)) n (Kept false (map latest words))) (sym stands.1) (
+      stands.0,
+      stands.1,
+      omega (arith, length-map words latest, stands.2),
+      λ w history found.
+          let was = changed_from latest (slice_get words w) history (sym (slice_get-map latest words w) ∙ found) in
+          let small : w < 8 = omega (arith, slice_get_within words w was.0 was.1, stands.2) in
+          let here : eqb ((8 * n + w) / 8) n ≡ true = grind (arith, nat_tests) in
+          subst (λ h. Fades false h (cond (eqb ((8 * n + w) / 8) n) (latest (m.history (8 * n + w))) (m.history (8 * n + w)))) (sym was.2)
+          (subst (λ t. Fades false (latest was.0) (cond t (latest (m.history (8 * n + w))) (m.history (8 * n + w)))) (sym here)
+          (fades-latest_both false _ _ (stands.3 w was.0 was.1))),
+    )

@@ -1,5 +1,5 @@
 -- A line of storage as the machine sees it.
-use Rattle.std.specs.Prelude.{◌≡◌, ◌+◌, ◌*◌, ◌/◌, ◌%◌, ◌<◌, ◌&&◌, ℕ, Bool, true, false, List, [], ◌∷◌, length, map, replicate, nat_le, nat_lt, Some, slice_get, slice_index_or, if◌then◌else◌}
+use Rattle.std.specs.Prelude.{◌≡◌, ◌+◌, ◌*◌, ◌/◌, ◌%◌, ◌&&◌, ℕ, Bool, true, false, List, [], ◌∷◌, length, map, replicate, nat_le, nat_lt, Some, slice_get, slice_index_or, if◌then◌else◌}
 use Rattle.std.specs.Int.{byte_at}
 use Rattle.line_device.specs.History.{latest, newest, IsIn}
 use Rattle.line_device.specs.Medium.{Medium, word_stored}
@@ -30,6 +30,11 @@ abbrev pub put_cell : ℕ → List ℕ → ℕ → Cell → Cell
 put_cell at bytes n Bad =
     if covers at (length bytes) n then Kept false (map_from (word_stored at bytes) (8 * n) (replicate 8 (0 ∷ []))) else Bad
 put_cell at bytes n (Kept weak words) = Kept weak (map_from (word_stored at bytes) (8 * n) words)
+
+-- The line shows what is put over it: it has eight words, or it is bad and the bytes cover it.
+abbrev pub TakesPut : ℕ → ℕ → ℕ → Cell → Type 0
+TakesPut at len n Bad = covers at len n ≡ true
+TakesPut at len n (Kept weak words) = length words ≡ 8
 
 -- a line made durable, which a weak line does not survive
 abbrev pub settle_cell : Cell → Cell

@@ -1,4 +1,5 @@
 pub mod Numbered
 pub mod Cell
 pub mod Page
+pub mod Lines
 pub mod Storage

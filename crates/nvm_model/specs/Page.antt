@@ -1,5 +1,5 @@
 -- Pages of 64 lines, of the volume and of files. Lines and bytes are counted from the first page on.
-use Rattle.std.specs.Prelude.{◌≡◌, ◌+◌, ◌*◌, ◌/◌, ◌%◌, ◌<◌, ◌&&◌, ℕ, suc, List, [], ◌∷◌, length, nat_lt, Option, Some, None, option_and_then, slice_get, replicate, if◌then◌else◌}
+use Rattle.std.specs.Prelude.{◌≡◌, ◌+◌, ◌*◌, ◌/◌, ◌%◌, ◌<◌, ◌&&◌, ℕ, suc, List, [], ◌∷◌, nat_lt, Option, Some, None, option_and_then, slice_get, replicate, if◌then◌else◌}
 use Rattle.line_device.specs.Medium.{Medium}
 use Rattle.line_device.specs.Panel.{Image}
 use Rattle.line_device.specs.declared.line.Choice.{Choice}

@@ -1,2 +1,9 @@
 //! Storage as the machine sees it: cells, pages, blocks and files as data, with what actions make of them.
 #![tactic(auto)]
+
+mod laws;
+
+pub use laws::{
+    a_restart_keeps_what_one_left, actions_go_line_by_line, lines_and_pages_keep_step,
+    what_was_persisted_is_kept, what_was_put_is_seen,
+};

@@ -1,8 +1,9 @@
-use Rattle.std.proofs.Common.{◌≡◌, ◌+◌, ◌-◌, ◌*◌, ◌/◌, ◌<◌, ◌≤◌, ◌++◌, ap, ◌∙◌, arith}
+use Rattle.std.proofs.Common.{◌≡◌, ◌/◌, ◌++◌, ap, ◌∙◌, arith}
 use Rattle.line_device.proofs.PanelLemmas.{runs-refl, runs_then, runs_within}
 use Rattle.line_device.proofs.WanderLemmas.{wander-refl, wander-trans}
 use Rattle.machine_host.proofs.LoadLemmas.{said-next, said-none, span_shown-wander}
-use Rattle.machine_host.specs.Volume.{shown_byte, before_line}
+use Rattle.nvm_model.specs.Lines.{shown_byte}
+use Rattle.machine_host.specs.Volume.{before_line}
 use Rattle.machine_host.proofs.volume.load_span.Goals as goal
 
 pub loop-line-init : goal.loop-line-init

@@ -2,7 +2,8 @@ use Rattle.std.proofs.Common.{◌≡◌, ◌+◌, ◌-◌, ◌/◌, ◌≤◌, �
 use Rattle.line_device.specs.Medium.{Wander}
 use Rattle.line_device.specs.Panel.{Runs}
 use Rattle.line_device.specs.Panel.Outcome.{went}
-use Rattle.machine_host.specs.Volume.{span_shown, before_line}
+use Rattle.nvm_model.specs.Lines.{span_shown}
+use Rattle.machine_host.specs.Volume.{before_line}
 use Rattle.machine_host.proofs.volume.load_span.Given as goal
 
 -- the bytes of the lines below this one are there

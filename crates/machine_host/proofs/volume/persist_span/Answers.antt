@@ -1,7 +1,7 @@
-use Rattle.std.proofs.Common.{◌≡◌, ◌+◌, ◌-◌, ◌*◌, ◌/◌, ◌<◌, ◌≤◌, ap, ◌∙◌, inl, arith}
+use Rattle.std.proofs.Common.{◌≡◌, ◌/◌, ◌≤◌, ap, ◌∙◌, inl, arith}
 use Rattle.line_device.proofs.PanelLemmas.{runs-refl, runs_then, runs_within}
-use Rattle.machine_host.proofs.SpanLemmas.{below-first, below-last, persisted-next, settled_within-in, settled_within-out}
-use Rattle.machine_host.specs.Volume.{settled_within}
+use Rattle.machine_host.proofs.SpanLemmas.{below-first, persisted-next, settled_within-in, settled_within-out}
+use Rattle.nvm_model.specs.Lines.{settled_within}
 use Rattle.machine_host.proofs.volume.persist_span.Goals as goal
 
 pub loop-line-init : goal.loop-line-init

@@ -2,7 +2,8 @@ use Rattle.std.proofs.Common.{◌-◌, ◌/◌}
 use Rattle.line_device.specs.Medium.{Wander}
 use Rattle.line_device.specs.Panel.{Runs}
 use Rattle.line_device.specs.Panel.Outcome.{went}
-use Rattle.machine_host.specs.Volume.{each, below, settled_within}
+use Rattle.nvm_model.specs.Lines.{each, settled_within}
+use Rattle.machine_host.specs.Volume.{below}
 use Rattle.machine_host.proofs.volume.persist_span.Given as goal
 
 -- the lines below this one are durable

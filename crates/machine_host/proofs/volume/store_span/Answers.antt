@@ -1,4 +1,4 @@
-use Rattle.std.proofs.Common.{ℕ, length-take, length-drop, ◌≡◌, ◌+◌, ◌-◌, ◌*◌, ◌/◌, ◌<◌, ◌≤◌, length, ap, ◌∙◌, inl, inr, arith}
+use Rattle.std.proofs.Common.{ℕ, length-take, length-drop, ◌≡◌, ◌-◌, ◌/◌, ◌≤◌, ap, ◌∙◌, inl, inr, arith}
 use Rattle.std.proofs.lemmas.List.{get_or-take, get_or-drop}
 use Rattle.line_device.specs.Medium.{word_stored}
 use Rattle.line_device.proofs.PanelLemmas.{runs-refl, runs_then, runs_within}

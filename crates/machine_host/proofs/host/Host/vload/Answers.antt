@@ -1,5 +1,5 @@
 use Rattle.std.proofs.Common.{◌≡◌, ◌∙◌, ap, ◌++◌, length, arith}
-use Rattle.machine_host.specs.Volume.{span_shown}
+use Rattle.nvm_model.specs.Lines.{span_shown}
 use Rattle.nvm_model.proofs.NumberedLemmas.{length-list_from}
 use Rattle.machine_host.proofs.ShortLemmas.{length-answer_line-bytes}
 use Rattle.machine_host.proofs.StepLemmas.{comes_of_load}

@@ -1,7 +1,9 @@
 use Rattle.std.proofs.Common.{length}
 use Rattle.machine_host.specs.Answer.Answer.{Done}
 use Rattle.machine_host.proofs.ShortLemmas.{length-answer_line-done}
-use Rattle.machine_host.proofs.StepLemmas.{comes_of_work, length-put_fill, stand-stored, intact_pages}
+use Rattle.nvm_model.proofs.PageLemmas.{length-put_fill}
+use Rattle.nvm_model.proofs.StandLemmas.{stand-stored}
+use Rattle.machine_host.proofs.StepLemmas.{comes_of_work, intact_pages}
 use Rattle.machine_host.proofs.host.Host.vstore.Goals as goal
 
 pub returns-in-Ok-clause-step : goal.returns-in-Ok-clause-step

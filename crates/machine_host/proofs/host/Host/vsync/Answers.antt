@@ -1,6 +1,8 @@
 use Rattle.machine_host.specs.Answer.Answer.{Done}
 use Rattle.machine_host.proofs.ShortLemmas.{length-answer_line-done}
-use Rattle.machine_host.proofs.StepLemmas.{comes_of_work, length-persist, stand-settled, intact_pages}
+use Rattle.nvm_model.proofs.PageLemmas.{length-persist}
+use Rattle.nvm_model.proofs.StandLemmas.{stand-settled}
+use Rattle.machine_host.proofs.StepLemmas.{comes_of_work, intact_pages}
 use Rattle.machine_host.proofs.host.Host.vsync.Goals as goal
 
 pub returns-in-Ok-clause-step : goal.returns-in-Ok-clause-step
