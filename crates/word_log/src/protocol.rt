@@ -31,8 +31,8 @@ pub fn persist_lines<L: Lines>(dev: &mut L, first: u64, count: u64) -> Result<()
         → IsOnly (last_image (L.state dev.old).medium p) ((L.state dev.new).medium.history p)) }
     ensures runs { Runs count count (word_outcome result) (L.state dev.old).panel (L.state dev.new).panel }
 {
-    for line in first..first + count {
-        persist_line(dev, line)?;
+    for k in 0..count {
+        persist_line(dev, first + k)?;
     }
     Ok(())
 }

@@ -7,7 +7,6 @@ ghost use Rattle.word_log.specs.Words.{IsSteadfast, with_word};
 ghost use Rattle.word_log.specs.Outcomes.{word_outcome};
 
 use crate::CommitFault;
-use byteorder::{ByteOrder, LittleEndian};
 use line_device::{DeviceFault, Lines};
 use nvm_base::LineNo;
 
@@ -16,7 +15,17 @@ fn word_in(bytes: &[u8], w: u64) -> u64
     requires { 8 * w + 8 ≤ length bytes.now }
     ensures { result ≡ word_at bytes.now w }
 {
-    LittleEndian::read_u64(&bytes[8 * w as usize..])
+    let at = 8 * w as usize;
+    u64::from_le_bytes([
+        bytes[at],
+        bytes[at + 1],
+        bytes[at + 2],
+        bytes[at + 3],
+        bytes[at + 4],
+        bytes[at + 5],
+        bytes[at + 6],
+        bytes[at + 7],
+    ])
 }
 
 /// The word at a place, as last stored.

@@ -1,0 +1,5 @@
+pub mod FrameLemmas
+pub mod CallLemmas
+pub mod ChangeLemmas
+pub mod EntryLemmas
+pub mod StepLemmas
