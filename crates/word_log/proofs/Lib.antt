@@ -3,3 +3,5 @@ pub mod CallLemmas
 pub mod ChangeLemmas
 pub mod EntryLemmas
 pub mod StepLemmas
+pub mod ReplayLemmas
+pub mod PhaseLemmas
