@@ -8,10 +8,10 @@ use Rattle.word_log.specs.Changes.{changed, lists, IsTaken}
 use Rattle.word_log.specs.Replay.{entries, Replays}
 use Rattle.word_log.specs.Words.{WandersOutside}
 use Rattle.word_log.specs.Rest.{IsOnly, IsImageOn, EachImage, IsAtRest}
-use Rattle.word_log.specs.Protocol.{IsBehindGate, IsRecorded}
+use Rattle.word_log.specs.Protocol.{IsBehindGate, IsRecorded, IsWritten, IsOpen}
 use Rattle.word_log.proofs.ChangeLemmas.{listed_or, lists_not, changed-listed, changed-unlisted}
 use Rattle.word_log.proofs.EntryLemmas.{entries-cong}
-use Rattle.word_log.proofs.FrameLemmas.{is_only-outside, newest-outside}
+use Rattle.word_log.proofs.FrameLemmas.{is_only-outside, newest-outside, outside-wider, fits-outside}
 use Rattle.word_log.proofs.StepLemmas.{behind_gate-entries}
 use Rattle.word_log.proofs.ReplayLemmas.{replays_closed, replays_open}
 
@@ -21,13 +21,7 @@ gate_of a m fits = inl (omega arith, omega (arith, fits.len))
 pub behind_gate_of : (a : LogArea) (p : ℕ) → IsBehindGate a p → IsLog a p
 behind_gate_of a p h = (omega (arith, h), h.1)
 
--- the entries of these changes are durable
-pub record Written (a : LogArea) (cs : List (ℕ × ℕ)) (m : Medium) : Type 0 where
-  pub fits : Fits a m
-  pub taken : IsTaken a cs
-  pub recorded : IsRecorded a cs m
-
-pub written-outside : (a : LogArea) (cs : List (ℕ × ℕ)) (inside : ℕ → Type 0) (old new : Medium) → ((p : ℕ) → IsBehindGate a p → inside p → ⊥) → Fits a new → Written a cs old → WandersOutside inside old new → Written a cs new
+pub written-outside : (a : LogArea) (cs : List (ℕ × ℕ)) (inside : ℕ → Type 0) (old new : Medium) → ((p : ℕ) → IsBehindGate a p → inside p → ⊥) → Fits a new → IsWritten a cs old → WandersOutside inside old new → IsWritten a cs new
 written-outside a cs inside old new apart fits was x =
     let at : (p : ℕ) → entry_place a 0 ≤ p → p < entry_place a (length cs) → inside p → ⊥ =
         λ p from to. apart p (behind_gate-entries a cs old p was.fits was.taken.few from to) in
@@ -46,7 +40,7 @@ written-outside a cs inside old new apart fits was x =
     }
 
 -- an image with the gate open
-pub image_open : (a : LogArea) (cs : List (ℕ × ℕ)) (words image : ℕ → ℕ) (m : Medium) → Written a cs m → ((p : ℕ) → IsHome a p → lists cs p ≡ false → IsOnly (words p) (m.history p)) → IsImageOn a m image → image (gate_place a) ≡ 1 → Replays a image (changed cs words)
+pub image_open : (a : LogArea) (cs : List (ℕ × ℕ)) (words image : ℕ → ℕ) (m : Medium) → IsWritten a cs m → ((p : ℕ) → IsHome a p → lists cs p ≡ false → IsOnly (words p) (m.history p)) → IsImageOn a m image → image (gate_place a) ≡ 1 → Replays a image (changed cs words)
 image_open a cs words image m written home is gate =
     let recorded = written.recorded in
     replays_open a cs image words gate
@@ -79,7 +73,7 @@ home_not_gate : (a : LogArea) (m : Medium) (p : ℕ) → Fits a m → IsHome a p
 home_not_gate a m p fits in_home is = fits.apart p (omega arith, omega (arith, fits.len)) in_home
 
 -- the gate is being opened
-pub images_opening : (a : LogArea) (cs : List (ℕ × ℕ)) (words : ℕ → ℕ) (old new : Medium) → Written a cs old → IsAtRest a old words → Fits a new → WandersOutside (λ p. p ≡ gate_place a) old new → ((x : ℕ) → IsIn x (new.history (gate_place a)) → IsIn x (old.history (gate_place a)) ⊎ (x ≡ 1)) → EachImage a new (λ image. Replays a image words ⊎ Replays a image (changed cs words))
+pub images_opening : (a : LogArea) (cs : List (ℕ × ℕ)) (words : ℕ → ℕ) (old new : Medium) → IsWritten a cs old → IsAtRest a old words → Fits a new → WandersOutside (λ p. p ≡ gate_place a) old new → ((x : ℕ) → IsIn x (new.history (gate_place a)) → IsIn x (old.history (gate_place a)) ⊎ (x ≡ 1)) → EachImage a new (λ image. Replays a image words ⊎ Replays a image (changed cs words))
 images_opening a cs words old new written rest fits x either image is =
     let home : (p : ℕ) → IsHome a p → IsOnly (words p) (new.history p) =
         λ p in_home. is_only-outside (λ q. q ≡ gate_place a) old new p (words p) x (home_not_gate a old p written.fits in_home) (rest.home p in_home) in
@@ -89,17 +83,11 @@ images_opening a cs words old new written rest fits x either image is =
       | inr open_ ↦ inr (image_open a cs words image new now (λ p in_home _. home p in_home) is open_)
     ]
 
--- the gate is open, and the home words that are not listed are these
-pub record IsOpen (a : LogArea) (cs : List (ℕ × ℕ)) (words : ℕ → ℕ) (m : Medium) : Type 0 where
-  pub written : Written a cs m
-  pub gate : IsOnly 1 (m.history (gate_place a))
-  pub home : (p : ℕ) → IsHome a p → lists cs p ≡ false → IsOnly (words p) (m.history p)
-
 pub images_open : (a : LogArea) (cs : List (ℕ × ℕ)) (words : ℕ → ℕ) (m : Medium) → IsOpen a cs words m → EachImage a m (λ image. Replays a image (changed cs words))
 images_open a cs words m open_ image is =
     image_open a cs words image m open_.written open_.home is (open_.gate (image (gate_place a)) (is (gate_place a) (gate_of a m open_.written.fits)))
 
-pub opened : (a : LogArea) (cs : List (ℕ × ℕ)) (words : ℕ → ℕ) (old new : Medium) → Written a cs old → IsAtRest a old words → Fits a new → WandersOutside (λ p. p ≡ gate_place a) old new → IsOnly 1 (new.history (gate_place a)) → IsOpen a cs words new
+pub opened : (a : LogArea) (cs : List (ℕ × ℕ)) (words : ℕ → ℕ) (old new : Medium) → IsWritten a cs old → IsAtRest a old words → Fits a new → WandersOutside (λ p. p ≡ gate_place a) old new → IsOnly 1 (new.history (gate_place a)) → IsOpen a cs words new
 opened a cs words old new written rest fits x gate = record {
   written = written-outside a cs (λ q. q ≡ gate_place a) old new (not_gate a) fits written x;
   gate = gate;
@@ -151,3 +139,18 @@ closed a cs words old new applied_ x gate = record {
   gate = gate;
   home = λ p in_home. is_only-outside (λ q. q ≡ gate_place a) old new p (changed cs words p) x (home_not_gate a old p applied_.open_.written.fits in_home) (applied_.changed p in_home);
 }
+
+-- each step stays within log and home
+pub outside-gate : (a : LogArea) (m old new : Medium) → Fits a m → WandersOutside (λ p. p ≡ gate_place a) old new → WandersOutside (IsOf a) old new
+outside-gate a m old new fits x = outside-wider (λ p. p ≡ gate_place a) (IsOf a) old new (λ p is. inl (omega arith, omega (arith, fits.len))) x
+
+pub outside-behind_gate : (a : LogArea) (old new : Medium) → WandersOutside (IsBehindGate a) old new → WandersOutside (IsOf a) old new
+outside-behind_gate a old new x = outside-wider (IsBehindGate a) (IsOf a) old new (λ p behind. inl (behind_gate_of a p behind)) x
+
+pub outside-listed : (a : LogArea) (cs : List (ℕ × ℕ)) (old new : Medium) → IsTaken a cs → WandersOutside (λ p. IsTrue (lists cs p)) old new → WandersOutside (IsOf a) old new
+outside-listed a cs old new taken x = outside-wider (λ p. IsTrue (lists cs p)) (IsOf a) old new (λ p h. inr (taken.home p h)) x
+
+-- after the home words are durable
+pub open-applied : (a : LogArea) (cs : List (ℕ × ℕ)) (words : ℕ → ℕ) (old new : Medium) → IsOpen a cs words old → WandersOutside (λ p. IsTrue (lists cs p)) old new → ((p : ℕ) → IsTrue (lists cs p) → IsOnly (changed cs (last_image old) p) (new.history p)) → IsApplied a cs words new
+open-applied a cs words old new open_ x durable =
+    applied a cs words (last_image old) new (open-outside a cs words old new open_ (fits-outside a (λ p. IsTrue (lists cs p)) old new open_.written.fits x) x) durable

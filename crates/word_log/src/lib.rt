@@ -28,7 +28,7 @@ pub use area::LogArea;
 pub use fault::{CommitFault, LogFault};
 
 use line_device::Lines;
-use protocol::{CLOSED, OPEN, apply, set_gate, write_entries};
+use protocol::commit_at;
 use std::marker::Model;
 
 /// A mounted log. It is settled until a commit is stopped; a log that is not has to be mounted again.
@@ -73,10 +73,7 @@ impl Log {
         ensures log { self.new ≡ record self.old { settled = is_ok result } }
     {
         self.settled = false;
-        write_entries(dev, self.area, changes)?;
-        set_gate(dev, self.area, OPEN)?;
-        apply(dev, changes)?;
-        set_gate(dev, self.area, CLOSED)?;
+        commit_at(dev, self.area, changes)?;
         self.settled = true;
         Ok(())
     }

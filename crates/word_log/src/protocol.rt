@@ -3,12 +3,12 @@ ghost use Rattle.std.specs.Prelude.{◌≡◌, ◌⊎◌, ◌+◌, ◌*◌, ◌/
 ghost use Rattle.line_device.specs.History.{IsIn};
 ghost use Rattle.line_device.specs.Medium.{Wander, last_image};
 ghost use Rattle.line_device.specs.Panel.{Runs};
-ghost use Rattle.word_log.specs.Area.{Fits, IsStrong, IsWhole, gate_place, entry_place};
+ghost use Rattle.word_log.specs.Area.{Fits, IsStrong, IsWhole, IsOf, gate_place, entry_place};
 ghost use Rattle.word_log.specs.Changes.{changed, lists, IsDistinct, IsTaken};
-ghost use Rattle.word_log.specs.Replay.{entries};
+ghost use Rattle.word_log.specs.Replay.{entries, Replays};
 ghost use Rattle.word_log.specs.Words.{IsSteadfast, WandersOutside};
-ghost use Rattle.word_log.specs.Rest.{IsOnly};
-ghost use Rattle.word_log.specs.Protocol.{IsBehindGate, IsRecorded};
+ghost use Rattle.word_log.specs.Rest.{IsOnly, IsAtRest, EachImage};
+ghost use Rattle.word_log.specs.Protocol.{IsBehindGate, IsRecorded, IsWritten, IsOpen};
 ghost use Rattle.word_log.specs.Outcomes.{word_outcome};
 
 use crate::words::{persist_line, store_word};
@@ -152,4 +152,44 @@ pub fn apply<L: Lines>(dev: &mut L, changes: &[(u64, u64)]) -> Result<(), Commit
 {
     store_home(dev, changes)?;
     persist_home(dev, changes)
+}
+
+/// Behind an open gate gives the home words their values, and closes the gate.
+pub fn finish<L: Lines>(dev: &mut L, area: LogArea, changes: &[(u64, u64)]) -> Result<(), CommitFault>
+    requires on { IsTrue (L.state dev.old).panel.power }
+    requires strong { IsStrong area (L.state dev.old).medium }
+    requires whole { IsWhole area (L.state dev.old).medium }
+    requires written { IsWritten area changes.now (L.state dev.old).medium }
+    ensures ok { OnOk result ((words : ℕ → ℕ) → IsOpen area changes.now words (L.state dev.old).medium
+        → IsAtRest area (L.state dev.new).medium (changed changes.now words)) }
+    ensures images { (words : ℕ → ℕ) → IsOpen area changes.now words (L.state dev.old).medium
+        → EachImage area (L.state dev.new).medium (λ image. Replays area image (changed changes.now words)) }
+    ensures outside { WandersOutside (IsOf area) (L.state dev.old).medium (L.state dev.new).medium }
+    ensures runs { Runs (2 * length changes.now + 2) (length changes.now + 1) (word_outcome result)
+        (L.state dev.old).panel (L.state dev.new).panel }
+{
+    apply(dev, changes)?;
+    set_gate(dev, area, CLOSED)
+}
+
+/// Makes the listed words the listed values, durably and together.
+pub fn commit_at<L: Lines>(dev: &mut L, area: LogArea, changes: &[(u64, u64)]) -> Result<(), CommitFault>
+    requires on { IsTrue (L.state dev.old).panel.power }
+    requires fits { Fits area (L.state dev.old).medium }
+    requires strong { IsStrong area (L.state dev.old).medium }
+    requires whole { IsWhole area (L.state dev.old).medium }
+    requires rest { IsAtRest area (L.state dev.old).medium (last_image (L.state dev.old).medium) }
+    requires taken { IsTaken area changes.now }
+    ensures ok { OnOk result (IsAtRest area (L.state dev.new).medium
+        (changed changes.now (last_image (L.state dev.old).medium))) }
+    ensures images { EachImage area (L.state dev.new).medium (λ image.
+        Replays area image (last_image (L.state dev.old).medium)
+        ⊎ Replays area image (changed changes.now (last_image (L.state dev.old).medium))) }
+    ensures outside { WandersOutside (IsOf area) (L.state dev.old).medium (L.state dev.new).medium }
+    ensures runs { Runs (5 * length changes.now + 6) (2 * length changes.now + 3) (word_outcome result)
+        (L.state dev.old).panel (L.state dev.new).panel }
+{
+    write_entries(dev, area, changes)?;
+    set_gate(dev, area, OPEN)?;
+    finish(dev, area, changes)
 }
