@@ -6,4 +6,5 @@ pub mod Rest
 pub mod State
 pub mod Outcomes
 pub mod Stopped
+pub mod Mount
 pub mod Protocol

@@ -1,6 +1,3 @@
-ghost use Rattle.std.specs.Prelude.{◌≡◌, ◌+◌, ◌*◌, ◌<◌, ◌^◌};
-ghost use Rattle.word_log.specs.Area.{gate_place, count_place, entry_place};
-
 use nvm_base::Span;
 
 /// Where a log stands.

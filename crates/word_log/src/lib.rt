@@ -7,7 +7,7 @@
 //   4. gate 0
 #![tactic(auto)]
 
-ghost use Rattle.std.specs.Prelude.{◌≡◌, ◌⊎◌, ◌+◌, ◌*◌, ℕ, length, IsTrue, OnOk};
+ghost use Rattle.std.specs.Prelude.{◌≡◌, ◌⊎◌, ◌+◌, ◌*◌, ℕ, length, true, IsTrue, OnOk};
 ghost use Rattle.std.specs.Result.{is_ok};
 ghost use Rattle.line_device.specs.Medium.{last_image};
 ghost use Rattle.line_device.specs.Panel.{Runs};
@@ -20,12 +20,16 @@ ghost use Rattle.word_log.specs.Outcomes.{word_outcome};
 
 mod area;
 mod fault;
+mod lines;
+mod mounting;
 mod places;
 mod protocol;
+mod reading;
 mod words;
 
 pub use area::LogArea;
 pub use fault::{CommitFault, LogFault};
+pub use mounting::{inspect, mount};
 
 use line_device::Lines;
 use protocol::commit_at;
@@ -47,6 +51,16 @@ impl Model for Log {
 }
 
 impl Log {
+    /// A log at rest.
+    pub(crate) fn at_rest(area: LogArea) -> Self
+        ensures { result ≡ record { area = area; settled = true } }
+    {
+        Log {
+            area,
+            settled: true,
+        }
+    }
+
     pub fn settled(&self) -> bool
         ensures { result ≡ self.now.settled }
     {

@@ -1,8 +1,9 @@
 // The places of a log's words.
-ghost use Rattle.std.specs.Prelude.{◌≡◌, ◌+◌, ◌*◌, ◌<◌, ◌^◌};
-ghost use Rattle.word_log.specs.Area.{gate_place, count_place, entry_place};
+ghost use Rattle.std.specs.Prelude.{◌≡◌, ◌+◌, ◌*◌, ◌/◌, ◌<◌, ◌≤◌, ◌^◌, ℕ};
+ghost use Rattle.word_log.specs.Area.{gate_place, count_place, entry_place, IsHome};
 
 use crate::LogArea;
+use nvm_base::Span;
 
 impl LogArea {
     pub fn gate_place(self) -> u64
@@ -25,5 +26,24 @@ impl LogArea {
         ensures { result ≡ entry_place self k }
     {
         8 * self.log.start + 8 + 2 * k
+    }
+
+    /// The lines of the home words.
+    pub fn home_lines(self) -> Span
+        requires { self.home.start + self.home.len < 2 ^ 64 }
+        ensures covers { (p : ℕ) → IsHome self p → (result.start ≤ p / 8) × (p / 8 < result.start + result.len) }
+        ensures only { (line : ℕ) → result.start ≤ line → line < result.start + result.len
+            → (p : ℕ) × IsHome self p × (p / 8 ≡ line) }
+        ensures few { result.len ≤ self.home.len / 8 + 2 }
+    {
+        if self.home.len == 0 {
+            return Span { start: 0, len: 0 };
+        }
+        let first = self.home.start / 8;
+        let last = (self.home.start + self.home.len - 1) / 8;
+        Span {
+            start: first,
+            len: last - first + 1,
+        }
     }
 }

@@ -1,0 +1,26 @@
+-- What the answers of a mount say of the device as it was.
+use Rattle.std.specs.Prelude.{◌≡◌, ℕ, true, Option, Some, None, Result, Ok, Err}
+use Rattle.line_device.specs.Medium.{Medium, last_image}
+use Rattle.word_log.specs.declared.area.LogArea.{LogArea}
+use Rattle.word_log.specs.declared.fault.LogFault.{LogFault}
+use Rattle.word_log.specs.declared.fault.LogFault.TheVariants.{Poisoned, Bad, Failed, PowerLost, Memory}
+use Rattle.word_log.specs.Area.{IsLineOf, IsWhole}
+use Rattle.word_log.specs.Replay.{first_wrong}
+
+-- nothing is wrong with a log, or this place is; a stop says nothing of it
+abbrev pub Tells : {T : Type 0} → Option ℕ → Result T LogFault → Type 0
+Tells wrong (Ok x) = wrong ≡ None
+Tells wrong (Err (Poisoned line)) = ⊥
+Tells wrong (Err (Bad place)) = wrong ≡ Some place
+Tells wrong (Err Failed) = Unit {0}
+Tells wrong (Err PowerLost) = Unit {0}
+Tells wrong (Err Memory) = Unit {0}
+
+-- The lines are good and the log is valid, a line is bad, or the lines are good and this is the log's first wrong place.
+abbrev pub Finds : {T : Type 0} → LogArea → Medium → Result T LogFault → Type 0
+Finds a m (Ok x) = IsWhole a m × (first_wrong a (last_image m) ≡ None)
+Finds a m (Err (Poisoned line)) = IsLineOf a line.0 × (m.is_bad line.0 ≡ true)
+Finds a m (Err (Bad place)) = IsWhole a m × (first_wrong a (last_image m) ≡ Some place)
+Finds a m (Err Failed) = Unit {0}
+Finds a m (Err PowerLost) = Unit {0}
+Finds a m (Err Memory) = Unit {0}
