@@ -155,3 +155,7 @@ gate_line area inside a b fits strong whole x =
     steadfast-outside inside a b area.log.start
     (log_steadfast area a area.log.start fits strong whole (omega arith) (omega (arith, fits.len)))
     x
+
+-- wandering keeps the last image, as a whole
+pub last_image-wander : (a b : Medium) → Wander a b → last_image b ≡ last_image a
+last_image-wander a b x = λ i p. newest-wander a b x p i

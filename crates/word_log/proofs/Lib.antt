@@ -5,3 +5,5 @@ pub mod EntryLemmas
 pub mod StepLemmas
 pub mod ReplayLemmas
 pub mod PhaseLemmas
+pub mod AnswerLemmas
+pub mod ReadLemmas

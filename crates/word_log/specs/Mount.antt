@@ -7,14 +7,18 @@ use Rattle.word_log.specs.declared.fault.LogFault.TheVariants.{Poisoned, Bad, Fa
 use Rattle.word_log.specs.Area.{IsLineOf, IsWhole}
 use Rattle.word_log.specs.Replay.{first_wrong}
 
--- nothing is wrong with a log, or this place is; a stop says nothing of it
+-- this place is what is wrong with a log; a stop says nothing of it
+abbrev pub IsTold : Option ℕ → LogFault → Type 0
+IsTold wrong (Poisoned line) = ⊥
+IsTold wrong (Bad place) = wrong ≡ Some place
+IsTold wrong Failed = Unit {0}
+IsTold wrong PowerLost = Unit {0}
+IsTold wrong Memory = Unit {0}
+
+-- nothing is wrong with a log, or it is told what is
 abbrev pub Tells : {T : Type 0} → Option ℕ → Result T LogFault → Type 0
 Tells wrong (Ok x) = wrong ≡ None
-Tells wrong (Err (Poisoned line)) = ⊥
-Tells wrong (Err (Bad place)) = wrong ≡ Some place
-Tells wrong (Err Failed) = Unit {0}
-Tells wrong (Err PowerLost) = Unit {0}
-Tells wrong (Err Memory) = Unit {0}
+Tells wrong (Err fault) = IsTold wrong fault
 
 -- The lines are good and the log is valid, a line is bad, or the lines are good and this is the log's first wrong place.
 abbrev pub Finds : {T : Type 0} → LogArea → Medium → Result T LogFault → Type 0

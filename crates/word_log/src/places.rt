@@ -1,6 +1,6 @@
 // The places of a log's words.
 ghost use Rattle.std.specs.Prelude.{◌≡◌, ◌+◌, ◌*◌, ◌/◌, ◌<◌, ◌≤◌, ◌^◌, ℕ};
-ghost use Rattle.word_log.specs.Area.{gate_place, count_place, entry_place, IsHome};
+ghost use Rattle.word_log.specs.Area.{gate_place, count_place, entry_place, IsHome, is_home};
 
 use crate::LogArea;
 use nvm_base::Span;
@@ -28,12 +28,20 @@ impl LogArea {
         8 * self.log.start + 8 + 2 * k
     }
 
+    /// The log may change the word at this place.
+    pub fn has_home(self, place: u64) -> bool
+        ensures { result ≡ is_home self place }
+    {
+        place >= self.home.start && place - self.home.start < self.home.len
+    }
+
     /// The lines of the home words.
     pub fn home_lines(self) -> Span
         requires { self.home.start + self.home.len < 2 ^ 64 }
         ensures covers { (p : ℕ) → IsHome self p → (result.start ≤ p / 8) × (p / 8 < result.start + result.len) }
         ensures only { (line : ℕ) → result.start ≤ line → line < result.start + result.len
             → (p : ℕ) × IsHome self p × (p / 8 ≡ line) }
+        ensures end { 8 * (result.start + result.len) ≤ self.home.start + self.home.len + 7 }
         ensures few { result.len ≤ self.home.len / 8 + 2 }
     {
         if self.home.len == 0 {

@@ -1,5 +1,5 @@
 // Reads a log, and tells whether it is in order.
-ghost use Rattle.std.specs.Prelude.{◌≡◌, ◌+◌, ◌*◌, ◌&&◌, ◌<◌, ◌≤◌, ◌^◌, [], not, length, IsTrue, IfOk};
+ghost use Rattle.std.specs.Prelude.{◌≡◌, ◌+◌, ◌*◌, ◌&&◌, ◌<◌, ◌≤◌, ◌^◌, [], None, not, length, IsTrue, IfOk};
 ghost use Rattle.line_device.specs.Medium.{Wander, last_image};
 ghost use Rattle.line_device.specs.Panel.{Runs};
 ghost use Rattle.word_log.specs.Area.{Fits, IsWhole, is_home, gate_place, count_place, entry_place};
@@ -40,6 +40,7 @@ fn read_entries<L: Lines>(alloc: Global, dev: &mut L, area: LogArea, count: u64)
     requires fits { Fits area (L.state dev.old).medium }
     requires whole { IsWhole area (L.state dev.old).medium }
     requires on { IsTrue (L.state dev.old).panel.power }
+    ensures stops { Tells None result }
     ensures entries { IfOk result (λ changes. changes.items
         ≡ entries (last_image (L.state dev.old).medium) (entry_place area 0) count) }
     ensures lines { Wander (L.state dev.old).medium (L.state dev.new).medium }
@@ -53,13 +54,18 @@ fn read_entries<L: Lines>(alloc: Global, dev: &mut L, area: LogArea, count: u64)
     Ok(changes)
 }
 
+/// One of these changes is of this place.
+fn has(changes: &[(u64, u64)], place: u64) -> bool
+    ensures { result ≡ lists changes.now place }
+{
+    changes.iter().any(|change| change.0 == place)
+}
+
 /// An entry may be of this place, after these.
 fn is_next(area: LogArea, before: &[(u64, u64)], place: u64) -> bool
     ensures { result ≡ (is_home area place && not (lists before.now place)) }
 {
-    place >= area.home.start
-        && place - area.home.start < area.home.len
-        && !before.iter().any(|change| change.0 == place)
+    area.has_home(place) && !has(before, place)
 }
 
 /// Where the first wrong one of these entries stands.
