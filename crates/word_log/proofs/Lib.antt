@@ -7,3 +7,4 @@ pub mod ReplayLemmas
 pub mod PhaseLemmas
 pub mod AnswerLemmas
 pub mod ReadLemmas
+pub mod ValidLemmas

@@ -1,13 +1,14 @@
 -- A commit, by what is durable after each of its steps, and what each image replays to then.
-use Rattle.std.proofs.Common.{◌≡◌, ◌⊎◌, inl, inr, ℕ, false, ◌+◌, ◌*◌, ◌<◌, ◌≤◌, List, length, IsTrue, sym, ◌∙◌, ap, subst, arith}
+use Rattle.std.proofs.Common.{◌≡◌, ◌⊎◌, inl, inr, ℕ, false, None, ◌+◌, ◌*◌, ◌/◌, ◌<◌, ◌≤◌, List, length, IsTrue, sym, ◌∙◌, ap, subst, arith}
 use Rattle.line_device.specs.History.{IsIn}
-use Rattle.line_device.specs.Medium.{Medium, last_image}
+use Rattle.line_device.specs.Medium.{Medium, Wander, IsSound, last_image}
+use Rattle.line_device.proofs.HistoryLemmas.{is_in-fades}
 use Rattle.word_log.specs.declared.area.LogArea.{LogArea}
-use Rattle.word_log.specs.Area.{gate_place, count_place, entry_place, Fits, IsLog, IsHome, IsOf}
+use Rattle.word_log.specs.Area.{gate_place, count_place, entry_place, Fits, IsLog, IsHome, IsOf, IsWhole}
 use Rattle.word_log.specs.Changes.{changed, lists, IsTaken}
-use Rattle.word_log.specs.Replay.{entries, Replays}
+use Rattle.word_log.specs.Replay.{entries, first_wrong, replayed, Replays}
 use Rattle.word_log.specs.Words.{WandersOutside}
-use Rattle.word_log.specs.Rest.{IsOnly, IsImageOn, EachImage, IsAtRest}
+use Rattle.word_log.specs.Rest.{IsOnly, IsImageOn, EachImage, IsAtRest, IsReached}
 use Rattle.word_log.specs.Protocol.{IsBehindGate, IsRecorded, IsWritten, IsOpen}
 use Rattle.word_log.proofs.ChangeLemmas.{listed_or, lists_not, changed-listed, changed-unlisted}
 use Rattle.word_log.proofs.EntryLemmas.{entries-cong}
@@ -154,3 +155,23 @@ outside-listed a cs old new taken x = outside-wider (λ p. IsTrue (lists cs p)) 
 pub open-applied : (a : LogArea) (cs : List (ℕ × ℕ)) (words : ℕ → ℕ) (old new : Medium) → IsOpen a cs words old → WandersOutside (λ p. IsTrue (lists cs p)) old new → ((p : ℕ) → IsTrue (lists cs p) → IsOnly (changed cs (last_image old) p) (new.history p)) → IsApplied a cs words new
 open-applied a cs words old new open_ x durable =
     applied a cs words (last_image old) new (open-outside a cs words old new open_ (fits-outside a (λ p. IsTrue (lists cs p)) old new open_.written.fits x) x) durable
+
+-- words of log and home are on the device
+pub on_device : (a : LogArea) (m : Medium) (p : ℕ) → Fits a m → IsOf a p → p / 8 < m.count
+on_device a m p fits of = elim of as (λ _. p / 8 < m.count) [ inl log ↦ omega (arith, fits.log, log) | inr home ↦ omega (arith, fits.home, home) ]
+
+-- lines that wandered
+pub reached_wander : (a : LogArea) (old new : Medium) → Wander old new → EachImage a new (IsReached a old)
+reached_wander a old new x image is = record {
+  before = image;
+  was = λ p of. is_in-fades (old.is_weak (p / 8)) (image p) (old.history p) (new.history p) (x.fades p) (is p of);
+  same = inl (λ p of i. image p);
+}
+
+-- a replay of the last image
+pub reached_last : (a : LogArea) (old : Medium) (image : ℕ → ℕ) → IsSound old → Fits a old → IsWhole a old → first_wrong a (last_image old) ≡ None → Replays a image (replayed a (last_image old)) → IsReached a old image
+reached_last a old image sound fits whole valid replays = record {
+  before = last_image old;
+  was = λ p of. sound.last p (on_device a old p fits of, whole p of);
+  same = inr (valid, replays);
+}
