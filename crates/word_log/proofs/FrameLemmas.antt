@@ -30,9 +30,7 @@ outside-wander inside a b x = record { count = x.count; bad = x.bad; weak = x.we
 -- what the lines are stays
 pub fits-outside : (area : LogArea) (inside : ℕ → Type 0) (a b : Medium) → Fits area a → WandersOutside inside a b → Fits area b
 fits-outside area inside a b fits x = record {
-  len = fits.len;
-  whole = fits.whole;
-  apart = fits.apart;
+  shape = fits.shape;
   log = subst (λ n. area.log.start + area.log.len ≤ n) (sym x.count) fits.log;
   home = subst (λ n. area.home.start + area.home.len ≤ 8 * n) (sym x.count) fits.home;
 }
@@ -148,12 +146,12 @@ home_steadfast area m p fits strong whole home = record {
 }
 
 pub log_len_some : (area : LogArea) (m : Medium) → Fits area m → 0 < area.log.len
-log_len_some area m fits = omega (arith, fits.len)
+log_len_some area m fits = omega (arith, fits.shape.len)
 
 pub gate_line : (area : LogArea) (inside : ℕ → Type 0) (a b : Medium) → Fits area a → IsStrong area a → IsWhole area a → WandersOutside inside a b → IsSteadfast b area.log.start
 gate_line area inside a b fits strong whole x =
     steadfast-outside inside a b area.log.start
-    (log_steadfast area a area.log.start fits strong whole (omega arith) (omega (arith, fits.len)))
+    (log_steadfast area a area.log.start fits strong whole (omega arith) (omega (arith, fits.shape.len)))
     x
 
 -- wandering keeps the last image, as a whole

@@ -8,3 +8,4 @@ pub mod PhaseLemmas
 pub mod AnswerLemmas
 pub mod ReadLemmas
 pub mod ValidLemmas
+pub mod ListLemmas

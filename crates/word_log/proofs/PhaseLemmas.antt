@@ -17,7 +17,7 @@ use Rattle.word_log.proofs.StepLemmas.{behind_gate-entries}
 use Rattle.word_log.proofs.ReplayLemmas.{replays_closed, replays_open}
 
 pub gate_of : (a : LogArea) (m : Medium) → Fits a m → IsOf a (gate_place a)
-gate_of a m fits = inl (omega arith, omega (arith, fits.len))
+gate_of a m fits = inl (omega arith, omega (arith, fits.shape.len))
 
 pub behind_gate_of : (a : LogArea) (p : ℕ) → IsBehindGate a p → IsLog a p
 behind_gate_of a p h = (omega (arith, h), h.1)
@@ -30,7 +30,7 @@ written-outside a cs inside old new apart fits was x =
       fits = fits;
       taken = was.taken;
       recorded = record {
-        count = is_only-outside inside old new (count_place a) (length cs) x (apart (count_place a) (omega arith, omega (arith, was.fits.len))) was.recorded.count;
+        count = is_only-outside inside old new (count_place a) (length cs) x (apart (count_place a) (omega arith, omega (arith, was.fits.shape.len))) was.recorded.count;
         entries =
             entries-cong (last_image new) (last_image old) (entry_place a 0) (length cs) (λ p from to. newest-outside inside old new p x (at p from (omega arith)))
             ∙ was.recorded.entries;
@@ -45,7 +45,7 @@ pub image_open : (a : LogArea) (cs : List (ℕ × ℕ)) (words image : ℕ → �
 image_open a cs words image m written home is gate =
     let recorded = written.recorded in
     replays_open a cs image words gate
-    (recorded.count (image (count_place a)) (is (count_place a) (inl (omega arith, omega (arith, written.fits.len)))))
+    (recorded.count (image (count_place a)) (is (count_place a) (inl (omega arith, omega (arith, written.fits.shape.len)))))
     (entries-cong image (last_image m) (entry_place a 0) (length cs) (λ p from to.
       let behind = behind_gate-entries a cs m p written.fits written.taken.few from (omega arith) in
       recorded.durable p from (omega arith) (image p) (is p (inl (behind_gate_of a p behind))))
@@ -64,14 +64,14 @@ images_rest a words m fits rest image is = image_closed a words image m rest.hom
 pub rest-outside : (a : LogArea) (words : ℕ → ℕ) (old new : Medium) → Fits a old → IsAtRest a old words → WandersOutside (IsBehindGate a) old new → IsAtRest a new words
 rest-outside a words old new fits rest x = record {
   gate = is_only-outside (IsBehindGate a) old new (gate_place a) 0 x (λ behind. omega (arith, behind)) rest.gate;
-  home = λ p in_home. is_only-outside (IsBehindGate a) old new p (words p) x (λ behind. fits.apart p (behind_gate_of a p behind) in_home) (rest.home p in_home);
+  home = λ p in_home. is_only-outside (IsBehindGate a) old new p (words p) x (λ behind. fits.shape.apart p (behind_gate_of a p behind) in_home) (rest.home p in_home);
 }
 
 not_gate : (a : LogArea) (p : ℕ) → IsBehindGate a p → p ≡ gate_place a → ⊥
 not_gate a p behind is = omega (arith, behind)
 
 home_not_gate : (a : LogArea) (m : Medium) (p : ℕ) → Fits a m → IsHome a p → p ≡ gate_place a → ⊥
-home_not_gate a m p fits in_home is = fits.apart p (omega arith, omega (arith, fits.len)) in_home
+home_not_gate a m p fits in_home is = fits.shape.apart p (omega arith, omega (arith, fits.shape.len)) in_home
 
 -- the gate is being opened
 pub images_opening : (a : LogArea) (cs : List (ℕ × ℕ)) (words : ℕ → ℕ) (old new : Medium) → IsWritten a cs old → IsAtRest a old words → Fits a new → WandersOutside (λ p. p ≡ gate_place a) old new → ((x : ℕ) → IsIn x (new.history (gate_place a)) → IsIn x (old.history (gate_place a)) ⊎ (x ≡ 1)) → EachImage a new (λ image. Replays a image words ⊎ Replays a image (changed cs words))
@@ -101,7 +101,7 @@ open-outside a cs words old new open_ fits x =
     let inside : ℕ → Type 0 = λ p. IsTrue (lists cs p) in
     let written = open_.written in
     record {
-      written = written-outside a cs inside old new (λ p behind h. written.fits.apart p (behind_gate_of a p behind) (written.taken.home p h)) fits written x;
+      written = written-outside a cs inside old new (λ p behind h. written.fits.shape.apart p (behind_gate_of a p behind) (written.taken.home p h)) fits written x;
       gate = is_only-outside inside old new (gate_place a) 1 x (λ h. home_not_gate a old (gate_place a) written.fits (written.taken.home (gate_place a) h) (λ i. gate_place a)) open_.gate;
       home = λ p in_home out. is_only-outside inside old new p (words p) x (λ h. lists_not (lists cs p) out h) (open_.home p in_home out);
     }
@@ -143,7 +143,7 @@ closed a cs words old new applied_ x gate = record {
 
 -- each step stays within log and home
 pub outside-gate : (a : LogArea) (m old new : Medium) → Fits a m → WandersOutside (λ p. p ≡ gate_place a) old new → WandersOutside (IsOf a) old new
-outside-gate a m old new fits x = outside-wider (λ p. p ≡ gate_place a) (IsOf a) old new (λ p is. inl (omega arith, omega (arith, fits.len))) x
+outside-gate a m old new fits x = outside-wider (λ p. p ≡ gate_place a) (IsOf a) old new (λ p is. inl (omega arith, omega (arith, fits.shape.len))) x
 
 pub outside-behind_gate : (a : LogArea) (old new : Medium) → WandersOutside (IsBehindGate a) old new → WandersOutside (IsOf a) old new
 outside-behind_gate a old new x = outside-wider (IsBehindGate a) (IsOf a) old new (λ p behind. inl (behind_gate_of a p behind)) x

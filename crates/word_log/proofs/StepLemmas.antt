@@ -104,7 +104,7 @@ pub record WritesEntries {A E : Type 0} (r : Result A E) (a : LogArea) (cs : Lis
   pub ok : OnOk r (IsRecorded a cs new)
 
 pub behind_gate-entries : (a : LogArea) (cs : List (ℕ × ℕ)) (m : Medium) (p : ℕ) → Fits a m → length cs ≤ a.cap → entry_place a 0 ≤ p → p < entry_place a (length cs) → IsBehindGate a p
-behind_gate-entries a cs m p fits few from to = (omega arith, omega (arith, fits.len, fits.whole))
+behind_gate-entries a cs m p fits few from to = (omega arith, omega (arith, fits.shape.len, fits.shape.whole))
 
 pub outside-counted : (a : LogArea) (cs : List (ℕ × ℕ)) (place : ℕ) (old stored counted : Medium) → Fits a old → length cs ≤ a.cap → WandersOutside (λ p. (entry_place a 0 ≤ p) × (p < entry_place a (length cs))) old stored → place ≡ count_place a → Wander (with_word stored place (length cs)) counted → WandersOutside (IsBehindGate a) old counted
 outside-counted a cs place old stored counted fits few outside is count =
@@ -112,7 +112,7 @@ outside-counted a cs place old stored counted fits few outside is count =
     let counts = outside-stored stored counted place (length cs) count in
     outside-trans inside old stored counted
     (outside-wider (λ p. (entry_place a 0 ≤ p) × (p < entry_place a (length cs))) inside old stored (λ p within. behind_gate-entries a cs old p fits few within.0 within.1) outside)
-    (outside-wider (λ p. p ≡ place) inside stored counted (λ p e. (omega arith, omega (arith, fits.len))) counts)
+    (outside-wider (λ p. p ≡ place) inside stored counted (λ p e. (omega arith, omega (arith, fits.shape.len))) counts)
 
 pub writes_entries : {A E : Type 0} (r : Result A E) (a : LogArea) (cs : List (ℕ × ℕ)) (place lines : ℕ) (old stored counted new : Medium) → Fits a old → length cs ≤ a.cap → WandersOutside (λ p. (entry_place a 0 ≤ p) × (p < entry_place a (length cs))) old stored → entries (last_image stored) (entry_place a 0) (length cs) ≡ cs → place ≡ count_place a → Wander (with_word stored place (length cs)) counted → length cs ≤ 4 * lines → Wander counted new → OnOk r ((p : ℕ) → a.log.start ≤ p / 8 → p / 8 < a.log.start + (1 + lines) → IsOnly (last_image counted p) (new.history p)) → WritesEntries r a cs old new
 writes_entries r a cs place lines old stored counted new fits few outside words is count enough wandered durable =

@@ -29,7 +29,7 @@ lists-first c cs p h =
       | inr other ↦ inr (sym (ap (λ b. b || lists cs p) (ne_eqb c.0 p other)) ∙ h)
     ]
 
-is_home-from : (a : LogArea) (p : ℕ) → is_home a p ≡ true → IsHome a p
+pub is_home-from : (a : LogArea) (p : ℕ) → is_home a p ≡ true → IsHome a p
 is_home-from a p h = (from a.home.start p (a.home.start + a.home.len) h, to a.home.start p (a.home.start + a.home.len) h)
   where
     from : (low p high : ℕ) → (nat_le low p && nat_lt p high) ≡ true → low ≤ p
@@ -133,19 +133,19 @@ durable_open a m fits durable open_ =
         fits = fits;
         taken = open_.taken;
         recorded = record {
-          count = subst (λ v. IsOnly v (m.history (count_place a))) (sym open_.count) (durable (count_place a) (inl (omega arith, omega (arith, fits.len))));
+          count = subst (λ v. IsOnly v (m.history (count_place a))) (sym open_.count) (durable (count_place a) (inl (omega arith, omega (arith, fits.shape.len))));
           entries = ap (entries words (entry_place a 0)) open_.count ∙ sym (listed-open a words open_.gate);
           durable = λ p from to. durable p (inl (behind_gate_of a p (behind_gate-entries a cs m p fits open_.taken.few from to)));
         };
       };
-      gate = subst (λ v. IsOnly v (m.history (gate_place a))) open_.gate (durable (gate_place a) (inl (omega arith, omega (arith, fits.len))));
+      gate = subst (λ v. IsOnly v (m.history (gate_place a))) open_.gate (durable (gate_place a) (inl (omega arith, omega (arith, fits.shape.len))));
       home = λ p in_home _. durable p (inr in_home);
     }
 
 -- a durable log that is closed
 pub durable_closed : (a : LogArea) (m : Medium) → Fits a m → ((p : ℕ) → IsOf a p → IsOnly (last_image m p) (m.history p)) → last_image m (gate_place a) ≡ 0 → IsAtRest a m (replayed a (last_image m))
 durable_closed a m fits durable gate = record {
-  gate = subst (λ v. IsOnly v (m.history (gate_place a))) gate (durable (gate_place a) (inl (omega arith, omega (arith, fits.len))));
+  gate = subst (λ v. IsOnly v (m.history (gate_place a))) gate (durable (gate_place a) (inl (omega arith, omega (arith, fits.shape.len))));
   home = λ p in_home.
       subst (λ v. IsOnly v (m.history p)) (sym (ap (λ cs. changed cs (last_image m) p) (listed-closed a (last_image m) gate))) (durable p (inr in_home));
 }

@@ -34,12 +34,15 @@ IsOf a p = IsLog a p ⊎ IsHome a p
 abbrev pub IsLineOf : LogArea → ℕ → Type 0
 IsLineOf a line = (p : ℕ) × IsOf a p × (p / 8 ≡ line)
 
--- The log has a line for gate and count and one for each four entries, no word of it is a home word, and all stands on
--- the device.
-pub record Fits (a : LogArea) (m : Medium) : Type 0 where
+-- the log has a line for gate and count and one for each four entries, and no word of it is a home word
+pub record IsShaped (a : LogArea) : Type 0 where
   pub len : a.log.len ≡ 1 + a.cap / 4
   pub whole : a.cap % 4 ≡ 0
   pub apart : (p : ℕ) → IsLog a p → IsHome a p → ⊥
+
+-- such a log and its home stand on the device
+pub record Fits (a : LogArea) (m : Medium) : Type 0 where
+  pub shape : IsShaped a
   pub log : a.log.start + a.log.len ≤ m.count
   pub home : a.home.start + a.home.len ≤ 8 * m.count
 

@@ -7,4 +7,6 @@ pub mod State
 pub mod Outcomes
 pub mod Stopped
 pub mod Mount
+pub mod Lists
+pub mod Examples
 pub mod Protocol

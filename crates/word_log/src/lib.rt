@@ -21,6 +21,7 @@ ghost use Rattle.word_log.specs.Outcomes.{word_outcome};
 mod area;
 mod fault;
 mod lines;
+mod lists;
 mod mounting;
 mod places;
 mod protocol;
@@ -29,6 +30,7 @@ mod words;
 
 pub use area::LogArea;
 pub use fault::{CommitFault, LogFault};
+pub use lists::{replay, small_log_worked_through};
 pub use mounting::{inspect, mount};
 
 use line_device::Lines;

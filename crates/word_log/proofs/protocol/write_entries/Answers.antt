@@ -12,7 +12,7 @@ returns-in_err-store_word-clause-outside g c =
 pub persist_lines-requires-clause-steadfast : goal.persist_lines-requires-clause-steadfast
 persist_lines-requires-clause-steadfast g c = λ line from to.
     steadfast-outside _ _ _ line
-    (log_steadfast c.args.area _ line c.requires.fits c.requires.strong c.requires.whole from (omega (arith, c.requires.fits.len, c.requires.fits.whole, c.requires.taken.few, c.div_ceil.ensures)))
+    (log_steadfast c.args.area _ line c.requires.fits c.requires.strong c.requires.whole from (omega (arith, c.requires.fits.shape.len, c.requires.fits.shape.whole, c.requires.taken.few, c.div_ceil.ensures)))
     (outside-counted c.args.area c.args.changes.now _ _ _ _ c.requires.fits c.requires.taken.few c.in_ok-store_entries.ensures.outside c.count_place.ensures c.in_ok-store_word.ensures.lines)
 
 pub returns-clause-outside : goal.returns-clause-outside
