@@ -175,3 +175,10 @@ reached_last a old image sound fits whole valid replays = record {
   was = λ p of. sound.last p (on_device a old p fits of, whole p of);
   same = inr (valid, replays);
 }
+
+-- the gate was opened on entries that were written on a log at rest
+pub opened_from : (a : LogArea) (cs : List (ℕ × ℕ)) (words : ℕ → ℕ) (old entered new : Medium) → Fits a old → IsTaken a cs → IsAtRest a old words → WandersOutside (IsBehindGate a) old entered → IsRecorded a cs entered → WandersOutside (λ p. p ≡ gate_place a) entered new → IsOnly 1 (new.history (gate_place a)) → IsOpen a cs words new
+opened_from a cs words old entered new fits taken rest x recorded y gate =
+    let fits_entered = fits-outside a (IsBehindGate a) old entered fits x in
+    opened a cs words entered new (record { fits = fits_entered; taken = taken; recorded = recorded }) (rest-outside a words old entered fits rest x)
+    (fits-outside a (λ p. p ≡ gate_place a) entered new fits_entered y) y gate

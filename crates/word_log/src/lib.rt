@@ -76,13 +76,13 @@ impl Log {
         requires fits { Fits self.old.area (L.state dev.old).medium }
         requires strong { IsStrong self.old.area (L.state dev.old).medium }
         requires whole { IsWhole self.old.area (L.state dev.old).medium }
-        requires rest { IsAtRest self.old.area (L.state dev.old).medium (last_image (L.state dev.old).medium) }
+        requires rest { (words : ℕ → ℕ) × IsAtRest self.old.area (L.state dev.old).medium words }
         requires changes { IsTaken self.old.area changes.now }
-        ensures ok { OnOk result (IsAtRest self.old.area (L.state dev.new).medium
-            (changed changes.now (last_image (L.state dev.old).medium))) }
-        ensures images { EachImage self.old.area (L.state dev.new).medium (λ image.
-            Replays self.old.area image (last_image (L.state dev.old).medium)
-            ⊎ Replays self.old.area image (changed changes.now (last_image (L.state dev.old).medium))) }
+        ensures ok { OnOk result ((words : ℕ → ℕ) → IsAtRest self.old.area (L.state dev.old).medium words
+            → IsAtRest self.old.area (L.state dev.new).medium (changed changes.now words)) }
+        ensures images { (words : ℕ → ℕ) → IsAtRest self.old.area (L.state dev.old).medium words
+            → EachImage self.old.area (L.state dev.new).medium (λ image.
+                Replays self.old.area image words ⊎ Replays self.old.area image (changed changes.now words)) }
         ensures outside { WandersOutside (IsOf self.old.area) (L.state dev.old).medium (L.state dev.new).medium }
         ensures runs { Runs (5 * length changes.now + 6) (2 * length changes.now + 3) (word_outcome result)
             (L.state dev.old).panel (L.state dev.new).panel }

@@ -178,13 +178,13 @@ pub fn commit_at<L: Lines>(dev: &mut L, area: LogArea, changes: &[(u64, u64)]) -
     requires fits { Fits area (L.state dev.old).medium }
     requires strong { IsStrong area (L.state dev.old).medium }
     requires whole { IsWhole area (L.state dev.old).medium }
-    requires rest { IsAtRest area (L.state dev.old).medium (last_image (L.state dev.old).medium) }
+    requires rest { (words : ℕ → ℕ) × IsAtRest area (L.state dev.old).medium words }
     requires taken { IsTaken area changes.now }
-    ensures ok { OnOk result (IsAtRest area (L.state dev.new).medium
-        (changed changes.now (last_image (L.state dev.old).medium))) }
-    ensures images { EachImage area (L.state dev.new).medium (λ image.
-        Replays area image (last_image (L.state dev.old).medium)
-        ⊎ Replays area image (changed changes.now (last_image (L.state dev.old).medium))) }
+    ensures ok { OnOk result ((words : ℕ → ℕ) → IsAtRest area (L.state dev.old).medium words
+        → IsAtRest area (L.state dev.new).medium (changed changes.now words)) }
+    ensures images { (words : ℕ → ℕ) → IsAtRest area (L.state dev.old).medium words
+        → EachImage area (L.state dev.new).medium (λ image.
+            Replays area image words ⊎ Replays area image (changed changes.now words)) }
     ensures outside { WandersOutside (IsOf area) (L.state dev.old).medium (L.state dev.new).medium }
     ensures runs { Runs (5 * length changes.now + 6) (2 * length changes.now + 3) (word_outcome result)
         (L.state dev.old).panel (L.state dev.new).panel }
