@@ -20,6 +20,7 @@ entries-push w at n = subst (λ k. entries w at k ≡ entries w at n ++ (w (at +
   where
     next : (n : ℕ) → suc n ≡ n + 1
     next n = omega arith
+
     from : (w : ℕ → ℕ) (at n : ℕ) → entries w at (suc n) ≡ entries w at n ++ (w (at + 2 * n), w (at + 2 * n + 1)) ∷ []
     from w at zero =
         let e : at ≡ at + 2 * 0 = omega arith in

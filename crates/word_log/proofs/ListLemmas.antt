@@ -38,7 +38,7 @@ pub on_lists-log : (a : LogArea) (log home : List ℕ) (p i : ℕ) → IsShaped 
 on_lists-log a log home p i shape in_log is =
     let e : p - 8 * a.log.start ≡ i = omega arith in
     let out : is_home a p ≡ false =
-        elim (listed_or (is_home a p)) as (λ _. is_home a p ≡ false) [ inl in_home ↦ absurd (shape.apart p in_log (is_home-from a p in_home)) | inr not_home ↦ not_home ] in
+    elim (listed_or (is_home a p)) as (λ _. is_home a p ≡ false) [ inl in_home ↦ absurd (shape.apart p in_log (is_home-from a p in_home)) | inr not_home ↦ not_home ] in
     ap (λ b. if b then get_or home (p - a.home.start) 0 else get_or log (p - 8 * a.log.start) 0) out
     ∙ ap (λ k. get_or log k 0) e
 
@@ -74,13 +74,13 @@ home-more a log old home n k shape whole room below long taken before j in_home 
     let c : ℕ × ℕ = (place, value) in
     let front = entries w at k in
     let pushed : entries w at (k + 1) ≡ front ++ c ∷ [] =
-        entries-push w at k
-        ∙ ap (λ p. front ++ (p, w (at + 2 * k + 1)) ∷ []) is.place
-        ∙ ap (λ v. front ++ (place, v) ∷ []) is.value in
+    entries-push w at k
+    ∙ ap (λ p. front ++ (p, w (at + 2 * k + 1)) ∷ []) is.place
+    ∙ ap (λ v. front ++ (place, v) ∷ []) is.value in
     let fresh : lists front place ≡ false =
-        subst (λ p. lists front p ≡ false) (ap (λ e. e.0) (get_or-entries w at n k (0, 0) below) ∙ is.place)
-        (subst (λ es. lists es (get_or (entries w at n) k (0, 0)).0 ≡ false) (take-entries w at n k (omega arith))
-        (distinct_at (entries w at n) k (0, 0) taken.distinct (omega (arith, length-entries w at n)))) in
+    subst (λ p. lists front p ≡ false) (ap (λ e. e.0) (get_or-entries w at n k (0, 0) below) ∙ is.place)
+    (subst (λ es. lists es (get_or (entries w at n) k (0, 0)).0 ≡ false) (take-entries w at n k (omega arith))
+    (distinct_at (entries w at n) k (0, 0) taken.distinct (omega (arith, length-entries w at n)))) in
     let i = place - a.home.start in
     elim (cases_eq j i) as (λ _. get_or (set home i value) j 0 ≡ changed (entries w at (k + 1)) w (a.home.start + j)) [
       | inl same ↦

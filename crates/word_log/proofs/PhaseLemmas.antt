@@ -12,7 +12,7 @@ use Rattle.word_log.specs.Rest.{IsOnly, IsImageOn, EachImage, IsAtRest, IsReache
 use Rattle.word_log.specs.Protocol.{IsBehindGate, IsRecorded, IsWritten, IsOpen}
 use Rattle.word_log.proofs.ChangeLemmas.{listed_or, lists_not, changed-listed, changed-unlisted}
 use Rattle.word_log.proofs.EntryLemmas.{entries-cong}
-use Rattle.word_log.proofs.FrameLemmas.{is_only-outside, newest-outside, outside-wider, fits-outside}
+use Rattle.word_log.proofs.FrameLemmas.{is_only-outside, is_only-wander, newest-outside, outside-wider, fits-outside}
 use Rattle.word_log.proofs.StepLemmas.{behind_gate-entries}
 use Rattle.word_log.proofs.ReplayLemmas.{replays_closed, replays_open}
 
@@ -25,7 +25,7 @@ behind_gate_of a p h = (omega (arith, h), h.1)
 pub written-outside : (a : LogArea) (cs : List (ℕ × ℕ)) (inside : ℕ → Type 0) (old new : Medium) → ((p : ℕ) → IsBehindGate a p → inside p → ⊥) → Fits a new → IsWritten a cs old → WandersOutside inside old new → IsWritten a cs new
 written-outside a cs inside old new apart fits was x =
     let at : (p : ℕ) → entry_place a 0 ≤ p → p < entry_place a (length cs) → inside p → ⊥ =
-        λ p from to. apart p (behind_gate-entries a cs old p was.fits was.taken.few from to) in
+    λ p from to. apart p (behind_gate-entries a cs old p was.fits was.taken.few from to) in
     record {
       fits = fits;
       taken = was.taken;
@@ -47,8 +47,8 @@ image_open a cs words image m written home is gate =
     replays_open a cs image words gate
     (recorded.count (image (count_place a)) (is (count_place a) (inl (omega arith, omega (arith, written.fits.shape.len)))))
     (entries-cong image (last_image m) (entry_place a 0) (length cs) (λ p from to.
-      let behind = behind_gate-entries a cs m p written.fits written.taken.few from (omega arith) in
-      recorded.durable p from (omega arith) (image p) (is p (inl (behind_gate_of a p behind))))
+    let behind = behind_gate-entries a cs m p written.fits written.taken.few from (omega arith) in
+    recorded.durable p from (omega arith) (image p) (is p (inl (behind_gate_of a p behind))))
     ∙ recorded.entries)
     written.taken
     (λ p in_home out. home p in_home out (image p) (is p (inr in_home)))
@@ -77,7 +77,7 @@ home_not_gate a m p fits in_home is = fits.shape.apart p (omega arith, omega (ar
 pub images_opening : (a : LogArea) (cs : List (ℕ × ℕ)) (words : ℕ → ℕ) (old new : Medium) → IsWritten a cs old → IsAtRest a old words → Fits a new → WandersOutside (λ p. p ≡ gate_place a) old new → ((x : ℕ) → IsIn x (new.history (gate_place a)) → IsIn x (old.history (gate_place a)) ⊎ (x ≡ 1)) → EachImage a new (λ image. Replays a image words ⊎ Replays a image (changed cs words))
 images_opening a cs words old new written rest fits x either image is =
     let home : (p : ℕ) → IsHome a p → IsOnly (words p) (new.history p) =
-        λ p in_home. is_only-outside (λ q. q ≡ gate_place a) old new p (words p) x (home_not_gate a old p written.fits in_home) (rest.home p in_home) in
+    λ p in_home. is_only-outside (λ q. q ≡ gate_place a) old new p (words p) x (home_not_gate a old p written.fits in_home) (rest.home p in_home) in
     let now = written-outside a cs (λ q. q ≡ gate_place a) old new (not_gate a) fits written x in
     elim (either (image (gate_place a)) (is (gate_place a) (gate_of a new fits))) as (λ _. Replays a image words ⊎ Replays a image (changed cs words)) [
       | inl was ↦ inl (image_closed a words image new home is (rest.gate (image (gate_place a)) was))
@@ -126,9 +126,9 @@ pub images_closing : (a : LogArea) (cs : List (ℕ × ℕ)) (words : ℕ → ℕ
 images_closing a cs words old new applied_ fits x either image is =
     let written = applied_.open_.written in
     let home : (p : ℕ) → IsHome a p → IsOnly (changed cs words p) (new.history p) =
-        λ p in_home. is_only-outside (λ q. q ≡ gate_place a) old new p (changed cs words p) x (home_not_gate a old p written.fits in_home) (applied_.changed p in_home) in
+    λ p in_home. is_only-outside (λ q. q ≡ gate_place a) old new p (changed cs words p) x (home_not_gate a old p written.fits in_home) (applied_.changed p in_home) in
     let unlisted : (p : ℕ) → IsHome a p → lists cs p ≡ false → IsOnly (words p) (new.history p) =
-        λ p in_home out. subst (λ v. IsOnly v (new.history p)) (changed-unlisted cs words p out) (home p in_home) in
+    λ p in_home out. subst (λ v. IsOnly v (new.history p)) (changed-unlisted cs words p out) (home p in_home) in
     let now = written-outside a cs (λ q. q ≡ gate_place a) old new (not_gate a) fits written x in
     elim (either (image (gate_place a)) (is (gate_place a) (gate_of a new fits))) as (λ _. Replays a image (changed cs words)) [
       | inl was ↦ image_open a cs words image new now unlisted is (applied_.open_.gate (image (gate_place a)) was)
@@ -182,3 +182,10 @@ opened_from a cs words old entered new fits taken rest x recorded y gate =
     let fits_entered = fits-outside a (IsBehindGate a) old entered fits x in
     opened a cs words entered new (record { fits = fits_entered; taken = taken; recorded = recorded }) (rest-outside a words old entered fits rest x)
     (fits-outside a (λ p. p ≡ gate_place a) entered new fits_entered y) y gate
+
+-- wandering leaves a log at rest
+pub rest-wander : (a : LogArea) (words : ℕ → ℕ) (old new : Medium) → IsAtRest a old words → Wander old new → IsAtRest a new words
+rest-wander a words old new rest x = record {
+  gate = is_only-wander old new (gate_place a) 0 x rest.gate;
+  home = λ p in_home. is_only-wander old new p (words p) x (rest.home p in_home);
+}

@@ -14,7 +14,7 @@ pub record Counted (a : LogArea) (words : ℕ → ℕ) (items : List (ℕ × ℕ
 pub counted : (a : LogArea) (words later : ℕ → ℕ) (n : ℕ) (items : List (ℕ × ℕ)) → 0 < n → n ≤ a.cap → n ≡ words (count_place a) → ((p : ℕ) → later p ≡ words p) → items ≡ entries later (entry_place a 0) n → Counted a words items
 counted a words later n items some few is same read =
     let all : items ≡ entries words (entry_place a 0) (words (count_place a)) =
-        read ∙ entries-cong later words (entry_place a 0) n (λ p _ _. same p) ∙ ap (entries words (entry_place a 0)) is in
+    read ∙ entries-cong later words (entry_place a 0) n (λ p _ _. same p) ∙ ap (entries words (entry_place a 0)) is in
     record {
       wrong =
           ap (λ k. wrong_open (nat_lt 0 k && nat_le k a.cap) a words) (sym is)

@@ -25,6 +25,7 @@ wrong_entry-none a at before (c ∷ cs) home distinct fresh =
   where
     first_listed : (c : ℕ × ℕ) (cs : List (ℕ × ℕ)) → IsTrue (lists (c ∷ cs) c.0)
     first_listed c cs = ap (λ b. b || lists cs c.0) (eq-eqb c.0 c.0 refl)
+
     listed_later : (c : ℕ × ℕ) (cs : List (ℕ × ℕ)) (p : ℕ) → IsTrue (lists cs p) → IsTrue (lists (c ∷ cs) p)
     listed_later c cs p h = elim (c.0 == p) as (λ b. IsTrue (b || lists cs p)) [ true ↦ refl | false ↦ h ]
 

@@ -73,7 +73,7 @@ entries-more a cs k d now new below before outside first second =
     let w = last_image new in
     let is : at + 2 * k ≡ entry_place a k = omega arith in
     let kept : entries w at k ≡ take k cs =
-        entries-cong w (last_image now) at k (λ p from to. newest-outside (λ q. (entry_place a k ≤ q) × (q < entry_place a (k + 1))) now new p outside (λ inside. omega (arith, inside))) ∙ before in
+    entries-cong w (last_image now) at k (λ p from to. newest-outside (λ q. (entry_place a k ≤ q) × (q < entry_place a (k + 1))) now new p outside (λ inside. omega (arith, inside))) ∙ before in
     entries-push w at k
     ∙ ap (λ q. entries w at k ++ (w q, w (q + 1)) ∷ []) is
     ∙ ap (λ es. es ++ (w (entry_place a k), w (entry_place a k + 1)) ∷ []) kept
@@ -120,9 +120,9 @@ writes_entries r a cs place lines old stored counted new fits few outside words 
     let at_count = subst (λ p. Wander (with_word stored p (length cs)) counted) is count in
     let counts = outside-stored stored counted (count_place a) (length cs) at_count in
     let kept : entries (last_image new) (entry_place a 0) (length cs) ≡ cs =
-        entries-cong (last_image new) (last_image stored) (entry_place a 0) (length cs)
-        (λ p from to. newest-wander counted new wandered p ∙ newest-outside (λ q. q ≡ count_place a) stored counted p counts (λ e. omega arith))
-        ∙ words in
+    entries-cong (last_image new) (last_image stored) (entry_place a 0) (length cs)
+    (λ p from to. newest-wander counted new wandered p ∙ newest-outside (λ q. q ≡ count_place a) stored counted p counts (λ e. omega arith))
+    ∙ words in
     record {
       outside = outside-trans inside old counted new (outside-counted a cs place old stored counted fits few outside is count) (outside-wander inside counted new wandered);
       ok = on_ok-then r durable (λ lasting. record {

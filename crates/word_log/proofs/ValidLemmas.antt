@@ -34,6 +34,7 @@ is_home-from a p h = (from a.home.start p (a.home.start + a.home.len) h, to a.ho
   where
     from : (low p high : ℕ) → (nat_le low p && nat_lt p high) ≡ true → low ≤ p
     from low p high h = grind (arith, nat_tests)
+
     to : (low p high : ℕ) → (nat_le low p && nat_lt p high) ≡ true → p < high
     to low p high h = grind (arith, nat_tests)
 
@@ -56,7 +57,8 @@ in_order-more a before c cs is_home_ unseen rest = record {
           absurd (lists_not (lists (before ++ c ∷ []) c.0) (rest.fresh c.0 twice) (seen ∙ yes_))
       | inr once ↦ once
     ],
-    rest.distinct);
+    rest.distinct,
+  );
   fresh = λ p h.
       elim (lists-first c cs p h) as (λ _. lists before p ≡ false) [
         | inl is ↦ subst (λ q. lists before q ≡ false) is unseen
@@ -111,6 +113,7 @@ valid_open a words gate valid =
   where
     some : (n cap : ℕ) → (nat_lt 0 n && nat_le n cap) ≡ true → 0 < n
     some n cap h = grind (arith, nat_tests)
+
     few : (n cap : ℕ) → (nat_lt 0 n && nat_le n cap) ≡ true → n ≤ cap
     few n cap h = grind (arith, nat_tests)
 

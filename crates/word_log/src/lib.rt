@@ -26,14 +26,15 @@ mod mounting;
 mod places;
 mod protocol;
 mod reading;
+#[cfg(test)]
+mod tests;
 mod words;
 
 pub use area::LogArea;
 pub use fault::{CommitFault, LogFault};
+use line_device::Lines;
 pub use lists::{replay, small_log_worked_through};
 pub use mounting::{inspect, mount};
-
-use line_device::Lines;
 use protocol::commit_at;
 use std::marker::Model;
 
@@ -70,7 +71,11 @@ impl Log {
     }
 
     /// Makes the listed words the listed values, durably and together.
-    pub fn commit<L: Lines>(&mut self, dev: &mut L, changes: &[(u64, u64)]) -> Result<(), CommitFault>
+    pub fn commit<L: Lines>(
+        &mut self,
+        dev: &mut L,
+        changes: &[(u64, u64)],
+    ) -> Result<(), CommitFault>
         requires settled { IsTrue self.old.settled }
         requires on { IsTrue (L.state dev.old).panel.power }
         requires fits { Fits self.old.area (L.state dev.old).medium }
@@ -82,7 +87,7 @@ impl Log {
             → IsAtRest self.old.area (L.state dev.new).medium (changed changes.now words)) }
         ensures images { (words : ℕ → ℕ) → IsAtRest self.old.area (L.state dev.old).medium words
             → EachImage self.old.area (L.state dev.new).medium (λ image.
-                Replays self.old.area image words ⊎ Replays self.old.area image (changed changes.now words)) }
+            Replays self.old.area image words ⊎ Replays self.old.area image (changed changes.now words)) }
         ensures outside { WandersOutside (IsOf self.old.area) (L.state dev.old).medium (L.state dev.new).medium }
         ensures runs { Runs (5 * length changes.now + 6) (2 * length changes.now + 3) (word_outcome result)
             (L.state dev.old).panel (L.state dev.new).panel }

@@ -17,7 +17,7 @@ fn bad_line_in<L: Lines>(dev: &L, lines: Span) -> Option<LineNo>
     ensures { MatchOption result
         ((line : ℕ) → lines.start ≤ line → line < lines.start + lines.len → (L.state dev.now).medium.is_bad line ≡ false)
         (λ line. (lines.start ≤ line.0) × (line.0 < lines.start + lines.len)
-            × ((L.state dev.now).medium.is_bad line.0 ≡ true)) }
+        × ((L.state dev.now).medium.is_bad line.0 ≡ true)) }
 {
     for k in 0..lines.len {
         let line = LineNo(lines.start + k);

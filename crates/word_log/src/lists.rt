@@ -18,7 +18,7 @@ fn write_home(area: LogArea, log: &[u64], home: &mut [u64], count: u64)
     requires taken { IsTaken area (entries (on_lists area log.now home.old) (entry_place area 0) count) }
     ensures { (j : ℕ) → j < area.home.len → slice_index home.new j
         ≡ changed (entries (on_lists area log.now home.old) (entry_place area 0) count)
-            (on_lists area log.now home.old) (area.home.start + j) }
+        (on_lists area log.now home.old) (area.home.start + j) }
 {
     for k in 0..count {
         let at = 8 + 2 * k as usize;
@@ -53,5 +53,4 @@ pub fn small_log_worked_through()
     ensures count { first_wrong small_area (zeros_but ((0, 1) ∷ [])) ≡ Some 1 }
     ensures outside { first_wrong small_area (zeros_but ((0, 1) ∷ (1, 1) ∷ (8, 15) ∷ [])) ≡ Some 8 }
     ensures twice { first_wrong small_area (zeros_but ((0, 1) ∷ (1, 2) ∷ (8, 16) ∷ (10, 16) ∷ [])) ≡ Some 10 }
-{
-}
+{}

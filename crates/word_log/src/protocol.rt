@@ -38,7 +38,12 @@ pub fn persist_lines<L: Lines>(dev: &mut L, first: u64, count: u64) -> Result<()
 }
 
 /// Stores entry k.
-fn store_entry<L: Lines>(dev: &mut L, area: LogArea, k: u64, change: (u64, u64)) -> Result<(), CommitFault>
+fn store_entry<L: Lines>(
+    dev: &mut L,
+    area: LogArea,
+    k: u64,
+    change: (u64, u64),
+) -> Result<(), CommitFault>
     requires room { k < area.cap }
     requires fits { Fits area (L.state dev.old).medium }
     requires whole { IsWhole area (L.state dev.old).medium }
@@ -54,7 +59,11 @@ fn store_entry<L: Lines>(dev: &mut L, area: LogArea, k: u64, change: (u64, u64))
     store_word(dev, place + 1, change.1)
 }
 
-fn store_entries<L: Lines>(dev: &mut L, area: LogArea, changes: &[(u64, u64)]) -> Result<(), CommitFault>
+fn store_entries<L: Lines>(
+    dev: &mut L,
+    area: LogArea,
+    changes: &[(u64, u64)],
+) -> Result<(), CommitFault>
     requires room { length changes.now ≤ area.cap }
     requires fits { Fits area (L.state dev.old).medium }
     requires whole { IsWhole area (L.state dev.old).medium }
@@ -73,7 +82,11 @@ fn store_entries<L: Lines>(dev: &mut L, area: LogArea, changes: &[(u64, u64)]) -
 }
 
 /// Writes entries and count, and makes them durable.
-pub fn write_entries<L: Lines>(dev: &mut L, area: LogArea, changes: &[(u64, u64)]) -> Result<(), CommitFault>
+pub fn write_entries<L: Lines>(
+    dev: &mut L,
+    area: LogArea,
+    changes: &[(u64, u64)],
+) -> Result<(), CommitFault>
     requires taken { IsTaken area changes.now }
     requires fits { Fits area (L.state dev.old).medium }
     requires strong { IsStrong area (L.state dev.old).medium }
@@ -155,7 +168,11 @@ pub fn apply<L: Lines>(dev: &mut L, changes: &[(u64, u64)]) -> Result<(), Commit
 }
 
 /// Behind an open gate gives the home words their values, and closes the gate.
-pub fn finish<L: Lines>(dev: &mut L, area: LogArea, changes: &[(u64, u64)]) -> Result<(), CommitFault>
+pub fn finish<L: Lines>(
+    dev: &mut L,
+    area: LogArea,
+    changes: &[(u64, u64)],
+) -> Result<(), CommitFault>
     requires on { IsTrue (L.state dev.old).panel.power }
     requires strong { IsStrong area (L.state dev.old).medium }
     requires whole { IsWhole area (L.state dev.old).medium }
@@ -173,7 +190,11 @@ pub fn finish<L: Lines>(dev: &mut L, area: LogArea, changes: &[(u64, u64)]) -> R
 }
 
 /// Makes the listed words the listed values, durably and together.
-pub fn commit_at<L: Lines>(dev: &mut L, area: LogArea, changes: &[(u64, u64)]) -> Result<(), CommitFault>
+pub fn commit_at<L: Lines>(
+    dev: &mut L,
+    area: LogArea,
+    changes: &[(u64, u64)],
+) -> Result<(), CommitFault>
     requires on { IsTrue (L.state dev.old).panel.power }
     requires fits { Fits area (L.state dev.old).medium }
     requires strong { IsStrong area (L.state dev.old).medium }
@@ -184,7 +205,7 @@ pub fn commit_at<L: Lines>(dev: &mut L, area: LogArea, changes: &[(u64, u64)]) -
         → IsAtRest area (L.state dev.new).medium (changed changes.now words)) }
     ensures images { (words : ℕ → ℕ) → IsAtRest area (L.state dev.old).medium words
         → EachImage area (L.state dev.new).medium (λ image.
-            Replays area image words ⊎ Replays area image (changed changes.now words)) }
+        Replays area image words ⊎ Replays area image (changed changes.now words)) }
     ensures outside { WandersOutside (IsOf area) (L.state dev.old).medium (L.state dev.new).medium }
     ensures runs { Runs (5 * length changes.now + 6) (2 * length changes.now + 3) (word_outcome result)
         (L.state dev.old).panel (L.state dev.new).panel }

@@ -24,8 +24,10 @@ fn read_entry<L: Lines>(dev: &mut L, area: LogArea, k: u64) -> Result<(u64, u64)
     requires fits { Fits area (L.state dev.old).medium }
     requires whole { IsWhole area (L.state dev.old).medium }
     requires on { IsTrue (L.state dev.old).panel.power }
-    ensures entry { IfOk result (λ entry. entry ≡ (last_image (L.state dev.old).medium (entry_place area k),
-        last_image (L.state dev.old).medium (entry_place area k + 1))) }
+    ensures entry { IfOk result (λ entry. entry ≡ (
+      last_image (L.state dev.old).medium (entry_place area k),
+      last_image (L.state dev.old).medium (entry_place area k + 1),
+    )) }
     ensures lines { Wander (L.state dev.old).medium (L.state dev.new).medium }
     ensures runs { Runs 2 0 (word_outcome result) (L.state dev.old).panel (L.state dev.new).panel }
 {
@@ -35,7 +37,12 @@ fn read_entry<L: Lines>(dev: &mut L, area: LogArea, k: u64) -> Result<(u64, u64)
     Ok((place, value))
 }
 
-fn read_entries<L: Lines>(alloc: Global, dev: &mut L, area: LogArea, count: u64) -> Result<Changes, LogFault>
+fn read_entries<L: Lines>(
+    alloc: Global,
+    dev: &mut L,
+    area: LogArea,
+    count: u64,
+) -> Result<Changes, LogFault>
     requires room { count ≤ area.cap }
     requires fits { Fits area (L.state dev.old).medium }
     requires whole { IsWhole area (L.state dev.old).medium }

@@ -25,11 +25,11 @@ loop-k-preserved g c =
     let words = newest-wander _ _ c.loop-k.invariant.lines in
     let is : entry_place c.args.area k ≡ at + 2 * k = omega arith in
     record {
-  entries =
-      c.in_ok-push.ensures.ok
-      ∙ ap (λ es. es ++ c.in_ok-entry.entry ∷ []) c.loop-k.invariant.entries
-      ∙ ap (λ e. entries old at k ++ e ∷ []) (c.in_ok-entry.ensures.entry ∙ pair_same _ _ _ _ (words (entry_place c.args.area k) ∙ ap old is) (words (entry_place c.args.area k + 1) ∙ ap (λ p. old (p + 1)) is))
-      ∙ sym (entries-push old at k);
-  lines = wander-trans _ _ _ c.loop-k.invariant.lines c.in_ok-entry.ensures.lines;
-  runs = runs_within _ _ _ _ _ _ _ (runs_then _ _ 2 0 _ _ _ _ c.loop-k.invariant.runs c.in_ok-entry.ensures.runs) (omega arith) (omega arith);
-}
+      entries =
+          c.in_ok-push.ensures.ok
+          ∙ ap (λ es. es ++ c.in_ok-entry.entry ∷ []) c.loop-k.invariant.entries
+          ∙ ap (λ e. entries old at k ++ e ∷ []) (c.in_ok-entry.ensures.entry ∙ pair_same _ _ _ _ (words (entry_place c.args.area k) ∙ ap old is) (words (entry_place c.args.area k + 1) ∙ ap (λ p. old (p + 1)) is))
+          ∙ sym (entries-push old at k);
+      lines = wander-trans _ _ _ c.loop-k.invariant.lines c.in_ok-entry.ensures.lines;
+      runs = runs_within _ _ _ _ _ _ _ (runs_then _ _ 2 0 _ _ _ _ c.loop-k.invariant.runs c.in_ok-entry.ensures.runs) (omega arith) (omega arith);
+    }

@@ -23,7 +23,7 @@ pub returns-in-Some-clause-tells : goal.returns-in-Some-clause-tells
 returns-in-Some-clause-tells g c =
     let old = last_image (g.L.Lines.state c.args.dev.now).medium in
     (counted c.args.area _ _ c.in_ok-count.count _ (omega arith) c.if-count-area.false
-      (c.in_ok-count.ensures.value ∙ ap old c.count_place.ensures) (newest-wander _ _ c.in_ok-count.ensures.lines) c.in_ok-changes.ensures.entries).wrong
+    (c.in_ok-count.ensures.value ∙ ap old c.count_place.ensures) (newest-wander _ _ c.in_ok-count.ensures.lines) c.in_ok-changes.ensures.entries).wrong
     ∙ sym (ap (wrong_entry c.args.area (entry_place c.args.area 0) []) c.as_slice.ensures)
     ∙ sym c.wrong_place.ensures
     ∙ c.in-Some.is
@@ -32,7 +32,7 @@ pub returns-in-None-clause-tells : goal.returns-in-None-clause-tells
 returns-in-None-clause-tells g c =
     let old = last_image (g.L.Lines.state c.args.dev.now).medium in
     (counted c.args.area _ _ c.in_ok-count.count _ (omega arith) c.if-count-area.false
-      (c.in_ok-count.ensures.value ∙ ap old c.count_place.ensures) (newest-wander _ _ c.in_ok-count.ensures.lines) c.in_ok-changes.ensures.entries).wrong
+    (c.in_ok-count.ensures.value ∙ ap old c.count_place.ensures) (newest-wander _ _ c.in_ok-count.ensures.lines) c.in_ok-changes.ensures.entries).wrong
     ∙ sym (ap (wrong_entry c.args.area (entry_place c.args.area 0) []) c.as_slice.ensures)
     ∙ sym c.wrong_place.ensures
     ∙ c.in-None.is
@@ -41,4 +41,4 @@ pub returns-in-None-clause-changes : goal.returns-in-None-clause-changes
 returns-in-None-clause-changes g c =
     let old = last_image (g.L.Lines.state c.args.dev.now).medium in
     (counted c.args.area _ _ c.in_ok-count.count _ (omega arith) c.if-count-area.false
-      (c.in_ok-count.ensures.value ∙ ap old c.count_place.ensures) (newest-wander _ _ c.in_ok-count.ensures.lines) c.in_ok-changes.ensures.entries).read
+    (c.in_ok-count.ensures.value ∙ ap old c.count_place.ensures) (newest-wander _ _ c.in_ok-count.ensures.lines) c.in_ok-changes.ensures.entries).read
