@@ -9,3 +9,4 @@ pub mod AnswerLemmas
 pub mod ReadLemmas
 pub mod ValidLemmas
 pub mod ListLemmas
+pub mod RestLemmas
