@@ -1,8 +1,8 @@
 -- A word stored or read through the bytes of its line.
-use Rattle.std.proofs.Common.{◌≡◌, ℕ, Bool, true, false, ◌+◌, ◌-◌, ◌*◌, ◌/◌, ◌%◌, ◌^◌, ◌<◌, ◌≤◌, ◌==◌, List, [], ◌∷◌, ◌++◌, length, if◌then◌else◌, refl, sym, ◌∙◌, ap, subst, arith, inl, inr}
-use Rattle.std.proofs.lemmas.Bool.{cases_eq, eq-eqb, ne_eqb}
+use Rattle.std.proofs.Common.{◌≡◌, ℕ, ◌*◌, ◌/◌, ◌%◌, ◌^◌, ◌<◌, List, [], ◌∷◌, ◌++◌, if◌then◌else◌, refl, sym, ◌∙◌, ap, subst, arith, inl, inr}
+use Rattle.std.proofs.lemmas.Bool.{cases_eq}
 use Rattle.std.specs.Int.{w64, to_le_bytes}
-use Rattle.line_device.specs.Word.{word_over, reaches}
+use Rattle.line_device.specs.Word.{word_over}
 use Rattle.line_device.specs.History.{newest, Fades}
 use Rattle.line_device.specs.Medium.{Medium, Wander, stored, on_line, word_stored}
 use Rattle.line_device.proofs.WanderLemmas.{on_line-in, on_line-out}

@@ -1,5 +1,5 @@
 -- Entries as they stand in the words of a log.
-use Rattle.std.proofs.Common.{◌≡◌, ◌⊎◌, inl, inr, ℕ, zero, suc, ◌+◌, ◌*◌, ◌<◌, ◌≤◌, List, [], ◌∷◌, ◌++◌, length, take, get_or, refl, sym, ◌∙◌, ap, subst, arith}
+use Rattle.std.proofs.Common.{◌≡◌, ℕ, zero, suc, ◌+◌, ◌*◌, ◌<◌, ◌≤◌, [], ◌∷◌, ◌++◌, length, refl, ◌∙◌, ap, subst, arith}
 use Rattle.word_log.specs.Replay.{entries}
 
 pub length-entries : (w : ℕ → ℕ) (at n : ℕ) → length (entries w at n) ≡ n

@@ -1,12 +1,12 @@
 -- What stays where only some words are changed.
-use Rattle.std.proofs.Common.{Result, Ok, Err, MatchResult, OnOk, ◌≡◌, ◌⊎◌, inl, inr, ℕ, Bool, true, false, ◌+◌, ◌*◌, ◌/◌, ◌<◌, ◌≤◌, ◌==◌, List, [], ◌∷◌, ◌++◌, if◌then◌else◌, IsTrue, refl, sym, ◌∙◌, ap, subst, arith}
-use Rattle.std.proofs.lemmas.Bool.{cases_eq, eq-eqb, ne_eqb, eqb-true, eqb-false}
+use Rattle.std.proofs.Common.{Result, Ok, Err, MatchResult, OnOk, ◌≡◌, ◌⊎◌, inl, inr, ℕ, false, ◌+◌, ◌*◌, ◌/◌, ◌<◌, ◌≤◌, [], ◌∷◌, ◌++◌, if◌then◌else◌, refl, sym, ◌∙◌, ap, subst, arith}
+use Rattle.std.proofs.lemmas.Bool.{eq-eqb, ne_eqb}
 use Rattle.line_device.specs.History.{latest, newest, IsIn, Fades}
-use Rattle.line_device.specs.Medium.{Medium, Wander, IsHealthy, last_image, settled, on_line}
+use Rattle.line_device.specs.Medium.{Medium, Wander, IsHealthy, last_image, settled}
 use Rattle.line_device.proofs.HistoryLemmas.{fades-refl, fades-trans, newest-fades, is_in-fades, is_in-push, newest-push, is_in-latest}
-use Rattle.line_device.proofs.WanderLemmas.{wander-refl, wander-trans, newest-wander, on_line-in, wanders-settled}
+use Rattle.line_device.proofs.WanderLemmas.{wander-trans, newest-wander, on_line-in, wanders-settled}
 use Rattle.word_log.specs.declared.area.LogArea.{LogArea}
-use Rattle.word_log.specs.Area.{Fits, IsStrong, IsWhole, IsOf, IsLog, IsHome}
+use Rattle.word_log.specs.Area.{Fits, IsStrong, IsWhole, IsOf, IsHome}
 use Rattle.word_log.specs.Words.{IsSteadfast, WandersOutside, with_word}
 use Rattle.word_log.specs.Rest.{IsOnly}
 

@@ -1,10 +1,9 @@
 -- A log and its home as lists.
-use Rattle.std.proofs.Common.{◌≡◌, ◌⊎◌, inl, inr, ℕ, zero, suc, Bool, true, false, None, ◌&&◌, ◌+◌, ◌-◌, ◌*◌, ◌<◌, ◌≤◌, nat_lt, nat_le, List, [], ◌∷◌, ◌++◌, length, take, get_or, set, if◌then◌else◌, IsTrue, refl, sym, ◌∙◌, ap, subst, arith, get_or-set_other, get_or-set_same}
+use Rattle.std.proofs.Common.{◌≡◌, inl, inr, ℕ, zero, suc, false, None, ◌+◌, ◌-◌, ◌*◌, ◌<◌, ◌≤◌, List, [], ◌∷◌, ◌++◌, length, take, get_or, set, if◌then◌else◌, refl, sym, ◌∙◌, ap, subst, arith, get_or-set_other, get_or-set_same}
 use Rattle.std.proofs.lemmas.Bool.{cases_eq}
-use Rattle.std.proofs.lemmas.Bool.Decides.{nat_tests}
 use Rattle.word_log.specs.declared.area.LogArea.{LogArea}
 use Rattle.word_log.specs.Area.{gate_place, count_place, entry_place, IsHome, IsLog, IsShaped, is_home}
-use Rattle.word_log.specs.Changes.{changed, lists, IsDistinct, IsTaken}
+use Rattle.word_log.specs.Changes.{changed, lists, IsTaken}
 use Rattle.word_log.specs.Replay.{entries, listed, first_wrong, replayed}
 use Rattle.word_log.specs.Lists.{on_lists}
 use Rattle.word_log.proofs.ChangeLemmas.{listed_or, lists-at, distinct_at, changed-push_at, changed-push_other}

@@ -1,12 +1,12 @@
 -- A commit, by what is durable after each of its steps, and what each image replays to then.
-use Rattle.std.proofs.Common.{◌≡◌, ◌⊎◌, inl, inr, ℕ, false, None, ◌+◌, ◌*◌, ◌/◌, ◌<◌, ◌≤◌, List, length, IsTrue, sym, ◌∙◌, ap, subst, arith}
+use Rattle.std.proofs.Common.{◌≡◌, ◌⊎◌, inl, inr, ℕ, false, None, ◌/◌, ◌<◌, ◌≤◌, List, length, IsTrue, sym, ◌∙◌, subst, arith}
 use Rattle.line_device.specs.History.{IsIn}
 use Rattle.line_device.specs.Medium.{Medium, Wander, IsSound, last_image}
 use Rattle.line_device.proofs.HistoryLemmas.{is_in-fades}
 use Rattle.word_log.specs.declared.area.LogArea.{LogArea}
 use Rattle.word_log.specs.Area.{gate_place, count_place, entry_place, Fits, IsLog, IsHome, IsOf, IsWhole}
 use Rattle.word_log.specs.Changes.{changed, lists, IsTaken}
-use Rattle.word_log.specs.Replay.{entries, first_wrong, replayed, Replays}
+use Rattle.word_log.specs.Replay.{first_wrong, replayed, Replays}
 use Rattle.word_log.specs.Words.{WandersOutside}
 use Rattle.word_log.specs.Rest.{IsOnly, IsImageOn, EachImage, IsAtRest, IsReached}
 use Rattle.word_log.specs.Protocol.{IsBehindGate, IsRecorded, IsWritten, IsOpen}

@@ -1,5 +1,5 @@
 -- What is wrong with a log, as far as it was read.
-use Rattle.std.proofs.Common.{◌≡◌, ◌⊎◌, inl, inr, ℕ, zero, suc, true, false, Bool, ◌&&◌, ◌<◌, ◌≤◌, ◌==◌, nat_lt, nat_le, List, [], Option, Some, None, sym, ◌∙◌, ap, arith}
+use Rattle.std.proofs.Common.{◌≡◌, ℕ, zero, suc, true, ◌&&◌, ◌<◌, ◌≤◌, ◌==◌, nat_lt, nat_le, List, [], Some, sym, ◌∙◌, ap, arith}
 use Rattle.std.proofs.lemmas.Bool.Decides.{nat_tests}
 use Rattle.word_log.specs.declared.area.LogArea.{LogArea}
 use Rattle.word_log.specs.Area.{gate_place, count_place, entry_place}

@@ -1,12 +1,12 @@
 -- Which logs are valid, and what they replay to.
-use Rattle.std.proofs.Common.{◌≡◌, ◌⊎◌, inl, inr, ℕ, zero, suc, Bool, true, false, not, ◌&&◌, ◌||◌, ◌+◌, ◌*◌, ◌<◌, ◌≤◌, ◌==◌, nat_lt, nat_le, List, [], ◌∷◌, ◌++◌, length, Option, Some, None, if◌then◌else◌, IsTrue, refl, sym, ◌∙◌, ap, subst, arith}
-use Rattle.std.proofs.lemmas.Bool.{cases_eq, eq-eqb, ne_eqb}
+use Rattle.std.proofs.Common.{◌≡◌, inl, inr, ℕ, true, false, not, ◌&&◌, ◌||◌, ◌+◌, ◌<◌, ◌≤◌, ◌==◌, nat_lt, nat_le, List, [], ◌∷◌, ◌++◌, length, Some, None, if◌then◌else◌, IsTrue, refl, sym, ◌∙◌, ap, subst, arith}
+use Rattle.std.proofs.lemmas.Bool.{eq-eqb, ne_eqb}
 use Rattle.std.proofs.lemmas.Bool.Decides.{nat_tests}
 use Rattle.word_log.specs.declared.area.LogArea.{LogArea}
 use Rattle.word_log.specs.Area.{gate_place, count_place, entry_place, IsHome, is_home}
 use Rattle.word_log.specs.Changes.{changed, lists, IsDistinct, IsTaken}
-use Rattle.word_log.specs.Replay.{entries, listed, listed_if, replayed, wrong_entry, wrong_open, wrong_at, first_wrong, Replays}
-use Rattle.word_log.proofs.ChangeLemmas.{listed_or, lists_not, lists-push, changed-cong, changed-listed, changed-unlisted}
+use Rattle.word_log.specs.Replay.{entries, listed, listed_if, wrong_entry, wrong_open, wrong_at, first_wrong, Replays}
+use Rattle.word_log.proofs.ChangeLemmas.{listed_or, lists_not, lists-push, changed-cong, changed-listed}
 
 pub is_home-true : (a : LogArea) (p : ℕ) → IsHome a p → is_home a p ≡ true
 is_home-true a p home = grind (arith, nat_tests)

@@ -1,9 +1,9 @@
 -- For what stands on a log: what its rest says of words and images, and how both are kept.
-use Rattle.std.proofs.Common.{◌≡◌, ◌⊎◌, inl, inr, ℕ, false, ◌+◌, ◌*◌, ◌<◌, ◌≤◌, List, length, sym, ◌∙◌, ap, arith}
+use Rattle.std.proofs.Common.{◌≡◌, inl, inr, ℕ, length, sym, ◌∙◌, ap, arith}
 use Rattle.line_device.specs.Medium.{Medium, IsSound, IsImage, last_image}
 use Rattle.word_log.specs.declared.area.LogArea.{LogArea}
 use Rattle.word_log.specs.Area.{gate_place, count_place, entry_place, IsShaped, Fits, IsWhole, IsOf, IsHome}
-use Rattle.word_log.specs.Changes.{changed, lists}
+use Rattle.word_log.specs.Changes.{changed}
 use Rattle.word_log.specs.Replay.{entries, listed, Replays}
 use Rattle.word_log.specs.Words.{WandersOutside}
 use Rattle.word_log.specs.Rest.{IsAtRest, IsImageOn, IsReached}

@@ -1,14 +1,14 @@
 -- What the steps of a commit leave, from what their calls leave.
-use Rattle.std.proofs.Common.{Result, Ok, Err, MatchResult, OnOk, ◌≡◌, ◌⊎◌, inl, inr, ℕ, ◌+◌, ◌*◌, ◌/◌, ◌<◌, ◌≤◌, List, [], ◌∷◌, ◌++◌, length, take, get_or, refl, sym, ◌∙◌, ap, subst, arith}
+use Rattle.std.proofs.Common.{Result, Ok, Err, MatchResult, OnOk, ◌≡◌, ◌⊎◌, inl, inr, ℕ, ◌+◌, ◌*◌, ◌/◌, ◌<◌, ◌≤◌, List, [], ◌∷◌, ◌++◌, length, take, get_or, sym, ◌∙◌, ap, subst, arith}
 use Rattle.std.proofs.lemmas.Bool.{cases_eq}
 use Rattle.std.proofs.lemmas.List.{take_more}
-use Rattle.line_device.specs.History.{newest, IsIn}
+use Rattle.line_device.specs.History.{IsIn}
 use Rattle.line_device.specs.Medium.{Medium, Wander, last_image, settled}
 use Rattle.line_device.proofs.HistoryLemmas.{is_in-fades}
 use Rattle.line_device.proofs.WanderLemmas.{newest-wander}
 use Rattle.word_log.specs.declared.area.LogArea.{LogArea}
-use Rattle.word_log.specs.Area.{Fits, IsStrong, IsWhole, IsOf, IsLog, IsHome, gate_place, count_place, entry_place}
-use Rattle.word_log.specs.Words.{IsSteadfast, WandersOutside, with_word}
+use Rattle.word_log.specs.Area.{Fits, IsStrong, IsWhole, gate_place, count_place, entry_place}
+use Rattle.word_log.specs.Words.{WandersOutside, with_word}
 use Rattle.word_log.specs.Rest.{IsOnly}
 use Rattle.word_log.specs.Changes.{changed, IsDistinct}
 use Rattle.word_log.specs.Replay.{entries}

@@ -1,14 +1,14 @@
 -- What a valid log has.
-use Rattle.std.proofs.Common.{◌≡◌, ◌⊎◌, inl, inr, ℕ, zero, suc, Bool, true, false, not, ◌&&◌, ◌||◌, ◌+◌, ◌*◌, ◌<◌, ◌≤◌, ◌==◌, nat_lt, nat_le, List, [], ◌∷◌, ◌++◌, length, Option, Some, None, if◌then◌else◌, IsTrue, refl, sym, ◌∙◌, ap, subst, arith}
+use Rattle.std.proofs.Common.{◌≡◌, ◌⊎◌, inl, inr, ℕ, zero, suc, Bool, true, false, not, ◌&&◌, ◌||◌, ◌+◌, ◌<◌, ◌≤◌, ◌==◌, nat_lt, nat_le, List, [], ◌∷◌, ◌++◌, length, Some, None, if◌then◌else◌, IsTrue, refl, sym, ◌∙◌, ap, subst, arith}
 use Rattle.std.proofs.lemmas.Bool.{cases_eq, eq-eqb, eqb-true, ne_eqb, false≢true}
 use Rattle.std.proofs.lemmas.Bool.Decides.{nat_tests}
 use Rattle.line_device.specs.Medium.{Medium, last_image}
 use Rattle.word_log.specs.declared.area.LogArea.{LogArea}
-use Rattle.word_log.specs.Area.{gate_place, count_place, entry_place, IsHome, is_home, IsOf, IsLog, Fits}
+use Rattle.word_log.specs.Area.{gate_place, count_place, entry_place, IsHome, is_home, IsOf, Fits}
 use Rattle.word_log.specs.Changes.{changed, lists, IsDistinct, IsTaken}
 use Rattle.word_log.specs.Replay.{entries, listed, wrong_entry, wrong_open, wrong_at, first_wrong, replayed}
 use Rattle.word_log.specs.Rest.{IsOnly, IsAtRest}
-use Rattle.word_log.specs.Protocol.{IsRecorded, IsWritten, IsOpen}
+use Rattle.word_log.specs.Protocol.{IsOpen}
 use Rattle.word_log.proofs.ChangeLemmas.{listed_or, lists_not, lists-push}
 use Rattle.word_log.proofs.EntryLemmas.{length-entries}
 use Rattle.word_log.proofs.StepLemmas.{behind_gate-entries}

@@ -1,5 +1,5 @@
 -- A small log, worked through.
-use Rattle.std.specs.Prelude.{ℕ, List, map, []}
+use Rattle.std.specs.Prelude.{ℕ, List, map}
 use Rattle.std.specs.List.{range_with_len}
 use Rattle.word_log.specs.declared.area.LogArea.{LogArea}
 use Rattle.word_log.specs.Changes.{changed}

@@ -28,3 +28,11 @@ Finds a m (Err (Bad place)) = IsWhole a m × (first_wrong a (last_image m) ≡ S
 Finds a m (Err Failed) = Unit {0}
 Finds a m (Err PowerLost) = Unit {0}
 Finds a m (Err Memory) = Unit {0}
+
+-- the device did what it was asked, but there is no log to mount, or no memory
+abbrev pub IsRefusal : LogFault → Type 0
+IsRefusal (Poisoned line) = Unit {0}
+IsRefusal (Bad place) = Unit {0}
+IsRefusal Failed = ⊥
+IsRefusal PowerLost = ⊥
+IsRefusal Memory = Unit {0}

@@ -1,6 +1,6 @@
 -- What calls on single words leave of the lines.
-use Rattle.std.specs.Prelude.{◌≡◌, ℕ, ◌/◌, ◌==◌, Bool, false, [], ◌∷◌, ◌++◌, if◌then◌else◌}
-use Rattle.line_device.specs.History.{Fades, IsIn}
+use Rattle.std.specs.Prelude.{◌≡◌, ℕ, ◌/◌, ◌==◌, false, [], ◌∷◌, ◌++◌, if◌then◌else◌}
+use Rattle.line_device.specs.History.{Fades}
 use Rattle.line_device.specs.Medium.{Medium, IsHealthy}
 
 -- the line is on the device, and neither bad nor weak

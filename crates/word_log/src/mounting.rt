@@ -1,12 +1,12 @@
 // Mounting a log, and looking at it without a store.
-ghost use Rattle.std.specs.Prelude.{◌≡◌, ◌+◌, ◌*◌, ◌/◌, ℕ, None, true, IsTrue, IfOk, OnOk};
+ghost use Rattle.std.specs.Prelude.{◌≡◌, ◌+◌, ◌*◌, ◌/◌, ℕ, None, true, IsTrue, IfOk, IfErr, OnOk};
 ghost use Rattle.line_device.specs.Medium.{Wander, last_image};
 ghost use Rattle.line_device.specs.Panel.{Runs};
 ghost use Rattle.word_log.specs.Area.{Fits, IsStrong, IsWhole, IsOf, gate_place};
 ghost use Rattle.word_log.specs.Replay.{listed, replayed, first_wrong, Replays};
 ghost use Rattle.word_log.specs.Words.{WandersOutside};
 ghost use Rattle.word_log.specs.Rest.{IsOnly, IsAtRest, IsReached, EachImage};
-ghost use Rattle.word_log.specs.Mount.{Finds};
+ghost use Rattle.word_log.specs.Mount.{Finds, IsRefusal};
 ghost use Rattle.word_log.specs.Outcomes.{word_outcome, log_outcome};
 
 use crate::lines::settle;
@@ -52,6 +52,8 @@ pub fn mount<L: Lines>(alloc: Global, dev: &mut L, area: LogArea) -> Result<Log,
         (replayed area (last_image (L.state dev.old).medium))) }
     ensures finds { Finds area (L.state dev.old).medium result }
     ensures images { EachImage area (L.state dev.new).medium (IsReached area (L.state dev.old).medium) }
+    ensures refused { IfErr result (λ fault. IsRefusal fault
+        → Wander (L.state dev.old).medium (L.state dev.new).medium) }
     ensures closed { last_image (L.state dev.old).medium (gate_place area) ≡ 0
         → Wander (L.state dev.old).medium (L.state dev.new).medium }
     ensures outside { WandersOutside (IsOf area) (L.state dev.old).medium (L.state dev.new).medium }

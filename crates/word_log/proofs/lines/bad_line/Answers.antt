@@ -1,4 +1,4 @@
-use Rattle.std.proofs.Common.{◌≡◌, ◌*◌, ◌/◌, inl, inr, false, subst, arith}
+use Rattle.std.proofs.Common.{◌≡◌, ◌*◌, ◌/◌, inl, inr, false, arith}
 use Rattle.word_log.proofs.AnswerLemmas.{match_option-then}
 use Rattle.word_log.proofs.lines.bad_line.Goals as goal
 

@@ -1,4 +1,4 @@
-use Rattle.std.proofs.Common.{◌≡◌, ◌/◌, inl, inr, subst, arith}
+use Rattle.std.proofs.Common.{inl, inr, subst, arith}
 use Rattle.line_device.specs.Medium.{last_image}
 use Rattle.line_device.proofs.WanderLemmas.{wander-trans, newest-wander}
 use Rattle.word_log.specs.Words.{IsSteadfast}

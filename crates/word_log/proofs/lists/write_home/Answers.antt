@@ -1,4 +1,4 @@
-use Rattle.std.proofs.Common.{◌+◌, ◌*◌, arith}
+use Rattle.std.proofs.Common.{arith}
 use Rattle.word_log.proofs.ListLemmas.{entry_home, home-more}
 use Rattle.word_log.proofs.lists.write_home.Goals as goal
 

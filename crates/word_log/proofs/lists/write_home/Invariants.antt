@@ -1,4 +1,4 @@
-use Rattle.std.proofs.Common.{◌≡◌, ℕ, ◌+◌, ◌<◌, length, slice_index}
+use Rattle.std.proofs.Common.{◌≡◌, ℕ, ◌+◌, ◌<◌, slice_index}
 use Rattle.word_log.specs.Area.{entry_place}
 use Rattle.word_log.specs.Changes.{changed}
 use Rattle.word_log.specs.Replay.{entries}

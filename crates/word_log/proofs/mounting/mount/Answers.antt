@@ -1,5 +1,4 @@
 use Rattle.std.proofs.Common.{◌≡◌, None, sym, ◌∙◌, ap, subst}
-use Rattle.line_device.specs.Medium.{last_image}
 use Rattle.line_device.proofs.WanderLemmas.{wander-trans, newest-wander}
 use Rattle.word_log.specs.Area.{gate_place}
 use Rattle.word_log.specs.Replay.{first_wrong, listed, replayed, Replays}

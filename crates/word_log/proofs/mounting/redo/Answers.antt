@@ -1,4 +1,4 @@
-use Rattle.std.proofs.Common.{◌+◌, ◌*◌, sym, subst, arith}
+use Rattle.std.proofs.Common.{sym, subst, arith}
 use Rattle.line_device.specs.Medium.{last_image}
 use Rattle.line_device.proofs.WanderLemmas.{wander-refl}
 use Rattle.line_device.proofs.PanelLemmas.{runs_within}

@@ -1,5 +1,4 @@
 use Rattle.std.proofs.Common.{subst}
-use Rattle.line_device.specs.Medium.{Medium}
 use Rattle.word_log.specs.Rest.{IsOnly}
 use Rattle.word_log.proofs.FrameLemmas.{outside-trans, outside-wander}
 use Rattle.word_log.proofs.StepLemmas.{on_ok-then}

@@ -1,6 +1,5 @@
-use Rattle.std.proofs.Common.{◌⊎◌, inl, inr, ◌+◌, ◌/◌, ◌<◌, ◌≡◌, arith}
+use Rattle.std.proofs.Common.{◌⊎◌, inl, inr, ◌+◌, ◌/◌, ◌≡◌, arith}
 use Rattle.std.proofs.lemmas.Bool.{cases_lt}
-use Rattle.line_device.specs.Panel.{Runs}
 use Rattle.line_device.proofs.WanderLemmas.{wander-refl, wander-trans}
 use Rattle.line_device.proofs.PanelLemmas.{runs-refl, runs_then}
 use Rattle.word_log.specs.Rest.{IsOnly}

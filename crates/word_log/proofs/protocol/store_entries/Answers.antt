@@ -1,6 +1,5 @@
-use Rattle.std.proofs.Common.{◌≡◌, ◌+◌, ◌<◌, ◌≤◌, length, refl, arith}
+use Rattle.std.proofs.Common.{refl, arith}
 use Rattle.line_device.proofs.PanelLemmas.{runs-refl, runs_then, runs_within}
-use Rattle.word_log.specs.Area.{entry_place}
 use Rattle.word_log.proofs.FrameLemmas.{outside-refl, outside-trans, outside-wider}
 use Rattle.word_log.proofs.StepLemmas.{entries-more}
 use Rattle.word_log.proofs.protocol.store_entries.Goals as goal

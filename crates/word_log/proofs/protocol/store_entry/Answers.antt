@@ -1,5 +1,4 @@
-use Rattle.std.proofs.Common.{◌≡◌, ◌+◌, ◌<◌, ◌≤◌, subst, sym, arith}
-use Rattle.word_log.specs.Area.{entry_place}
+use Rattle.std.proofs.Common.{◌+◌, ◌<◌, ◌≤◌, sym, arith}
 use Rattle.word_log.proofs.StepLemmas.{stores_pair}
 use Rattle.word_log.proofs.FrameLemmas.{outside-wider}
 use Rattle.word_log.proofs.protocol.store_entry.Goals as goal

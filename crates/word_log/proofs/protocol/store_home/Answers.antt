@@ -1,4 +1,4 @@
-use Rattle.std.proofs.Common.{◌≡◌, IsTrue, length, get_or, refl, sym, subst, arith}
+use Rattle.std.proofs.Common.{◌≡◌, IsTrue, get_or, refl, sym, subst}
 use Rattle.line_device.proofs.PanelLemmas.{runs-refl, runs_then}
 use Rattle.word_log.specs.Changes.{lists}
 use Rattle.word_log.proofs.ChangeLemmas.{lists-at}
