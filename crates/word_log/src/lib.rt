@@ -19,7 +19,9 @@ ghost use Rattle.word_log.specs.Rest.{IsAtRest, EachImage};
 ghost use Rattle.word_log.specs.Outcomes.{word_outcome};
 
 mod area;
+mod entries;
 mod fault;
+mod home;
 mod lines;
 mod lists;
 mod mounting;

@@ -6,7 +6,7 @@ ghost use Rattle.word_log.specs.Area.{Fits, IsStrong, IsWhole, IsOf, IsLineOf};
 ghost use Rattle.word_log.specs.Rest.{IsOnly};
 ghost use Rattle.word_log.specs.Outcomes.{word_outcome};
 
-use crate::protocol::persist_lines;
+use crate::words::persist_lines;
 use crate::{CommitFault, LogArea};
 use line_device::Lines;
 use nvm_base::{LineNo, Span};

@@ -1,9 +1,10 @@
 // Single words of lines that are neither bad nor weak. Each call here is one call of the device.
-ghost use Rattle.std.specs.Prelude.{◌≡◌, ◌+◌, ◌*◌, ◌/◌, ◌≤◌, IsTrue, IfOk, MatchResult, length};
+ghost use Rattle.std.specs.Prelude.{◌≡◌, ◌+◌, ◌*◌, ◌/◌, ◌<◌, ◌≤◌, ℕ, IsTrue, IfOk, MatchResult, OnOk, length};
 ghost use Rattle.line_device.specs.Word.{word_at};
 ghost use Rattle.line_device.specs.Medium.{Wander, IsHealthy, last_image, settled};
 ghost use Rattle.line_device.specs.Panel.{Runs};
 ghost use Rattle.word_log.specs.Words.{IsSteadfast, with_word};
+ghost use Rattle.word_log.specs.Rest.{IsOnly};
 ghost use Rattle.word_log.specs.Outcomes.{word_outcome};
 
 use crate::CommitFault;
@@ -76,4 +77,20 @@ pub fn persist_line<L: Lines>(dev: &mut L, line: u64) -> Result<(), CommitFault>
         Err(DeviceFault::Failed) => Err(CommitFault::Failed),
         Err(DeviceFault::PowerLost) => Err(CommitFault::PowerLost),
     }
+}
+
+/// Makes so many lines durable.
+pub fn persist_lines<L: Lines>(dev: &mut L, first: u64, count: u64) -> Result<(), CommitFault>
+    requires end { first + count ≤ (L.state dev.old).medium.count }
+    requires steadfast { (line : ℕ) → first ≤ line → line < first + count → IsSteadfast (L.state dev.old).medium line }
+    requires on { IsTrue (L.state dev.old).panel.power }
+    ensures lines { Wander (L.state dev.old).medium (L.state dev.new).medium }
+    ensures ok { OnOk result ((p : ℕ) → first ≤ p / 8 → p / 8 < first + count
+        → IsOnly (last_image (L.state dev.old).medium p) ((L.state dev.new).medium.history p)) }
+    ensures runs { Runs count count (word_outcome result) (L.state dev.old).panel (L.state dev.new).panel }
+{
+    for k in 0..count {
+        persist_line(dev, first + k)?;
+    }
+    Ok(())
 }

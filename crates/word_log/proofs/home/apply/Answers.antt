@@ -2,7 +2,7 @@ use Rattle.std.proofs.Common.{subst}
 use Rattle.word_log.specs.Rest.{IsOnly}
 use Rattle.word_log.proofs.FrameLemmas.{outside-trans, outside-wander}
 use Rattle.word_log.proofs.StepLemmas.{on_ok-then}
-use Rattle.word_log.proofs.protocol.apply.Goals as goal
+use Rattle.word_log.proofs.home.apply.Goals as goal
 
 pub returns-clause-outside : goal.returns-clause-outside
 returns-clause-outside g c = outside-trans _ _ _ _ c.in_ok-store_home.ensures.outside (outside-wander _ _ _ c.persist_home.ensures.lines)

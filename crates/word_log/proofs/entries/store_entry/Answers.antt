@@ -1,7 +1,7 @@
 use Rattle.std.proofs.Common.{◌+◌, ◌<◌, ◌≤◌, sym, arith}
 use Rattle.word_log.proofs.StepLemmas.{stores_pair}
 use Rattle.word_log.proofs.FrameLemmas.{outside-wider}
-use Rattle.word_log.proofs.protocol.store_entry.Goals as goal
+use Rattle.word_log.proofs.entries.store_entry.Goals as goal
 
 pub returns-clause-outside : goal.returns-clause-outside
 returns-clause-outside g c =

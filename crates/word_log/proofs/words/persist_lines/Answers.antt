@@ -5,7 +5,7 @@ use Rattle.line_device.proofs.PanelLemmas.{runs-refl, runs_then}
 use Rattle.word_log.specs.Rest.{IsOnly}
 use Rattle.line_device.specs.Medium.{last_image}
 use Rattle.word_log.proofs.FrameLemmas.{is_only-one_more, wander-one_more}
-use Rattle.word_log.proofs.protocol.persist_lines.Goals as goal
+use Rattle.word_log.proofs.words.persist_lines.Goals as goal
 
 pub loop-k-init : goal.loop-k-init
 loop-k-init g c = record {

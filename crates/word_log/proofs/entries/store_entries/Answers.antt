@@ -2,7 +2,7 @@ use Rattle.std.proofs.Common.{refl, arith}
 use Rattle.line_device.proofs.PanelLemmas.{runs-refl, runs_then, runs_within}
 use Rattle.word_log.proofs.FrameLemmas.{outside-refl, outside-trans, outside-wider}
 use Rattle.word_log.proofs.StepLemmas.{entries-more}
-use Rattle.word_log.proofs.protocol.store_entries.Goals as goal
+use Rattle.word_log.proofs.entries.store_entries.Goals as goal
 
 pub loop-k-init : goal.loop-k-init
 loop-k-init g c = record { outside = outside-refl _ _; words = refl; runs = runs-refl _ }

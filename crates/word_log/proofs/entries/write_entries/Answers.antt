@@ -1,7 +1,7 @@
 use Rattle.std.proofs.Common.{arith}
 use Rattle.word_log.proofs.FrameLemmas.{outside-trans, outside-wander, outside-wider, log_steadfast, steadfast-outside}
 use Rattle.word_log.proofs.StepLemmas.{writes_entries, behind_gate-entries, outside-counted}
-use Rattle.word_log.proofs.protocol.write_entries.Goals as goal
+use Rattle.word_log.proofs.entries.write_entries.Goals as goal
 
 pub returns-in_err-store_word-clause-outside : goal.returns-in_err-store_word-clause-outside
 returns-in_err-store_word-clause-outside g c =

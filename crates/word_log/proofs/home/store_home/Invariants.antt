@@ -4,7 +4,7 @@ use Rattle.line_device.specs.Panel.{Runs}
 use Rattle.line_device.specs.Panel.Outcome.{went}
 use Rattle.word_log.specs.Changes.{lists, changed}
 use Rattle.word_log.specs.Words.{WandersOutside}
-use Rattle.word_log.proofs.protocol.store_home.Given as goal
+use Rattle.word_log.proofs.home.store_home.Given as goal
 
 abbrev pub invariant-loop-change : goal.invariant-loop-change
 invariant-loop-change g l =

@@ -8,7 +8,7 @@ use Rattle.word_log.specs.Changes.{lists}
 use Rattle.word_log.specs.Rest.{IsOnly}
 use Rattle.word_log.proofs.FrameLemmas.{is_only-one_more, wander-one_more}
 use Rattle.word_log.proofs.ChangeLemmas.{lists-at, lists-more}
-use Rattle.word_log.proofs.protocol.persist_home.Goals as goal
+use Rattle.word_log.proofs.home.persist_home.Goals as goal
 
 pub loop-change-init : goal.loop-change-init
 loop-change-init g c = record {

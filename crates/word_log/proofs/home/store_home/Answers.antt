@@ -4,7 +4,7 @@ use Rattle.word_log.specs.Changes.{lists}
 use Rattle.word_log.proofs.ChangeLemmas.{lists-at}
 use Rattle.word_log.proofs.FrameLemmas.{outside-refl, outside-trans, outside-wider, outside-wander, outside-stored}
 use Rattle.word_log.proofs.StepLemmas.{changed-more}
-use Rattle.word_log.proofs.protocol.store_home.Goals as goal
+use Rattle.word_log.proofs.home.store_home.Goals as goal
 
 pub loop-change-init : goal.loop-change-init
 loop-change-init g c = record { outside = outside-refl _ _; words = λ p. refl; runs = runs-refl _ }
