@@ -9,6 +9,8 @@ use nvm_base::{LineNo, Span};
 use std::alloc::Global;
 use std::test::Fail;
 
+mod cuts;
+
 const SMALL: LogArea = LogArea {
     log: Span { start: 0, len: 2 },
     cap: 4,
@@ -16,6 +18,9 @@ const SMALL: LogArea = LogArea {
 };
 
 const CHANGES: [(u64, u64); 2] = [(16, 5), (23, 9)];
+
+// The words of a log with an open gate and these changes.
+const OPEN: [(u64, u64); 6] = [(1, 2), (8, 16), (9, 5), (10, 23), (11, 9), (0, 1)];
 
 // The home's line after the changes, where it was zeros.
 fn changed_line() -> [u8; 64] {
@@ -146,10 +151,9 @@ fn a_commit_gives_its_words_their_values_together(rt: HostRuntime) -> Result<(),
 
 #[test]
 fn a_mount_replays_an_open_log(rt: HostRuntime) -> Result<(), Fail> {
-    let open = [(1, 2), (8, 16), (9, 5), (10, 23), (11, 9), (0, 1)];
     let mut dev = Plain::new(rt.alloc());
     dev.reset(3, 8)?;
-    assert!(rt; write(&mut dev, &open));
+    assert!(rt; write(&mut dev, &OPEN));
     let mounted = mount_until(rt.alloc(), &mut dev, Choice::Lasts, 1000);
     assert_eq!(rt; mounted, Ok(()));
     assert_eq!(rt; home(&dev), changed_line());

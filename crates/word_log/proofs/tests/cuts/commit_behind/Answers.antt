@@ -3,7 +3,7 @@ use Rattle.line_device.specs.Medium.{Medium}
 use Rattle.word_log.specs.declared.area.LogArea.{LogArea}
 use Rattle.word_log.specs.State.{LogState}
 use Rattle.word_log.specs.Rest.{IsAtRest}
-use Rattle.crash_tests.proofs.log_cuts.commit_behind.Goals as goal
+use Rattle.word_log.proofs.tests.cuts.commit_behind.Goals as goal
 
 -- a log at rest, over equal lines
 rest-same : (a : LogArea) (words : ℕ → ℕ) (m n : Medium) → n ≡ m → IsAtRest a m words → IsAtRest a n words
