@@ -1,12 +1,15 @@
 // Whole calls over devices, sources and sinks of memory.
 
 use crate::top::nvmhost;
+use faulty::Faulty;
 use host_io::{MemImages, MemSink, MemSource};
 use line_device::{Choice, LineDevice, LineState, Plain};
 use nvm_base::{Bytes, Words};
 use std::alloc::{AllocError, Global};
 use std::test::Fail;
 use test_devices::Recorder;
+
+mod faulty;
 
 const WORDS: &str = "run 8 2 32";
 
@@ -133,6 +136,18 @@ fn replies_are_written_up_to_the_call_that_fails(rt: HostRuntime) -> Result<(), 
         assert_eq!(rt; status, 5, "at call {fails}");
         assert_eq!(rt; sink.written().len(), written, "at call {fails}");
     }
+    Ok(())
+}
+
+#[test]
+fn a_device_that_cannot_be_set_up_ends_the_call(rt: HostRuntime) -> Result<(), Fail> {
+    let alloc = rt.alloc();
+    let mut device = Faulty::new(Plain::new(alloc));
+    let mut source = source(alloc, LOST.as_bytes(), 7, &[])?;
+    let mut sink = MemSink::new(alloc, Words::new(alloc));
+    let status = call(alloc, WORDS, &mut device, &mut source, &mut sink)?;
+    assert_eq!(rt; status, 8);
+    assert_eq!(rt; sink.written(), b"error device\n".as_slice());
     Ok(())
 }
 
