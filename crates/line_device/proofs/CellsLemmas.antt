@@ -1,14 +1,13 @@
 -- What calls do to lines of memory that keep of each word its first and its last value.
-use Rattle.std.proofs.Common.{◌≡◌, ◌⊎◌, inl, inr, ℕ, zero, suc, Bool, true, false, not, ◌+◌, ◌-◌, ◌*◌, ◌/◌, ◌%◌, ◌<◌, ◌≤◌, ◌==◌, List, [], ◌∷◌, ◌++◌, length, get_or, set, take, drop, replicate, nat_lt, Option, Some, None, if◌then◌else◌, IsTrue, refl, add-zero, sym, ◌∙◌, ap, subst, arith}
+use Rattle.std.proofs.Common.{◌≡◌, inl, inr, ℕ, zero, suc, Bool, true, false, ◌+◌, ◌-◌, ◌*◌, ◌/◌, ◌%◌, ◌<◌, ◌≤◌, List, [], ◌∷◌, ◌++◌, length, get_or, set, take, drop, replicate, nat_lt, Option, Some, None, if◌then◌else◌, refl, add-zero, sym, ◌∙◌, ap, subst, arith}
 use Rattle.std.specs.List.{slice_get}
 use Rattle.std.proofs.lemmas.Bool.{cases_eq, cases_lt, eq-eqb, ne_eqb, lt-ltb, le-ltb}
 use Rattle.std.proofs.lemmas.List.{length-replicate, length-take, length-drop, get_or-replicate, get_or_past, get_or-take, get_or-drop}
 use Rattle.std.proofs.lemmas.Option.{slice_get-get_or, slice_get_past}
 use Rattle.line_device.specs.Word.{word_from, word_at, byte_over, word_over, reaches, IsPut}
-use Rattle.line_device.specs.History.{latest, newest, IsIn, IsPart, Fades}
+use Rattle.line_device.specs.History.{latest, newest, IsPart, Fades}
 use Rattle.line_device.specs.Medium.{Medium, Wander, Weakens, zeros, with_at, on_line, word_stored, stored, renewed, settled, IsLine}
-use Rattle.line_device.specs.Cells.{first_and_last, ends, ends_of, kept, is_bad_mark, is_weak_mark, has_words, good_mark, memory, weakened}
-use Rattle.line_device.specs.declared.line.Choice.TheVariants.{Firsts, Lasts}
+use Rattle.line_device.specs.Cells.{first_and_last, ends, ends_of, is_bad_mark, is_weak_mark, has_words, good_mark, memory, weakened}
 use Rattle.line_device.specs.declared.plain.cells.Mark.{Mark}
 use Rattle.line_device.specs.declared.plain.cells.Mark.TheVariants.{Healthy, Weak, Bad}
 use Rattle.line_device.proofs.HistoryLemmas.{latest-cons, fades-refl}

@@ -1,5 +1,5 @@
 -- What stays of a word's values when some are forgotten, and when one comes to them.
-use Rattle.std.proofs.Common.{◌≡◌, ◌⊎◌, inl, inr, ℕ, Bool, true, false, List, [], ◌∷◌, ◌++◌, take, IsTrue, refl, sym, ◌∙◌, ap, subst}
+use Rattle.std.proofs.Common.{◌≡◌, ◌⊎◌, inl, inr, ℕ, Bool, true, false, List, [], ◌∷◌, ◌++◌, take, refl, sym, ◌∙◌, ap, subst}
 use Rattle.line_device.specs.History.{latest, newest, IsIn, IsPart, Fades}
 
 pub is_part-refl : (xs : List ℕ) → IsPart xs xs

@@ -1,6 +1,7 @@
 -- Work on lines, one piece after another.
-use Rattle.std.proofs.Common.{◌≡◌, ℕ, false, ◌+◌, ◌≤◌, min, IsTrue, refl, ◌∙◌, arith}
-use Rattle.line_device.specs.Panel.{Panel, Outcome, HasCause, Rose, SameOrders, ArmsNothing, Runs}
+use Rattle.std.proofs.Common.{ℕ, ◌+◌, ◌≤◌, refl, ◌∙◌, arith}
+use Rattle.nvm_base.specs.Counts.{Rose}
+use Rattle.line_device.specs.Panel.{Panel, Outcome, HasCause, SameOrders, ArmsNothing, Runs}
 use Rattle.line_device.specs.Panel.Outcome.{went, failed, lost}
 
 pub same_orders-refl : (p : Panel) → SameOrders p p

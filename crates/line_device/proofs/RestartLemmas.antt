@@ -1,7 +1,7 @@
 -- Restarts after which each word has its first value, or its last one.
 use Rattle.std.proofs.Common.{◌≡◌, inl, ℕ, Bool, List, [], ◌∷◌, ◌/◌, ◌<◌, take, refl, sym, ◌∙◌, ap, subst, arith}
 use Rattle.line_device.specs.History.{latest, newest, IsIn}
-use Rattle.line_device.specs.Medium.{Medium, IsSound, IsHealthy, Survives, Survivors, last_image}
+use Rattle.line_device.specs.Medium.{Medium, IsSound, Survives, Survivors, last_image}
 use Rattle.line_device.specs.Panel.{Image}
 use Rattle.line_device.specs.Device.{Device, Depicts, Waited}
 use Rattle.line_device.specs.Cells.{kept}

@@ -1,5 +1,5 @@
 -- What is armed, by how many counted calls are left until it fires.
-use Rattle.std.specs.Prelude.{ℕ, Bool, true, false, ◌&&◌, ◌-◌, nat_le, Option, Some, None, if◌then◌else◌}
+use Rattle.std.specs.Prelude.{ℕ, Bool, false, ◌&&◌, ◌-◌, nat_le, Option, Some, None, if◌then◌else◌}
 use Rattle.line_device.specs.Panel.{Outcome}
 use Rattle.line_device.specs.Panel.Outcome.{went, failed, lost}
 

@@ -1,5 +1,5 @@
 -- Lines of memory that keep of each word its first and its last value.
-use Rattle.std.specs.Prelude.{◌≡◌, ◌/◌, ◌==◌, ℕ, Bool, true, false, not, List, [], ◌∷◌, Option, Some, None, if◌then◌else◌, slice_get, take}
+use Rattle.std.specs.Prelude.{◌/◌, ◌==◌, ℕ, Bool, true, false, not, List, [], ◌∷◌, Option, Some, None, if◌then◌else◌, slice_get, take}
 use Rattle.std.specs.Vec.{vec_len}
 use Rattle.line_device.specs.Word.{word_at}
 use Rattle.line_device.specs.History.{latest, newest}

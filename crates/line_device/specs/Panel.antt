@@ -1,5 +1,6 @@
 -- What a device shows beside its lines: the power, what is armed, its counts, and what it tells of orders and restarts.
-use Rattle.std.specs.Prelude.{◌≡◌, ◌+◌, ◌≤◌, ℕ, Bool, true, false, min, List, [], ◌∷◌, ◌++◌, Option, Some, option_map, Result, Ok, Err, IsTrue}
+use Rattle.std.specs.Prelude.{◌≡◌, ◌+◌, ◌≤◌, ℕ, Bool, true, false, List, [], ◌∷◌, ◌++◌, Option, Some, option_map, Result, Ok, Err, IsTrue}
+use Rattle.nvm_base.specs.Counts.{raised, Rose}
 use Rattle.line_device.specs.declared.counts.Counts.{Counts}
 use Rattle.line_device.specs.declared.line.Choice.{Choice}
 use Rattle.line_device.specs.declared.order.Order.{Order}
@@ -32,10 +33,6 @@ pub record Panel : Type 0 where
 abbrev pub told : Option (List Start) → List Start → Option (List Start)
 told before [] = before
 told before (start ∷ starts) = told (option_map (λ all. all ++ start ∷ []) before) starts
-
--- a count went up, or stands at its type's last value
-abbrev pub Rose : ℕ → ℕ → Type 0
-Rose old new = min (old + 1) 18446744073709551615 ≤ new
 
 -- how a call ended, as far as the device goes
 pub data Outcome : Type 0 where
@@ -85,10 +82,6 @@ pub record Runs (at_most persists_at_most : ℕ) (end : Outcome) (old new : Pane
   pub setups : new.counts.setups ≡ old.counts.setups
   pub orders : SameOrders old new
 
--- a count of this call's kind went up by one, or stands at its last value
-abbrev pub bumped : ℕ → ℕ
-bumped n = min (n + 1) 18446744073709551615
-
 -- Setting up needs no arming to fail, but both `setups` and the fault's own count rise then. Power goes in no other way.
 abbrev pub HasSetupCause : Outcome → Panel → Panel → Type 0
 HasSetupCause went old new =
@@ -117,26 +110,26 @@ ordered before order = option_map (λ _. Some order) before
 -- the panel after each order
 abbrev pub after_arm_cut : Panel → ℕ → Panel
 after_arm_cut p calls =
-    record p { cut_armed = true; counts = record p.counts { arms = bumped p.counts.arms }; last_order = ordered p.last_order (Cut calls) }
+    record p { cut_armed = true; counts = record p.counts { arms = raised p.counts.arms }; last_order = ordered p.last_order (Cut calls) }
 
 abbrev pub after_arm_fail : Panel → ℕ → Panel
 after_arm_fail p calls =
-    record p { fail_armed = true; counts = record p.counts { arms = bumped p.counts.arms }; last_order = ordered p.last_order (Fail calls) }
+    record p { fail_armed = true; counts = record p.counts { arms = raised p.counts.arms }; last_order = ordered p.last_order (Fail calls) }
 
 abbrev pub after_evict : Panel → ℕ → Panel
-after_evict p lines = record p { counts = record p.counts { evicts = bumped p.counts.evicts }; last_order = ordered p.last_order (Evict lines) }
+after_evict p lines = record p { counts = record p.counts { evicts = raised p.counts.evicts }; last_order = ordered p.last_order (Evict lines) }
 
 abbrev pub after_disarm : Panel → Panel
-after_disarm p = record p { cut_armed = false; fail_armed = false; counts = record p.counts { disarms = bumped p.counts.disarms } }
+after_disarm p = record p { cut_armed = false; fail_armed = false; counts = record p.counts { disarms = raised p.counts.disarms } }
 
 abbrev pub after_power_off : Panel → Panel
 after_power_off p =
-    record p { power = false; cut_armed = false; fail_armed = false; counts = record p.counts { offs = bumped p.counts.offs } }
+    record p { power = false; cut_armed = false; fail_armed = false; counts = record p.counts { offs = raised p.counts.offs } }
 
 -- after a restart that told this start
 abbrev pub after_restart : Panel → Start → Panel
 after_restart p start =
-    record p { power = true; counts = record p.counts { restarts = bumped p.counts.restarts }; starts = told p.starts (start ∷ []) }
+    record p { power = true; counts = record p.counts { restarts = raised p.counts.restarts }; starts = told p.starts (start ∷ []) }
 
 -- After a restart that was refused the power is off, what was armed may be gone, and it may have been counted.
 pub record RestartRefused (old new : Panel) : Type 0 where

@@ -1,7 +1,8 @@
 -- A device's power, what is armed, and its counts.
-use Rattle.std.specs.Prelude.{◌≡◌, ℕ, Bool, true, false, None, Option, Result, Ok, Err, if◌then◌else◌}
+use Rattle.std.specs.Prelude.{ℕ, true, false, None, Option, Result, Ok, Err, if◌then◌else◌}
 use Rattle.std.specs.Option.{is_some}
-use Rattle.line_device.specs.Panel.{Panel, Outcome, bumped}
+use Rattle.nvm_base.specs.Counts.{raised}
+use Rattle.line_device.specs.Panel.{Panel, Outcome}
 use Rattle.line_device.specs.Panel.Outcome.{went, failed, lost}
 use Rattle.line_device.specs.Arming.{is_due, counted_down, next_end, fail_after}
 use Rattle.line_device.specs.declared.counts.Counts.{Counts}
@@ -37,9 +38,9 @@ answer_of s = if is_due s.cut then Err PowerLost else (if is_due s.fail then Err
 
 -- the counts after a counted call that ended so
 abbrev pub counts_after : Outcome → Counts → Counts
-counts_after went c = record c { calls = bumped c.calls }
-counts_after failed c = record c { calls = bumped c.calls; faults = bumped c.faults }
-counts_after lost c = record c { calls = bumped c.calls; cuts = bumped c.cuts }
+counts_after went c = record c { calls = raised c.calls }
+counts_after failed c = record c { calls = raised c.calls; faults = raised c.faults }
+counts_after lost c = record c { calls = raised c.calls; cuts = raised c.cuts }
 
 -- after a counted call
 abbrev pub after_call : Switches → Switches
@@ -52,10 +53,10 @@ after_call s = record {
 
 -- after what only counts a persist, or an order to write back
 abbrev pub after_persist : Switches → Switches
-after_persist s = record s { counts = record s.counts { persists = bumped s.counts.persists } }
+after_persist s = record s { counts = record s.counts { persists = raised s.counts.persists } }
 
 abbrev pub after_evict : Switches → Switches
-after_evict s = record s { counts = record s.counts { evicts = bumped s.counts.evicts } }
+after_evict s = record s { counts = record s.counts { evicts = raised s.counts.evicts } }
 
 -- with the power on
 abbrev pub powered : Switches → Switches
@@ -63,4 +64,4 @@ powered s = record s { power = true }
 
 -- after a restart
 abbrev pub after_restart : Switches → Switches
-after_restart s = record s { power = true; counts = record s.counts { restarts = bumped s.counts.restarts } }
+after_restart s = record s { power = true; counts = record s.counts { restarts = raised s.counts.restarts } }

@@ -1,6 +1,3 @@
-ghost use Rattle.std.specs.Prelude.{◌≡◌, ◌+◌, ◌≤◌};
-ghost use Rattle.line_device.specs.Panel.{bumped};
-
 /// What a device counts. No count falls, and each stands still at its last value.
 #[derive(Clone, Copy, Debug, Default, PartialEq, Eq)]
 pub struct Counts {
@@ -24,13 +21,4 @@ pub struct Counts {
     pub setups: u64,
     /// Calls of `disarm`.
     pub disarms: u64,
-}
-
-/// Raises a count by one, unless it stands at its last value.
-pub fn bump(count: &mut u64)
-    ensures value { count.new ≡ bumped count.old }
-    ensures later { count.old ≤ count.new }
-    ensures once { count.new ≤ count.old + 1 }
-{
-    *count = count.saturating_add(1);
 }

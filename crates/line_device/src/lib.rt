@@ -13,7 +13,7 @@ mod switches;
 #[cfg(test)]
 mod tests;
 
-pub use counts::{Counts, bump};
+pub use counts::Counts;
 pub use device::{LineDevice, Peek};
 pub use fault::{DeviceFault, ResetFault};
 pub use laws::{effect_stands_between_wanders, wander_leaves_fewer_images};

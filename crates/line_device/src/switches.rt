@@ -1,11 +1,12 @@
 // The power of a device of memory, what is armed there, and its counts.
 ghost use Rattle.std.specs.Prelude.{◌≡◌, ◌+◌, ◌≤◌, true, false, None, Some, IsTrue};
 ghost use Rattle.line_device.specs.Arming.{is_due, counted_down, fail_after};
-ghost use Rattle.line_device.specs.Panel.{Runs, outcome, bumped, after_arm_cut, after_arm_fail, after_disarm, after_power_off};
+ghost use Rattle.line_device.specs.Panel.{Runs, outcome, after_arm_cut, after_arm_fail, after_disarm, after_power_off};
 ghost use Rattle.line_device.specs.Panel.Outcome.{went};
 ghost use Rattle.line_device.specs.Switches.{panel_of, cut_left, fail_left, answer_of, after_call, after_persist, after_evict, after_restart, powered};
 
-use crate::{Counts, DeviceFault, bump};
+use crate::{Counts, DeviceFault};
+use nvm_base::raise;
 
 /// The power, an armed cut, an armed failure and the counts. At first the power is off and nothing is armed.
 #[derive(Clone, Copy, Debug, Default, PartialEq, Eq)]
@@ -51,14 +52,14 @@ impl Switches {
         let fail = is_due(self.fail);
         self.fail = fail_after(self.cut, self.fail);
         self.cut = counted_down(self.cut);
-        bump(&mut self.counts.calls);
+        raise(&mut self.counts.calls);
         if cut {
             self.power = false;
-            bump(&mut self.counts.cuts);
+            raise(&mut self.counts.cuts);
             return Err(DeviceFault::PowerLost);
         }
         if fail {
-            bump(&mut self.counts.faults);
+            raise(&mut self.counts.faults);
             return Err(DeviceFault::Failed);
         }
         Ok(())
@@ -68,7 +69,7 @@ impl Switches {
         ensures after { self.new ≡ after_persist self.old }
         ensures runs { Runs 0 1 went (panel_of self.old) (panel_of self.new) }
     {
-        bump(&mut self.counts.persists);
+        raise(&mut self.counts.persists);
     }
 
     pub fn arm_cut(&mut self, calls: u64)
@@ -77,7 +78,7 @@ impl Switches {
         ensures fail { fail_left self.new ≡ fail_left self.old }
     {
         self.cut = Some(calls);
-        bump(&mut self.counts.arms);
+        raise(&mut self.counts.arms);
     }
 
     pub fn arm_fail(&mut self, calls: u64)
@@ -86,7 +87,7 @@ impl Switches {
         ensures fail { fail_left self.new ≡ Some calls }
     {
         self.fail = Some(calls);
-        bump(&mut self.counts.arms);
+        raise(&mut self.counts.arms);
     }
 
     pub fn disarm(&mut self)
@@ -94,7 +95,7 @@ impl Switches {
     {
         self.cut = None;
         self.fail = None;
-        bump(&mut self.counts.disarms);
+        raise(&mut self.counts.disarms);
     }
 
     pub fn power_off(&mut self)
@@ -103,7 +104,7 @@ impl Switches {
         self.power = false;
         self.cut = None;
         self.fail = None;
-        bump(&mut self.counts.offs);
+        raise(&mut self.counts.offs);
     }
 
     /// Turns the power on. Only a restart counts as one.
@@ -117,13 +118,13 @@ impl Switches {
         ensures { self.new ≡ after_restart self.old }
     {
         self.power = true;
-        bump(&mut self.counts.restarts);
+        raise(&mut self.counts.restarts);
     }
 
     pub fn count_evict(&mut self)
         ensures { self.new ≡ after_evict self.old }
     {
-        bump(&mut self.counts.evicts);
+        raise(&mut self.counts.evicts);
     }
 }
 

@@ -13,13 +13,13 @@ total-append most (Skipped ∷ x) y = total-append most x y
 total-append most (Malformed ∷ x) y = total-append most x y
 total-append most (Asked action ∷ x) y = omega (arith, total-append most x y)
 
--- inputs without a command cost nothing
-pub spends-free : (inputs : List Input) (p : Panel) → ((most : Action → ℕ) → total most inputs ≡ 0) → Spends inputs p p
-spends-free inputs p free = record {
-  calls = omega (arith, free most_calls);
-  persists = omega (arith, free most_persists);
-  offs = omega (arith, free most_offs);
-  restarts = omega (arith, free most_restarts);
+-- what was not done costs nothing
+pub spends-idle : (inputs : List Input) (p : Panel) → Spends inputs p p
+spends-idle inputs p = record {
+  calls = omega arith;
+  persists = omega arith;
+  offs = omega arith;
+  restarts = omega arith;
   arms = refl;
   evicts = refl;
   disarms = refl;

@@ -1,6 +1,7 @@
 -- Runs, one input after another.
 use Rattle.std.proofs.Common.{◌≡◌, ℕ, Option, List, [], ◌∷◌, ◌++◌, refl, sym, ap, subst, ◌∙◌, append_assoc, append-nil}
-use Rattle.line_device.specs.Panel.{Start, told, bumped}
+use Rattle.nvm_base.specs.Counts.{raised}
+use Rattle.line_device.specs.Panel.{Start, told}
 use Rattle.nvm_model.specs.Page.{KeepsPages}
 use Rattle.machine_host.specs.declared.reply.Why.TheVariants.{Syntax}
 use Rattle.machine_host.specs.Action.{Action}
@@ -10,17 +11,8 @@ use Rattle.machine_host.specs.Script.{Input}
 use Rattle.machine_host.specs.Script.Input.{Skipped, Malformed, Asked}
 use Rattle.machine_host.specs.Machine.{Machine, Fate, fate, restarted, restart_answer}
 use Rattle.machine_host.specs.Machine.Fate.{Gives, Restarts}
-use Rattle.machine_host.specs.Run.{Transcript, said, perform, Allows, Run}
+use Rattle.machine_host.specs.Run.{Transcript, said, perform, Allows, Run, Goes, after}
 use Rattle.machine_host.specs.Stands.{Takes, bumped_by}
-
--- a transcript with answers before
-abbrev pub after : List Answer → Transcript → Transcript
-after answers rest = record { answers = answers ++ rest.answers; state = rest.state }
-
--- The inputs lead from one state to another: whatever is done from there on, the whole does from here.
-pub record Goes (from : Machine) (inputs : List Input) (starts : List Start) (answers : List Answer) (to : Machine) : Type 0 where
-  pub allows : (more : List Input) (others : List Start) → Allows to more others → Allows from (inputs ++ more) (starts ++ others)
-  pub performs : (more : List Input) (others : List Start) → perform from (inputs ++ more) (starts ++ others) ≡ after answers (perform to more others)
 
 pub goes-none : (h : Machine) → Goes h [] [] [] h
 goes-none h = record { allows = λ more others a. a; performs = λ more others. refl }
@@ -101,4 +93,4 @@ told-append before (start ∷ s) t = told-append _ s t
 
 pub bumped_by-append : (s t : List Start) (n : ℕ) → bumped_by (s ++ t) n ≡ bumped_by t (bumped_by s n)
 bumped_by-append [] t n = refl
-bumped_by-append (start ∷ s) t n = bumped_by-append s t (bumped n)
+bumped_by-append (start ∷ s) t n = bumped_by-append s t (raised n)

@@ -19,7 +19,7 @@ use Rattle.machine_host.specs.declared.mode.Mode.TheVariants as modes
 use Rattle.nvm_model.specs.Lines.{AreIntact, span_shown}
 use Rattle.machine_host.specs.Stands.{HostState, Serves, Stands, IsUnarmed, Comes}
 
-not_true : (b : Bool) → (IsTrue b → ⊥) → b ≡ false
+pub not_true : (b : Bool) → (IsTrue b → ⊥) → b ≡ false
 not_true true h = absurd (h refl)
 not_true false h = refl
 

@@ -1,5 +1,5 @@
 -- Whole runs: what the machine answers to a script, given what each restart left.
-use Rattle.std.specs.Prelude.{◌≡◌, List, [], ◌∷◌}
+use Rattle.std.specs.Prelude.{◌≡◌, List, [], ◌∷◌, ◌++◌}
 use Rattle.line_device.specs.Panel.{Start}
 use Rattle.nvm_model.specs.Page.{KeepsPages}
 use Rattle.machine_host.specs.declared.reply.Why.TheVariants.{Syntax}
@@ -51,3 +51,12 @@ pub record Run (h : Machine) (inputs : List Input) (starts : List Start) (answer
   pub allowed : Allows h inputs starts
   pub answers_are : (perform h inputs starts).answers ≡ answers
   pub state_is : (perform h inputs starts).state ≡ end
+
+-- a transcript with answers before
+abbrev pub after : List Answer → Transcript → Transcript
+after answers rest = record { answers = answers ++ rest.answers; state = rest.state }
+
+-- The inputs lead from one state to another: whatever is done from there on, the whole does from here.
+pub record Goes (from : Machine) (inputs : List Input) (starts : List Start) (answers : List Answer) (to : Machine) : Type 0 where
+  pub allows : (more : List Input) (others : List Start) → Allows to more others → Allows from (inputs ++ more) (starts ++ others)
+  pub performs : (more : List Input) (others : List Start) → perform from (inputs ++ more) (starts ++ others) ≡ after answers (perform to more others)

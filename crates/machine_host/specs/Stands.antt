@@ -1,6 +1,7 @@
 -- When a host and its device stand for a state of the machine, and what one step is.
 use Rattle.std.specs.Prelude.{◌≡◌, ◌+◌, ◌*◌, ◌≤◌, ◌++◌, ◌⊎◌, ℕ, Bool, true, false, List, [], ◌∷◌, length, None}
-use Rattle.line_device.specs.Panel.{Panel, Start, ArmsNothing, told, bumped}
+use Rattle.nvm_base.specs.Counts.{raised}
+use Rattle.line_device.specs.Panel.{Panel, Start, ArmsNothing, told}
 use Rattle.line_device.specs.Device.{Device, Waited}
 use Rattle.nvm_base.specs.Units.{units_of}
 use Rattle.nvm_model.specs.Page.{PagesStand, KeepsPages}
@@ -68,7 +69,7 @@ Takes h (Restarts choice) starts a n =
 -- a count after so many more
 abbrev pub bumped_by : List Start → ℕ → ℕ
 bumped_by [] count = count
-bumped_by (start ∷ starts) count = bumped_by starts (bumped count)
+bumped_by (start ∷ starts) count = bumped_by starts (raised count)
 
 -- The command came to this in h: the device told the starts and counted them, and stands for the state after.
 pub record Comes (h : Machine) (fate : Fate) (answer : Answer) (host : HostState) (old new : Device) : Type 0 where

@@ -5,7 +5,8 @@ ghost use Rattle.line_device.specs.Panel.{Runs};
 ghost use Rattle.line_device.specs.Panel.Outcome.{lost};
 ghost use Rattle.test_devices.specs.Fuse.{fused, fused_panel, passes_left, after_pass, behind};
 
-use line_device::{LineDevice, bump};
+use line_device::LineDevice;
+use nvm_base::raise;
 
 mod device;
 mod lines;
@@ -49,7 +50,7 @@ impl<D: LineDevice> Fuse<D> {
             None => false,
             Some(0) => {
                 self.left = None;
-                bump(&mut self.burnt);
+                raise(&mut self.burnt);
                 self.inner.power_off();
                 true
             }

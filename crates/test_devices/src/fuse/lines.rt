@@ -4,6 +4,7 @@ ghost use Rattle.std.specs.Io.BufRead.{Rests};
 ghost use Rattle.line_device.specs.Medium.{Wander, IsLine, Weakens, stored, persisted, cleared, poisoned};
 ghost use Rattle.line_device.specs.Panel.{Runs, outcome};
 ghost use Rattle.line_device.specs.Device.{Poisons};
+ghost use Rattle.test_devices.specs.contracts.fuse.Fuse.{the_row};
 ghost use Rattle.test_devices.specs.Fuse.{fused, passes_left, after_pass, behind, Burns, LoadPasses};
 
 use super::Fuse;
@@ -40,7 +41,17 @@ impl<D: LineDevice> Lines for Fuse<D> {
         self.inner.is_weak(line)
     }
 
-    fn load(&mut self, line: LineNo) -> Result<&[u8], DeviceFault> {
+    fn load(&mut self, line: LineNo) -> Result<&[u8], DeviceFault>
+        requires within { line.0 < (fused D.state self.old).medium.count }
+        requires on { IsTrue (fused D.state self.old).panel.power }
+        ensures bytes { IfOk result (λ bytes. IsLine (fused D.state self.old).medium line.0 bytes.now) }
+        ensures poison { Poisons line.0 ((fused D.state self.old).medium.is_bad line.0) result }
+        ensures burns { Burns (passes_left self.old) (D.state (behind self.old)).panel.cut_armed result }
+        ensures* after { sem 𝓛 (Rests (the_row D.row) self.entry (λ new.
+            Wander (fused D.state self.old).medium (fused D.state new).medium
+            × Runs 1 0 (outcome result) (fused D.state self.old).panel (fused D.state new).panel
+            × LoadPasses D.load_leaves self.old new)) }
+    {
         if self.burns() {
             return Err(DeviceFault::PowerLost);
         }
@@ -100,11 +111,23 @@ impl<D: LineDevice> Lines for Fuse<D> {
         self.inner.clear(line)
     }
 
-    fn poison(&mut self, line: LineNo) {
+    fn poison(&mut self, line: LineNo)
+        requires { line.0 < (fused D.state self.old).medium.count }
+        ensures lines { Wander (poisoned (fused D.state self.old).medium line.0) (fused D.state self.new).medium }
+        ensures panel { (fused D.state self.new).panel ≡ (fused D.state self.old).panel }
+        ensures left { passes_left self.new ≡ passes_left self.old }
+    {
         self.inner.poison(line);
     }
 
-    fn weaken(&mut self, line: LineNo) -> Result<(), AllocError> {
+    fn weaken(&mut self, line: LineNo) -> Result<(), AllocError>
+        requires { line.0 < (fused D.state self.old).medium.count }
+        ensures lines { MatchResult result
+            (λ _. Weakens line.0 (fused D.state self.old).medium (fused D.state self.new).medium)
+            (λ _. Wander (fused D.state self.old).medium (fused D.state self.new).medium) }
+        ensures panel { (fused D.state self.new).panel ≡ (fused D.state self.old).panel }
+        ensures left { passes_left self.new ≡ passes_left self.old }
+    {
         self.inner.weaken(line)
     }
 

@@ -1,7 +1,6 @@
 use Rattle.std.proofs.Common.{[], ◌∷◌, ◌∙◌, false}
 use Rattle.line_device.specs.Medium.{renewed}
 use Rattle.line_device.specs.Cells.{medium_of}
-use Rattle.line_device.specs.Word.{word_at}
 use Rattle.line_device.proofs.CellsLemmas.{word_at-zeros}
 use Rattle.line_device.proofs.plain.cells.Cells.clear.Goals as goal
 

@@ -1,4 +1,4 @@
-use Rattle.std.proofs.Common.{◌≡◌, ◌+◌, ◌-◌, ◌*◌, length, take, drop, sym, ◌∙◌, ap, arith}
+use Rattle.std.proofs.Common.{◌+◌, ◌-◌, ◌*◌, take, drop, ◌∙◌, arith}
 use Rattle.line_device.proofs.CellsLemmas.{is_line-memory, has_words-good, length-line, get_or-line}
 use Rattle.line_device.proofs.plain.cells.Cells.line.Goals as goal
 

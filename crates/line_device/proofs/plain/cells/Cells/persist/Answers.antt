@@ -1,4 +1,4 @@
-use Rattle.std.proofs.Common.{◌≡◌, ◌+◌, ◌-◌, ◌*◌, length, take, drop, sym, ◌∙◌, ap, arith}
+use Rattle.std.proofs.Common.{◌+◌, ◌-◌, ◌*◌, take, drop, sym, ◌∙◌}
 use Rattle.line_device.specs.Cells.{medium_of}
 use Rattle.line_device.proofs.WanderLemmas.{persisted-strong}
 use Rattle.line_device.proofs.CellsLemmas.{memory-settled, length-line, get_or-line}

@@ -1,5 +1,4 @@
-use Rattle.std.proofs.Common.{◌≡◌, [], ◌∷◌, false, List, set, sym, ◌∙◌, ap, arith}
-use Rattle.line_device.specs.Word.{word_at}
+use Rattle.std.proofs.Common.{set, ◌∙◌, ap, arith}
 use Rattle.line_device.specs.Cells.{memory}
 use Rattle.line_device.proofs.CellsLemmas.{memory-renewed_good}
 use Rattle.line_device.proofs.plain.cells.Cells.renew.Goals as goal

@@ -1,5 +1,4 @@
-use Rattle.std.proofs.Common.{◌≡◌, ◌*◌, ℕ, List, replicate, ◌∙◌, rules}
-use Rattle.line_device.specs.declared.plain.cells.Mark.{Mark}
+use Rattle.std.proofs.Common.{◌≡◌, ◌*◌, replicate, ◌∙◌, rules}
 use Rattle.line_device.specs.declared.plain.cells.Mark.TheVariants.{Healthy}
 use Rattle.line_device.specs.Cells.{memory}
 use Rattle.line_device.proofs.CellsLemmas.{memory-zeros}

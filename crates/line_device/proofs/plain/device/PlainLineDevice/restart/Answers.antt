@@ -1,4 +1,4 @@
-use Rattle.std.proofs.Common.{◌≡◌, refl, sym, ap, subst}
+use Rattle.std.proofs.Common.{refl, sym, ap, subst}
 use Rattle.line_device.specs.Medium.{Survivors}
 use Rattle.line_device.specs.Panel.{Start}
 use Rattle.line_device.specs.Cells.{medium_of}

@@ -1,0 +1,5 @@
+pub mod BytesLemmas
+pub mod ReadLemmas
+pub mod LineLemmas
+pub mod GoingLemmas
+pub mod TopLemmas

@@ -1,0 +1,29 @@
+use Rattle.std.proofs.Common.{◌≡◌, Err, ap, sym, subst, ◌∙◌}
+use Rattle.nvmhost.specs.declared.ending.Ending.TheVariants.{Usage}
+use Rattle.nvmhost.specs.Ending.{ending_text}
+use Rattle.nvmhost.specs.Whole.{WritesFront}
+use Rattle.nvmhost.proofs.TopLemmas.{writes_front, status-usage}
+use Rattle.nvmhost.proofs.top.nvmhost.Goals as goal
+
+pub returns-in-Err-clause-early_end : goal.returns-in-Err-clause-early_end
+returns-in-Err-clause-early_end g c not_zero geo form unarmed =
+    let between = g.K.Sink.written c.perform.new.replies in
+    let after = g.K.Sink.written c.write_all.new.sink in (
+      c.in-Err.ending,
+      c.status.ensures,
+      record {
+        between = between;
+        halts = c.in-Err.ensures.run geo form unarmed;
+        line = subst (λ text. WritesFront text between after) c.line.ensures (writes_front c.line.result.now c.write_all.result between after c.write_all.ensures.bytes);
+      },
+    )
+
+pub returns-in-Err-clause-usage_line : goal.returns-in-Err-clause-usage_line
+returns-in-Err-clause-usage_line g c is =
+    let before = g.K.Sink.written c.args.replies.now in
+    let between = g.K.Sink.written c.perform.new.replies in
+    let after = g.K.Sink.written c.write_all.new.sink in
+    let usage : c.in-Err.ending ≡ Usage = status-usage c.in-Err.ending (sym c.status.ensures ∙ is) in
+    let same : between ≡ before = c.in-Err.ensures.untouched (ap (λ e. Err e) usage) in
+    subst (λ w. WritesFront (ending_text Usage) w after) same
+    (subst (λ text. WritesFront text between after) (c.line.ensures ∙ ap ending_text usage) (writes_front c.line.result.now c.write_all.result between after c.write_all.ensures.bytes))

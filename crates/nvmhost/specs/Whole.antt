@@ -1,0 +1,168 @@
+-- What a whole call did: over which lines of which script, with which answers, and what the device is left as.
+use Rattle.std.specs.Prelude.{◌≡◌, ◌≢◌, ◌≤◌, ◌<◌, ℕ, List, [], ◌∷◌, ◌++◌, length, Option, IfSome, Result, Ok, Err, OnOk}
+use Rattle.std.specs.Io.KnownBytes.{Appends, Consumes, IsAtEnd}
+use Rattle.nvm_base.specs.Counts.{Rose}
+use Rattle.line_device.specs.Panel.{Panel, Start, told}
+use Rattle.line_device.specs.Device.{Device}
+use Rattle.word_tables.specs.declared.geometry.Geometry.{Geometry}
+use Rattle.machine_host.specs.Answer.{Answer, reply_text}
+use Rattle.machine_host.specs.Script.{Input, inputs_of, lines_of}
+use Rattle.machine_host.specs.Machine.{Machine, fresh}
+use Rattle.machine_host.specs.Run.{Run, Goes}
+use Rattle.machine_host.specs.Stands.{HostState, Serves, DeviceStands, Stands, IsUnarmed, Spends, bumped_by}
+use Rattle.nvm_base.specs.Stock.{Stock}
+use Rattle.machine_host.specs.declared.mode.Mode.TheVariants.{On}
+use Rattle.nvmhost.specs.declared.ending.Ending.{Ending}
+use Rattle.nvmhost.specs.declared.ending.Ending.TheVariants.{Usage, Read, Write, Memory, Script}
+use Rattle.nvmhost.specs.declared.ending.Ending.TheVariants as endings
+use Rattle.nvmhost.specs.Ending.{ending_text}
+
+-- `part` is how `whole` begins
+pub record IsFront (part whole : List ℕ) : Type 0 where
+  pub rest : List ℕ
+  pub joined : part ++ rest ≡ whole
+
+-- The machine's run over these lines: the device told its starts and counted them, and stands for the state after.
+pub record Ran (geo : Geometry) (lines : List (List ℕ)) (answers : List Answer) (old new : Device) : Type 0 where
+  pub starts : List Start
+  pub end : Machine
+  pub run : Run (fresh geo) (inputs_of lines) starts answers end
+  pub told_starts : new.panel.starts ≡ told old.panel.starts starts
+  pub restarts : new.panel.counts.restarts ≡ bumped_by starts old.panel.counts.restarts
+  pub stands : DeviceStands new end
+
+-- A call that went well: all of a script was read and performed, and its replies were written and nothing else.
+pub record Completes (geo : Geometry) (left_old left_new written_old written_new : Option (List ℕ)) (old new : Device) : Type 0 where
+  pub script : List ℕ
+  pub answers : List Answer
+  pub read : Consumes left_old left_new script
+  pub ended : IsAtEnd left_new
+  pub short : length script < 1073741824
+  pub ran : Ran geo (lines_of script) answers old new
+  pub wrote : Appends written_old written_new (reply_text answers)
+
+-- some of the text was written, from the front
+pub record WritesFront (text : List ℕ) (old new : Option (List ℕ)) : Type 0 where
+  pub part : List ℕ
+  pub front : IsFront part text
+  pub wrote : Appends old new part
+
+-- A call that came to no end: what was written is how the text of a run begins, over some first lines of what was read.
+pub record Halts (geo : Geometry) (left_old left_new written_old written_new : Option (List ℕ)) : Type 0 where
+  pub script : List ℕ
+  pub lines : List (List ℕ)
+  pub others : List (List ℕ)
+  pub starts : List Start
+  pub answers : List Answer
+  pub end : Machine
+  pub read : Consumes left_old left_new script
+  pub split : lines_of script ≡ lines ++ others
+  pub run : Run (fresh geo) (inputs_of lines) starts answers end
+  pub wrote : WritesFront (reply_text answers) written_old written_new
+
+-- A call that ended early: it came to no end, and then some of the ending's line was written.
+pub record BreaksOff (geo : Geometry) (ending : Ending) (left_old left_new written_old written_new : Option (List ℕ)) : Type 0 where
+  pub between : Option (List ℕ)
+  pub halts : Halts geo left_old left_new written_old between
+  pub line : WritesFront (ending_text ending) between written_new
+
+-- What the call did to the device's counts: no more than the commands of the lines that it began.
+pub record Costs (left_old left_new : Option (List ℕ)) (old new : Panel) : Type 0 where
+  pub script : List ℕ
+  pub begun : List (List ℕ)
+  pub others : List (List ℕ)
+  pub read : Consumes left_old left_new script
+  pub split : lines_of script ≡ begun ++ others
+  pub spends : Spends (inputs_of begun) old new
+
+-- The device was made one of zeros for a host.
+pub record IsReady (geo : Geometry) (old new : Device) : Type 0 where
+  pub serves : Serves (record { vpages = geo.vpages; mode = On }) new
+  pub starts : new.panel.starts ≡ old.panel.starts
+  pub restarts : new.panel.counts.restarts ≡ old.panel.counts.restarts
+  pub stands : IsUnarmed old.panel → DeviceStands new (fresh geo)
+  pub unarmed : IsUnarmed old.panel → IsUnarmed new.panel
+
+-- why a call ended early, by the counts of what failed
+pub record IsCaused (ending : Ending) (read_old read_new write_old write_new setups_old setups_new : ℕ) (left_old : Option (List ℕ)) : Type 0 where
+  pub read : ending ≡ Read → Rose read_old read_new
+  pub write : ending ≡ Write → Rose write_old write_new
+  pub device : ending ≡ endings.Device → Rose setups_old setups_new
+  pub script : ending ≡ Script → IfSome left_old (λ script. 1073741824 ≤ length script)
+
+-- Reading all of a script: it is what the source told, unless it is too long or the source fails.
+abbrev pub ReadsTo : List ℕ → Option (List ℕ) → Result (Stock ℕ) Ending → Type 0
+ReadsTo script left (Ok bytes) = (bytes.items ≡ script) × IsAtEnd left × (length script < 1073741824)
+ReadsTo script left (Err Script) = 1073741824 ≤ length script
+ReadsTo script left (Err Read) = Unit {0}
+ReadsTo script left (Err Memory) = Unit {0}
+ReadsTo script left (Err Usage) = ⊥
+ReadsTo script left (Err Write) = ⊥
+ReadsTo script left (Err endings.Device) = ⊥
+
+pub record Reads (left_old left_new : Option (List ℕ)) (result : Result (Stock ℕ) Ending) : Type 0 where
+  pub script : List ℕ
+  pub read : Consumes left_old left_new script
+  pub outcome : ReadsTo script left_new result
+
+-- Reading some more of it: none only at the end.
+abbrev pub TakesTo : List ℕ → Option (List ℕ) → List ℕ → List ℕ → Result ℕ Ending → Type 0
+TakesTo taken left old new (Ok count) = (new ≡ old ++ taken) × (length taken ≡ count) × (count ≡ 0 → IsAtEnd left)
+TakesTo taken left old new (Err Read) = Unit {0}
+TakesTo taken left old new (Err Memory) = Unit {0}
+TakesTo taken left old new (Err Usage) = ⊥
+TakesTo taken left old new (Err Write) = ⊥
+TakesTo taken left old new (Err Script) = ⊥
+TakesTo taken left old new (Err endings.Device) = ⊥
+
+pub record Takes (left_old left_new : Option (List ℕ)) (old new : List ℕ) (result : Result ℕ Ending) : Type 0 where
+  pub taken : List ℕ
+  pub read : Consumes left_old left_new taken
+  pub outcome : TakesTo taken left_new old new result
+
+-- One line: it led the machine on, and its answers are appended.
+pub record LineGoes (h : Machine) (input : Input) (out_old out_new : List ℕ) (host : HostState) (old new : Device) : Type 0 where
+  pub starts : List Start
+  pub answers : List Answer
+  pub next : Machine
+  pub goes : Goes h (input ∷ []) starts answers next
+  pub text : out_new ≡ out_old ++ reply_text answers
+  pub told_starts : new.panel.starts ≡ told old.panel.starts starts
+  pub restarts : new.panel.counts.restarts ≡ bumped_by starts old.panel.counts.restarts
+  pub stands : Stands host new next
+
+-- replies that wait are written from the front
+pub record Flushes (out_old out_new : List ℕ) (written_old written_new : Option (List ℕ)) : Type 0 where
+  pub part : List ℕ
+  pub wrote : Appends written_old written_new part
+  pub kept : part ++ out_new ≡ out_old
+
+-- a run of which nothing is left to do or to write
+pub record IsWhole (starts : List Start) (answers : List Answer) (end : Machine) (said : List ℕ) (others : List (List ℕ)) (old new : Device) : Type 0 where
+  pub all : said ≡ reply_text answers
+  pub none_left : others ≡ []
+  pub told_starts : new.panel.starts ≡ told old.panel.starts starts
+  pub restarts : new.panel.counts.restarts ≡ bumped_by starts old.panel.counts.restarts
+  pub stands : DeviceStands new end
+
+-- what was said over some first lines of a script, all of it at Ok
+pub record Says (geo : Geometry) (script : List ℕ) (result : Result (Unit {0}) Ending) (written_old written_new : Option (List ℕ)) (old new : Device) : Type 0 where
+  pub lines : List (List ℕ)
+  pub others : List (List ℕ)
+  pub starts : List Start
+  pub answers : List Answer
+  pub end : Machine
+  pub said : List ℕ
+  pub split : lines_of script ≡ lines ++ others
+  pub run : Run (fresh geo) (inputs_of lines) starts answers end
+  pub front : IsFront said (reply_text answers)
+  pub wrote : Appends written_old written_new said
+  pub whole : OnOk result (IsWhole starts answers end said others old new)
+
+-- A script was performed up to some line. Where the device stood for zeros with nothing armed, it is a run.
+pub record Performs (geo : Geometry) (script : List ℕ) (result : Result (Unit {0}) Ending) (written_old written_new : Option (List ℕ)) (old new : Device) : Type 0 where
+  pub begun : List (List ℕ)
+  pub others : List (List ℕ)
+  pub split : lines_of script ≡ begun ++ others
+  pub spends : Spends (inputs_of begun) old.panel new.panel
+  pub says : DeviceStands old (fresh geo) → IsUnarmed old.panel → Says geo script result written_old written_new old new

@@ -1,0 +1,39 @@
+//! `nvmhost`: what a program over persistent memory may find after a power cut or a media error.
+#![tactic(auto)]
+
+mod ending;
+mod reading;
+mod running;
+mod top;
+mod words;
+
+use host_io::{MemImages, StdinSource, StdoutSink};
+use line_device::Plain;
+use nvm_base::Words;
+use std::env;
+use std::process::ExitCode;
+use top::nvmhost;
+
+fn main(rt: HostRuntime) -> ExitCode {
+    let alloc = rt.alloc();
+    // Words that can't be read are in none of the forms, as no words are.
+    let words = match env::args(&rt) {
+        Ok(all) => all.skip(1).collect(alloc),
+        Err(_) => Ok(Vec::new(alloc)),
+    };
+    let Ok(words) = words else {
+        return ExitCode::from(6);
+    };
+    let mut device = Plain::new(alloc);
+    let mut images = MemImages::new(alloc, Words::new(alloc));
+    let mut script = StdinSource::new(&rt);
+    let mut replies = StdoutSink::new(&rt);
+    ExitCode::from(nvmhost(
+        alloc,
+        &words,
+        &mut device,
+        &mut images,
+        &mut script,
+        &mut replies,
+    ))
+}

@@ -1,0 +1,104 @@
+// The top call: the words, the device, the script, the replies, the status.
+ghost use Rattle.std.specs.Prelude.{◌≡◌, ◌≢◌, ◌≤◌, ◌↔◌, ◌++◌, ◌⊎◌, ℕ, IfSome, IfErr, OnOk, MatchResult, Contains, map, [], ◌∷◌, Err};
+ghost use Rattle.std.specs.String.{string_bytes};
+ghost use Rattle.nvm_base.specs.Counts.{Rose};
+ghost use Rattle.line_device.specs.Panel.{Start};
+ghost use Rattle.word_tables.specs.declared.geometry.Geometry.{Geometry as Sizes};
+ghost use Rattle.word_tables.specs.Bounds.{IsValid};
+ghost use Rattle.machine_host.specs.Stands.{IsUnarmed, Spends};
+ghost use Rattle.nvmhost.specs.declared.ending.Ending.{Ending as Early};
+ghost use Rattle.nvmhost.specs.declared.ending.Ending.TheVariants.{Usage};
+ghost use Rattle.nvmhost.specs.Words.{IsForm};
+ghost use Rattle.nvmhost.specs.Ending.{status, ending_text};
+ghost use Rattle.nvmhost.specs.Whole.{Completes, Halts, BreaksOff, WritesFront, Costs, IsReady, IsCaused};
+
+use crate::ending::Ending;
+use crate::reading::read_all;
+use crate::running::run_script;
+use crate::words::read_words;
+use host_io::{Images, Sink, Source, write_all};
+use line_device::LineDevice;
+use std::alloc::Global;
+use word_tables::Geometry;
+
+/// Performs what the program's words ask for, and says with which status the program ends.
+pub fn nvmhost<D: LineDevice, F: Images, T: Source, K: Sink>(
+    alloc: Global,
+    words: &[String],
+    device: &mut D,
+    images: &mut F,
+    script: &mut T,
+    replies: &mut K,
+) -> u8
+    // The replies are the machine's and nothing else, and the device stands for its last state.
+    ensures run { result ≡ 0 → (geo : Sizes) → IsForm (map (λ word. string_bytes word) words.now) geo
+        → IsUnarmed (D.state device.old).panel
+        → Completes geo (T.left script.old) (T.left script.new) (K.written replies.old) (K.written replies.new)
+        (D.state device.old) (D.state device.new) }
+
+    // What was written begins as such a run, and then as the status's line.
+    ensures early_end { result ≢ 0 → (geo : Sizes) → IsForm (map (λ word. string_bytes word) words.now) geo
+        → IsUnarmed (D.state device.old).panel
+        → (ending : Early) × (result ≡ status ending) × BreaksOff geo ending (T.left script.old) (T.left script.new)
+        (K.written replies.old) (K.written replies.new) }
+    ensures usage_line { result ≡ 2 → WritesFront (ending_text Usage) (K.written replies.old) (K.written replies.new) }
+
+    // Each status has its cause; want of memory alone is free.
+    ensures usage { (result ≡ 2) ↔ ((geo : Sizes) → IsForm (map (λ word. string_bytes word) words.now) geo → ⊥) }
+    ensures causes { (ending : Early) → result ≡ status ending → IsCaused ending (T.count script.old) (T.count script.new)
+        (K.count replies.old) (K.count replies.new) (D.state device.old).panel.counts.setups
+        (D.state device.new).panel.counts.setups (T.left script.old) }
+    ensures statuses { (result ≡ 0) ⊎ ((ending : Early) × (result ≡ status ending)) }
+
+    // Whatever is armed, the device is given no order but the script's.
+    ensures costs { Costs (T.left script.old) (T.left script.new) (D.state device.old).panel (D.state device.new).panel }
+    ensures images { images.new ≡ images.old }
+{
+    match perform(alloc, words, device, script, replies) {
+        Ok(()) => 0,
+        Err(ending) => {
+            // Where the line can't be written either, the status stays.
+            let _ = write_all(replies, ending.line());
+            ending.status()
+        }
+    }
+}
+
+fn perform<D: LineDevice, T: Source, K: Sink>(
+    alloc: Global,
+    words: &[String],
+    device: &mut D,
+    script: &mut T,
+    replies: &mut K,
+) -> Result<(), Ending>
+    ensures run { (geo : Sizes) → IsForm (map (λ word. string_bytes word) words.now) geo → IsUnarmed (D.state device.old).panel
+        → MatchResult result
+        (λ _. Completes geo (T.left script.old) (T.left script.new) (K.written replies.old) (K.written replies.new)
+        (D.state device.old) (D.state device.new))
+        (λ _. Halts geo (T.left script.old) (T.left script.new) (K.written replies.old) (K.written replies.new)) }
+    ensures usage { (result ≡ Err Usage) ↔ ((geo : Sizes) → IsForm (map (λ word. string_bytes word) words.now) geo → ⊥) }
+    ensures untouched { result ≡ Err Usage → K.written replies.new ≡ K.written replies.old }
+    ensures causes { IfErr result (λ ending. IsCaused ending (T.count script.old) (T.count script.new)
+        (K.count replies.old) (K.count replies.new) (D.state device.old).panel.counts.setups
+        (D.state device.new).panel.counts.setups (T.left script.old)) }
+    ensures costs { Costs (T.left script.old) (T.left script.new) (D.state device.old).panel (D.state device.new).panel }
+{
+    let Some(geometry) = read_words(words) else {
+        return Err(Ending::Usage);
+    };
+    set_up(device, geometry)?;
+    let text = read_all(alloc, script)?;
+    run_script(alloc, geometry, device, text.as_slice(), replies)
+}
+
+// Makes the device one of zeros, 64 lines a volume page.
+fn set_up<D: LineDevice>(device: &mut D, geometry: Geometry) -> Result<(), Ending>
+    requires valid { IsValid geometry }
+    requires few { geometry.vpages ≤ 16 }
+    ensures ready { OnOk result (IsReady geometry (D.state device.old) (D.state device.new)) }
+    ensures cause { IfErr result (λ e. (e ≡ Ending.Memory) ⊎ ((e ≡ Ending.Device)
+        × Rose (D.state device.old).panel.counts.setups (D.state device.new).panel.counts.setups)) }
+    ensures spends { Spends [] (D.state device.old).panel (D.state device.new).panel }
+{
+    Ok(device.reset(64 * geometry.vpages, 8)?)
+}

@@ -1,0 +1,12 @@
+pub mod FrameLemmas
+pub mod CallLemmas
+pub mod ChangeLemmas
+pub mod EntryLemmas
+pub mod StepLemmas
+pub mod ReplayLemmas
+pub mod PhaseLemmas
+pub mod AnswerLemmas
+pub mod ReadLemmas
+pub mod ValidLemmas
+pub mod ListLemmas
+pub mod RestLemmas

@@ -1,0 +1,12 @@
+pub mod Area
+pub mod Changes
+pub mod Replay
+pub mod Words
+pub mod Rest
+pub mod State
+pub mod Outcomes
+pub mod Stopped
+pub mod Mount
+pub mod Lists
+pub mod Examples
+pub mod Protocol

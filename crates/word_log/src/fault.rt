@@ -1,0 +1,51 @@
+ghost use Rattle.std.specs.Prelude.{◌≡◌};
+
+use nvm_base::LineNo;
+use std::alloc::AllocError;
+
+/// Why a log could not be mounted.
+#[derive(Clone, Copy, Debug, PartialEq, Eq)]
+pub enum LogFault {
+    /// This line of log or home is bad.
+    Poisoned(LineNo),
+    /// This place of the log is the first that is wrong.
+    Bad(u64),
+    /// The device failed.
+    Failed,
+    /// The power went.
+    PowerLost,
+    /// There is no memory.
+    Memory,
+}
+
+/// Why a commit, or a call on a word, was stopped.
+#[derive(Clone, Copy, Debug, PartialEq, Eq)]
+pub enum CommitFault {
+    /// The device failed.
+    Failed,
+    /// The power went.
+    PowerLost,
+}
+
+impl From<CommitFault> for LogFault {
+    ghost use Rattle.word_log.specs.Stopped.{as_log_fault};
+
+    ghost from_gives = { λ fault log. log ≡ as_log_fault fault };
+
+    fn from(fault: CommitFault) -> LogFault {
+        match fault {
+            CommitFault::Failed => LogFault::Failed,
+            CommitFault::PowerLost => LogFault::PowerLost,
+        }
+    }
+}
+
+impl From<AllocError> for LogFault {
+    ghost use Rattle.word_log.specs.declared.fault.LogFault.TheVariants.{Memory};
+
+    ghost from_gives = { λ _ log. log ≡ Memory };
+
+    fn from(_fault: AllocError) -> LogFault {
+        LogFault::Memory
+    }
+}

@@ -1,0 +1,60 @@
+// Giving home words their values.
+ghost use Rattle.std.specs.Prelude.{◌≡◌, ◌*◌, ◌/◌, ℕ, length, IsTrue, OnOk};
+ghost use Rattle.line_device.specs.Medium.{Wander, last_image};
+ghost use Rattle.line_device.specs.Panel.{Runs};
+ghost use Rattle.word_log.specs.Changes.{changed, lists, IsDistinct};
+ghost use Rattle.word_log.specs.Words.{IsSteadfast, WandersOutside};
+ghost use Rattle.word_log.specs.Rest.{IsOnly};
+ghost use Rattle.word_log.specs.Outcomes.{word_outcome};
+
+use crate::CommitFault;
+use crate::words::{persist_line, store_word};
+use line_device::Lines;
+
+fn store_home<L: Lines>(dev: &mut L, changes: &[(u64, u64)]) -> Result<(), CommitFault>
+    requires steadfast { (p : ℕ) → IsTrue (lists changes.now p) → IsSteadfast (L.state dev.old).medium (p / 8) }
+    requires distinct { IsDistinct changes.now }
+    requires on { IsTrue (L.state dev.old).panel.power }
+    ensures outside { WandersOutside (λ p. IsTrue (lists changes.now p))
+        (L.state dev.old).medium (L.state dev.new).medium }
+    ensures ok { OnOk result ((p : ℕ) → last_image (L.state dev.new).medium p
+        ≡ changed changes.now (last_image (L.state dev.old).medium) p) }
+    ensures runs { Runs (length changes.now) 0 (word_outcome result)
+        (L.state dev.old).panel (L.state dev.new).panel }
+{
+    for change in changes {
+        store_word(dev, change.0, change.1)?;
+    }
+    Ok(())
+}
+
+fn persist_home<L: Lines>(dev: &mut L, changes: &[(u64, u64)]) -> Result<(), CommitFault>
+    requires steadfast { (p : ℕ) → IsTrue (lists changes.now p) → IsSteadfast (L.state dev.old).medium (p / 8) }
+    requires on { IsTrue (L.state dev.old).panel.power }
+    ensures lines { Wander (L.state dev.old).medium (L.state dev.new).medium }
+    ensures ok { OnOk result ((p : ℕ) → IsTrue (lists changes.now p)
+        → IsOnly (last_image (L.state dev.old).medium p) ((L.state dev.new).medium.history p)) }
+    ensures runs { Runs (length changes.now) (length changes.now) (word_outcome result)
+        (L.state dev.old).panel (L.state dev.new).panel }
+{
+    for change in changes {
+        persist_line(dev, change.0 / 8)?;
+    }
+    Ok(())
+}
+
+/// Gives the listed words their values, and makes them durable.
+pub fn apply<L: Lines>(dev: &mut L, changes: &[(u64, u64)]) -> Result<(), CommitFault>
+    requires steadfast { (p : ℕ) → IsTrue (lists changes.now p) → IsSteadfast (L.state dev.old).medium (p / 8) }
+    requires distinct { IsDistinct changes.now }
+    requires on { IsTrue (L.state dev.old).panel.power }
+    ensures outside { WandersOutside (λ p. IsTrue (lists changes.now p))
+        (L.state dev.old).medium (L.state dev.new).medium }
+    ensures ok { OnOk result ((p : ℕ) → IsTrue (lists changes.now p)
+        → IsOnly (changed changes.now (last_image (L.state dev.old).medium) p) ((L.state dev.new).medium.history p)) }
+    ensures runs { Runs (2 * length changes.now) (length changes.now) (word_outcome result)
+        (L.state dev.old).panel (L.state dev.new).panel }
+{
+    store_home(dev, changes)?;
+    persist_home(dev, changes)
+}

@@ -1,0 +1,103 @@
+//! A gated log of words on lines: words that take their new values together, wherever the power goes.
+// The log's first line has the gate and the count, the next lines the entries, two words each: a place and its value.
+// An entry counts while the gate is 1. What a commit does, each step durable before the next begins:
+//   1. entries and count, behind a gate of 0: a cut leaves the old home words
+//   2. gate 1: from here on a replay of the log gives the new home words
+//   3. the home words
+//   4. gate 0
+#![tactic(auto)]
+
+ghost use Rattle.std.specs.Prelude.{◌≡◌, ◌⊎◌, ◌+◌, ◌*◌, ℕ, length, true, IsTrue, OnOk};
+ghost use Rattle.std.specs.Result.{is_ok};
+ghost use Rattle.line_device.specs.Medium.{last_image};
+ghost use Rattle.line_device.specs.Panel.{Runs};
+ghost use Rattle.word_log.specs.Area.{Fits, IsStrong, IsWhole, IsOf};
+ghost use Rattle.word_log.specs.Changes.{changed, IsTaken};
+ghost use Rattle.word_log.specs.Replay.{Replays};
+ghost use Rattle.word_log.specs.Words.{WandersOutside};
+ghost use Rattle.word_log.specs.Rest.{IsAtRest, EachImage};
+ghost use Rattle.word_log.specs.Outcomes.{word_outcome};
+
+mod area;
+mod entries;
+mod fault;
+mod home;
+mod lines;
+mod lists;
+mod mounting;
+mod places;
+mod protocol;
+mod reading;
+#[cfg(test)]
+mod tests;
+mod words;
+
+pub use area::LogArea;
+pub use fault::{CommitFault, LogFault};
+use line_device::Lines;
+pub use lists::{replay, small_log_worked_through};
+pub use mounting::{inspect, mount};
+use protocol::commit_at;
+use std::marker::Model;
+
+/// A mounted log. It is settled until a commit is stopped; a log that is not has to be mounted again.
+#[derive(Debug, Drop)]
+pub struct Log {
+    area: LogArea,
+    settled: bool,
+}
+
+impl Model for Log {
+    ghost use Rattle.word_log.specs.State.{LogState};
+
+    ghost Value = { LogState };
+
+    ghost view = { λ l. record { area = l.area; settled = l.settled } };
+}
+
+impl Log {
+    /// A log at rest.
+    pub(crate) fn at_rest(area: LogArea) -> Self
+        ensures { result ≡ record { area = area; settled = true } }
+    {
+        Log {
+            area,
+            settled: true,
+        }
+    }
+
+    pub fn settled(&self) -> bool
+        ensures { result ≡ self.now.settled }
+    {
+        self.settled
+    }
+
+    /// Makes the listed words the listed values, durably and together.
+    pub fn commit<L: Lines>(
+        &mut self,
+        dev: &mut L,
+        changes: &[(u64, u64)],
+    ) -> Result<(), CommitFault>
+        requires settled { IsTrue self.old.settled }
+        requires on { IsTrue (L.state dev.old).panel.power }
+        requires fits { Fits self.old.area (L.state dev.old).medium }
+        requires strong { IsStrong self.old.area (L.state dev.old).medium }
+        requires whole { IsWhole self.old.area (L.state dev.old).medium }
+        requires rest { (words : ℕ → ℕ) × IsAtRest self.old.area (L.state dev.old).medium words }
+        requires changes { IsTaken self.old.area changes.now }
+        ensures ok { OnOk result ((words : ℕ → ℕ) → IsAtRest self.old.area (L.state dev.old).medium words
+            → IsAtRest self.old.area (L.state dev.new).medium (changed changes.now words)) }
+        ensures images { (words : ℕ → ℕ) → IsAtRest self.old.area (L.state dev.old).medium words
+            → EachImage self.old.area (L.state dev.new).medium (λ image.
+            Replays self.old.area image words ⊎ Replays self.old.area image (changed changes.now words)) }
+        ensures outside { WandersOutside (IsOf self.old.area) (L.state dev.old).medium (L.state dev.new).medium }
+        ensures runs { Runs (5 * length changes.now + 6) (2 * length changes.now + 3) (word_outcome result)
+            (L.state dev.old).panel (L.state dev.new).panel }
+        ensures log { self.new ≡ record self.old { settled = is_ok result } }
+    {
+        self.settled = false;
+        commit_at(dev, self.area, changes)?;
+        self.settled = true;
+        Ok(())
+    }
+}

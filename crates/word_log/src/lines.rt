@@ -1,0 +1,58 @@
+// The lines of log and home: whether one is bad, and making them durable.
+ghost use Rattle.std.specs.Prelude.{◌≡◌, ◌+◌, ◌/◌, ◌<◌, ◌≤◌, ℕ, true, false, IsTrue, MatchOption, OnOk};
+ghost use Rattle.line_device.specs.Medium.{Wander, last_image};
+ghost use Rattle.line_device.specs.Panel.{Runs};
+ghost use Rattle.word_log.specs.Area.{Fits, IsStrong, IsWhole, IsOf, IsLineOf};
+ghost use Rattle.word_log.specs.Rest.{IsOnly};
+ghost use Rattle.word_log.specs.Outcomes.{word_outcome};
+
+use crate::words::persist_lines;
+use crate::{CommitFault, LogArea};
+use line_device::Lines;
+use nvm_base::{LineNo, Span};
+
+/// The first bad one of these lines.
+fn bad_line_in<L: Lines>(dev: &L, lines: Span) -> Option<LineNo>
+    requires { lines.start + lines.len ≤ (L.state dev.now).medium.count }
+    ensures { MatchOption result
+        ((line : ℕ) → lines.start ≤ line → line < lines.start + lines.len → (L.state dev.now).medium.is_bad line ≡ false)
+        (λ line. (lines.start ≤ line.0) × (line.0 < lines.start + lines.len)
+        × ((L.state dev.now).medium.is_bad line.0 ≡ true)) }
+{
+    for k in 0..lines.len {
+        let line = LineNo(lines.start + k);
+        if dev.is_bad(line) {
+            return Some(line);
+        }
+    }
+    None
+}
+
+/// A bad line of log or home. It makes no counted call.
+pub fn bad_line<L: Lines>(dev: &L, area: LogArea) -> Option<LineNo>
+    requires { Fits area (L.state dev.now).medium }
+    ensures { MatchOption result (IsWhole area (L.state dev.now).medium)
+        (λ line. IsLineOf area line.0 × ((L.state dev.now).medium.is_bad line.0 ≡ true)) }
+{
+    if let Some(line) = bad_line_in(dev, area.log) {
+        return Some(line);
+    }
+    bad_line_in(dev, area.home_lines())
+}
+
+/// Makes log and home durable.
+pub fn settle<L: Lines>(dev: &mut L, area: LogArea) -> Result<(), CommitFault>
+    requires fits { Fits area (L.state dev.old).medium }
+    requires strong { IsStrong area (L.state dev.old).medium }
+    requires whole { IsWhole area (L.state dev.old).medium }
+    requires on { IsTrue (L.state dev.old).panel.power }
+    ensures lines { Wander (L.state dev.old).medium (L.state dev.new).medium }
+    ensures ok { OnOk result ((p : ℕ) → IsOf area p
+        → IsOnly (last_image (L.state dev.old).medium p) ((L.state dev.new).medium.history p)) }
+    ensures runs { Runs (area.log.len + area.home.len / 8 + 2) (area.log.len + area.home.len / 8 + 2)
+        (word_outcome result) (L.state dev.old).panel (L.state dev.new).panel }
+{
+    persist_lines(dev, area.log.start, area.log.len)?;
+    let home = area.home_lines();
+    persist_lines(dev, home.start, home.len)
+}

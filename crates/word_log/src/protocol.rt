@@ -1,0 +1,87 @@
+// The gate, and the order of a commit.
+ghost use Rattle.std.specs.Prelude.{◌≡◌, ◌⊎◌, ◌+◌, ◌*◌, ℕ, length, IsTrue, OnOk};
+ghost use Rattle.line_device.specs.History.{IsIn};
+ghost use Rattle.line_device.specs.Panel.{Runs};
+ghost use Rattle.word_log.specs.Area.{Fits, IsStrong, IsWhole, IsOf, gate_place};
+ghost use Rattle.word_log.specs.Changes.{changed, IsTaken};
+ghost use Rattle.word_log.specs.Replay.{Replays};
+ghost use Rattle.word_log.specs.Words.{WandersOutside};
+ghost use Rattle.word_log.specs.Rest.{IsOnly, IsAtRest, EachImage};
+ghost use Rattle.word_log.specs.Protocol.{IsWritten, IsOpen};
+ghost use Rattle.word_log.specs.Outcomes.{word_outcome};
+
+use crate::entries::write_entries;
+use crate::home::apply;
+use crate::words::{persist_line, store_word};
+use crate::{CommitFault, LogArea};
+use line_device::Lines;
+
+/// A gate behind which no entry counts.
+pub const CLOSED: u64 = 0;
+
+/// A gate behind which the entries count.
+pub const OPEN: u64 = 1;
+
+/// Sets the gate, and makes it durable.
+pub fn set_gate<L: Lines>(dev: &mut L, area: LogArea, gate: u64) -> Result<(), CommitFault>
+    requires fits { Fits area (L.state dev.old).medium }
+    requires strong { IsStrong area (L.state dev.old).medium }
+    requires whole { IsWhole area (L.state dev.old).medium }
+    requires on { IsTrue (L.state dev.old).panel.power }
+    ensures outside { WandersOutside (λ p. p ≡ gate_place area) (L.state dev.old).medium (L.state dev.new).medium }
+    ensures either { (x : ℕ) → IsIn x ((L.state dev.new).medium.history (gate_place area))
+        → IsIn x ((L.state dev.old).medium.history (gate_place area)) ⊎ (x ≡ gate) }
+    ensures ok { OnOk result (IsOnly gate ((L.state dev.new).medium.history (gate_place area))) }
+    ensures runs { Runs 2 1 (word_outcome result) (L.state dev.old).panel (L.state dev.new).panel }
+{
+    store_word(dev, area.gate_place(), gate)?;
+    persist_line(dev, area.log.start)
+}
+
+/// Behind an open gate gives the home words their values, and closes the gate.
+pub fn finish<L: Lines>(
+    dev: &mut L,
+    area: LogArea,
+    changes: &[(u64, u64)],
+) -> Result<(), CommitFault>
+    requires on { IsTrue (L.state dev.old).panel.power }
+    requires strong { IsStrong area (L.state dev.old).medium }
+    requires whole { IsWhole area (L.state dev.old).medium }
+    requires written { IsWritten area changes.now (L.state dev.old).medium }
+    ensures ok { OnOk result ((words : ℕ → ℕ) → IsOpen area changes.now words (L.state dev.old).medium
+        → IsAtRest area (L.state dev.new).medium (changed changes.now words)) }
+    ensures images { (words : ℕ → ℕ) → IsOpen area changes.now words (L.state dev.old).medium
+        → EachImage area (L.state dev.new).medium (λ image. Replays area image (changed changes.now words)) }
+    ensures outside { WandersOutside (IsOf area) (L.state dev.old).medium (L.state dev.new).medium }
+    ensures runs { Runs (2 * length changes.now + 2) (length changes.now + 1) (word_outcome result)
+        (L.state dev.old).panel (L.state dev.new).panel }
+{
+    apply(dev, changes)?;
+    set_gate(dev, area, CLOSED)
+}
+
+/// Makes the listed words the listed values, durably and together.
+pub fn commit_at<L: Lines>(
+    dev: &mut L,
+    area: LogArea,
+    changes: &[(u64, u64)],
+) -> Result<(), CommitFault>
+    requires on { IsTrue (L.state dev.old).panel.power }
+    requires fits { Fits area (L.state dev.old).medium }
+    requires strong { IsStrong area (L.state dev.old).medium }
+    requires whole { IsWhole area (L.state dev.old).medium }
+    requires rest { (words : ℕ → ℕ) × IsAtRest area (L.state dev.old).medium words }
+    requires taken { IsTaken area changes.now }
+    ensures ok { OnOk result ((words : ℕ → ℕ) → IsAtRest area (L.state dev.old).medium words
+        → IsAtRest area (L.state dev.new).medium (changed changes.now words)) }
+    ensures images { (words : ℕ → ℕ) → IsAtRest area (L.state dev.old).medium words
+        → EachImage area (L.state dev.new).medium (λ image.
+        Replays area image words ⊎ Replays area image (changed changes.now words)) }
+    ensures outside { WandersOutside (IsOf area) (L.state dev.old).medium (L.state dev.new).medium }
+    ensures runs { Runs (5 * length changes.now + 6) (2 * length changes.now + 3) (word_outcome result)
+        (L.state dev.old).panel (L.state dev.new).panel }
+{
+    write_entries(dev, area, changes)?;
+    set_gate(dev, area, OPEN)?;
+    finish(dev, area, changes)
+}

@@ -1,0 +1,185 @@
+// Commits and mounts on a small log, cut at each of their calls.
+ghost use Rattle.std.specs.Prelude.{◌≤◌, IsTrue};
+ghost use Rattle.word_log.specs.Area.{Fits, IsStrong, IsWhole};
+
+use crate::words::{persist_line, store_word};
+use crate::{CommitFault, LogArea, LogFault, inspect, mount, replay};
+use line_device::{Choice, LineDevice, LineState, Lines, Peek, Plain};
+use nvm_base::{LineNo, Span};
+use std::alloc::Global;
+use std::test::Fail;
+
+const SMALL: LogArea = LogArea {
+    log: Span { start: 0, len: 2 },
+    cap: 4,
+    home: Span { start: 16, len: 8 },
+};
+
+const CHANGES: [(u64, u64); 2] = [(16, 5), (23, 9)];
+
+// The home's line after the changes, where it was zeros.
+fn changed_line() -> [u8; 64] {
+    let mut line = [0; 64];
+    line[0] = 5;
+    line[56] = 9;
+    line
+}
+
+// The small log's lines are there and good, and the power is on.
+fn is_ready<L: Lines>(dev: &L) -> bool
+    ensures fits { IsTrue result → Fits SMALL (L.state dev.now).medium }
+    ensures strong { IsTrue result → IsStrong SMALL (L.state dev.now).medium }
+    ensures whole { IsTrue result → IsWhole SMALL (L.state dev.now).medium }
+    ensures on { IsTrue result → IsTrue (L.state dev.now).panel.power }
+{
+    if dev.lines() != 3 || !dev.power() {
+        return false;
+    }
+    for line in 0..3_u64 {
+        if dev.is_bad(LineNo(line)) || dev.is_weak(LineNo(line)) {
+            return false;
+        }
+    }
+    true
+}
+
+// A device with these words, durably.
+fn write<L: Lines>(dev: &mut L, words: &[(u64, u64)]) -> bool {
+    for (place, value) in words {
+        if !is_ready(dev) || *place >= 24 {
+            return false;
+        }
+        if store_word(dev, *place, *value).is_err() || !is_ready(dev) {
+            return false;
+        }
+        if persist_line(dev, *place / 8).is_err() {
+            return false;
+        }
+    }
+    true
+}
+
+// The bytes of the home's line.
+fn home<D: Peek>(dev: &D) -> [u8; 64] {
+    if dev.lines() != 3 {
+        return [255; 64];
+    }
+    match dev.peek(LineNo(2)) {
+        LineState::Healthy(bytes) => bytes,
+        LineState::Weak(_) | LineState::Bad => [255; 64],
+    }
+}
+
+// Mounts and commits, with a cut at this counted call of the commit.
+fn commit_until<D: LineDevice>(alloc: Global, dev: &mut D, calls: u64) -> Result<(), CommitFault>
+    requires { 1 ≤ calls }
+{
+    if !is_ready(dev) {
+        return Err(CommitFault::Failed);
+    }
+    let Ok(mut log) = mount(alloc, dev, SMALL) else {
+        return Err(CommitFault::Failed);
+    };
+    dev.arm_cut(calls);
+    log.commit(dev, &CHANGES)
+}
+
+// The power comes back, and the log is mounted, with a cut at this counted call of the mount.
+fn mount_until<D: LineDevice>(
+    alloc: Global,
+    dev: &mut D,
+    choice: Choice,
+    calls: u64,
+) -> Result<(), LogFault>
+    requires { 1 ≤ calls }
+{
+    if dev.power() {
+        dev.power_off();
+    }
+    if dev.restart(choice).is_err() {
+        return Err(LogFault::Memory);
+    }
+    dev.arm_cut(calls);
+    if !is_ready(dev) {
+        return Err(LogFault::Failed);
+    }
+    mount(alloc, dev, SMALL)?;
+    Ok(())
+}
+
+#[test]
+fn a_wrong_log_is_refused_at_its_first_wrong_place(rt: HostRuntime) -> Result<(), Fail> {
+    let logs: [(&[(u64, u64)], u64); 4] = [
+        (&[(0, 2)], 0),
+        (&[(0, 1)], 1),
+        (&[(0, 1), (1, 1), (8, 15)], 8),
+        (&[(0, 1), (1, 2), (8, 16), (10, 16)], 10),
+    ];
+    for (words, place) in logs {
+        let mut dev = Plain::new(rt.alloc());
+        dev.reset(3, 8)?;
+        assert!(rt; write(&mut dev, words));
+        assert!(rt; is_ready(&dev));
+        assert_eq!(rt;
+            inspect(rt.alloc(), &mut dev, SMALL),
+            Err(LogFault::Bad(place))
+        );
+        let answer = mount_until(rt.alloc(), &mut dev, Choice::Lasts, 1000);
+        assert_eq!(rt; answer, Err(LogFault::Bad(place)));
+    }
+    Ok(())
+}
+
+#[test]
+fn a_cut_commit_leaves_the_old_words_or_the_new(rt: HostRuntime) -> Result<(), Fail> {
+    for choice in [Choice::Firsts, Choice::Lasts] {
+        let mut done = false;
+        for calls in 1..40_u64 {
+            let mut dev = Plain::new(rt.alloc());
+            dev.reset(3, 8)?;
+            done = commit_until(rt.alloc(), &mut dev, calls).is_ok();
+            let answer = mount_until(rt.alloc(), &mut dev, choice, 1000);
+            assert_eq!(rt; answer, Ok(()));
+            let line = home(&dev);
+            assert!(rt; line == changed_line() || line == [0; 64] && !done);
+            if calls == 1 {
+                assert_eq!(rt; line, [0; 64]);
+            }
+            if done {
+                break;
+            }
+        }
+        assert!(rt; done);
+    }
+    Ok(())
+}
+
+#[test]
+fn a_cut_mount_leaves_the_new_words_to_the_next(rt: HostRuntime) -> Result<(), Fail> {
+    let open = [(1, 2), (8, 16), (9, 5), (10, 23), (11, 9), (0, 1)];
+    for choice in [Choice::Firsts, Choice::Lasts] {
+        let mut done = false;
+        for calls in 1..40_u64 {
+            let mut dev = Plain::new(rt.alloc());
+            dev.reset(3, 8)?;
+            assert!(rt; write(&mut dev, &open));
+            done = mount_until(rt.alloc(), &mut dev, Choice::Lasts, calls).is_ok();
+            assert_eq!(rt; mount_until(rt.alloc(), &mut dev, choice, 1000), Ok(()));
+            assert_eq!(rt; home(&dev), changed_line());
+            if done {
+                break;
+            }
+        }
+        assert!(rt; done);
+    }
+    Ok(())
+}
+
+#[test]
+fn a_replay_on_lists_gives_the_listed_words(rt: HostRuntime) -> Result<(), Fail> {
+    let log = [1, 2, 0, 0, 0, 0, 0, 0, 16, 5, 23, 9, 0, 0, 0, 0];
+    let mut home = [7; 8];
+    replay(SMALL, &log, &mut home);
+    assert_eq!(rt; home, [5, 7, 7, 7, 7, 7, 7, 9]);
+    Ok(())
+}
