@@ -1,7 +1,8 @@
 -- Work on the lines of a span, one line after another.
-use Rattle.std.proofs.Common.{◌≡◌, ◌⊎◌, inl, inr, ℕ, ◌+◌, ◌-◌, ◌*◌, ◌/◌, ◌%◌, ◌<◌, ◌≤◌, min, max, Bool, true, false, cond, eqb, ltb, List, [], ◌∷◌, ◌++◌, length, get_or, refl, sym, ap, subst, ◌∙◌, arith}
+use Rattle.std.proofs.Common.{◌≡◌, ◌⊎◌, inl, inr, ℕ, ◌+◌, ◌-◌, ◌*◌, ◌/◌, ◌%◌, ◌<◌, ◌≤◌, min, max, Bool, true, false, cond, eqb, ltb, List, [], ◌∷◌, ◌++◌, length, length-take, take, drop, get_or, refl, sym, ap, subst, ◌∙◌, arith}
 use Rattle.std.proofs.lemmas.Bool.Decides.{nat_tests}
 use Rattle.std.proofs.lemmas.Bool.{cases_lt}
+use Rattle.std.proofs.lemmas.List.{get_or-take, get_or-drop}
 use Rattle.line_device.specs.Word.{word_over, reaches}
 use Rattle.line_device.specs.History.{latest, newest}
 use Rattle.line_device.specs.Medium.{Medium, Wander, on_line, stored, settled, persisted, word_stored}
@@ -143,6 +144,10 @@ settled_within-in start len line p h a b e =
 pub settled_within-out : (start len p : ℕ) (h : List ℕ) → (64 * (p / 8) + 64 ≤ start) ⊎ (start + len ≤ 64 * (p / 8)) → settled_within start len p h ≡ h
 settled_within-out start len p h out =
     let t : touches start len (p / 8) ≡ false = grind (arith, nat_tests) in ap (λ x. cond x (latest h) h) t
+
+-- an item of a stretch of bytes
+pub get_or-stretch : (from len k : ℕ) (bytes : List ℕ) → k < length (take len (drop from bytes)) → get_or (take len (drop from bytes)) k 0 ≡ get_or bytes (from + k) 0
+get_or-stretch from len k bytes lt = get_or-take len (drop from bytes) k 0 (omega (arith, length-take {A = ℕ})) ∙ get_or-drop from bytes k 0
 
 -- a store of the piece of the bytes that lies in the next line
 pub span_stored-next : (m a b : Medium) (at line start : ℕ) (bytes piece : List ℕ) → start ≡ max at (64 * line)

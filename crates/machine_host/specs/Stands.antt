@@ -11,7 +11,9 @@ use Rattle.machine_host.specs.declared.volume.Interruption.{Interruption}
 use Rattle.machine_host.specs.declared.volume.Interruption.TheVariants as interruption
 use Rattle.machine_host.specs.Action.{Action}
 use Rattle.machine_host.specs.Action.Action.{VLoad, VStore, VSync, Cut, Restart}
+use Rattle.machine_host.specs.declared.reply.Why.TheVariants as because
 use Rattle.machine_host.specs.Answer.{Answer, answer_line}
+use Rattle.machine_host.specs.Answer.Answer.{PowerLost, Refused}
 use Rattle.machine_host.specs.Script.{Input}
 use Rattle.machine_host.specs.Script.Input.{Skipped, Malformed, Asked}
 use Rattle.machine_host.specs.Machine.{Machine, Fate, fate, restarted, restart_answer}
@@ -134,6 +136,11 @@ longest _ = 32
 abbrev pub interrupted_mode : Interruption → Mode
 interrupted_mode interruption.Failed = modes.Unsettled
 interrupted_mode interruption.PowerLost = modes.Off
+
+-- what an interruption is answered
+abbrev pub interrupted_answer : Interruption → Answer
+interrupted_answer interruption.Failed = Refused because.Device
+interrupted_answer interruption.PowerLost = PowerLost
 
 -- a cost of each command, over all inputs
 abbrev pub total : (Action → ℕ) → List Input → ℕ

@@ -7,7 +7,7 @@ ghost use Rattle.machine_host.specs.Action.Action.{VLoad, VStore, VSync, Cut, Re
 ghost use Rattle.machine_host.specs.Answer.{answer_of, answer_line};
 ghost use Rattle.machine_host.specs.Machine.{Machine, refusal, effect};
 ghost use Rattle.machine_host.specs.Parsing.{InBounds};
-ghost use Rattle.machine_host.specs.Stands.{Serves, Stands, IsUnarmed, Comes, Costs, Leaves, longest, interrupted_mode};
+ghost use Rattle.machine_host.specs.Stands.{Serves, Stands, IsUnarmed, Comes, Costs, Leaves, longest, interrupted_mode, interrupted_answer};
 
 use super::Host;
 use crate::Mode;
@@ -156,6 +156,7 @@ impl Host {
     fn interrupt(&mut self, interruption: Interruption) -> Reply
         ensures vpages { self.new.vpages ≡ self.old.vpages }
         ensures mode { self.new.mode ≡ interrupted_mode interruption }
+        ensures answer { answer_of result ≡ interrupted_answer interruption }
         ensures short { length (answer_line (answer_of result)) ≤ 32 }
     {
         match interruption {

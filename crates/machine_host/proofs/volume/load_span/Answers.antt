@@ -1,4 +1,5 @@
 use Rattle.std.proofs.Common.{◌≡◌, ◌/◌, ◌++◌, ap, ◌∙◌, arith}
+use Rattle.line_device.specs.Panel.Outcome.{went}
 use Rattle.line_device.proofs.PanelLemmas.{runs-refl, runs_then, runs_within}
 use Rattle.line_device.proofs.WanderLemmas.{wander-refl, wander-trans}
 use Rattle.machine_host.proofs.LoadLemmas.{said-next, said-none, span_shown-wander}
@@ -13,7 +14,7 @@ loop-line-init g c =
       bytes = said-none (shown_byte (g.L.Lines.state c.args.device.now).medium) _ _ _ (omega arith);
       room = omega arith;
       lines = wander-refl _;
-      runs = runs_within 0 0 _ _ _ _ _ (runs-refl _) (omega arith) (omega arith);
+      runs = runs_within 0 0 _ _ went _ _ (runs-refl _) (omega arith) (omega arith);
     }
 
 pub loop-line-preserved : goal.loop-line-preserved
@@ -27,7 +28,7 @@ loop-line-preserved g c =
       bytes = said-next (shown_byte (g.L.Lines.state c.args.device.now).medium) c.args.out.now.items c.loop-line.out.items _ c.args.span.start (before_line c.args.span c.loop-line.line) _ _ _ c.loop-line.invariant.bytes loaded (omega arith) (omega arith);
       room = omega arith;
       lines = wander-trans _ _ _ c.loop-line.invariant.lines c.in_ok-load_part.ensures.lines;
-      runs = runs_within _ _ _ _ _ _ _ (runs_then _ _ 1 0 _ _ _ _ c.loop-line.invariant.runs c.in_ok-load_part.ensures.runs) (omega arith) (omega arith);
+      runs = runs_within _ _ _ _ went _ _ (runs_then _ _ 1 0 went _ _ _ c.loop-line.invariant.runs c.in_ok-load_part.ensures.runs) (omega arith) (omega arith);
     }
 
 pub returns-in_err-load_part-clause-lines : goal.returns-in_err-load_part-clause-lines

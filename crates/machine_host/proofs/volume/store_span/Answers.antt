@@ -1,8 +1,8 @@
-use Rattle.std.proofs.Common.{ℕ, length-take, length-drop, ◌≡◌, ◌-◌, ◌/◌, ◌≤◌, ap, ◌∙◌, inl, inr, arith}
-use Rattle.std.proofs.lemmas.List.{get_or-take, get_or-drop}
+use Rattle.std.proofs.Common.{ℕ, length-take, length-drop, ◌≡◌, ◌-◌, ◌/◌, ◌≤◌, ap, inl, inr, arith}
 use Rattle.line_device.specs.Medium.{word_stored}
+use Rattle.line_device.specs.Panel.Outcome.{went}
 use Rattle.line_device.proofs.PanelLemmas.{runs-refl, runs_then, runs_within}
-use Rattle.machine_host.proofs.SpanLemmas.{below-first, below-last, span_stored-next, word_stored-out}
+use Rattle.machine_host.proofs.SpanLemmas.{below-first, below-last, get_or-stretch, span_stored-next, word_stored-out}
 use Rattle.machine_host.proofs.volume.store_span.Goals as goal
 
 pub loop-line-init : goal.loop-line-init
@@ -10,7 +10,7 @@ loop-line-init g c =
     let first : c.lines_of-lines.result.start ≡ c.args.offset / 64 = ap (λ s. s.start) c.lines_of-lines.ensures.value in
     record {
       lines = below-first _ _ _ (λ p h lt. word_stored-out c.args.offset p c.args.bytes.now h (inl (omega arith)));
-      runs = runs_within 0 0 _ _ _ _ _ (runs-refl _) (omega arith) (omega arith);
+      runs = runs_within 0 0 _ _ went _ _ (runs-refl _) (omega arith) (omega arith);
     }
 
 pub loop-line-preserved : goal.loop-line-preserved
@@ -22,8 +22,8 @@ loop-line-preserved g c =
     let len = ap (λ s. s.len) c.part_in-part.ensures in
     let skipped = length-drop (c.part_in-part.result.start - c.args.offset) c.args.bytes.now in
     record {
-      lines = span_stored-next (g.L.Lines.state c.args.device.now).medium _ _ c.args.offset c.loop-line.line _ c.args.bytes.now _ start (omega (arith, length-take {A = ℕ}, skipped)) (omega arith) (omega arith) (λ k lt. get_or-take _ _ k 0 (omega (arith, length-take {A = ℕ})) ∙ get_or-drop _ _ k 0) c.loop-line.invariant.lines c.in_ok-store_part.ensures.ok;
-      runs = runs_within _ _ _ _ _ _ _ (runs_then _ _ 1 0 _ _ _ _ c.loop-line.invariant.runs c.in_ok-store_part.ensures.runs) (omega arith) (omega arith);
+      lines = span_stored-next (g.L.Lines.state c.args.device.now).medium _ _ c.args.offset c.loop-line.line _ c.args.bytes.now _ start (omega (arith, length-take {A = ℕ}, skipped)) (omega arith) (omega arith) (λ k lt. get_or-stretch (c.part_in-part.result.start - c.args.offset) _ k c.args.bytes.now lt) c.loop-line.invariant.lines c.in_ok-store_part.ensures.ok;
+      runs = runs_within _ _ _ _ went _ _ (runs_then _ _ 1 0 went _ _ _ c.loop-line.invariant.runs c.in_ok-store_part.ensures.runs) (omega arith) (omega arith);
     }
 
 pub returns-clause-ok : goal.returns-clause-ok
