@@ -40,6 +40,15 @@ fn numbers(alloc: Global, list: &[u64]) -> Result<Words, AllocError> {
     Ok(numbers)
 }
 
+// So many lines that are no commands.
+fn no_commands(alloc: Global, count: usize) -> Result<Bytes, AllocError> {
+    let mut script = Bytes::new(alloc);
+    for _ in 0..count {
+        script.extend(b"x\n")?;
+    }
+    Ok(script)
+}
+
 // The status of a call with these words.
 fn call<D: LineDevice>(
     alloc: Global,
@@ -121,16 +130,10 @@ fn a_script_that_cannot_be_read_gets_no_replies(rt: HostRuntime) -> Result<(), F
 fn replies_are_written_up_to_the_call_that_fails(rt: HostRuntime) -> Result<(), Fail> {
     let alloc = rt.alloc();
     // A write is made once 65,536 bytes wait, which are 4,370 replies of 15 bytes.
-    let script = vec![in alloc; b'\n'; 2 * 4370 * 5]?;
+    let script = no_commands(alloc, 5 * 4370)?;
     for (fails, written) in [(1, 0), (5, 4 * 65550)] {
-        let mut script = script.clone()?;
-        for at in 0..script.len() {
-            if at % 2 == 0 {
-                script[at] = b'x';
-            }
-        }
         let mut device = Plain::new(alloc);
-        let mut source = source(alloc, &script, 65536, &[])?;
+        let mut source = source(alloc, script.as_slice(), 65536, &[])?;
         let mut sink = MemSink::new(alloc, numbers(alloc, &[fails])?);
         let status = call(alloc, WORDS, &mut device, &mut source, &mut sink)?;
         assert_eq!(rt; status, 5, "at call {fails}");
