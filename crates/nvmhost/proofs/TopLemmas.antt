@@ -15,14 +15,15 @@ use Rattle.word_tables.specs.declared.geometry.Geometry.{Geometry}
 use Rattle.nvm_base.specs.Stock.{Stock}
 use Rattle.nvm_base.specs.Counts.{Rose}
 use Rattle.nvm_model.specs.Page.{PagesStand, read_pages}
-use Rattle.nvm_model.proofs.StandLemmas.{pages_stand-read}
+use Rattle.nvm_model.proofs.PageLemmas.{length-read_pages}
+use Rattle.nvm_model.proofs.RestartLemmas.{pages_stand-read}
 use Rattle.machine_host.specs.Answer.{Answer, reply_text}
 use Rattle.machine_host.specs.Script.{inputs_of, lines_of}
 use Rattle.machine_host.specs.Machine.{reading, fresh, zero_image}
 use Rattle.machine_host.specs.Run.{Run}
 use Rattle.machine_host.specs.Stands.{DeviceStands, IsUnarmed, Spends, bumped_by}
 use Rattle.machine_host.proofs.RunLemmas.{goes-none, run_of_goes}
-use Rattle.machine_host.proofs.StepLemmas.{not_true, length-read_pages}
+use Rattle.machine_host.proofs.StepLemmas.{not_true}
 use Rattle.machine_host.proofs.CostLemmas.{spends-idle, spends_then}
 use Rattle.nvmhost.specs.declared.ending.Ending.{Ending}
 use Rattle.nvmhost.specs.declared.ending.Ending.TheVariants.{Usage, Read, Write, Memory, Script}
