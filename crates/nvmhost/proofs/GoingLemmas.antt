@@ -1,23 +1,22 @@
 -- A script that is performed line by line, its replies written now and then.
-use Rattle.std.proofs.Common.{◌≡◌, ℕ, List, [], ◌∷◌, ◌++◌, length, take, drop, Option, Result, Ok, Err, refl, sym, ap, subst, ◌∙◌, append_assoc, append-nil, arith}
+use Rattle.std.proofs.Common.{◌≡◌, ℕ, List, [], ◌∷◌, ◌++◌, take, drop, Option, Ok, Err, refl, sym, ap, subst, ◌∙◌, append_assoc, append-nil, arith}
 use Rattle.std.proofs.lemmas.List.{take-append-drop}
-use Rattle.std.specs.Prelude.{OnOk}
 use Rattle.std.specs.Io.KnownBytes.{Appends}
 use Rattle.line_device.specs.Panel.{Panel, Start, ArmsNothing, told}
 use Rattle.line_device.specs.Device.{Device}
 use Rattle.host_io.specs.Writing.{AppendsSome}
 use Rattle.word_tables.specs.declared.geometry.Geometry.{Geometry}
-use Rattle.machine_host.specs.Answer.{Answer, answer_line, reply_text}
-use Rattle.machine_host.specs.Script.{Input, line_input, inputs_of, lines_of}
+use Rattle.machine_host.specs.Answer.{Answer, reply_text}
+use Rattle.machine_host.specs.Script.{line_input, inputs_of, lines_of}
 use Rattle.machine_host.specs.Machine.{Machine, reading, fresh}
 use Rattle.machine_host.specs.declared.mode.Mode.TheVariants.{On}
 use Rattle.machine_host.proofs.StepLemmas.{not_true}
-use Rattle.machine_host.specs.Run.{Run, Goes}
-use Rattle.machine_host.specs.Stands.{HostState, Serves, Stands, DeviceStands, IsUnarmed, Spends, bumped_by}
+use Rattle.machine_host.specs.Run.{Goes}
+use Rattle.machine_host.specs.Stands.{HostState, Stands, DeviceStands, IsUnarmed, Spends, bumped_by}
 use Rattle.machine_host.proofs.RunLemmas.{goes-none, goes_then, run_of_goes, reply_text-append, told-append, bumped_by-append}
 use Rattle.machine_host.proofs.CostLemmas.{spends-idle, spends_then}
 use Rattle.nvmhost.specs.declared.ending.Ending.{Ending}
-use Rattle.nvmhost.specs.Whole.{IsFront, IsWhole, Says, Performs, LineGoes, Flushes}
+use Rattle.nvmhost.specs.Whole.{Performs, LineGoes, Flushes}
 use Rattle.nvmhost.proofs.BytesLemmas.{appends-none, appends_then}
 
 -- what was said so far: some of the answers' text is written, the rest waits

@@ -3,11 +3,11 @@ use Rattle.std.proofs.Common.{◌≡◌, ℕ, List, [], ◌∷◌, ◌++◌, ref
 use Rattle.line_device.specs.Device.{Device}
 use Rattle.machine_host.specs.declared.reply.Why.TheVariants.{Syntax}
 use Rattle.machine_host.specs.Action.{Action}
-use Rattle.machine_host.specs.Answer.{answer_line, reply_text}
+use Rattle.machine_host.specs.Answer.{answer_line}
 use Rattle.machine_host.specs.Answer.Answer.{Refused}
 use Rattle.machine_host.specs.Script.{Input}
 use Rattle.machine_host.specs.Script.Input.{Skipped, Malformed, Asked}
-use Rattle.machine_host.specs.Machine.{Machine, fate}
+use Rattle.machine_host.specs.Machine.{Machine}
 use Rattle.machine_host.specs.Stands.{HostState, Stands, Steps}
 use Rattle.machine_host.proofs.RunLemmas.{goes-skipped, goes-malformed, goes-asked}
 use Rattle.nvmhost.specs.Whole.{LineGoes}

@@ -1,37 +1,35 @@
 -- A call as a whole.
-use Rattle.std.proofs.Common.{◌≡◌, ◌⊎◌, inl, inr, ℕ, ◌+◌, ◌*◌, ◌/◌, ◌<◌, ◌≤◌, Bool, true, false, IsTrue, cond, ltb, List, [], ◌∷◌, ◌++◌, length, take, drop, Option, Some, None, Result, Ok, Err, refl, sym, ap, subst, ◌∙◌, append-nil, length-append, arith}
+use Rattle.std.proofs.Common.{◌≡◌, ◌⊎◌, inl, inr, ℕ, ◌*◌, ◌/◌, ◌<◌, ◌≤◌, true, false, IsTrue, cond, ltb, List, [], ◌∷◌, ◌++◌, length, take, drop, Option, Some, None, Result, Ok, Err, refl, sym, ap, subst, ◌∙◌, append-nil, length-append, arith}
 use Rattle.std.proofs.lemmas.Bool.Decides.{nat_tests}
 use Rattle.std.proofs.lemmas.List.{take-append-drop}
 use Rattle.std.specs.Prelude.{IfSome, IfErr, MatchResult}
-use Rattle.std.specs.Io.KnownBytes.{Appends, Consumes, IsAtEnd}
+use Rattle.std.specs.Io.KnownBytes.{Appends, Consumes}
 use Rattle.line_device.specs.History.{Fades}
-use Rattle.line_device.specs.Medium.{Medium, Wander, zeros}
+use Rattle.line_device.specs.Medium.{Wander, zeros}
 use Rattle.line_device.specs.Panel.{Panel, SetsUp, told}
 use Rattle.line_device.specs.Panel.Outcome.{went}
 use Rattle.line_device.specs.Device.{Device}
 use Rattle.line_device.proofs.HistoryLemmas.{fades-one}
-use Rattle.host_io.specs.Writing.{AppendsSome, WritesAll}
+use Rattle.host_io.specs.Writing.{WritesAll}
 use Rattle.word_tables.specs.declared.geometry.Geometry.{Geometry}
 use Rattle.nvm_base.specs.Stock.{Stock}
 use Rattle.nvm_base.specs.Counts.{Rose}
-use Rattle.nvm_model.specs.Page.{PagesStand, read_pages}
-use Rattle.nvm_model.proofs.PageLemmas.{length-read_pages}
 use Rattle.nvm_model.proofs.RestartLemmas.{pages_stand-read}
-use Rattle.machine_host.specs.Answer.{Answer, reply_text}
 use Rattle.machine_host.specs.Script.{inputs_of, lines_of}
 use Rattle.machine_host.specs.Machine.{reading, fresh, zero_image}
 use Rattle.machine_host.specs.Run.{Run}
-use Rattle.machine_host.specs.Stands.{DeviceStands, IsUnarmed, Spends, bumped_by}
+use Rattle.machine_host.specs.Stands.{IsUnarmed, Spends, bumped_by}
 use Rattle.machine_host.proofs.RunLemmas.{goes-none, run_of_goes}
+use Rattle.nvm_model.proofs.PageLemmas.{length-read_pages}
 use Rattle.machine_host.proofs.StepLemmas.{not_true}
-use Rattle.machine_host.proofs.CostLemmas.{spends-idle, spends_then}
+use Rattle.machine_host.proofs.CostLemmas.{spends_then}
 use Rattle.nvmhost.specs.declared.ending.Ending.{Ending}
 use Rattle.nvmhost.specs.declared.ending.Ending.TheVariants.{Usage, Read, Write, Memory, Script}
 use Rattle.nvmhost.specs.declared.ending.Ending.TheVariants as endings
 use Rattle.nvmhost.specs.Words.{IsForm}
-use Rattle.nvmhost.specs.Ending.{status, ending_text}
-use Rattle.nvmhost.specs.Whole.{IsFront, Ran, Completes, WritesFront, Halts, BreaksOff, Costs, IsReady, IsCaused, Reads, Says, Performs}
-use Rattle.nvmhost.proofs.BytesLemmas.{consumes-none, appends-none}
+use Rattle.nvmhost.specs.Ending.{status}
+use Rattle.nvmhost.specs.Whole.{Completes, WritesFront, Halts, Costs, IsReady, IsCaused, Reads, Performs}
+use Rattle.nvmhost.proofs.BytesLemmas.{appends-none}
 
 -- a device that was reset is ready for a host
 pub ready_of_reset : (geo : Geometry) (old new : Device) → geo.vpages ≤ 16 → Wander (zeros (64 * geo.vpages)) new.medium → IsTrue new.panel.power

@@ -4,6 +4,8 @@
 mod ending;
 mod reading;
 mod running;
+#[cfg(test)]
+mod tests;
 mod top;
 mod words;
 

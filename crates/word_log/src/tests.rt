@@ -1,4 +1,4 @@
-// Commits and mounts on a small log, cut at each of their calls.
+// Commits and mounts on a small log.
 ghost use Rattle.std.specs.Prelude.{◌≤◌, IsTrue};
 ghost use Rattle.word_log.specs.Area.{Fits, IsStrong, IsWhole};
 
@@ -9,6 +9,8 @@ use nvm_base::{LineNo, Span};
 use std::alloc::Global;
 use std::test::Fail;
 
+mod cuts;
+
 const SMALL: LogArea = LogArea {
     log: Span { start: 0, len: 2 },
     cap: 4,
@@ -16,6 +18,9 @@ const SMALL: LogArea = LogArea {
 };
 
 const CHANGES: [(u64, u64); 2] = [(16, 5), (23, 9)];
+
+// The words of a log with an open gate and these changes.
+const OPEN: [(u64, u64); 6] = [(1, 2), (8, 16), (9, 5), (10, 23), (11, 9), (0, 1)];
 
 // The home's line after the changes, where it was zeros.
 fn changed_line() -> [u8; 64] {
@@ -131,47 +136,27 @@ fn a_wrong_log_is_refused_at_its_first_wrong_place(rt: HostRuntime) -> Result<()
 }
 
 #[test]
-fn a_cut_commit_leaves_the_old_words_or_the_new(rt: HostRuntime) -> Result<(), Fail> {
-    for choice in [Choice::Firsts, Choice::Lasts] {
-        let mut done = false;
-        for calls in 1..40_u64 {
-            let mut dev = Plain::new(rt.alloc());
-            dev.reset(3, 8)?;
-            done = commit_until(rt.alloc(), &mut dev, calls).is_ok();
-            let answer = mount_until(rt.alloc(), &mut dev, choice, 1000);
-            assert_eq!(rt; answer, Ok(()));
-            let line = home(&dev);
-            assert!(rt; line == changed_line() || line == [0; 64] && !done);
-            if calls == 1 {
-                assert_eq!(rt; line, [0; 64]);
-            }
-            if done {
-                break;
-            }
-        }
-        assert!(rt; done);
+fn a_commit_gives_its_words_their_values_together(rt: HostRuntime) -> Result<(), Fail> {
+    let cut = Err(CommitFault::PowerLost);
+    for (calls, answer, line) in [(1, cut, [0; 64]), (1000, Ok(()), changed_line())] {
+        let mut dev = Plain::new(rt.alloc());
+        dev.reset(3, 8)?;
+        assert_eq!(rt; commit_until(rt.alloc(), &mut dev, calls), answer);
+        let mounted = mount_until(rt.alloc(), &mut dev, Choice::Firsts, 1000);
+        assert_eq!(rt; mounted, Ok(()));
+        assert_eq!(rt; home(&dev), line);
     }
     Ok(())
 }
 
 #[test]
-fn a_cut_mount_leaves_the_new_words_to_the_next(rt: HostRuntime) -> Result<(), Fail> {
-    let open = [(1, 2), (8, 16), (9, 5), (10, 23), (11, 9), (0, 1)];
-    for choice in [Choice::Firsts, Choice::Lasts] {
-        let mut done = false;
-        for calls in 1..40_u64 {
-            let mut dev = Plain::new(rt.alloc());
-            dev.reset(3, 8)?;
-            assert!(rt; write(&mut dev, &open));
-            done = mount_until(rt.alloc(), &mut dev, Choice::Lasts, calls).is_ok();
-            assert_eq!(rt; mount_until(rt.alloc(), &mut dev, choice, 1000), Ok(()));
-            assert_eq!(rt; home(&dev), changed_line());
-            if done {
-                break;
-            }
-        }
-        assert!(rt; done);
-    }
+fn a_mount_replays_an_open_log(rt: HostRuntime) -> Result<(), Fail> {
+    let mut dev = Plain::new(rt.alloc());
+    dev.reset(3, 8)?;
+    assert!(rt; write(&mut dev, &OPEN));
+    let mounted = mount_until(rt.alloc(), &mut dev, Choice::Lasts, 1000);
+    assert_eq!(rt; mounted, Ok(()));
+    assert_eq!(rt; home(&dev), changed_line());
     Ok(())
 }
 

@@ -1,8 +1,8 @@
-use Rattle.std.proofs.Common.{◌≡◌, ◌≤◌, ◌<◌, ◌+◌, length, min, subst, sym, refl, arith}
+use Rattle.std.proofs.Common.{◌<◌, length, subst, sym, arith}
 use Rattle.std.proofs.lemmas.Result.{err_from_is_err_and}
 use Rattle.std.specs.Io.KnownBytes.{Consumes}
 use Rattle.nvmhost.proofs.BytesLemmas.{consumes-none}
-use Rattle.nvmhost.proofs.ReadLemmas.{reads-broken, consumes-piece, length-piece, reads-all}
+use Rattle.nvmhost.proofs.ReadLemmas.{reads-broken, consumes-piece, reads-all}
 use Rattle.nvmhost.proofs.reading.read_all.Goals as goal
 
 pub loop-source-init : goal.loop-source-init

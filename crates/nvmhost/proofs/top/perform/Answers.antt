@@ -1,8 +1,8 @@
-use Rattle.std.proofs.Common.{◌≡◌, [], ◌∷◌, refl, subst, sym}
+use Rattle.std.proofs.Common.{[]}
 use Rattle.std.proofs.lemmas.Result.{err_from_is_err_and}
 use Rattle.machine_host.proofs.CostLemmas.{spends-idle}
 use Rattle.nvmhost.proofs.BytesLemmas.{consumes-none}
-use Rattle.nvmhost.proofs.TopLemmas.{halts-silent, costs-none, costs-performed, ends_performed, never_usage, run_causes}
+use Rattle.nvmhost.proofs.TopLemmas.{halts-silent, costs-none, never_usage, run_causes}
 use Rattle.nvmhost.proofs.top.perform.Goals as goal
 
 pub returns-in_default-clause-costs : goal.returns-in_default-clause-costs
