@@ -1,5 +1,4 @@
 pub mod FrameLemmas
-pub mod CallLemmas
 pub mod ChangeLemmas
 pub mod EntryLemmas
 pub mod StepLemmas

@@ -7,12 +7,14 @@ use Rattle.word_log.specs.declared.area.LogArea.{LogArea}
 use Rattle.word_log.specs.Area.{gate_place, count_place, entry_place, Fits, IsLog, IsHome, IsOf, IsWhole}
 use Rattle.word_log.specs.Changes.{changed, lists, IsTaken}
 use Rattle.word_log.specs.Replay.{first_wrong, replayed, Replays}
-use Rattle.word_log.specs.Words.{WandersOutside}
-use Rattle.word_log.specs.Rest.{IsOnly, IsImageOn, EachImage, IsAtRest, IsReached}
+use Rattle.line_words.specs.Words.{WandersOutside}
+use Rattle.word_log.specs.Rest.{IsImageOn, EachImage, IsAtRest, IsReached}
+use Rattle.line_words.specs.Words.{IsOnly}
 use Rattle.word_log.specs.Protocol.{IsBehindGate, IsRecorded, IsWritten, IsOpen}
 use Rattle.word_log.proofs.ChangeLemmas.{listed_or, lists_not, changed-listed, changed-unlisted}
 use Rattle.word_log.proofs.EntryLemmas.{entries-cong}
-use Rattle.word_log.proofs.FrameLemmas.{is_only-outside, is_only-wander, newest-outside, outside-wider, fits-outside}
+use Rattle.word_log.proofs.FrameLemmas.{fits-outside}
+use Rattle.line_words.proofs.FrameLemmas.{is_only-outside, is_only-wander, newest-outside, outside-wider}
 use Rattle.word_log.proofs.StepLemmas.{behind_gate-entries}
 use Rattle.word_log.proofs.ReplayLemmas.{replays_closed, replays_open}
 

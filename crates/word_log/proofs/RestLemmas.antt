@@ -5,10 +5,10 @@ use Rattle.word_log.specs.declared.area.LogArea.{LogArea}
 use Rattle.word_log.specs.Area.{gate_place, count_place, entry_place, IsShaped, Fits, IsWhole, IsOf, IsHome}
 use Rattle.word_log.specs.Changes.{changed}
 use Rattle.word_log.specs.Replay.{entries, listed, Replays}
-use Rattle.word_log.specs.Words.{WandersOutside}
+use Rattle.line_words.specs.Words.{WandersOutside}
 use Rattle.word_log.specs.Rest.{IsAtRest, IsImageOn, IsReached}
 use Rattle.word_log.proofs.EntryLemmas.{entries-cong}
-use Rattle.word_log.proofs.FrameLemmas.{is_only-outside}
+use Rattle.line_words.proofs.FrameLemmas.{is_only-outside}
 use Rattle.word_log.proofs.PhaseLemmas.{gate_of, on_device}
 use Rattle.word_log.proofs.ReplayLemmas.{replays_closed, replays_open}
 use Rattle.word_log.proofs.ReadLemmas.{listed-closed, listed-open}

@@ -8,14 +8,15 @@ use Rattle.line_device.proofs.HistoryLemmas.{is_in-fades}
 use Rattle.line_device.proofs.WanderLemmas.{newest-wander}
 use Rattle.word_log.specs.declared.area.LogArea.{LogArea}
 use Rattle.word_log.specs.Area.{Fits, IsStrong, IsWhole, gate_place, count_place, entry_place}
-use Rattle.word_log.specs.Words.{WandersOutside, with_word}
-use Rattle.word_log.specs.Rest.{IsOnly}
+use Rattle.line_words.specs.Words.{WandersOutside, with_word}
+use Rattle.line_words.specs.Words.{IsOnly}
 use Rattle.word_log.specs.Changes.{changed, IsDistinct}
 use Rattle.word_log.specs.Replay.{entries}
 use Rattle.word_log.specs.Protocol.{IsBehindGate, IsRecorded}
 use Rattle.word_log.proofs.ChangeLemmas.{changed-push_at, changed-push_other, distinct_at}
 use Rattle.word_log.proofs.EntryLemmas.{entries-cong, entries-push}
-use Rattle.word_log.proofs.FrameLemmas.{gate_line, outside-trans, outside-wider, outside-wander, outside-stored, outside-store, newest-stored, newest-store, newest-outside, is_in-stored, wander-persist, is_only-persist}
+use Rattle.word_log.proofs.FrameLemmas.{gate_line}
+use Rattle.line_words.proofs.FrameLemmas.{outside-trans, outside-wider, outside-wander, outside-stored, outside-store, newest-stored, newest-store, newest-outside, is_in-stored, wander-persist, is_only-persist}
 
 -- the gate was stored, and its line persisted
 pub record SetsGate {A E : Type 0} (r : Result A E) (a : LogArea) (gate : ℕ) (old new : Medium) : Type 0 where

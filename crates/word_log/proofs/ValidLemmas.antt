@@ -7,7 +7,8 @@ use Rattle.word_log.specs.declared.area.LogArea.{LogArea}
 use Rattle.word_log.specs.Area.{gate_place, count_place, entry_place, IsHome, is_home, IsOf, Fits}
 use Rattle.word_log.specs.Changes.{changed, lists, IsDistinct, IsTaken}
 use Rattle.word_log.specs.Replay.{entries, listed, wrong_entry, wrong_open, wrong_at, first_wrong, replayed}
-use Rattle.word_log.specs.Rest.{IsOnly, IsAtRest}
+use Rattle.word_log.specs.Rest.{IsAtRest}
+use Rattle.line_words.specs.Words.{IsOnly}
 use Rattle.word_log.specs.Protocol.{IsOpen}
 use Rattle.word_log.proofs.ChangeLemmas.{listed_or, lists_not, lists-push}
 use Rattle.word_log.proofs.EntryLemmas.{length-entries}

@@ -1,7 +1,6 @@
 pub mod Area
 pub mod Changes
 pub mod Replay
-pub mod Words
 pub mod Rest
 pub mod State
 pub mod Outcomes

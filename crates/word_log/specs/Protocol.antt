@@ -5,7 +5,7 @@ use Rattle.word_log.specs.declared.area.LogArea.{LogArea}
 use Rattle.word_log.specs.Area.{gate_place, count_place, entry_place, Fits, IsHome}
 use Rattle.word_log.specs.Changes.{lists, IsTaken}
 use Rattle.word_log.specs.Replay.{entries}
-use Rattle.word_log.specs.Rest.{IsOnly}
+use Rattle.line_words.specs.Words.{IsOnly}
 
 -- a word of the log past its gate
 abbrev pub IsBehindGate : LogArea → ℕ → Type 0

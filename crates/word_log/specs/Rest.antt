@@ -1,14 +1,11 @@
 -- What log and home hold in each image that a cut may leave.
-use Rattle.std.specs.Prelude.{◌≡◌, ◌⊎◌, ℕ, List, None}
+use Rattle.std.specs.Prelude.{◌≡◌, ◌⊎◌, ℕ, None}
 use Rattle.line_device.specs.History.{IsIn}
 use Rattle.line_device.specs.Medium.{Medium}
+use Rattle.line_words.specs.Words.{IsOnly}
 use Rattle.word_log.specs.declared.area.LogArea.{LogArea}
 use Rattle.word_log.specs.Area.{IsOf, IsHome, gate_place}
 use Rattle.word_log.specs.Replay.{Replays, replayed, first_wrong}
-
--- a word has this value and no other
-abbrev pub IsOnly : ℕ → List ℕ → Type 0
-IsOnly v history = (x : ℕ) → IsIn x history → x ≡ v
 
 -- one value for each word of log and home, such as a cut may leave them
 abbrev pub IsImageOn : LogArea → Medium → (ℕ → ℕ) → Type 0

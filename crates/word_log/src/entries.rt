@@ -5,13 +5,13 @@ ghost use Rattle.line_device.specs.Panel.{Runs};
 ghost use Rattle.word_log.specs.Area.{Fits, IsStrong, IsWhole, entry_place};
 ghost use Rattle.word_log.specs.Changes.{IsTaken};
 ghost use Rattle.word_log.specs.Replay.{entries};
-ghost use Rattle.word_log.specs.Words.{WandersOutside};
+ghost use Rattle.line_words.specs.Words.{WandersOutside};
 ghost use Rattle.word_log.specs.Protocol.{IsBehindGate, IsRecorded};
-ghost use Rattle.word_log.specs.Outcomes.{word_outcome};
+ghost use Rattle.line_words.specs.Ending.{ended};
 
-use crate::words::{persist_lines, store_word};
-use crate::{CommitFault, LogArea};
+use crate::LogArea;
 use line_device::Lines;
+use line_words::{Interruption, persist_lines, store_word};
 
 /// Stores entry k.
 fn store_entry<L: Lines>(
@@ -19,7 +19,7 @@ fn store_entry<L: Lines>(
     area: LogArea,
     k: u64,
     change: (u64, u64),
-) -> Result<(), CommitFault>
+) -> Result<(), Interruption>
     requires room { k < area.cap }
     requires fits { Fits area (L.state dev.old).medium }
     requires whole { IsWhole area (L.state dev.old).medium }
@@ -28,7 +28,7 @@ fn store_entry<L: Lines>(
         (L.state dev.old).medium (L.state dev.new).medium }
     ensures place { OnOk result (last_image (L.state dev.new).medium (entry_place area k) ≡ change.0) }
     ensures value { OnOk result (last_image (L.state dev.new).medium (entry_place area k + 1) ≡ change.1) }
-    ensures runs { Runs 2 0 (word_outcome result) (L.state dev.old).panel (L.state dev.new).panel }
+    ensures runs { Runs 2 0 (ended result) (L.state dev.old).panel (L.state dev.new).panel }
 {
     let place = area.entry_place(k);
     store_word(dev, place, change.0)?;
@@ -39,7 +39,7 @@ fn store_entries<L: Lines>(
     dev: &mut L,
     area: LogArea,
     changes: &[(u64, u64)],
-) -> Result<(), CommitFault>
+) -> Result<(), Interruption>
     requires room { length changes.now ≤ area.cap }
     requires fits { Fits area (L.state dev.old).medium }
     requires whole { IsWhole area (L.state dev.old).medium }
@@ -48,7 +48,7 @@ fn store_entries<L: Lines>(
         (L.state dev.old).medium (L.state dev.new).medium }
     ensures ok { OnOk result
         (entries (last_image (L.state dev.new).medium) (entry_place area 0) (length changes.now) ≡ changes.now) }
-    ensures runs { Runs (2 * length changes.now) 0 (word_outcome result)
+    ensures runs { Runs (2 * length changes.now) 0 (ended result)
         (L.state dev.old).panel (L.state dev.new).panel }
 {
     for (k, change) in changes.iter().enumerate() {
@@ -62,7 +62,7 @@ pub fn write_entries<L: Lines>(
     dev: &mut L,
     area: LogArea,
     changes: &[(u64, u64)],
-) -> Result<(), CommitFault>
+) -> Result<(), Interruption>
     requires taken { IsTaken area changes.now }
     requires fits { Fits area (L.state dev.old).medium }
     requires strong { IsStrong area (L.state dev.old).medium }
@@ -70,7 +70,7 @@ pub fn write_entries<L: Lines>(
     requires on { IsTrue (L.state dev.old).panel.power }
     ensures outside { WandersOutside (IsBehindGate area) (L.state dev.old).medium (L.state dev.new).medium }
     ensures ok { OnOk result (IsRecorded area changes.now (L.state dev.new).medium) }
-    ensures runs { Runs (3 * length changes.now + 2) (length changes.now + 1) (word_outcome result)
+    ensures runs { Runs (3 * length changes.now + 2) (length changes.now + 1) (ended result)
         (L.state dev.old).panel (L.state dev.new).panel }
 {
     store_entries(dev, area, changes)?;

@@ -1,5 +1,6 @@
 ghost use Rattle.std.specs.Prelude.{◌≡◌};
 
+use line_words::Interruption;
 use nvm_base::LineNo;
 use std::alloc::AllocError;
 
@@ -18,24 +19,15 @@ pub enum LogFault {
     Memory,
 }
 
-/// Why a commit, or a call on a word, was stopped.
-#[derive(Clone, Copy, Debug, PartialEq, Eq)]
-pub enum CommitFault {
-    /// The device failed.
-    Failed,
-    /// The power went.
-    PowerLost,
-}
-
-impl From<CommitFault> for LogFault {
+impl From<Interruption> for LogFault {
     ghost use Rattle.word_log.specs.Stopped.{as_log_fault};
 
     ghost from_gives = { λ fault log. log ≡ as_log_fault fault };
 
-    fn from(fault: CommitFault) -> LogFault {
+    fn from(fault: Interruption) -> LogFault {
         match fault {
-            CommitFault::Failed => LogFault::Failed,
-            CommitFault::PowerLost => LogFault::PowerLost,
+            Interruption::Failed => LogFault::Failed,
+            Interruption::PowerLost => LogFault::PowerLost,
         }
     }
 }

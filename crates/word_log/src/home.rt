@@ -3,15 +3,14 @@ ghost use Rattle.std.specs.Prelude.{◌≡◌, ◌*◌, ◌/◌, ℕ, length, Is
 ghost use Rattle.line_device.specs.Medium.{Wander, last_image};
 ghost use Rattle.line_device.specs.Panel.{Runs};
 ghost use Rattle.word_log.specs.Changes.{changed, lists, IsDistinct};
-ghost use Rattle.word_log.specs.Words.{IsSteadfast, WandersOutside};
-ghost use Rattle.word_log.specs.Rest.{IsOnly};
-ghost use Rattle.word_log.specs.Outcomes.{word_outcome};
+ghost use Rattle.line_words.specs.Words.{IsSteadfast, WandersOutside};
+ghost use Rattle.line_words.specs.Words.{IsOnly};
+ghost use Rattle.line_words.specs.Ending.{ended};
 
-use crate::CommitFault;
-use crate::words::{persist_line, store_word};
 use line_device::Lines;
+use line_words::{Interruption, persist_line, store_word};
 
-fn store_home<L: Lines>(dev: &mut L, changes: &[(u64, u64)]) -> Result<(), CommitFault>
+fn store_home<L: Lines>(dev: &mut L, changes: &[(u64, u64)]) -> Result<(), Interruption>
     requires steadfast { (p : ℕ) → IsTrue (lists changes.now p) → IsSteadfast (L.state dev.old).medium (p / 8) }
     requires distinct { IsDistinct changes.now }
     requires on { IsTrue (L.state dev.old).panel.power }
@@ -19,7 +18,7 @@ fn store_home<L: Lines>(dev: &mut L, changes: &[(u64, u64)]) -> Result<(), Commi
         (L.state dev.old).medium (L.state dev.new).medium }
     ensures ok { OnOk result ((p : ℕ) → last_image (L.state dev.new).medium p
         ≡ changed changes.now (last_image (L.state dev.old).medium) p) }
-    ensures runs { Runs (length changes.now) 0 (word_outcome result)
+    ensures runs { Runs (length changes.now) 0 (ended result)
         (L.state dev.old).panel (L.state dev.new).panel }
 {
     for change in changes {
@@ -28,13 +27,13 @@ fn store_home<L: Lines>(dev: &mut L, changes: &[(u64, u64)]) -> Result<(), Commi
     Ok(())
 }
 
-fn persist_home<L: Lines>(dev: &mut L, changes: &[(u64, u64)]) -> Result<(), CommitFault>
+fn persist_home<L: Lines>(dev: &mut L, changes: &[(u64, u64)]) -> Result<(), Interruption>
     requires steadfast { (p : ℕ) → IsTrue (lists changes.now p) → IsSteadfast (L.state dev.old).medium (p / 8) }
     requires on { IsTrue (L.state dev.old).panel.power }
     ensures lines { Wander (L.state dev.old).medium (L.state dev.new).medium }
     ensures ok { OnOk result ((p : ℕ) → IsTrue (lists changes.now p)
         → IsOnly (last_image (L.state dev.old).medium p) ((L.state dev.new).medium.history p)) }
-    ensures runs { Runs (length changes.now) (length changes.now) (word_outcome result)
+    ensures runs { Runs (length changes.now) (length changes.now) (ended result)
         (L.state dev.old).panel (L.state dev.new).panel }
 {
     for change in changes {
@@ -44,7 +43,7 @@ fn persist_home<L: Lines>(dev: &mut L, changes: &[(u64, u64)]) -> Result<(), Com
 }
 
 /// Gives the listed words their values, and makes them durable.
-pub fn apply<L: Lines>(dev: &mut L, changes: &[(u64, u64)]) -> Result<(), CommitFault>
+pub fn apply<L: Lines>(dev: &mut L, changes: &[(u64, u64)]) -> Result<(), Interruption>
     requires steadfast { (p : ℕ) → IsTrue (lists changes.now p) → IsSteadfast (L.state dev.old).medium (p / 8) }
     requires distinct { IsDistinct changes.now }
     requires on { IsTrue (L.state dev.old).panel.power }
@@ -52,7 +51,7 @@ pub fn apply<L: Lines>(dev: &mut L, changes: &[(u64, u64)]) -> Result<(), Commit
         (L.state dev.old).medium (L.state dev.new).medium }
     ensures ok { OnOk result ((p : ℕ) → IsTrue (lists changes.now p)
         → IsOnly (changed changes.now (last_image (L.state dev.old).medium) p) ((L.state dev.new).medium.history p)) }
-    ensures runs { Runs (2 * length changes.now) (length changes.now) (word_outcome result)
+    ensures runs { Runs (2 * length changes.now) (length changes.now) (ended result)
         (L.state dev.old).panel (L.state dev.new).panel }
 {
     store_home(dev, changes)?;

@@ -14,9 +14,9 @@ ghost use Rattle.line_device.specs.Panel.{Runs};
 ghost use Rattle.word_log.specs.Area.{Fits, IsStrong, IsWhole, IsOf};
 ghost use Rattle.word_log.specs.Changes.{changed, IsTaken};
 ghost use Rattle.word_log.specs.Replay.{Replays};
-ghost use Rattle.word_log.specs.Words.{WandersOutside};
+ghost use Rattle.line_words.specs.Words.{WandersOutside};
 ghost use Rattle.word_log.specs.Rest.{IsAtRest, EachImage};
-ghost use Rattle.word_log.specs.Outcomes.{word_outcome};
+ghost use Rattle.line_words.specs.Ending.{ended};
 
 mod area;
 mod entries;
@@ -30,11 +30,11 @@ mod protocol;
 mod reading;
 #[cfg(test)]
 mod tests;
-mod words;
 
 pub use area::LogArea;
-pub use fault::{CommitFault, LogFault};
+pub use fault::LogFault;
 use line_device::Lines;
+use line_words::Interruption;
 pub use lists::{replay, small_log_worked_through};
 pub use mounting::{inspect, mount};
 use protocol::commit_at;
@@ -77,7 +77,7 @@ impl Log {
         &mut self,
         dev: &mut L,
         changes: &[(u64, u64)],
-    ) -> Result<(), CommitFault>
+    ) -> Result<(), Interruption>
         requires settled { IsTrue self.old.settled }
         requires on { IsTrue (L.state dev.old).panel.power }
         requires fits { Fits self.old.area (L.state dev.old).medium }
@@ -91,7 +91,7 @@ impl Log {
             → EachImage self.old.area (L.state dev.new).medium (λ image.
             Replays self.old.area image words ⊎ Replays self.old.area image (changed changes.now words)) }
         ensures outside { WandersOutside (IsOf self.old.area) (L.state dev.old).medium (L.state dev.new).medium }
-        ensures runs { Runs (5 * length changes.now + 6) (2 * length changes.now + 3) (word_outcome result)
+        ensures runs { Runs (5 * length changes.now + 6) (2 * length changes.now + 3) (ended result)
             (L.state dev.old).panel (L.state dev.new).panel }
         ensures log { self.new ≡ record self.old { settled = is_ok result } }
     {

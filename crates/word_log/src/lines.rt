@@ -3,12 +3,12 @@ ghost use Rattle.std.specs.Prelude.{◌≡◌, ◌+◌, ◌/◌, ◌<◌, ◌≤
 ghost use Rattle.line_device.specs.Medium.{Wander, last_image};
 ghost use Rattle.line_device.specs.Panel.{Runs};
 ghost use Rattle.word_log.specs.Area.{Fits, IsStrong, IsWhole, IsOf, IsLineOf};
-ghost use Rattle.word_log.specs.Rest.{IsOnly};
-ghost use Rattle.word_log.specs.Outcomes.{word_outcome};
+ghost use Rattle.line_words.specs.Words.{IsOnly};
+ghost use Rattle.line_words.specs.Ending.{ended};
 
-use crate::words::persist_lines;
-use crate::{CommitFault, LogArea};
+use crate::LogArea;
 use line_device::Lines;
+use line_words::{Interruption, persist_lines};
 use nvm_base::{LineNo, Span};
 
 /// The first bad one of these lines.
@@ -41,7 +41,7 @@ pub fn bad_line<L: Lines>(dev: &L, area: LogArea) -> Option<LineNo>
 }
 
 /// Makes log and home durable.
-pub fn settle<L: Lines>(dev: &mut L, area: LogArea) -> Result<(), CommitFault>
+pub fn settle<L: Lines>(dev: &mut L, area: LogArea) -> Result<(), Interruption>
     requires fits { Fits area (L.state dev.old).medium }
     requires strong { IsStrong area (L.state dev.old).medium }
     requires whole { IsWhole area (L.state dev.old).medium }
@@ -50,7 +50,7 @@ pub fn settle<L: Lines>(dev: &mut L, area: LogArea) -> Result<(), CommitFault>
     ensures ok { OnOk result ((p : ℕ) → IsOf area p
         → IsOnly (last_image (L.state dev.old).medium p) ((L.state dev.new).medium.history p)) }
     ensures runs { Runs (area.log.len + area.home.len / 8 + 2) (area.log.len + area.home.len / 8 + 2)
-        (word_outcome result) (L.state dev.old).panel (L.state dev.new).panel }
+        (ended result) (L.state dev.old).panel (L.state dev.new).panel }
 {
     persist_lines(dev, area.log.start, area.log.len)?;
     let home = area.home_lines();

@@ -4,20 +4,23 @@ ghost use Rattle.line_device.specs.Medium.{Wander, last_image};
 ghost use Rattle.line_device.specs.Panel.{Runs};
 ghost use Rattle.word_log.specs.Area.{Fits, IsStrong, IsWhole, IsOf, gate_place};
 ghost use Rattle.word_log.specs.Replay.{listed, replayed, first_wrong, Replays};
-ghost use Rattle.word_log.specs.Words.{WandersOutside};
-ghost use Rattle.word_log.specs.Rest.{IsOnly, IsAtRest, IsReached, EachImage};
+ghost use Rattle.line_words.specs.Words.{WandersOutside};
+ghost use Rattle.word_log.specs.Rest.{IsAtRest, IsReached, EachImage};
+ghost use Rattle.line_words.specs.Words.{IsOnly};
 ghost use Rattle.word_log.specs.Mount.{Finds, IsRefusal};
-ghost use Rattle.word_log.specs.Outcomes.{word_outcome, log_outcome};
+ghost use Rattle.word_log.specs.Outcomes.{log_outcome};
+ghost use Rattle.line_words.specs.Ending.{ended};
 
 use crate::lines::settle;
 use crate::protocol::finish;
 use crate::reading::read_log;
-use crate::{CommitFault, Log, LogArea, LogFault};
+use crate::{Log, LogArea, LogFault};
 use line_device::Lines;
+use line_words::Interruption;
 use std::alloc::Global;
 
 /// Replays these changes, those of a durable log, if there are any, and closes it.
-fn redo<L: Lines>(dev: &mut L, area: LogArea, changes: &[(u64, u64)]) -> Result<(), CommitFault>
+fn redo<L: Lines>(dev: &mut L, area: LogArea, changes: &[(u64, u64)]) -> Result<(), Interruption>
     requires on { IsTrue (L.state dev.old).panel.power }
     requires fits { Fits area (L.state dev.old).medium }
     requires strong { IsStrong area (L.state dev.old).medium }
@@ -33,7 +36,7 @@ fn redo<L: Lines>(dev: &mut L, area: LogArea, changes: &[(u64, u64)]) -> Result<
     ensures closed { last_image (L.state dev.old).medium (gate_place area) ≡ 0
         → Wander (L.state dev.old).medium (L.state dev.new).medium }
     ensures outside { WandersOutside (IsOf area) (L.state dev.old).medium (L.state dev.new).medium }
-    ensures runs { Runs (2 * area.cap + 2) (area.cap + 1) (word_outcome result)
+    ensures runs { Runs (2 * area.cap + 2) (area.cap + 1) (ended result)
         (L.state dev.old).panel (L.state dev.new).panel }
 {
     if changes.is_empty() {

@@ -5,16 +5,17 @@ ghost use Rattle.line_device.specs.Panel.{Runs};
 ghost use Rattle.word_log.specs.Area.{Fits, IsStrong, IsWhole, IsOf, gate_place};
 ghost use Rattle.word_log.specs.Changes.{changed, IsTaken};
 ghost use Rattle.word_log.specs.Replay.{Replays};
-ghost use Rattle.word_log.specs.Words.{WandersOutside};
-ghost use Rattle.word_log.specs.Rest.{IsOnly, IsAtRest, EachImage};
+ghost use Rattle.line_words.specs.Words.{WandersOutside};
+ghost use Rattle.word_log.specs.Rest.{IsAtRest, EachImage};
+ghost use Rattle.line_words.specs.Words.{IsOnly};
 ghost use Rattle.word_log.specs.Protocol.{IsWritten, IsOpen};
-ghost use Rattle.word_log.specs.Outcomes.{word_outcome};
+ghost use Rattle.line_words.specs.Ending.{ended};
 
+use crate::LogArea;
 use crate::entries::write_entries;
 use crate::home::apply;
-use crate::words::{persist_line, store_word};
-use crate::{CommitFault, LogArea};
 use line_device::Lines;
+use line_words::{Interruption, persist_line, store_word};
 
 /// A gate behind which no entry counts.
 pub const CLOSED: u64 = 0;
@@ -23,7 +24,7 @@ pub const CLOSED: u64 = 0;
 pub const OPEN: u64 = 1;
 
 /// Sets the gate, and makes it durable.
-pub fn set_gate<L: Lines>(dev: &mut L, area: LogArea, gate: u64) -> Result<(), CommitFault>
+pub fn set_gate<L: Lines>(dev: &mut L, area: LogArea, gate: u64) -> Result<(), Interruption>
     requires fits { Fits area (L.state dev.old).medium }
     requires strong { IsStrong area (L.state dev.old).medium }
     requires whole { IsWhole area (L.state dev.old).medium }
@@ -32,7 +33,7 @@ pub fn set_gate<L: Lines>(dev: &mut L, area: LogArea, gate: u64) -> Result<(), C
     ensures either { (x : ℕ) → IsIn x ((L.state dev.new).medium.history (gate_place area))
         → IsIn x ((L.state dev.old).medium.history (gate_place area)) ⊎ (x ≡ gate) }
     ensures ok { OnOk result (IsOnly gate ((L.state dev.new).medium.history (gate_place area))) }
-    ensures runs { Runs 2 1 (word_outcome result) (L.state dev.old).panel (L.state dev.new).panel }
+    ensures runs { Runs 2 1 (ended result) (L.state dev.old).panel (L.state dev.new).panel }
 {
     store_word(dev, area.gate_place(), gate)?;
     persist_line(dev, area.log.start)
@@ -43,7 +44,7 @@ pub fn finish<L: Lines>(
     dev: &mut L,
     area: LogArea,
     changes: &[(u64, u64)],
-) -> Result<(), CommitFault>
+) -> Result<(), Interruption>
     requires on { IsTrue (L.state dev.old).panel.power }
     requires strong { IsStrong area (L.state dev.old).medium }
     requires whole { IsWhole area (L.state dev.old).medium }
@@ -53,7 +54,7 @@ pub fn finish<L: Lines>(
     ensures images { (words : ℕ → ℕ) → IsOpen area changes.now words (L.state dev.old).medium
         → EachImage area (L.state dev.new).medium (λ image. Replays area image (changed changes.now words)) }
     ensures outside { WandersOutside (IsOf area) (L.state dev.old).medium (L.state dev.new).medium }
-    ensures runs { Runs (2 * length changes.now + 2) (length changes.now + 1) (word_outcome result)
+    ensures runs { Runs (2 * length changes.now + 2) (length changes.now + 1) (ended result)
         (L.state dev.old).panel (L.state dev.new).panel }
 {
     apply(dev, changes)?;
@@ -65,7 +66,7 @@ pub fn commit_at<L: Lines>(
     dev: &mut L,
     area: LogArea,
     changes: &[(u64, u64)],
-) -> Result<(), CommitFault>
+) -> Result<(), Interruption>
     requires on { IsTrue (L.state dev.old).panel.power }
     requires fits { Fits area (L.state dev.old).medium }
     requires strong { IsStrong area (L.state dev.old).medium }
@@ -78,7 +79,7 @@ pub fn commit_at<L: Lines>(
         → EachImage area (L.state dev.new).medium (λ image.
         Replays area image words ⊎ Replays area image (changed changes.now words)) }
     ensures outside { WandersOutside (IsOf area) (L.state dev.old).medium (L.state dev.new).medium }
-    ensures runs { Runs (5 * length changes.now + 6) (2 * length changes.now + 3) (word_outcome result)
+    ensures runs { Runs (5 * length changes.now + 6) (2 * length changes.now + 3) (ended result)
         (L.state dev.old).panel (L.state dev.new).panel }
 {
     write_entries(dev, area, changes)?;

@@ -6,12 +6,13 @@ ghost use Rattle.word_log.specs.Area.{Fits, IsWhole, is_home, gate_place, count_
 ghost use Rattle.word_log.specs.Changes.{lists};
 ghost use Rattle.word_log.specs.Replay.{entries, listed, wrong_entry, wrong_at, first_wrong};
 ghost use Rattle.word_log.specs.Mount.{Tells, Finds};
-ghost use Rattle.word_log.specs.Outcomes.{word_outcome, log_outcome};
+ghost use Rattle.word_log.specs.Outcomes.{log_outcome};
+ghost use Rattle.line_words.specs.Ending.{ended};
 
 use crate::lines::bad_line;
-use crate::words::load_word;
-use crate::{CommitFault, LogArea, LogFault};
+use crate::{LogArea, LogFault};
 use line_device::Lines;
+use line_words::{Interruption, load_word};
 use nvm_base::Buffer;
 use std::alloc::Global;
 
@@ -19,7 +20,7 @@ use std::alloc::Global;
 pub type Changes = Buffer<(u64, u64)>;
 
 /// Entry k.
-fn read_entry<L: Lines>(dev: &mut L, area: LogArea, k: u64) -> Result<(u64, u64), CommitFault>
+fn read_entry<L: Lines>(dev: &mut L, area: LogArea, k: u64) -> Result<(u64, u64), Interruption>
     requires room { k < area.cap }
     requires fits { Fits area (L.state dev.old).medium }
     requires whole { IsWhole area (L.state dev.old).medium }
@@ -29,7 +30,7 @@ fn read_entry<L: Lines>(dev: &mut L, area: LogArea, k: u64) -> Result<(u64, u64)
       last_image (L.state dev.old).medium (entry_place area k + 1),
     )) }
     ensures lines { Wander (L.state dev.old).medium (L.state dev.new).medium }
-    ensures runs { Runs 2 0 (word_outcome result) (L.state dev.old).panel (L.state dev.new).panel }
+    ensures runs { Runs 2 0 (ended result) (L.state dev.old).panel (L.state dev.new).panel }
 {
     let at = area.entry_place(k);
     let place = load_word(dev, at)?;

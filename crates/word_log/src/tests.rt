@@ -2,9 +2,9 @@
 ghost use Rattle.std.specs.Prelude.{◌≤◌, IsTrue};
 ghost use Rattle.word_log.specs.Area.{Fits, IsStrong, IsWhole};
 
-use crate::words::{persist_line, store_word};
-use crate::{CommitFault, LogArea, LogFault, inspect, mount, replay};
+use crate::{LogArea, LogFault, inspect, mount, replay};
 use line_device::{Choice, LineDevice, LineState, Lines, Peek, Plain};
+use line_words::{Interruption, persist_line, store_word};
 use nvm_base::{LineNo, Span};
 use std::alloc::Global;
 use std::test::Fail;
@@ -76,14 +76,14 @@ fn home<D: Peek>(dev: &D) -> [u8; 64] {
 }
 
 // Mounts and commits, with a cut at this counted call of the commit.
-fn commit_until<D: LineDevice>(alloc: Global, dev: &mut D, calls: u64) -> Result<(), CommitFault>
+fn commit_until<D: LineDevice>(alloc: Global, dev: &mut D, calls: u64) -> Result<(), Interruption>
     requires { 1 ≤ calls }
 {
     if !is_ready(dev) {
-        return Err(CommitFault::Failed);
+        return Err(Interruption::Failed);
     }
     let Ok(mut log) = mount(alloc, dev, SMALL) else {
-        return Err(CommitFault::Failed);
+        return Err(Interruption::Failed);
     };
     dev.arm_cut(calls);
     log.commit(dev, &CHANGES)
@@ -137,7 +137,7 @@ fn a_wrong_log_is_refused_at_its_first_wrong_place(rt: HostRuntime) -> Result<()
 
 #[test]
 fn a_commit_gives_its_words_their_values_together(rt: HostRuntime) -> Result<(), Fail> {
-    let cut = Err(CommitFault::PowerLost);
+    let cut = Err(Interruption::PowerLost);
     for (calls, answer, line) in [(1, cut, [0; 64]), (1000, Ok(()), changed_line())] {
         let mut dev = Plain::new(rt.alloc());
         dev.reset(3, 8)?;

@@ -1,7 +1,8 @@
 // Commits and mounts behind fuses of 0, 1, 2 .. calls, until one ends with Ok.
 use super::{CHANGES, OPEN, SMALL, changed_line, home, is_ready, mount_until, write};
-use crate::{CommitFault, LogFault, mount};
+use crate::{LogFault, mount};
 use line_device::{Choice, LineDevice, Lines, Plain};
+use line_words::Interruption;
 use std::alloc::Global;
 use std::test::Fail;
 use test_devices::Fuse;
@@ -11,12 +12,12 @@ fn commit_behind<D: LineDevice>(
     alloc: Global,
     mut dev: D,
     calls: u64,
-) -> (Result<(), CommitFault>, Fuse<D>) {
+) -> (Result<(), Interruption>, Fuse<D>) {
     if !is_ready(&dev) {
-        return (Err(CommitFault::Failed), Fuse::new(dev, calls));
+        return (Err(Interruption::Failed), Fuse::new(dev, calls));
     }
     let Ok(mut log) = mount(alloc, &mut dev, SMALL) else {
-        return (Err(CommitFault::Failed), Fuse::new(dev, calls));
+        return (Err(Interruption::Failed), Fuse::new(dev, calls));
     };
     let mut fuse = Fuse::new(dev, calls);
     let answer = log.commit(&mut fuse, &CHANGES);
@@ -40,7 +41,7 @@ fn a_cut_commit_leaves_the_old_words_or_the_new(rt: HostRuntime) -> Result<(), F
             dev.reset(3, 8)?;
             let (answer, mut fuse) = commit_behind(rt.alloc(), dev, calls);
             done = answer.is_ok();
-            assert!(rt; done || answer == Err(CommitFault::PowerLost));
+            assert!(rt; done || answer == Err(Interruption::PowerLost));
             let mounted = mount_until(rt.alloc(), &mut fuse, choice, 1000);
             assert_eq!(rt; mounted, Ok(()));
             let line = home(&fuse);

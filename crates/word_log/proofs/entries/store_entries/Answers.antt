@@ -1,6 +1,6 @@
 use Rattle.std.proofs.Common.{refl, arith}
 use Rattle.line_device.proofs.PanelLemmas.{runs-refl, runs_then, runs_within}
-use Rattle.word_log.proofs.FrameLemmas.{outside-refl, outside-trans, outside-wider}
+use Rattle.line_words.proofs.FrameLemmas.{outside-refl, outside-trans, outside-wider}
 use Rattle.word_log.proofs.StepLemmas.{entries-more}
 use Rattle.word_log.proofs.entries.store_entries.Goals as goal
 

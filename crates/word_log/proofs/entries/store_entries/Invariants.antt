@@ -4,7 +4,7 @@ use Rattle.line_device.specs.Panel.{Runs}
 use Rattle.line_device.specs.Panel.Outcome.{went}
 use Rattle.word_log.specs.Area.{entry_place}
 use Rattle.word_log.specs.Replay.{entries}
-use Rattle.word_log.specs.Words.{WandersOutside}
+use Rattle.line_words.specs.Words.{WandersOutside}
 use Rattle.word_log.proofs.entries.store_entries.Given as goal
 
 abbrev pub invariant-loop-k : goal.invariant-loop-k

@@ -1,6 +1,6 @@
 use Rattle.std.proofs.Common.{◌+◌, ◌<◌, ◌≤◌, sym, arith}
 use Rattle.word_log.proofs.StepLemmas.{stores_pair}
-use Rattle.word_log.proofs.FrameLemmas.{outside-wider}
+use Rattle.line_words.proofs.FrameLemmas.{outside-wider}
 use Rattle.word_log.proofs.entries.store_entry.Goals as goal
 
 pub returns-clause-outside : goal.returns-clause-outside

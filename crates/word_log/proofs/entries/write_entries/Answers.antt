@@ -1,5 +1,6 @@
 use Rattle.std.proofs.Common.{arith}
-use Rattle.word_log.proofs.FrameLemmas.{outside-trans, outside-wander, outside-wider, log_steadfast, steadfast-outside}
+use Rattle.word_log.proofs.FrameLemmas.{log_steadfast}
+use Rattle.line_words.proofs.FrameLemmas.{outside-trans, outside-wander, outside-wider, steadfast-outside}
 use Rattle.word_log.proofs.StepLemmas.{writes_entries, behind_gate-entries, outside-counted}
 use Rattle.word_log.proofs.entries.write_entries.Goals as goal
 

@@ -1,6 +1,6 @@
 use Rattle.std.proofs.Common.{subst}
-use Rattle.word_log.specs.Rest.{IsOnly}
-use Rattle.word_log.proofs.FrameLemmas.{outside-trans, outside-wander}
+use Rattle.line_words.specs.Words.{IsOnly}
+use Rattle.line_words.proofs.FrameLemmas.{outside-trans, outside-wander}
 use Rattle.word_log.proofs.StepLemmas.{on_ok-then}
 use Rattle.word_log.proofs.home.apply.Goals as goal
 

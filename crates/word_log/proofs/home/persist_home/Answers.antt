@@ -5,8 +5,8 @@ use Rattle.line_device.specs.Medium.{last_image}
 use Rattle.line_device.proofs.WanderLemmas.{wander-refl, wander-trans}
 use Rattle.line_device.proofs.PanelLemmas.{runs-refl, runs_then}
 use Rattle.word_log.specs.Changes.{lists}
-use Rattle.word_log.specs.Rest.{IsOnly}
-use Rattle.word_log.proofs.FrameLemmas.{is_only-one_more, wander-one_more}
+use Rattle.line_words.specs.Words.{IsOnly}
+use Rattle.line_words.proofs.FrameLemmas.{is_only-one_more, wander-one_more}
 use Rattle.word_log.proofs.ChangeLemmas.{lists-at, lists-more}
 use Rattle.word_log.proofs.home.persist_home.Goals as goal
 

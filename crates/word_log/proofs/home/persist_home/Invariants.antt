@@ -3,7 +3,7 @@ use Rattle.line_device.specs.Medium.{Wander, last_image}
 use Rattle.line_device.specs.Panel.{Runs}
 use Rattle.line_device.specs.Panel.Outcome.{went}
 use Rattle.word_log.specs.Changes.{lists}
-use Rattle.word_log.specs.Rest.{IsOnly}
+use Rattle.line_words.specs.Words.{IsOnly}
 use Rattle.word_log.proofs.home.persist_home.Given as goal
 
 abbrev pub invariant-loop-change : goal.invariant-loop-change

@@ -2,7 +2,7 @@ use Rattle.std.proofs.Common.{◌≡◌, IsTrue, get_or, refl, sym, subst}
 use Rattle.line_device.proofs.PanelLemmas.{runs-refl, runs_then}
 use Rattle.word_log.specs.Changes.{lists}
 use Rattle.word_log.proofs.ChangeLemmas.{lists-at}
-use Rattle.word_log.proofs.FrameLemmas.{outside-refl, outside-trans, outside-wider, outside-wander, outside-stored}
+use Rattle.line_words.proofs.FrameLemmas.{outside-refl, outside-trans, outside-wider, outside-wander, outside-stored}
 use Rattle.word_log.proofs.StepLemmas.{changed-more}
 use Rattle.word_log.proofs.home.store_home.Goals as goal
 

@@ -3,7 +3,7 @@ use Rattle.line_device.specs.Medium.{last_image}
 use Rattle.line_device.specs.Panel.{Runs}
 use Rattle.line_device.specs.Panel.Outcome.{went}
 use Rattle.word_log.specs.Changes.{lists, changed}
-use Rattle.word_log.specs.Words.{WandersOutside}
+use Rattle.line_words.specs.Words.{WandersOutside}
 use Rattle.word_log.proofs.home.store_home.Given as goal
 
 abbrev pub invariant-loop-change : goal.invariant-loop-change

@@ -1,9 +1,10 @@
 use Rattle.std.proofs.Common.{inl, inr, subst, arith}
 use Rattle.line_device.specs.Medium.{last_image}
 use Rattle.line_device.proofs.WanderLemmas.{wander-trans, newest-wander}
-use Rattle.word_log.specs.Words.{IsSteadfast}
-use Rattle.word_log.specs.Rest.{IsOnly}
-use Rattle.word_log.proofs.FrameLemmas.{log_steadfast, home_steadfast, steadfast-wander, is_only-wander}
+use Rattle.line_words.specs.Words.{IsSteadfast}
+use Rattle.line_words.specs.Words.{IsOnly}
+use Rattle.word_log.proofs.FrameLemmas.{log_steadfast, home_steadfast}
+use Rattle.line_words.proofs.FrameLemmas.{steadfast-wander, is_only-wander}
 use Rattle.word_log.proofs.StepLemmas.{on_ok-then}
 use Rattle.word_log.proofs.lines.settle.Goals as goal
 

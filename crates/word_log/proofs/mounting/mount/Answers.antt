@@ -2,8 +2,9 @@ use Rattle.std.proofs.Common.{◌≡◌, None, sym, ◌∙◌, ap, subst}
 use Rattle.line_device.proofs.WanderLemmas.{wander-trans, newest-wander}
 use Rattle.word_log.specs.Area.{gate_place}
 use Rattle.word_log.specs.Replay.{first_wrong, listed, replayed, Replays}
-use Rattle.word_log.specs.Rest.{IsOnly, IsAtRest}
-use Rattle.word_log.proofs.FrameLemmas.{last_image-wander, outside-trans, outside-wander}
+use Rattle.word_log.specs.Rest.{IsAtRest}
+use Rattle.line_words.specs.Words.{IsOnly}
+use Rattle.line_words.proofs.FrameLemmas.{last_image-wander, outside-trans, outside-wander}
 use Rattle.word_log.proofs.PhaseLemmas.{reached_wander, reached_last}
 use Rattle.word_log.proofs.mounting.mount.Goals as goal
 

@@ -5,7 +5,7 @@ use Rattle.line_device.proofs.PanelLemmas.{runs_within}
 use Rattle.word_log.specs.Changes.{changed}
 use Rattle.word_log.specs.Replay.{Replays}
 use Rattle.word_log.specs.Rest.{IsAtRest}
-use Rattle.word_log.proofs.FrameLemmas.{outside-refl}
+use Rattle.line_words.proofs.FrameLemmas.{outside-refl}
 use Rattle.word_log.proofs.StepLemmas.{on_ok-then}
 use Rattle.word_log.proofs.PhaseLemmas.{images_rest}
 use Rattle.word_log.proofs.ValidLemmas.{durable_empty, durable_some, listed-not_closed}

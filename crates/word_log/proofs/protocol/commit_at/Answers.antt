@@ -1,5 +1,6 @@
 use Rattle.std.proofs.Common.{inl, inr}
-use Rattle.word_log.proofs.FrameLemmas.{fits-outside, outside-trans}
+use Rattle.word_log.proofs.FrameLemmas.{fits-outside}
+use Rattle.line_words.proofs.FrameLemmas.{outside-trans}
 use Rattle.word_log.proofs.StepLemmas.{on_ok-then}
 use Rattle.word_log.proofs.PhaseLemmas.{images_rest, images_opening, rest-outside, opened_from, outside-gate, outside-behind_gate}
 use Rattle.word_log.proofs.protocol.commit_at.Goals as goal

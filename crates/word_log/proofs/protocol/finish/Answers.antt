@@ -1,4 +1,5 @@
-use Rattle.word_log.proofs.FrameLemmas.{fits-outside, outside-trans}
+use Rattle.word_log.proofs.FrameLemmas.{fits-outside}
+use Rattle.line_words.proofs.FrameLemmas.{outside-trans}
 use Rattle.word_log.proofs.StepLemmas.{on_ok-then}
 use Rattle.word_log.proofs.PhaseLemmas.{images_open, images_closing, open-outside, open-applied, closed, outside-gate, outside-listed}
 use Rattle.word_log.proofs.protocol.finish.Goals as goal

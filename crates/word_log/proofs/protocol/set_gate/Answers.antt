@@ -1,7 +1,8 @@
 use Rattle.std.proofs.Common.{inl}
 use Rattle.line_device.proofs.HistoryLemmas.{is_in-fades}
 use Rattle.word_log.specs.Area.{gate_place}
-use Rattle.word_log.proofs.FrameLemmas.{gate_line, outside-stored}
+use Rattle.word_log.proofs.FrameLemmas.{gate_line}
+use Rattle.line_words.proofs.FrameLemmas.{outside-stored}
 use Rattle.word_log.proofs.StepLemmas.{sets_gate}
 use Rattle.word_log.proofs.protocol.set_gate.Goals as goal
 

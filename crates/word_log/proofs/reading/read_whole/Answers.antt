@@ -4,7 +4,7 @@ use Rattle.line_device.proofs.WanderLemmas.{wander-trans}
 use Rattle.word_log.specs.Area.{gate_place, count_place, entry_place}
 use Rattle.word_log.specs.Replay.{wrong_at, entries}
 use Rattle.word_log.specs.Mount.{Tells}
-use Rattle.word_log.proofs.FrameLemmas.{last_image-wander}
+use Rattle.line_words.proofs.FrameLemmas.{last_image-wander}
 use Rattle.word_log.proofs.ReadLemmas.{first_wrong-gate, wrong_at-other, listed-closed, listed-open}
 use Rattle.word_log.proofs.reading.read_whole.Goals as goal
 

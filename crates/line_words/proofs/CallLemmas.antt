@@ -7,8 +7,8 @@ use Rattle.line_device.specs.History.{newest, Fades}
 use Rattle.line_device.specs.Medium.{Medium, Wander, stored, on_line, word_stored}
 use Rattle.line_device.proofs.WanderLemmas.{on_line-in, on_line-out}
 use Rattle.line_device.proofs.WordLemmas.{word_over-word, reaches-word, reaches-other_word}
-use Rattle.word_log.specs.Words.{with_word}
-use Rattle.word_log.proofs.FrameLemmas.{with_word-in, with_word-out}
+use Rattle.line_words.specs.Words.{with_word}
+use Rattle.line_words.proofs.FrameLemmas.{with_word-in, with_word-out}
 
 -- the eight bytes of a word, stored at its offset, are one more value of that word alone
 stored-word : (m : Medium) (place value p : ℕ) → value < 2 ^ 64 → (stored m (place / 8) (8 * (place % 8)) (to_le_bytes w64 value)).history p ≡ (with_word m place value).history p

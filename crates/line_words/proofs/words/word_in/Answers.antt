@@ -1,6 +1,6 @@
 use Rattle.std.proofs.Common.{add-zero}
 use Rattle.line_device.specs.Word.{word_from}
-use Rattle.word_log.proofs.words.word_in.Goals as goal
+use Rattle.line_words.proofs.words.word_in.Goals as goal
 
 pub returns : goal.returns
 unfolding word_from

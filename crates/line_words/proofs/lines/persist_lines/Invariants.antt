@@ -2,8 +2,8 @@ use Rattle.std.proofs.Common.{ℕ, ◌+◌, ◌/◌, ◌<◌, ◌≤◌}
 use Rattle.line_device.specs.Medium.{Wander, last_image}
 use Rattle.line_device.specs.Panel.{Runs}
 use Rattle.line_device.specs.Panel.Outcome.{went}
-use Rattle.word_log.specs.Rest.{IsOnly}
-use Rattle.word_log.proofs.words.persist_lines.Given as goal
+use Rattle.line_words.specs.Words.{IsOnly}
+use Rattle.line_words.proofs.lines.persist_lines.Given as goal
 
 abbrev pub invariant-loop-k : goal.invariant-loop-k
 invariant-loop-k g l =

@@ -2,10 +2,10 @@ use Rattle.std.proofs.Common.{◌⊎◌, inl, inr, ◌+◌, ◌/◌, ◌≡◌, 
 use Rattle.std.proofs.lemmas.Bool.{cases_lt}
 use Rattle.line_device.proofs.WanderLemmas.{wander-refl, wander-trans}
 use Rattle.line_device.proofs.PanelLemmas.{runs-refl, runs_then}
-use Rattle.word_log.specs.Rest.{IsOnly}
+use Rattle.line_words.specs.Words.{IsOnly}
 use Rattle.line_device.specs.Medium.{last_image}
-use Rattle.word_log.proofs.FrameLemmas.{is_only-one_more, wander-one_more}
-use Rattle.word_log.proofs.words.persist_lines.Goals as goal
+use Rattle.line_words.proofs.FrameLemmas.{is_only-one_more, wander-one_more}
+use Rattle.line_words.proofs.lines.persist_lines.Goals as goal
 
 pub loop-k-init : goal.loop-k-init
 loop-k-init g c = record {

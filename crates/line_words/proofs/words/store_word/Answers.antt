@@ -1,5 +1,5 @@
-use Rattle.word_log.proofs.CallLemmas.{wander-stored_word}
-use Rattle.word_log.proofs.words.store_word.Goals as goal
+use Rattle.line_words.proofs.CallLemmas.{wander-stored_word}
+use Rattle.line_words.proofs.words.store_word.Goals as goal
 
 pub returns-in-Ok-clause-lines : goal.returns-in-Ok-clause-lines
 returns-in-Ok-clause-lines g c =

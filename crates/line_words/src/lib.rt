@@ -1,0 +1,14 @@
+//! Calls on single words and whole lines of a device, each with what it leaves of all others.
+#![tactic(auto)]
+
+mod interruption;
+mod lines;
+mod renewal;
+#[cfg(test)]
+mod tests;
+mod words;
+
+pub use interruption::Interruption;
+pub use lines::{clear_line, load_line, persist_line, persist_lines, store_line};
+pub use renewal::{renew_line, renew_lines};
+pub use words::{load_word, store_word};
