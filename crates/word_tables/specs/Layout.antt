@@ -1,5 +1,5 @@
 -- Where everything lies on a medium.
-use Rattle.std.specs.Prelude.{◌≡◌, ◌<◌, ◌≤◌, ℕ, ◌+◌, ◌-◌, ◌*◌, ◌/◌, ◌%◌, List, [], ◌∷◌, ◌++◌, sum, take, slice_index}
+use Rattle.std.specs.Prelude.{◌≡◌, ◌<◌, ◌≤◌, ◌⊎◌, ℕ, ◌+◌, ◌-◌, ◌*◌, ◌/◌, ◌%◌, List, [], ◌∷◌, ◌++◌, sum, take, slice_index, nat_lt, if◌then◌else◌}
 use Rattle.nvm_base.specs.declared.units.Span.{Span}
 use Rattle.word_tables.specs.declared.geometry.Geometry.{Geometry}
 
@@ -75,6 +75,19 @@ lines_in geo area = record { start = first_line geo area; len = size geo area }
 abbrev pub bytes_in : Geometry → Area → Span
 bytes_in geo area = record { start = 64 * first_line geo area; len = 64 * size geo area }
 
+-- an area has a line
+abbrev pub HasLine : Geometry → Area → ℕ → Type 0
+HasLine geo area line = (first_line geo area ≤ line) × (line < first_line geo area + size geo area)
+
+-- the line of a line of the volume: the second range goes on where the first one ends
+unfoldable pub volume_line : Geometry → ℕ → ℕ
+volume_line geo n =
+    if nat_lt n (size geo first_range) then first_line geo first_range + n else first_line geo second_range + (n - size geo first_range)
+
+-- the lines of the volume
+abbrev pub IsVolumeLine : Geometry → ℕ → Type 0
+IsVolumeLine geo line = HasLine geo first_range line ⊎ HasLine geo second_range line
+
 -- the first line of a physical block
 abbrev pub block_line : Geometry → ℕ → ℕ
 block_line geo unit = first_line geo blocks + 8 * unit
@@ -82,10 +95,6 @@ block_line geo unit = first_line geo blocks + 8 * unit
 -- the first line of a physical page
 abbrev pub file_line : Geometry → ℕ → ℕ
 file_line geo unit = first_line geo file_pages + 64 * unit
-
--- an area has a line
-abbrev pub HasLine : Geometry → Area → ℕ → Type 0
-HasLine geo area line = (first_line geo area ≤ line) × (line < first_line geo area + size geo area)
 
 -- the areas of logs
 abbrev pub IsLog : Area → Type 0
@@ -99,3 +108,8 @@ pub record IsLaidOut (geo : Geometry) : Type 0 where
   pub apart : (a b : Area) → rank a < rank b → first_line geo a + size geo a ≤ first_line geo b
   pub within : (a : Area) → first_line geo a + size geo a ≤ total_lines geo
   pub whole_pages : (a : Area) → rank first_range ≤ rank a → first_line geo a % 64 ≡ 0
+
+-- lines of the volume have lines of their own, in its two areas
+pub record IsSpread (geo : Geometry) : Type 0 where
+  pub distinct : (m n : ℕ) → volume_line geo m ≡ volume_line geo n → m ≡ n
+  pub in_ranges : (n : ℕ) → n < 64 * geo.vpages → IsVolumeLine geo (volume_line geo n)

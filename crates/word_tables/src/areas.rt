@@ -1,10 +1,10 @@
 // Where the areas lie: each begins where the one before it ends.
-ghost use Rattle.std.specs.Prelude.{◌≡◌, ◌+◌, ◌<◌, ◌≤◌, [], ◌∷◌};
+ghost use Rattle.std.specs.Prelude.{◌≡◌, ◌+◌, ◌<◌, ◌≤◌};
 ghost use Rattle.word_tables.specs.Bounds.{IsValid};
-ghost use Rattle.word_tables.specs.Layout.{IsLaidOut, Area, block_log, block_map, volume_log, presence, file_log, inodes, page_tables, first_range, blocks, second_range, file_pages, first_line, size, meta_lines, total_lines, lines_in, bytes_in, block_line, file_line};
+ghost use Rattle.word_tables.specs.Layout.{IsLaidOut, Area, block_log, block_map, volume_log, presence, file_log, inodes, page_tables, blocks, second_range, file_pages, first_line, size, meta_lines, total_lines, lines_in, block_line, file_line};
 
 use crate::Geometry;
-use nvm_base::{LINE, Span};
+use nvm_base::Span;
 
 const BLOCK_LOG: Span = Span { start: 1, len: 17 };
 
@@ -18,7 +18,7 @@ const PAGE_TABLE_LINES: u64 = 2048;
 
 const BLOCK_LINES: u64 = 8;
 
-const PAGE_LINES: u64 = 64;
+pub(crate) const PAGE_LINES: u64 = 64;
 
 /// Physical blocks beyond the logical ones, so that an atomic write of 64 blocks finds room.
 const EXTRA_BLOCKS: u64 = 64;
@@ -64,6 +64,7 @@ impl Geometry {
     pub fn total_lines(&self) -> u64
         requires { IsValid self.now }
         ensures lines { result ≡ total_lines self.now }
+        ensures least { 5_056 ≤ result }
         ensures most { result ≤ 118_016 }
     {
         self.file_pages() + PAGE_LINES * self.fpages
@@ -85,25 +86,6 @@ impl Geometry {
         ensures { result ≡ file_line self.now unit }
     {
         self.file_pages() + PAGE_LINES * unit
-    }
-
-    /// The volume's two parts, in bytes.
-    pub fn volume_ranges(&self) -> [Span; 2]
-        requires { IsValid self.now }
-        ensures { result ≡ bytes_in self.now first_range ∷ bytes_in self.now second_range ∷ [] }
-    {
-        let first = self.vpages.div_ceil(2);
-        let page = PAGE_LINES * LINE;
-        [
-            Span {
-                start: LINE * self.meta_lines(),
-                len: page * first,
-            },
-            Span {
-                start: LINE * self.second_range(),
-                len: page * (self.vpages - first),
-            },
-        ]
     }
 
     pub(crate) fn block_map(&self) -> u64
@@ -140,7 +122,7 @@ impl Geometry {
         self.meta_lines() + PAGE_LINES * self.vpages.div_ceil(2)
     }
 
-    fn second_range(&self) -> u64
+    pub(crate) fn second_range(&self) -> u64
         requires { IsValid self.now }
         ensures { result ≡ first_line self.now second_range }
     {

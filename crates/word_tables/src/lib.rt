@@ -3,10 +3,12 @@
 
 mod areas;
 mod geometry;
+mod volume;
 mod words;
 
 pub use areas::areas_follow;
 pub use geometry::Geometry;
+pub use volume::volume_lines_differ;
 pub use words::places_differ;
 
 #[cfg(test)]

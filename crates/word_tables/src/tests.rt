@@ -47,6 +47,17 @@ fn data_follows_the_metadata(rt: HostRuntime) {
     }
 }
 
+// The lines of the second range's pages come after the blocks.
+#[test]
+fn the_volume_goes_on_in_its_second_range(rt: HostRuntime) {
+    let geo = sizes(8, 3, 32);
+    assert!(rt; geo.valid());
+    for (line, place) in [(0, 2304), (127, 2431), (128, 3008), (191, 3071)] {
+        assert!(rt; line < 64 * geo.vpages);
+        assert_eq!(rt; geo.volume_line(line), place, "of {line}");
+    }
+}
+
 #[test]
 fn logs_and_words_lie_in_the_metadata(rt: HostRuntime) {
     let geo = sizes(8, 2, 32);
