@@ -3,3 +3,4 @@ pub mod PageLemmas
 pub mod PutLemmas
 pub mod StandLemmas
 pub mod RestartLemmas
+pub mod LineLemmas

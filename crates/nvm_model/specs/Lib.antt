@@ -3,3 +3,4 @@ pub mod Cell
 pub mod Page
 pub mod Lines
 pub mod Storage
+pub mod Blocks

@@ -1,7 +1,7 @@
 -- Which ranges are a set.
-use Rattle.std.proofs.Common.{◌≡◌, ◌<◌, ◌≤◌, ◌+◌, ◌^◌, ◌&&◌, ◌||◌, ℕ, Bool, true, false, not, List, [], ◌∷◌, ◌++◌, All, Some, None, cond, eqb, length, get_or, take, inl, inr, arith, refl, sym, ap, ap₂, ◌∙◌}
+use Rattle.std.proofs.Common.{◌≡◌, ◌<◌, ◌≤◌, ◌+◌, ◌^◌, ◌&&◌, ◌||◌, ℕ, zero, suc, Bool, true, false, not, List, [], ◌∷◌, ◌++◌, All, Some, None, cond, eqb, length, get_or, take, inl, inr, arith, refl, sym, ap, ap₂, ◌∙◌}
 use Rattle.std.specs.List.{list_any, position_or_len}
-use Rattle.std.proofs.lemmas.Bool.{cases_lt, lt-ltb, eqb-false}
+use Rattle.std.proofs.lemmas.Bool.{cases_lt, cases_Bool, lt-ltb, eqb-false, false≢true, not-true, and_parts, or_parts}
 use Rattle.std.proofs.lemmas.Option.{none-some}
 use Rattle.std.proofs.lemmas.List.Sums.{fails_before_first}
 use Rattle.std.proofs.lemmas.List.{take_more}
@@ -48,3 +48,25 @@ some_bytes ranges none k d within =
 
 pub range_set : (ranges : List Span) → All IsInReach ranges → total_of ranges ≤ 2 ^ 40 → first_empty ranges ≡ None → is_disjoint ranges ≡ true → IsRangeSet ranges
 range_set ranges ends total none disjoint = record { some = some_bytes ranges none; ends = ends; total = total; disjoint = disjoint }
+
+none_in_front : (p : Span → Bool) (ranges : List Span) (i : ℕ) → list_any p ranges ≡ false → list_any p (take i ranges) ≡ false
+none_in_front p ranges zero none = refl
+none_in_front p [] (suc i) none = refl
+none_in_front p (r ∷ rs) (suc i) none =
+    let parts = or_parts (p r) (list_any p rs) none in
+    ap₂ (λ a b. a || b) parts.0 (none_in_front p rs i parts.1)
+
+disjoint_in_front : (ranges : List Span) (i : ℕ) → is_disjoint ranges ≡ true → is_disjoint (take i ranges) ≡ true
+disjoint_in_front ranges zero disjoint = refl
+disjoint_in_front [] (suc i) disjoint = refl
+disjoint_in_front (r ∷ rs) (suc i) disjoint =
+    let parts = and_parts (not (list_any (overlap r) rs)) (is_disjoint rs) disjoint in
+    ap₂ (λ a b. not a && b) (none_in_front (overlap r) rs i (not-true _ parts.0)) (disjoint_in_front rs i parts.1)
+
+-- where there is a first overlap, ranges are not disjoint
+pub overlap_not_disjoint : (ranges : List Span) (i : ℕ) → IsFirstOverlap ranges i → is_disjoint ranges ≡ false
+overlap_not_disjoint ranges i first =
+    elim (cases_Bool (is_disjoint ranges)) [
+      | inl disjoint ↦ absurd (false≢true (sym first.with_it ∙ disjoint_in_front ranges (i + 1) disjoint))
+      | inr not_ ↦ not_
+    ]

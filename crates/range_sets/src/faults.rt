@@ -13,7 +13,8 @@ pub(crate) fn first_empty(ranges: &[Span]) -> Option<usize>
     ranges.iter().position(|range| range.len == 0)
 }
 
-pub(crate) fn first_overlap(ranges: &[Span]) -> Option<usize>
+/// The index of the first range that shares a byte with an earlier one.
+pub fn first_overlap(ranges: &[Span]) -> Option<usize>
     requires some { All HasBytes ranges.now }
     requires ends { All IsInReach ranges.now }
     ensures { MatchOption result (is_disjoint ranges.now ≡ true) (IsFirstOverlap ranges.now) }

@@ -5,7 +5,9 @@ mod faults;
 mod set;
 mod walk;
 
+pub use faults::first_overlap;
 pub use set::{RangeFault, RangeSet};
+pub use walk::total_of;
 
 #[cfg(test)]
 mod tests;

@@ -4,7 +4,8 @@ ghost use Rattle.range_sets.specs.Ranges.{IsInReach, offset_of, place, total_of}
 
 use nvm_base::Span;
 
-pub(crate) fn total_of(ranges: &[Span]) -> u64
+/// The bytes of all ranges.
+pub fn total_of(ranges: &[Span]) -> u64
     requires { total_of ranges.now ≤ 2 ^ 40 }
     ensures { result ≡ total_of ranges.now }
 {
