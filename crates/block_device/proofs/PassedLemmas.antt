@@ -1,0 +1,75 @@
+-- What is known once the tests before a call passed.
+use Rattle.std.proofs.Common.{◌≡◌, ◌+◌, ◌<◌, ◌≤◌, ◌==◌, ◌||◌, ℕ, Bool, true, false, not, List, length, get_or, sum_by, position, nat_lt, cond, Option, Some, None, option_map, Ok, refl, sym, ap, ◌∙◌, inl, inr, arith}
+use Rattle.std.specs.List.{list_any, range_with_len, position_or_len}
+use Rattle.std.proofs.lemmas.Bool.{cases_Bool, ltb-false, or_parts}
+use Rattle.std.proofs.lemmas.Option.{none-some}
+use Rattle.std.proofs.lemmas.List.Sums.{fails_before_first}
+use Rattle.std.proofs.lemmas.List.FromFn.{length-range_with_len, get_or-range_with_len}
+use Rattle.nvm_base.specs.declared.units.Span.{Span}
+use Rattle.line_device.specs.Medium.{Medium}
+use Rattle.word_tables.specs.declared.geometry.Geometry.{Geometry}
+use Rattle.word_tables.specs.Layout.{meta_lines}
+use Rattle.range_sets.specs.Ranges.{is_disjoint}
+use Rattle.nvm_model.specs.Blocks.{first_there}
+use Rattle.block_device.specs.Object.{HasGoodMetadata}
+use Rattle.block_device.specs.Refusals.Refusal.{Meta}
+use Rattle.block_device.specs.Refusals.{Refusal, Checks, where_, spans_refusal, together_refusal, meta_refusal}
+
+nowhere : {X : Type 0} (p : X → Bool) (xs : List X) (k : ℕ) (d : X) → position p xs ≡ None → k < length xs → p (get_or xs k d) ≡ false
+nowhere p xs k d none below =
+    let at = position_or_len p xs in
+    elim (cases_Bool (nat_lt at (length xs))) as (λ _. p (get_or xs k d) ≡ false) [
+      | inl found ↦ absurd (none-some at (sym none ∙ ap (λ b. cond b (Some at) None) found))
+      | inr past ↦ fails_before_first p xs k d (omega (arith, ltb-false at (length xs) past))
+    ]
+
+unmapped : {T : Type 0} (o : Option ℕ) (f : ℕ → Refusal) (x : T) → Checks (option_map f o) (Ok x) → o ≡ None
+unmapped None f x h = refl
+unmapped (Some n) f x h = absurd h
+
+-- no line of metadata is bad
+pub meta_passed : {T : Type 0} (geo : Geometry) (m : Medium) (x : T) → Checks (meta_refusal geo m) (Ok x) → HasGoodMetadata geo m
+meta_passed geo m x h n below =
+    let size = length-range_with_len 0 (meta_lines geo) in
+    let at : get_or (range_with_len 0 (meta_lines geo)) n 0 ≡ n = get_or-range_with_len 0 (meta_lines geo) n 0 below ∙ omega arith in
+    ap m.is_bad (sym at) ∙ nowhere m.is_bad (range_with_len 0 (meta_lines geo)) n 0 (unmapped (position m.is_bad (range_with_len 0 (meta_lines geo))) (λ line. Meta line) x h) (omega arith)
+
+both_passed : {T : Type 0} (a b : Bool) (v w : Refusal) (x : T) → Checks (first_there (where_ a v) (where_ b w)) (Ok x) → (a ≡ false) × (b ≡ false)
+both_passed false false v w x h = (refl, refl)
+both_passed false true v w x h = absurd h
+both_passed true b v w x h = absurd h
+
+first_passed : {T : Type 0} (a b : Option Refusal) (x : T) → Checks (first_there a b) (Ok x) → Checks a (Ok x) × Checks b (Ok x)
+first_passed None b x h = (tt, h)
+first_passed (Some why) b x h = absurd h
+
+-- spans of blocks that are there, none empty
+pub record AreThere (blocks : ℕ) (spans : List Span) : Type 0 where
+  pub within : list_any (λ (s : Span). nat_lt blocks (s.start + s.len)) spans ≡ false
+  pub full : list_any (λ (s : Span). s.len == 0) spans ≡ false
+
+pub spans_passed : {T : Type 0} (blocks : ℕ) (spans : List Span) (x : T) → Checks (spans_refusal blocks spans) (Ok x) → AreThere blocks spans
+spans_passed blocks spans x h =
+    let both = both_passed (list_any (λ (s : Span). nat_lt blocks (s.start + s.len)) spans) (list_any (λ (s : Span). s.len == 0) spans) _ _ x h in
+    record { within = both.0; full = both.1 }
+
+-- few, and no two share a block
+pub record AreTogether (blocks : ℕ) (spans : List Span) : Type 0 where
+  pub there : AreThere blocks spans
+  pub few : sum_by (λ (s : Span). s.len) spans ≤ 64
+  pub disjoint : is_disjoint spans ≡ true
+
+pub together_passed : {T : Type 0} (blocks : ℕ) (spans : List Span) (x : T) → Checks (together_refusal blocks spans) (Ok x) → AreTogether blocks spans
+together_passed blocks spans x h =
+    let total = sum_by (λ (s : Span). s.len) spans in
+    let parts = first_passed (spans_refusal blocks spans) _ x h in
+    let both = both_passed (nat_lt 64 total || nat_lt 8 (length spans)) (not (is_disjoint spans)) _ _ x parts.1 in
+    record {
+      there = spans_passed blocks spans x parts.0;
+      few = ltb-false 64 total (or_parts (nat_lt 64 total) (nat_lt 8 (length spans)) both.0).0;
+      disjoint = positive (is_disjoint spans) both.1;
+    }
+  where
+    positive : (b : Bool) → not b ≡ false → b ≡ true
+    positive true out = refl
+    positive false out = sym out

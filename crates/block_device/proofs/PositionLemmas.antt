@@ -1,0 +1,50 @@
+-- The first place that passes a test, in numbers that follow each other and in what is made from them.
+use Rattle.std.proofs.Common.{◌≡◌, ◌+◌, ◌<◌, ℕ, zero, suc, Bool, true, false, List, length, get_or, position, nat_lt, cond, Some, None, sym, ap, ◌∙◌, arith}
+use Rattle.std.specs.List.{range_with_len, position_or_len}
+use Rattle.std.proofs.lemmas.Bool.{lt-ltb, le-ltb}
+use Rattle.std.proofs.lemmas.List.Sums.{position_or_len_is}
+use Rattle.std.proofs.lemmas.List.FromFn.{length-range_with_len, get_or-range_with_len}
+use Rattle.nvm_model.specs.Numbered.{list_from}
+use Rattle.nvm_model.proofs.NumberedLemmas.{length-list_from}
+
+first_place : {X : Type 0} (p : X → Bool) (xs : List X) (i : ℕ) (d : X) → i < length xs → ((k : ℕ) → k < i → p (get_or xs k d) ≡ false) → p (get_or xs i d) ≡ true → position p xs ≡ Some i
+first_place p xs i d within before here =
+    let is : position_or_len p xs ≡ i = position_or_len_is p xs i d (omega arith) before (λ _. here) in
+    ap (λ n. cond (nat_lt n (length xs)) (Some n) None) is ∙ ap (λ b. cond b (Some i) None) (lt-ltb i (length xs) within)
+
+no_place : {X : Type 0} (p : X → Bool) (xs : List X) (d : X) → ((k : ℕ) → k < length xs → p (get_or xs k d) ≡ false) → position p xs ≡ None
+no_place p xs d fails =
+    let is : position_or_len p xs ≡ length xs = position_or_len_is p xs (length xs) d (omega arith) fails (λ h. absurd (omega arith)) in
+    ap (λ n. cond (nat_lt n (length xs)) (Some n) None) is ∙ ap (λ b. cond b (Some (length xs)) None) (le-ltb (length xs) (length xs) (omega arith))
+
+-- among numbers from 0
+pub first_below : (p : ℕ → Bool) (n i : ℕ) → i < n → ((k : ℕ) → k < i → p k ≡ false) → p i ≡ true → position p (range_with_len 0 n) ≡ Some i
+first_below p n i within before here =
+    let size = length-range_with_len 0 n in
+    let at : (k : ℕ) → k < n → get_or (range_with_len 0 n) k 0 ≡ k = λ k lt. get_or-range_with_len 0 n k 0 lt ∙ omega arith in
+    first_place p (range_with_len 0 n) i 0 (omega arith) (λ k lt. ap p (at k (omega arith)) ∙ before k lt) (ap p (at i within) ∙ here)
+
+pub none_below : (p : ℕ → Bool) (n : ℕ) → ((k : ℕ) → k < n → p k ≡ false) → position p (range_with_len 0 n) ≡ None
+none_below p n fails =
+    let size = length-range_with_len 0 n in
+    no_place p (range_with_len 0 n) 0
+    (λ k lt. let within : k < n = omega arith in ap p (get_or-range_with_len 0 n k 0 within ∙ omega arith) ∙ fails k within)
+
+-- in a list made by number
+pub get_or-list_from : {A : Type 0} (f : ℕ → A) (n count i : ℕ) (d : A) → i < count → get_or (list_from f n count) i d ≡ f (n + i)
+get_or-list_from f n zero i d lt = absurd (omega arith)
+get_or-list_from f n (suc count) zero d lt = let e : n + 0 ≡ n = omega arith in ap f (sym e)
+get_or-list_from f n (suc count) (suc i) d lt =
+    let e : n + suc i ≡ suc n + i = omega arith in get_or-list_from f (suc n) count i d (omega arith) ∙ ap f (sym e)
+
+pub first_made : {A : Type 0} (f : ℕ → A) (p : A → Bool) (a n i : ℕ) → i < n → ((k : ℕ) → k < i → p (f (a + k)) ≡ false) → p (f (a + i)) ≡ true → position p (list_from f a n) ≡ Some i
+first_made f p a n i within before here =
+    let size = length-list_from f a n in
+    let at = λ (k : ℕ) (lt : k < n). ap p (get_or-list_from f a n k (f a) lt) in
+    first_place p (list_from f a n) i (f a) (omega arith) (λ k lt. at k (omega arith) ∙ before k lt) (at i within ∙ here)
+
+pub none_made : {A : Type 0} (f : ℕ → A) (p : A → Bool) (a n : ℕ) → ((k : ℕ) → k < n → p (f (a + k)) ≡ false) → position p (list_from f a n) ≡ None
+none_made f p a n fails =
+    let size = length-list_from f a n in
+    no_place p (list_from f a n) (f a)
+    (λ k lt. let within : k < n = omega arith in ap p (get_or-list_from f a n k (f a) within) ∙ fails k within)

@@ -1,0 +1,96 @@
+-- Spans of blocks that change together to a state without bytes.
+use Rattle.std.proofs.Common.{◌≡◌, false, ◌<◌, ◌+◌, List, length, nat_lt, IsTrue, Result, Ok, Err, sym, ◌∙◌, ap, subst}
+use Rattle.std.specs.List.{list_any}
+use Rattle.nvm_base.specs.declared.units.Span.{Span}
+use Rattle.line_device.specs.Medium.{Medium, last_image}
+use Rattle.line_words.specs.Words.{WandersOutside, WandersBeside}
+use Rattle.line_words.proofs.BesideLemmas.{beside-outside}
+use Rattle.word_tables.specs.Bounds.{IsValid}
+use Rattle.word_tables.specs.declared.geometry.Geometry.{Geometry}
+use Rattle.word_log.specs.declared.area.LogArea.{LogArea}
+use Rattle.word_log.specs.Area.{IsOf}
+use Rattle.nvm_model.specs.Blocks.{change}
+use Rattle.block_map.specs.declared.state.BlockState.{BlockState}
+use Rattle.block_device.specs.declared.change.Change.{Change}
+use Rattle.block_device.specs.declared.fault.BlockFault.{BlockFault}
+use Rattle.block_device.specs.Area.{block_area, IsBlockLine}
+use Rattle.block_device.specs.Reading.{map_read}
+use Rattle.block_device.specs.Object.{BlocksState, IsKept, Serves, AreDurable, HasGoodMetadata, IsInStep, blocks_of, is_at}
+use Rattle.block_device.specs.Changes.{bare_block, changed_map, changes_in, units_named, MayChange, AreTaken}
+use Rattle.block_device.specs.Refusals.{Checks, OnWorked, together_refusal, meta_refusal}
+use Rattle.block_device.specs.Images.{EachReads, IsEither}
+use Rattle.block_device.proofs.ReadLemmas.{map_read-outside}
+use Rattle.block_device.proofs.PlaceLemmas.{area_is_block, named_apart}
+use Rattle.block_device.proofs.ChangeLemmas.{is_map-changed, length-changed_map}
+use Rattle.block_device.proofs.BareLemmas.{changed_blocks}
+use Rattle.block_device.proofs.BareChangeLemmas.{all_to-changes_in, bare_may_change, bare_taken, bare_units, bare_durable, some_changes}
+use Rattle.block_device.proofs.PassedLemmas.{AreTogether, together_passed, meta_passed}
+
+pub on_worked : {T : Type 0} (r : Result T BlockFault) (P : Type 0) → P → OnWorked r P
+on_worked (Ok x) P p = p
+on_worked (Err f) P p = λ _. p
+
+-- settled blocks, and spans of them that can change together
+pub record IsAsked (s : BlocksState) (m : Medium) (spans : List Span) (state : BlockState) (cs : List Change) : Type 0 where
+  pub area : LogArea
+  pub kept : IsKept s area
+  pub serves : Serves s m
+  pub settled : IsTrue s.settled
+  pub good : HasGoodMetadata s.geo m
+  pub together : AreTogether s.geo.blocks spans
+  pub bare : is_at state ≡ false
+  pub named : cs ≡ changes_in spans state
+
+pub asked : {T U : Type 0} (view s : BlocksState) (area : LogArea) (m : Medium) (spans : List Span) (state : BlockState) (cs : List Change) (x : T) (y : U) → view ≡ s → IsKept view area → Serves s m → IsTrue s.settled → Checks (meta_refusal view.geo m) (Ok y) → Checks (together_refusal view.geo.blocks spans) (Ok x) → is_at state ≡ false → cs ≡ changes_in spans state → IsAsked s m spans state cs
+asked view s area m spans state cs x y is kept serves settled meta together bare named = record {
+  area = area;
+  kept = subst (λ t. IsKept t area) is kept;
+  serves = serves;
+  settled = settled;
+  good = subst (λ (t : BlocksState). HasGoodMetadata t.geo m) is (meta_passed view.geo m y meta);
+  together = subst (λ (t : BlocksState). AreTogether t.geo.blocks spans) is (together_passed view.geo.blocks spans x together);
+  bare = bare;
+  named = named;
+}
+
+pub beside_of_area : (geo : Geometry) (old new : Medium) → IsValid geo → WandersOutside (IsOf (block_area geo)) old new → WandersBeside (IsBlockLine geo) old new
+beside_of_area geo old new valid x = beside-outside (IsOf (block_area geo)) (IsBlockLine geo) old new (area_is_block geo valid) x
+
+-- the blocks after a switch
+pub blocks_switched : (s t : BlocksState) (area : LogArea) (old new : Medium) (cs : List Change) → IsKept s area → MayChange s.map cs → t.geo ≡ s.geo → t.map ≡ changed_map cs s.map → WandersOutside (IsOf (block_area s.geo)) old new → blocks_of t new ≡ map_read s.geo old.is_bad (last_image old) (changed_map cs s.map)
+blocks_switched s t area old new cs kept may geo map x =
+    ap (λ g. map_read g new.is_bad (last_image new) t.map) geo
+    ∙ ap (map_read s.geo new.is_bad (last_image new)) map
+    ∙ map_read-outside s.geo (changed_map cs s.map) old new (IsOf (block_area s.geo)) x
+    (λ p named of. named_apart s.geo kept.valid (changed_map cs s.map) p (length-changed_map cs s.map ∙ kept.all) (is_map-changed cs s.map may kept.is_map) named of)
+
+module _ (s : BlocksState) (m : Medium) (spans : List Span) (state : BlockState) (cs : List Change) (x : IsAsked s m spans state cs) where
+  pub asked_may : MayChange s.map cs
+  asked_may =
+      subst (MayChange s.map) (sym x.named)
+      (bare_may_change state x.bare s.map spans (subst (λ n. list_any (λ (t : Span). nat_lt n (t.start + t.len)) spans ≡ false) (sym x.kept.all) x.together.there.within) x.together.disjoint)
+
+  pub asked_some : 0 < length spans → 0 < length cs
+  asked_some some = subst (λ (ds : List Change). 0 < length ds) (sym x.named) (some_changes s.geo.blocks spans state some x.together.there)
+
+  pub asked_taken : AreTaken s.free cs
+  asked_taken = subst (AreTaken s.free) (sym x.named) (bare_taken state x.bare s.free (changes_in spans state) (all_to-changes_in spans state))
+
+  pub asked_in_step : IsInStep s.map s.free (units_named cs)
+  asked_in_step =
+      subst (IsInStep s.map s.free) (sym (ap units_named x.named ∙ bare_units state x.bare (changes_in spans state) (all_to-changes_in spans state))) (x.kept.in_step x.settled)
+
+  pub asked_durable : AreDurable s.geo m (changed_map cs s.map)
+  asked_durable =
+      subst (λ ds. AreDurable s.geo m (changed_map ds s.map)) (sym x.named)
+      (bare_durable state x.bare s.geo m s.map (changes_in spans state) (all_to-changes_in spans state) (subst (MayChange s.map) x.named asked_may) x.serves.durable)
+
+  asked_blocks : map_read s.geo m.is_bad (last_image m) (changed_map cs s.map) ≡ change spans (bare_block state) (blocks_of s m)
+  asked_blocks =
+      ap (λ ds. map_read s.geo m.is_bad (last_image m) (changed_map ds s.map)) x.named ∙ changed_blocks s.geo m.is_bad (last_image m) spans state s.map x.bare
+
+  pub asked_images : (new : Medium) → EachReads s.geo new (IsEither (blocks_of s m) (map_read s.geo m.is_bad (last_image m) (changed_map cs s.map))) → EachReads s.geo new (IsEither (blocks_of s m) (change spans (bare_block state) (blocks_of s m)))
+  asked_images new each = subst (λ bs. EachReads s.geo new (IsEither (blocks_of s m) bs)) asked_blocks each
+
+  pub asked_ok : (t : BlocksState) (new : Medium) → t.geo ≡ s.geo → t.map ≡ changed_map cs s.map → WandersOutside (IsOf (block_area s.geo)) m new → blocks_of t new ≡ change spans (bare_block state) (blocks_of s m)
+  asked_ok t new geo map outside = blocks_switched s t x.area m new cs x.kept asked_may geo map outside ∙ asked_blocks

@@ -1,0 +1,8 @@
+pub mod Area
+pub mod Stopped
+pub mod Reading
+pub mod Object
+pub mod Refusals
+pub mod Images
+pub mod Changes
+pub mod Mounting

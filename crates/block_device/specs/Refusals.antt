@@ -1,0 +1,129 @@
+-- When calls are refused, and why.
+use Rattle.std.specs.Prelude.{◌≡◌, ◌≢◌, ◌+◌, ◌/◌, ◌%◌, ◌==◌, ◌||◌, ℕ, Bool, true, false, not, List, [], ◌∷◌, length, sum_by, nat_lt, Option, Some, None, option_map, position, Result, Ok, Err, if◌then◌else◌}
+use Rattle.std.specs.List.{list_any, range_with_len}
+use Rattle.nvm_base.specs.declared.units.Span.{Span}
+use Rattle.line_device.specs.Medium.{Medium}
+use Rattle.line_device.specs.Panel.{Outcome}
+use Rattle.line_device.specs.Panel.Outcome.{went, failed, lost}
+use Rattle.word_tables.specs.declared.geometry.Geometry.{Geometry}
+use Rattle.word_tables.specs.Layout.{meta_lines}
+use Rattle.range_sets.specs.Ranges.{is_disjoint}
+use Rattle.nvm_model.specs.Blocks.{Obstacle, first_there, first_obstacle}
+use Rattle.nvm_model.specs.Blocks.Obstacle.{scar, bad_line}
+use Rattle.block_device.specs.declared.fault.BlockFault.{BlockFault}
+use Rattle.block_device.specs.declared.fault.BlockFault.TheVariants as fault
+use Rattle.block_device.specs.Object.{BlocksState, blocks_of}
+
+-- why a call is refused
+pub data Refusal : Type 0 where
+  Range : Refusal
+  Length : Refusal
+  Limit : Refusal
+  Overlap : Refusal
+  Meta : ℕ → Refusal
+  Unreadable : Obstacle → Refusal
+
+-- what a fault tells; a device that failed or lost power refuses nothing
+abbrev pub told : BlockFault → Option Refusal
+told fault.Range = Some Range
+told fault.Length = Some Length
+told fault.Limit = Some Limit
+told fault.Overlap = Some Overlap
+told (fault.Meta line) = Some (Meta line.0)
+told (fault.Scarred block) = Some (Unreadable (scar block))
+told (fault.Poison block line) = Some (Unreadable (bad_line block line))
+told fault.Device = None
+told fault.PowerLost = None
+
+-- a call is refused for this reason and no other, and where there is none it isn't refused
+abbrev pub Answers : {T : Type 0} → Option Refusal → Result T BlockFault → Type 0
+Answers None (Ok x) = Unit {0}
+Answers None (Err f) = told f ≡ None
+Answers (Some why) (Ok x) = ⊥
+Answers (Some why) (Err f) = told f ≡ Some why
+
+-- a test finds this reason and no other, and passes where there is none
+abbrev pub Checks : {T : Type 0} → Option Refusal → Result T BlockFault → Type 0
+Checks None (Ok x) = Unit {0}
+Checks None (Err f) = ⊥
+Checks (Some why) (Ok x) = ⊥
+Checks (Some why) (Err f) = told f ≡ Some why
+
+-- this fault tells that reason, and there is none where there is no reason
+abbrev pub Obstructs : Option Refusal → Option BlockFault → Type 0
+Obstructs None None = Unit {0}
+Obstructs None (Some f) = ⊥
+Obstructs (Some why) None = ⊥
+Obstructs (Some why) (Some f) = told f ≡ Some why
+
+-- where a call was refused, this holds
+abbrev pub OnRefused : {T : Type 0} → Result T BlockFault → Type 0 → Type 0
+OnRefused (Ok x) P = Unit {0}
+OnRefused (Err f) P = told f ≢ None → P
+
+-- where it was not refused, this holds, however it ended
+abbrev pub OnWorked : {T : Type 0} → Result T BlockFault → Type 0 → Type 0
+OnWorked (Ok x) P = P
+OnWorked (Err f) P = told f ≡ None → P
+
+-- how a call ended, as far as the device goes
+abbrev pub block_outcome : {T : Type 0} → Result T BlockFault → Outcome
+block_outcome (Ok x) = went
+block_outcome (Err fault.Device) = failed
+block_outcome (Err fault.PowerLost) = lost
+block_outcome (Err fault.Range) = went
+block_outcome (Err fault.Length) = went
+block_outcome (Err fault.Limit) = went
+block_outcome (Err fault.Overlap) = went
+block_outcome (Err (fault.Meta line)) = went
+block_outcome (Err (fault.Scarred block)) = went
+block_outcome (Err (fault.Poison block line)) = went
+
+-- whether the device did all that it was asked
+abbrev pub is_done : Outcome → Bool
+is_done went = true
+is_done failed = false
+is_done lost = false
+
+-- one refusal where a condition holds
+abbrev pub where_ : Bool → Refusal → Option Refusal
+where_ holds why = if holds then Some why else None
+
+-- blocks that so many bytes touch, from the first one on
+abbrev pub blocks_touched : ℕ → ℕ
+blocks_touched len = (len + 511) / 512
+
+-- so many bytes from a block on: they go past the last block, or are no whole blocks
+abbrev pub bytes_refusal : ℕ → ℕ → ℕ → Option Refusal
+bytes_refusal count block len =
+    first_there (where_ (nat_lt count (block + blocks_touched len)) Range) (where_ (len == 0 || not (len % 512 == 0)) Length)
+
+-- the lowest line of metadata that is bad
+abbrev pub meta_refusal : Geometry → Medium → Option Refusal
+meta_refusal geo m = option_map Meta (position m.is_bad (range_with_len 0 (meta_lines geo)))
+
+abbrev pub read_refusal : BlocksState → Medium → ℕ → ℕ → Option Refusal
+read_refusal s m block len =
+    first_there (bytes_refusal s.geo.blocks block len) (option_map Unreadable (first_obstacle (blocks_of s m) block (len / 512)))
+
+abbrev pub write_refusal : BlocksState → Medium → ℕ → ℕ → Option Refusal
+write_refusal s m block len = first_there (bytes_refusal s.geo.blocks block len) (meta_refusal s.geo m)
+
+-- spans of blocks: one goes past the last block, or one is empty
+abbrev pub spans_refusal : ℕ → List Span → Option Refusal
+spans_refusal count spans =
+    first_there (where_ (list_any (λ (s : Span). nat_lt count (s.start + s.len)) spans) Range)
+    (where_ (list_any (λ (s : Span). s.len == 0) spans) Length)
+
+-- spans of blocks that change together: at most 64 blocks in at most 8 spans, none of them twice
+abbrev pub together_refusal : ℕ → List Span → Option Refusal
+together_refusal count spans =
+    first_there (spans_refusal count spans)
+    (first_there (where_ (nat_lt 64 (sum_by (λ (s : Span). s.len) spans) || nat_lt 8 (length spans)) Limit)
+    (where_ (not (is_disjoint spans)) Overlap))
+
+abbrev pub change_refusal : BlocksState → Medium → List Span → Option Refusal
+change_refusal s m spans = first_there (together_refusal s.geo.blocks spans) (meta_refusal s.geo m)
+
+abbrev pub hint_refusal : BlocksState → Medium → Span → Option Refusal
+hint_refusal s m span = first_there (spans_refusal s.geo.blocks (span ∷ [])) (meta_refusal s.geo m)

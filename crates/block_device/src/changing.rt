@@ -1,0 +1,151 @@
+// Discards and scars: blocks that change without bytes.
+ghost use Rattle.std.specs.Prelude.{◌≡◌, ◌+◌, ◌*◌, ◌<◌, ◌≤◌, ◌++◌, All, IsTrue, OnOk, [], ◌∷◌, false, length, sum_by};
+ghost use Rattle.arrayvec.specs.ArrayVec.{array_vec_len};
+ghost use Rattle.nvm_base.specs.declared.units.Span.{Span as Stretch};
+ghost use Rattle.line_device.specs.Panel.{Runs};
+ghost use Rattle.line_words.specs.Words.{WandersBeside};
+ghost use Rattle.nvm_model.specs.Storage.Block.{Absent, Scarred};
+ghost use Rattle.nvm_model.specs.Blocks.{IsMixed, change};
+ghost use Rattle.block_device.specs.Area.{IsBlockLine};
+ghost use Rattle.block_device.specs.Object.{Serves, blocks_of, is_at};
+ghost use Rattle.block_device.specs.Changes.{bare_block, changes_in};
+ghost use Rattle.block_device.specs.Refusals.{Answers, OnRefused, OnWorked, block_outcome, is_done, change_refusal, hint_refusal};
+ghost use Rattle.block_device.specs.Images.{EachReads, IsEither};
+
+use crate::change::Change;
+use crate::checks::{check_meta, check_spans, check_together};
+use crate::{BlockFault, Blocks};
+use arrayvec::ArrayVec;
+use block_map::BlockState;
+use line_device::Lines;
+use nvm_base::Span;
+
+/// Blocks that change together.
+type Changes = ArrayVec<Change, 64>;
+
+impl Blocks {
+    /// Makes blocks absent, all of them or none.
+    pub fn discard_now<L: Lines>(&mut self, dev: &mut L, blocks: Span) -> Result<(), BlockFault>
+        requires serves { Serves self.old (L.state dev.old).medium }
+        requires settled { IsTrue self.old.settled }
+        requires on { IsTrue (L.state dev.old).panel.power }
+        ensures refused { Answers (change_refusal self.old (L.state dev.old).medium (blocks ∷ [])) result }
+        ensures untouched { OnRefused result ((self.new ≡ self.old) × (dev.new ≡ dev.old)) }
+        ensures ok { OnOk result (blocks_of self.new (L.state dev.new).medium
+            ≡ change (blocks ∷ []) Absent (blocks_of self.old (L.state dev.old).medium)) }
+        ensures images { OnWorked result (EachReads self.old.geo (L.state dev.new).medium
+            (IsEither (blocks_of self.old (L.state dev.old).medium)
+            (change (blocks ∷ []) Absent (blocks_of self.old (L.state dev.old).medium)))) }
+        ensures outside { WandersBeside (IsBlockLine self.old.geo) (L.state dev.old).medium (L.state dev.new).medium }
+        ensures serves { IsTrue self.new.settled → Serves self.new (L.state dev.new).medium }
+        ensures object { (self.new.geo ≡ self.old.geo) × (self.new.settled ≡ is_done (block_outcome result)) }
+        ensures runs { Runs 326 131 (block_outcome result) (L.state dev.old).panel (L.state dev.new).panel }
+    {
+        self.change_together(dev, &[blocks], BlockState::Absent)
+    }
+
+    /// Makes the blocks of spans unreadable, all of them or none.
+    pub fn scar<L: Lines>(&mut self, dev: &mut L, spans: &[Span]) -> Result<(), BlockFault>
+        requires serves { Serves self.old (L.state dev.old).medium }
+        requires settled { IsTrue self.old.settled }
+        requires on { IsTrue (L.state dev.old).panel.power }
+        requires some { 0 < length spans.now }
+        ensures refused { Answers (change_refusal self.old (L.state dev.old).medium spans.now) result }
+        ensures untouched { OnRefused result ((self.new ≡ self.old) × (dev.new ≡ dev.old)) }
+        ensures ok { OnOk result (blocks_of self.new (L.state dev.new).medium
+            ≡ change spans.now Scarred (blocks_of self.old (L.state dev.old).medium)) }
+        ensures images { OnWorked result (EachReads self.old.geo (L.state dev.new).medium
+            (IsEither (blocks_of self.old (L.state dev.old).medium)
+            (change spans.now Scarred (blocks_of self.old (L.state dev.old).medium)))) }
+        ensures outside { WandersBeside (IsBlockLine self.old.geo) (L.state dev.old).medium (L.state dev.new).medium }
+        ensures serves { IsTrue self.new.settled → Serves self.new (L.state dev.new).medium }
+        ensures object { (self.new.geo ≡ self.old.geo) × (self.new.settled ≡ is_done (block_outcome result)) }
+        ensures runs { Runs 326 131 (block_outcome result) (L.state dev.old).panel (L.state dev.new).panel }
+    {
+        self.change_together(dev, spans, BlockState::Scarred)
+    }
+
+    /// Makes blocks absent, one after the other: wherever the power goes, each is as it was or absent.
+    pub fn discard_hint<L: Lines>(&mut self, dev: &mut L, blocks: Span) -> Result<(), BlockFault>
+        requires serves { Serves self.old (L.state dev.old).medium }
+        requires settled { IsTrue self.old.settled }
+        requires on { IsTrue (L.state dev.old).panel.power }
+        ensures refused { Answers (hint_refusal self.old (L.state dev.old).medium blocks) result }
+        ensures untouched { OnRefused result ((self.new ≡ self.old) × (dev.new ≡ dev.old)) }
+        ensures ok { OnOk result (blocks_of self.new (L.state dev.new).medium
+            ≡ change (blocks ∷ []) Absent (blocks_of self.old (L.state dev.old).medium)) }
+        ensures images { OnWorked result (EachReads self.old.geo (L.state dev.new).medium
+            (IsMixed (blocks_of self.old (L.state dev.old).medium)
+            (change (blocks ∷ []) Absent (blocks_of self.old (L.state dev.old).medium)))) }
+        ensures outside { WandersBeside (IsBlockLine self.old.geo) (L.state dev.old).medium (L.state dev.new).medium }
+        ensures serves { IsTrue self.new.settled → Serves self.new (L.state dev.new).medium }
+        ensures object { (self.new.geo ≡ self.old.geo) × (self.new.settled ≡ is_done (block_outcome result)) }
+        ensures runs { Runs (11 * blocks.len) (5 * blocks.len) (block_outcome result)
+            (L.state dev.old).panel (L.state dev.new).panel }
+    {
+        check_spans(self.geo.blocks, &[blocks])?;
+        check_meta(dev, self.geo)?;
+        for block in blocks.start..blocks.start + blocks.len {
+            let change = Change {
+                block,
+                state: BlockState::Absent,
+            };
+            self.switch(dev, &[change])?;
+        }
+        Ok(())
+    }
+
+    // Gives the blocks of spans a state without bytes, all of them or none.
+    fn change_together<L: Lines>(
+        &mut self,
+        dev: &mut L,
+        spans: &[Span],
+        state: BlockState,
+    ) -> Result<(), BlockFault>
+        requires serves { Serves self.old (L.state dev.old).medium }
+        requires settled { IsTrue self.old.settled }
+        requires on { IsTrue (L.state dev.old).panel.power }
+        requires some { 0 < length spans.now }
+        requires bare { is_at state ≡ false }
+        ensures refused { Answers (change_refusal self.old (L.state dev.old).medium spans.now) result }
+        ensures untouched { OnRefused result ((self.new ≡ self.old) × (dev.new ≡ dev.old)) }
+        ensures ok { OnOk result (blocks_of self.new (L.state dev.new).medium
+            ≡ change spans.now (bare_block state) (blocks_of self.old (L.state dev.old).medium)) }
+        ensures images { OnWorked result (EachReads self.old.geo (L.state dev.new).medium
+            (IsEither (blocks_of self.old (L.state dev.old).medium)
+            (change spans.now (bare_block state) (blocks_of self.old (L.state dev.old).medium)))) }
+        ensures outside { WandersBeside (IsBlockLine self.old.geo) (L.state dev.old).medium (L.state dev.new).medium }
+        ensures serves { IsTrue self.new.settled → Serves self.new (L.state dev.new).medium }
+        ensures object { (self.new.geo ≡ self.old.geo) × (self.new.settled ≡ is_done (block_outcome result)) }
+        ensures runs { Runs 326 131 (block_outcome result) (L.state dev.old).panel (L.state dev.new).panel }
+    {
+        check_together(self.geo.blocks, spans)?;
+        check_meta(dev, self.geo)?;
+        let changes = changes_of(spans, state);
+        Ok(self.switch(dev, changes.as_slice())?)
+    }
+}
+
+// The change of each block of the spans.
+fn changes_of(spans: &[Span], state: BlockState) -> Changes
+    requires few { sum_by (λ (s : Stretch). s.len) spans.now ≤ 64 }
+    requires ends { All (λ (s : Stretch). s.start + s.len ≤ 4096) spans.now }
+    ensures { result.items ≡ changes_in spans.now state }
+{
+    let mut changes = Changes::new();
+    for span in spans {
+        add_changes(&mut changes, *span, state);
+    }
+    changes
+}
+
+fn add_changes(changes: &mut Changes, span: Span, state: BlockState)
+    requires room { array_vec_len changes.old + span.len ≤ 64 }
+    requires end { span.start + span.len ≤ 4096 }
+    ensures items { changes.new.items ≡ changes.old.items ++ changes_in (span ∷ []) state }
+    ensures len { array_vec_len changes.new ≡ array_vec_len changes.old + span.len }
+{
+    for block in span.start..span.start + span.len {
+        changes.push(Change { block, state });
+    }
+}

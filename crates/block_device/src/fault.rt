@@ -1,0 +1,96 @@
+ghost use Rattle.std.specs.Prelude.{◌≡◌};
+
+use line_words::Interruption;
+use nvm_base::LineNo;
+use std::alloc::AllocError;
+use word_log::LogFault;
+
+/// Why a call on blocks was not done, or not wholly.
+#[derive(Clone, Copy, Debug, PartialEq, Eq)]
+pub enum BlockFault {
+    /// There are not so many blocks.
+    Range,
+    /// No blocks, or no whole ones.
+    Length,
+    /// More blocks or spans than change together.
+    Limit,
+    /// Two spans share a block.
+    Overlap,
+    /// This line of metadata is bad, the lowest one.
+    Meta(LineNo),
+    /// This block was made unreadable.
+    Scarred(u64),
+    /// In this block that line, 0 to 7, is bad.
+    Poison(u64, u64),
+    /// The device failed.
+    Device,
+    /// The power went.
+    PowerLost,
+}
+
+/// Why blocks could not be mounted.
+#[derive(Clone, Copy, Debug, PartialEq, Eq)]
+pub enum MountFault {
+    /// This line of log or map is bad.
+    Poisoned(LineNo),
+    /// The word at this place is the first that is wrong.
+    Bad(u64),
+    /// The device failed.
+    Device,
+    /// The power went.
+    PowerLost,
+    /// There is no memory.
+    Memory,
+}
+
+impl From<Interruption> for BlockFault {
+    ghost use Rattle.block_device.specs.Stopped.{as_block_fault};
+
+    ghost from_gives = { λ stop fault. fault ≡ as_block_fault stop };
+
+    fn from(stop: Interruption) -> BlockFault {
+        match stop {
+            Interruption::Failed => BlockFault::Device,
+            Interruption::PowerLost => BlockFault::PowerLost,
+        }
+    }
+}
+
+impl From<Interruption> for MountFault {
+    ghost use Rattle.block_device.specs.Stopped.{as_mount_fault};
+
+    ghost from_gives = { λ stop fault. fault ≡ as_mount_fault stop };
+
+    fn from(stop: Interruption) -> MountFault {
+        match stop {
+            Interruption::Failed => MountFault::Device,
+            Interruption::PowerLost => MountFault::PowerLost,
+        }
+    }
+}
+
+impl From<LogFault> for MountFault {
+    ghost use Rattle.block_device.specs.Stopped.{of_log_fault};
+
+    ghost from_gives = { λ log fault. fault ≡ of_log_fault log };
+
+    fn from(fault: LogFault) -> MountFault {
+        match fault {
+            LogFault::Poisoned(line) => MountFault::Poisoned(line),
+            LogFault::Bad(place) => MountFault::Bad(place),
+            LogFault::Failed => MountFault::Device,
+            LogFault::PowerLost => MountFault::PowerLost,
+            LogFault::Memory => MountFault::Memory,
+        }
+    }
+}
+
+impl From<AllocError> for MountFault {
+    ghost use Rattle.block_device.specs.declared.fault.MountFault.TheVariants.{Memory};
+
+    ghost from_gives = { λ _ fault. fault ≡ Memory };
+
+    fn from(_fault: AllocError) -> MountFault {
+        MountFault::Memory
+    }
+}

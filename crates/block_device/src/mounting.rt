@@ -1,0 +1,119 @@
+// Mounting: the log first, then the map and the units that it leaves free.
+ghost use Rattle.std.specs.Prelude.{◌≡◌, ◌+◌, ◌*◌, ◌/◌, ◌<◌, ◌≤◌, None, IfOk, IfErr, IsTrue, OnOk, length, map};
+ghost use Rattle.line_device.specs.Medium.{Wander, last_image};
+ghost use Rattle.line_device.specs.Panel.{Runs};
+ghost use Rattle.word_tables.specs.Bounds.{IsValid};
+ghost use Rattle.word_tables.specs.Layout.{total_lines};
+ghost use Rattle.word_tables.specs.Words.{place, of_block};
+ghost use Rattle.line_words.specs.Words.{WandersOutside};
+ghost use Rattle.line_words.specs.Ending.{ended};
+ghost use Rattle.word_log.specs.Area.{IsOf, IsWhole, gate_place};
+ghost use Rattle.word_log.specs.Rest.{EachImage, IsReached};
+ghost use Rattle.block_map.specs.States.{word_of};
+ghost use Rattle.block_map.specs.Wrong.{first_wrong};
+ghost use Rattle.nvm_model.specs.Numbered.{list_from};
+ghost use Rattle.block_device.specs.Area.{block_area};
+ghost use Rattle.block_device.specs.Reading.{states_read, blocks_read};
+ghost use Rattle.block_device.specs.Object.{Serves, IsInStep, AreDurable, HasStrongMetadata, blocks_of};
+ghost use Rattle.block_device.specs.Mounting.{Finds, IsStop, IsTableCause, mount_outcome};
+ghost use Rattle.block_device.specs.Images.{KeepsReads};
+
+use crate::area::block_area;
+use crate::{Blocks, MountFault};
+use block_map::{BlockMap, BlockState, TableFault};
+use free_pool::Pool;
+use line_device::Lines;
+use line_words::load_word;
+use nvm_base::Words;
+use std::alloc::{AllocError, Global};
+use word_tables::Geometry;
+
+/// Units beyond the blocks: as many as change together.
+const EXTRA_UNITS: u64 = 64;
+
+impl Blocks {
+    /// Mounts the blocks of a device: replays their log where it is open, and reads their map.
+    pub fn mount<L: Lines>(alloc: Global, dev: &mut L, geo: Geometry) -> Result<Self, MountFault>
+        requires valid { IsValid geo }
+        requires lines { (L.state dev.old).medium.count ≡ total_lines geo }
+        requires strong { HasStrongMetadata geo (L.state dev.old).medium }
+        requires durable { AreDurable geo (L.state dev.old).medium (states_read geo (last_image (L.state dev.old).medium)) }
+        requires on { IsTrue (L.state dev.old).panel.power }
+        ensures ok { IfOk result (λ blocks. (blocks.geo ≡ geo) × (blocks_of blocks (L.state dev.new).medium
+            ≡ blocks_read geo (L.state dev.old).medium.is_bad (last_image (L.state dev.old).medium))) }
+        ensures finds { Finds geo (L.state dev.old).medium result }
+        ensures images { EachImage (block_area geo) (L.state dev.new).medium (IsReached (block_area geo) (L.state dev.old).medium) }
+        ensures reads { IsWhole (block_area geo) (L.state dev.old).medium
+            → KeepsReads geo (L.state dev.old).medium (L.state dev.new).medium }
+        ensures closed { last_image (L.state dev.old).medium (gate_place (block_area geo)) ≡ 0
+            → Wander (L.state dev.old).medium (L.state dev.new).medium }
+        ensures outside { WandersOutside (IsOf (block_area geo)) (L.state dev.old).medium (L.state dev.new).medium }
+        ensures serves { IfOk result (λ blocks. Serves blocks (L.state dev.new).medium) }
+        ensures settled { IfOk result (λ blocks. IsTrue blocks.settled) }
+        ensures runs { Runs (2 * geo.blocks + 279) (geo.blocks / 8 + 84) (mount_outcome result)
+            (L.state dev.old).panel (L.state dev.new).panel }
+    {
+        let log = word_log::mount(alloc, dev, block_area(geo))?;
+        let words = load_map(alloc, dev, geo)?;
+        let map = read_map(alloc, geo, words.as_slice())?;
+        let pool = pool_beside(alloc, &map, geo.blocks)?;
+        Ok(Blocks {
+            geo,
+            log,
+            map,
+            pool,
+            settled: true,
+        })
+    }
+}
+
+// The words of the block map.
+fn load_map<L: Lines>(alloc: Global, dev: &mut L, geo: Geometry) -> Result<Words, MountFault>
+    requires valid { IsValid geo }
+    requires lines { (L.state dev.old).medium.count ≡ total_lines geo }
+    requires whole { IsWhole (block_area geo) (L.state dev.old).medium }
+    requires on { IsTrue (L.state dev.old).panel.power }
+    ensures words { IfOk result (λ words. words.items
+        ≡ list_from (λ b. last_image (L.state dev.old).medium (place geo (of_block b))) 0 geo.blocks) }
+    ensures stop { IfErr result IsStop }
+    ensures lines { Wander (L.state dev.old).medium (L.state dev.new).medium }
+    ensures runs { Runs geo.blocks 0 (mount_outcome result) (L.state dev.old).panel (L.state dev.new).panel }
+{
+    let mut words = Words::new(alloc);
+    for block in 0..geo.blocks {
+        let word = load_word(dev, geo.block_word(block))?;
+        words.push(word)?;
+    }
+    Ok(words)
+}
+
+// The map that these words are, or the place of the first that is wrong.
+fn read_map(alloc: Global, geo: Geometry, words: &[u64]) -> Result<BlockMap, MountFault>
+    requires valid { IsValid geo }
+    requires length { length words.now ≡ geo.blocks }
+    ensures ok { IfOk result (λ map_. map word_of map_ ≡ words.now) }
+    ensures right { OnOk result (first_wrong words.now ≡ None) }
+    ensures err { IfErr result (IsTableCause geo words.now) }
+{
+    match BlockMap::read(alloc, geo, words) {
+        Ok(map) => Ok(map),
+        Err(TableFault::Bad(block)) => Err(MountFault::Bad(geo.block_word(block))),
+        Err(TableFault::Memory) => Err(MountFault::Memory),
+    }
+}
+
+// The units that a map leaves free.
+fn pool_beside(alloc: Global, map: &BlockMap, blocks: u64) -> Result<Pool, AllocError>
+    requires few { blocks ≤ 4096 }
+    requires all { length map.now ≡ blocks }
+    ensures units { IfOk result (λ pool. length pool ≡ blocks + 64) }
+    ensures in_step { IfOk result (λ pool. IsInStep map.now pool 0) }
+{
+    let mut pool = Pool::new(alloc, blocks + EXTRA_UNITS)?;
+    for block in 0..blocks {
+        if let BlockState::At(unit) = map.get(block) {
+            pool.mark(unit);
+        }
+    }
+    Ok(pool)
+}
