@@ -1,0 +1,91 @@
+// The text of answers.
+ghost use Rattle.std.specs.Prelude.{◌≡◌, ◌+◌, ◌<◌, ◌≤◌, ◌++◌, IsOk, OnErr, OnOk, codes, decimal, length};
+ghost use Rattle.nvm_base.specs.Stock.{Appends};
+ghost use Rattle.reply_text.specs.Answer.{answer_line, answer_of, answer_text, why_text};
+ghost use Rattle.reply_text.specs.Answer.Answer.{PoisonBlock};
+ghost use Rattle.reply_text.specs.Room.{most_of};
+
+use crate::{Reply, Why};
+use nvm_base::{Bytes, print_bytes, print_number};
+use std::alloc::AllocError;
+
+/// Appends the reply's line, all of it or nothing.
+pub fn print(reply: &Reply, out: &mut Bytes) -> Result<(), AllocError>
+    ensures ok { OnOk result (out.new.items ≡ out.old.items ++ answer_line (answer_of reply.now)) }
+    ensures err { OnErr result (out.new.items ≡ out.old.items) }
+    ensures succeeds { length (answer_line (answer_of reply.now)) ≤ out.old.spare → IsOk result }
+    ensures room { out.old.spare + length out.old.items ≤ out.new.spare + length out.new.items }
+    ensures short { length (answer_line (answer_of reply.now)) ≤ most_of (answer_of reply.now) }
+{
+    let before = out.len();
+    let printed = print_line(reply, out);
+    if printed.is_err() {
+        out.truncate(before);
+    }
+    printed
+}
+
+fn print_line(reply: &Reply, out: &mut Bytes) -> Result<(), AllocError>
+    ensures text { Appends (answer_line (answer_of reply.now)) result out.old out.new }
+    ensures short { length (answer_line (answer_of reply.now)) ≤ most_of (answer_of reply.now) }
+{
+    print_text(reply, out)?;
+    out.push(b'\n')
+}
+
+fn print_text(reply: &Reply, out: &mut Bytes) -> Result<(), AllocError>
+    ensures text { Appends (answer_text (answer_of reply.now)) result out.old out.new }
+    ensures short { length (answer_text (answer_of reply.now)) < most_of (answer_of reply.now) }
+{
+    match reply {
+        Reply::Done => out.extend(b"ok"),
+        Reply::DoneBad(n) => print_counted(b"ok bad ", *n, out),
+        Reply::Bytes(bytes) => {
+            out.extend(b"data ")?;
+            print_bytes(bytes.as_slice(), out)
+        }
+        Reply::Yes => out.extend(b"yes"),
+        Reply::No => out.extend(b"no"),
+        Reply::Scarred(block) => print_counted(b"scarred ", *block, out),
+        Reply::PoisonBlock(block, line) => print_poison(*block, *line, out),
+        Reply::PowerLost => out.extend(b"power lost"),
+        Reply::Refused(why) => {
+            out.extend(b"refused ")?;
+            out.extend(word_of(*why))
+        }
+        Reply::RefusedMeta(line) => print_counted(b"refused meta ", *line, out),
+    }
+}
+
+// Words and a number.
+fn print_counted(words: &[u8], n: u64, out: &mut Bytes) -> Result<(), AllocError>
+    ensures text { Appends (words.now ++ decimal n) result out.old out.new }
+    ensures short { length (decimal n) ≤ 20 }
+{
+    out.extend(words)?;
+    print_number(n, out)
+}
+
+fn print_poison(block: u64, line: u64, out: &mut Bytes) -> Result<(), AllocError>
+    ensures text { Appends (answer_text (PoisonBlock block line)) result out.old out.new }
+    ensures short { length (decimal block) + length (decimal line) ≤ 40 }
+{
+    print_counted(b"poison block ", block, out)?;
+    print_counted(b" ", line, out)
+}
+
+fn word_of(why: Why) -> &'static [u8]
+    ensures { result.now ≡ why_text why }
+{
+    match why {
+        Why::Syntax => b"syntax",
+        Why::Off => b"off",
+        Why::On => b"on",
+        Why::Recover => b"recover",
+        Why::Range => b"range",
+        Why::Length => b"length",
+        Why::Limit => b"limit",
+        Why::Overlap => b"overlap",
+        Why::Device => b"device",
+    }
+}

@@ -1,0 +1,247 @@
+-- How large what a line asks for can be.
+use Rattle.std.proofs.Common.{All, ◌≡◌, ◌==◌, ◌&&◌, ℕ, ◌^◌, ◌<◌, ◌≤◌, Bool, true, false, nat_lt, nat_le, List, [], ◌∷◌, ◌++◌, length, replicate, Option, Some, None, Result, Ok, Err, option_map, option_and_then, if◌then◌else◌, codes, IfOk, IfSome, refl, subst, ap, arith, rules, tests, length-append}
+use Rattle.std.specs.List.{slice_split}
+use Rattle.std.specs.Str.{bytes_eq}
+use Rattle.std.proofs.lemmas.List.Splits.{length-slice_split}
+use Rattle.nvm_base.specs.Numbers.{digits_after, number_of}
+use Rattle.nvm_base.specs.declared.units.Span.{Span}
+use Rattle.nvm_base.specs.declared.reading.TextFault.{TextFault}
+use Rattle.nvm_base.specs.declared.reading.TextFault.TheVariants.{TooLong}
+use Rattle.std.proofs.lemmas.List.{length-replicate}
+use Rattle.std.proofs.lemmas.List.Elements.{All-nil, All-cons}
+use Rattle.nvm_base.specs.Data.{Run, size, spelled, run, followed, pair_of, pairs_of, repeated, item_of, items_of, runs_of, within, data_within}
+use Rattle.nvm_base.proofs.ReadingLemmas.{size-append}
+use Rattle.script_text.specs.Action.{Action, action_of}
+use Rattle.script_text.specs.Action.Action.{BRead, BWrite, BDiscard, BDiscardIf, BExists, BScar, VLoad, VStore, VSync, Cut, Restart}
+use Rattle.script_text.specs.Script.{of_numbers, of_data, number_action, span_action, data_action, with_span, spans_of, spans_action, cut_action, restart_action, volume_action, plain_action, command_action, is_comment, asked, words_input}
+use Rattle.script_text.specs.Script.Input.{Skipped, Asked}
+use Rattle.line_device.specs.declared.line.Choice.TheVariants.{Firsts, Lasts}
+use Rattle.script_text.specs.declared.parsing.LineFault.{LineFault}
+use Rattle.script_text.specs.declared.command.Command.{Command}
+use Rattle.script_text.specs.Parsing.{InBounds, IsSmall, Parses}
+
+-- a number is below 2 ^ 32
+number_of-below : (text : List ℕ) (n : ℕ) → number_of text ≡ Some n → n < 2 ^ 32
+unfolding number_of
+number_of-below text n e = go (nat_le 1 (length text) && nat_le (length text) 10) (digits_after 0 text) e
+  where
+    fits : (m : ℕ) (b : Bool) → nat_lt m (2 ^ 32) ≡ b → (if b then Some m else None) ≡ Some n → n < 2 ^ 32
+    fits m true t e = let same : m ≡ n = cc in search (rules, tests)
+    fits m false t e = absurd (cc)
+
+    go : (b : Bool) (o : Option ℕ) → elim b [ true ↦ option_and_then (λ m. if nat_lt m (2 ^ 32) then Some m else None) o | false ↦ None ] ≡ Some n → n < 2 ^ 32
+    go true None e = absurd (cc)
+    go true (Some m) e = fits m (nat_lt m (2 ^ 32)) refl e
+    go false o e = absurd (cc)
+
+followed-some : (first : List Run) (o : Option (List Run)) (runs : List Run) → 0 < size first → followed (Some first) o ≡ Some runs → 0 < size runs
+followed-some first None runs some e = absurd (cc)
+followed-some first (Some more) runs some e =
+    let is : first ++ more ≡ runs = cc in
+    omega (arith, size-append first more, ap size is)
+
+pairs_of-some : (a b : ℕ) (text : List ℕ) (runs : List Run) → pairs_of (a ∷ b ∷ text) ≡ Some runs → 0 < size runs
+pairs_of-some a b text runs e = go (pair_of a b) e
+  where
+    go : (o : Option ℕ) → followed (option_map (λ byte. run byte 1) o) (pairs_of text) ≡ Some runs → 0 < size runs
+    go None e = absurd (cc)
+    go (Some byte) e = followed-some (run byte 1) (pairs_of text) runs (omega arith) e
+
+repeated-some : (byte count : Option ℕ) (runs : List Run) → repeated byte count ≡ Some runs → 0 < size runs
+repeated-some None count runs e = absurd (cc)
+repeated-some (Some byte) None runs e = absurd (cc)
+repeated-some (Some byte) (Some count) runs e = go (nat_lt 0 count) refl e
+  where
+    go : (b : Bool) → nat_lt 0 count ≡ b → (if b then Some (run byte count) else None) ≡ Some runs → 0 < size runs
+    go true t e =
+        let is : run byte count ≡ runs = cc in
+        let some : 0 < count = search (rules, tests) in
+        omega (arith, ap size is)
+    go false t e = absurd (cc)
+
+item_of-some : (item : List ℕ) (runs : List Run) → item_of item ≡ Some runs → 0 < size runs
+item_of-some [] runs e = absurd (cc)
+item_of-some (a ∷ []) runs e = absurd (cc)
+item_of-some (a ∷ b ∷ []) runs e = pairs_of-some a b [] runs e
+item_of-some (a ∷ b ∷ c ∷ text) runs e = go (c == 42) e
+  where
+    go : (t : Bool) → elim t [ true ↦ repeated (pair_of a b) (number_of text) | false ↦ pairs_of (a ∷ b ∷ c ∷ text) ] ≡ Some runs → 0 < size runs
+    go true e = repeated-some (pair_of a b) (number_of text) runs e
+    go false e = pairs_of-some a b (c ∷ text) runs e
+
+items_of-some : (items : List (List ℕ)) (runs : List Run) → 0 < length items → items_of items ≡ Some runs → 0 < size runs
+items_of-some [] runs some e = absurd (omega arith)
+items_of-some (item ∷ items) runs some e = go (item_of item) refl e
+  where
+    go : (o : Option (List Run)) → item_of item ≡ o → followed o (items_of items) ≡ Some runs → 0 < size runs
+    go None is e = absurd (cc)
+    go (Some first) is e = followed-some first (items_of items) runs (item_of-some item first is) e
+
+length-spelled : (runs : List Run) → length (spelled runs) ≡ size runs
+length-spelled [] = refl
+length-spelled (r ∷ rs) = omega (arith, length-append (replicate r.count r.byte) (spelled rs), length-replicate r.count r.byte, length-spelled rs)
+
+-- DATA spells a byte or more, and no more than there is room for
+data_within-size : (room : ℕ) (text bytes : List ℕ) → data_within room text ≡ Ok bytes → (0 < length bytes) × (length bytes ≤ room)
+unfolding data_within runs_of
+data_within-size room text bytes e = go (items_of (slice_split (λ c. c == 44) text)) refl e
+  where
+    sized : (runs : List Run) (b : Bool) → nat_le (size runs) room ≡ b → 0 < size runs → ◌≡◌ {A = Result (List ℕ) TextFault} (elim b [ true ↦ Ok (spelled runs) | false ↦ Err TooLong ]) (Ok bytes) → (0 < length bytes) × (length bytes ≤ room)
+    sized runs true t some e =
+        let is : spelled runs ≡ bytes = cc in
+        let most : size runs ≤ room = search (rules, tests) in
+        let count = length-spelled runs in
+        (omega (arith, ap length is), omega (arith, ap length is))
+    sized runs false t some e = absurd (cc)
+
+    go : (o : Option (List Run)) → items_of (slice_split (λ c. c == 44) text) ≡ o → within room o ≡ Ok bytes → (0 < length bytes) × (length bytes ≤ room)
+    go None is e = absurd (cc)
+    go (Some runs) is e =
+        let some = items_of-some (slice_split (λ c. c == 44) text) runs (omega (arith, length-slice_split (λ c. c == 44) text)) is in
+        sized runs (nat_le (size runs) room) refl some e
+
+-- two numbers of text
+of_numbers-bounds : (make : ℕ → ℕ → Action) → ((a b : ℕ) → a < 2 ^ 32 → b < 2 ^ 32 → InBounds (make a b)) → (x y : List ℕ) (action : Action) → of_numbers make (number_of x) (number_of y) ≡ Some action → InBounds action
+of_numbers-bounds make small x y action e = go (number_of x) (number_of y) refl refl e
+  where
+    go : (m n : Option ℕ) → number_of x ≡ m → number_of y ≡ n → of_numbers make m n ≡ Some action → InBounds action
+    go None n is also e = absurd (cc)
+    go (Some a) None is also e = absurd (cc)
+    go (Some a) (Some b) is also e =
+        let same : make a b ≡ action = cc in
+        subst InBounds same (small a b (number_of-below x a is) (number_of-below y b also))
+
+span_action-bounds : (make : ℕ → ℕ → Action) → ((a b : ℕ) → a < 2 ^ 32 → b < 2 ^ 32 → InBounds (make a b)) → (words : List (List ℕ)) (action : Action) → span_action make words ≡ Some action → InBounds action
+span_action-bounds make small [] action e = absurd (cc)
+span_action-bounds make small (x ∷ []) action e = absurd (cc)
+span_action-bounds make small (x ∷ y ∷ []) action e = of_numbers-bounds make small x y action e
+span_action-bounds make small (x ∷ y ∷ z ∷ more) action e = absurd (cc)
+
+-- a number and DATA
+abbrev DataInBounds : (ℕ → List ℕ → Action) → Type 0
+DataInBounds make = (a : ℕ) (bytes : List ℕ) → a < 2 ^ 32 → 0 < length bytes → length bytes ≤ 65536 → InBounds (make a bytes)
+
+of_data-bounds : (make : ℕ → List ℕ → Action) → DataInBounds make → (x text : List ℕ) (action : Action) → of_data make (number_of x) (data_within 65536 text) ≡ Some action → InBounds action
+of_data-bounds make small x text action e = go (number_of x) (data_within 65536 text) refl refl e
+  where
+    go : (m : Option ℕ) (r : Result (List ℕ) TextFault) → number_of x ≡ m → data_within 65536 text ≡ r → of_data make m r ≡ Some action → InBounds action
+    go None r is also e = absurd (cc)
+    go (Some a) (Err fault) is also e = absurd (cc)
+    go (Some a) (Ok bytes) is also e =
+        let same : make a bytes ≡ action = cc in
+        let sized = data_within-size 65536 text bytes also in
+        subst InBounds same (small a bytes (number_of-below x a is) sized.0 sized.1)
+
+data_action-bounds : (make : ℕ → List ℕ → Action) → DataInBounds make → (words : List (List ℕ)) (action : Action) → data_action make words ≡ Some action → InBounds action
+data_action-bounds make small [] action e = absurd (cc)
+data_action-bounds make small (x ∷ []) action e = absurd (cc)
+data_action-bounds make small (x ∷ text ∷ []) action e = of_data-bounds make small x text action e
+data_action-bounds make small (x ∷ text ∷ z ∷ more) action e = absurd (cc)
+
+-- one number
+number_action-bounds : (make : ℕ → Action) → ((a : ℕ) → a < 2 ^ 32 → InBounds (make a)) → (words : List (List ℕ)) (action : Action) → number_action make words ≡ Some action → InBounds action
+number_action-bounds make small [] action e = absurd (cc)
+number_action-bounds make small (x ∷ []) action e = go (number_of x) refl e
+  where
+    go : (m : Option ℕ) → number_of x ≡ m → option_map make m ≡ Some action → InBounds action
+    go None is e = absurd (cc)
+    go (Some a) is e = let same : make a ≡ action = cc in subst InBounds same (small a (number_of-below x a is))
+number_action-bounds make small (x ∷ y ∷ more) action e = absurd (cc)
+
+-- pairs of numbers, as many as there are words for
+spans_of-small : (words : List (List ℕ)) (spans : List Span) → spans_of words ≡ Some spans → All IsSmall spans
+spans_of-small [] spans e = let same : [] ≡ spans = cc in subst (All IsSmall) same (All-nil IsSmall)
+spans_of-small (x ∷ []) spans e = absurd (cc)
+spans_of-small (x ∷ y ∷ words) spans e = go (number_of x) (number_of y) (spans_of words) refl refl (spans_of-small words) refl e
+  where
+    go : (m n : Option ℕ) (o : Option (List Span)) → number_of x ≡ m → number_of y ≡ n → ((more : List Span) → spans_of words ≡ Some more → All IsSmall more)
+        → spans_of words ≡ o → with_span m n o ≡ Some spans → All IsSmall spans
+    go None n o is also small rest e = absurd (cc)
+    go (Some a) None o is also small rest e = absurd (cc)
+    go (Some a) (Some b) None is also small rest e = absurd (cc)
+    go (Some a) (Some b) (Some more) is also small rest e =
+        let same : record { start = a; len = b } ∷ more ≡ spans = cc in
+        subst (All IsSmall) same (All-cons IsSmall _ more (number_of-below x a is, number_of-below y b also) (small more rest))
+
+spans_of-some : (x : List ℕ) (words : List (List ℕ)) (spans : List Span) → spans_of (x ∷ words) ≡ Some spans → 0 < length spans
+spans_of-some x [] spans e = absurd (cc)
+spans_of-some x (y ∷ words) spans e = go (number_of x) (number_of y) (spans_of words) e
+  where
+    go : (m n : Option ℕ) (o : Option (List Span)) → with_span m n o ≡ Some spans → 0 < length spans
+    go None n o e = absurd (cc)
+    go (Some a) None o e = absurd (cc)
+    go (Some a) (Some b) None e = absurd (cc)
+    go (Some a) (Some b) (Some more) e = let same : record { start = a; len = b } ∷ more ≡ spans = cc in subst (λ ss. 0 < length ss) same (omega arith)
+
+scar_action-bounds : (words : List (List ℕ)) (action : Action) → spans_action BScar words ≡ Some action → InBounds action
+scar_action-bounds [] action e = absurd (cc)
+scar_action-bounds (x ∷ words) action e = go (spans_of (x ∷ words)) refl e
+  where
+    go : (o : Option (List Span)) → spans_of (x ∷ words) ≡ o → option_map BScar o ≡ Some action → InBounds action
+    go None is e = absurd (cc)
+    go (Some spans) is e = let same : BScar spans ≡ action = cc in subst InBounds same (spans_of-some x words spans is, spans_of-small (x ∷ words) spans is)
+
+cut_action-bounds : (words : List (List ℕ)) (action : Action) → cut_action words ≡ Some action → InBounds action
+cut_action-bounds [] action e = let same : Cut ≡ action = cc in subst InBounds same tt
+cut_action-bounds (x ∷ more) action e = absurd (cc)
+
+restart_action-bounds : (words : List (List ℕ)) (action : Action) → restart_action words ≡ Some action → InBounds action
+restart_action-bounds [] action e = absurd (cc)
+restart_action-bounds (x ∷ []) action e = go (bytes_eq x (codes "none")) (bytes_eq x (codes "all")) e
+  where
+    go : (none all : Bool) → (if none then Some (Restart Firsts) else (if all then Some (Restart Lasts) else None)) ≡ Some action → InBounds action
+    go true all e = let same : Restart Firsts ≡ action = cc in subst InBounds same tt
+    go false true e = let same : Restart Lasts ≡ action = cc in subst InBounds same tt
+    go false false e = absurd (cc)
+restart_action-bounds (x ∷ y ∷ more) action e = absurd (cc)
+
+volume_action-bounds : (name : List ℕ) (words : List (List ℕ)) (action : Action) → volume_action name words ≡ Some action → InBounds action
+volume_action-bounds name words action e =
+    go (bytes_eq name (codes "vload")) (bytes_eq name (codes "vsync")) (bytes_eq name (codes "cut")) (bytes_eq name (codes "restart")) e
+  where
+    go : (load sync cut restart : Bool) → (if load then span_action VLoad words else (if sync then span_action VSync words else (if cut then cut_action words else (if restart then restart_action words else None)))) ≡ Some action → InBounds action
+    go true sync cut restart e = span_action-bounds VLoad (λ a b p q. (p, q)) words action e
+    go false true cut restart e = span_action-bounds VSync (λ a b p q. (p, q)) words action e
+    go false false true restart e = cut_action-bounds words action e
+    go false false false true e = restart_action-bounds words action e
+    go false false false false e = absurd (cc)
+
+plain_action-bounds : (name : List ℕ) (words : List (List ℕ)) (action : Action) → plain_action name words ≡ Some action → InBounds action
+plain_action-bounds name words action e =
+    go (bytes_eq name (codes "bread")) (bytes_eq name (codes "bdiscard")) (bytes_eq name (codes "bdiscardif")) (bytes_eq name (codes "bexists")) e
+  where
+    go : (read discard hint exists : Bool) → (if read then span_action BRead words else (if discard then span_action BDiscard words else (if hint then span_action BDiscardIf words else (if exists then number_action BExists words else volume_action name words)))) ≡ Some action → InBounds action
+    go true discard hint exists e = span_action-bounds BRead (λ a b p q. (p, q)) words action e
+    go false true hint exists e = span_action-bounds BDiscard (λ a b p q. (p, q)) words action e
+    go false false true exists e = span_action-bounds BDiscardIf (λ a b p q. (p, q)) words action e
+    go false false false true e = number_action-bounds BExists (λ a p. p) words action e
+    go false false false false e = volume_action-bounds name words action e
+
+command_action-bounds : (name : List ℕ) (words : List (List ℕ)) (action : Action) → command_action name words ≡ Some action → InBounds action
+unfolding command_action
+command_action-bounds name words action e = go (bytes_eq name (codes "bwrite")) (bytes_eq name (codes "vstore")) (bytes_eq name (codes "bscar")) e
+  where
+    go : (write store scar : Bool) → (if write then data_action BWrite words else (if store then data_action VStore words else (if scar then spans_action BScar words else plain_action name words))) ≡ Some action → InBounds action
+    go true store scar e = data_action-bounds BWrite (λ a bytes p q r. (p, q, r)) words action e
+    go false true scar e = data_action-bounds VStore (λ a bytes p q r. (p, q, r)) words action e
+    go false false true e = scar_action-bounds words action e
+    go false false false e = plain_action-bounds name words action e
+
+asked-bounds : (o : Option Action) (action : Action) → ((a : Action) → o ≡ Some a → InBounds a) → asked o ≡ Asked action → InBounds action
+asked-bounds None action small e = absurd (cc)
+asked-bounds (Some a) action small e = let same : a ≡ action = cc in subst InBounds same (small a refl)
+
+-- what the words of a line ask for
+words_input-bounds : (words : List (List ℕ)) (action : Action) → words_input words ≡ Asked action → InBounds action
+words_input-bounds [] action e = absurd (cc)
+words_input-bounds (name ∷ words) action e = go (is_comment name) e
+  where
+    go : (comment : Bool) → (if comment then Skipped else asked (command_action name words)) ≡ Asked action → InBounds action
+    go true e = absurd (cc)
+    go false e = asked-bounds (command_action name words) action (λ a is. command_action-bounds name words a is) e
+
+-- a command that was parsed
+pub Parses-bounds : (words : List (List ℕ)) (r : Result (Option Command) LineFault) → Parses (words_input words) r → IfOk r (λ parsed. IfSome parsed (λ command. InBounds (action_of command)))
+Parses-bounds words (Err fault) p = tt
+Parses-bounds words (Ok None) p = tt
+Parses-bounds words (Ok (Some command)) p = words_input-bounds words (action_of command) p

@@ -1,0 +1,33 @@
+-- What a script may ask for, apart from how a command is kept.
+use Rattle.std.specs.Prelude.{ℕ, List}
+use Rattle.nvm_base.specs.declared.units.Span.{Span}
+use Rattle.line_device.specs.declared.line.Choice.{Choice}
+use Rattle.script_text.specs.declared.command.Command.{Command}
+use Rattle.script_text.specs.declared.command.Command.TheVariants as command
+
+pub data Action : Type 0 where
+  BRead : ℕ → ℕ → Action
+  BWrite : ℕ → List ℕ → Action
+  BDiscard : ℕ → ℕ → Action
+  BDiscardIf : ℕ → ℕ → Action
+  BExists : ℕ → Action
+  BScar : List Span → Action
+  VLoad : ℕ → ℕ → Action
+  VStore : ℕ → List ℕ → Action
+  VSync : ℕ → ℕ → Action
+  Cut : Action
+  Restart : Choice → Action
+
+-- what a command asks for
+abbrev pub action_of : Command → Action
+action_of (command.BRead block count) = BRead block count
+action_of (command.BWrite block bytes) = BWrite block bytes.items
+action_of (command.BDiscard block count) = BDiscard block count
+action_of (command.BDiscardIf block count) = BDiscardIf block count
+action_of (command.BExists block) = BExists block
+action_of (command.BScar ranges) = BScar ranges.items
+action_of (command.VLoad offset len) = VLoad offset len
+action_of (command.VStore offset bytes) = VStore offset bytes.items
+action_of (command.VSync offset len) = VSync offset len
+action_of command.Cut = Cut
+action_of (command.Restart choice) = Restart choice

@@ -1,0 +1,76 @@
+-- What reading a script's text may give.
+use Rattle.std.specs.Prelude.{◌≡◌, ◌⊎◌, ℕ, ◌<◌, ◌≤◌, ◌^◌, List, [], ◌∷◌, length, Option, Some, None, Result, Ok, Err, codes, All, option_map}
+use Rattle.nvm_base.specs.declared.units.Span.{Span}
+use Rattle.nvm_base.specs.Stock.{Stock}
+use Rattle.script_text.specs.declared.command.Command.{Command}
+use Rattle.script_text.specs.declared.parsing.LineFault.{LineFault}
+use Rattle.script_text.specs.declared.parsing.LineFault.TheVariants.{Syntax, Memory}
+use Rattle.script_text.specs.Action.{Action, action_of}
+use Rattle.script_text.specs.Action.Action.{BRead, BWrite, BDiscard, BDiscardIf, BExists, BScar, VLoad, VStore, VSync, Cut, Restart}
+use Rattle.std.specs.Borrow.{Bor}
+use Rattle.script_text.specs.Script.{Input, spans_of, words_of}
+use Rattle.script_text.specs.Script.Input.{Skipped, Malformed, Asked}
+
+-- what came of words that ask for this
+abbrev pub Reads : {T : Type 0} → (T → Action) → Option Action → Result T LineFault → Type 0
+Reads of asks (Ok x) = asks ≡ Some (of x)
+Reads of asks (Err Syntax) = asks ≡ None
+Reads of asks (Err Memory) = Unit {0}
+
+-- what came of words that are pairs of numbers
+abbrev pub ReadsSpans : Option (List Span) → Result (Stock Span) LineFault → Type 0
+ReadsSpans asks (Ok spans) = asks ≡ Some spans.items
+ReadsSpans asks (Err Syntax) = asks ≡ None
+ReadsSpans asks (Err Memory) = Unit {0}
+
+-- what came of a line that stands for this
+abbrev pub Parses : Input → Result (Option Command) LineFault → Type 0
+Parses input (Ok None) = input ≡ Skipped
+Parses input (Ok (Some command)) = input ≡ Asked (action_of command)
+Parses input (Err Syntax) = input ≡ Malformed
+Parses input (Err Memory) = Unit {0}
+
+-- the name of a command that brings a list
+abbrev pub IsLong : List ℕ → Type 0
+IsLong name = (name ≡ codes "bwrite") ⊎ (name ≡ codes "vstore") ⊎ (name ≡ codes "bscar")
+
+-- the words are of such a command
+abbrev pub BringsMore : List (List ℕ) → Type 0
+BringsMore [] = ⊥
+BringsMore (name ∷ words) = IsLong name
+
+-- both numbers of a span are below 2 ^ 32
+abbrev pub IsSmall : Span → Type 0
+IsSmall span = (span.start < 2 ^ 32) × (span.len < 2 ^ 32)
+
+-- numbers are below 2 ^ 32, DATA is 1 to 65,536 bytes, and of pairs there is one
+abbrev pub InBounds : Action → Type 0
+InBounds (BRead block count) = (block < 2 ^ 32) × (count < 2 ^ 32)
+InBounds (BWrite block bytes) = (block < 2 ^ 32) × (0 < length bytes) × (length bytes ≤ 65536)
+InBounds (BDiscard block count) = (block < 2 ^ 32) × (count < 2 ^ 32)
+InBounds (BDiscardIf block count) = (block < 2 ^ 32) × (count < 2 ^ 32)
+InBounds (BExists block) = block < 2 ^ 32
+InBounds (BScar ranges) = (0 < length ranges) × All IsSmall ranges
+InBounds (VLoad offset len) = (offset < 2 ^ 32) × (len < 2 ^ 32)
+InBounds (VStore offset bytes) = (offset < 2 ^ 32) × (0 < length bytes) × (length bytes ≤ 65536)
+InBounds (VSync offset len) = (offset < 2 ^ 32) × (len < 2 ^ 32)
+InBounds Cut = Unit {0}
+InBounds (Restart choice) = Unit {0}
+
+-- the word where it is the only one
+abbrev pub one_of : List (List ℕ) → Option (List ℕ)
+one_of (a ∷ []) = Some a
+one_of _ = None
+
+-- the words where they are just two
+abbrev pub two_of : List (List ℕ) → Option (List ℕ × List ℕ)
+two_of (a ∷ b ∷ []) = Some (a, b)
+two_of _ = None
+
+-- what comes first of a text of pairs: one of them and a text with fewer words, or nothing, or no pair
+abbrev pub FindsSpan : List ℕ → Result (Option (Span × Bor (List ℕ))) LineFault → Type 0
+FindsSpan text (Ok None) = words_of text ≡ []
+FindsSpan text (Ok (Some p)) = (length (words_of p.1.now) < length (words_of text))
+    × (spans_of (words_of text) ≡ option_map (λ spans. p.0 ∷ spans) (spans_of (words_of p.1.now)))
+FindsSpan text (Err Syntax) = spans_of (words_of text) ≡ None
+FindsSpan text (Err Memory) = ⊥

@@ -1,0 +1,128 @@
+-- A script's bytes as lines, and a line as a command.
+use Rattle.std.specs.Prelude.{◌==◌, ◌||◌, ℕ, Bool, false, List, [], ◌∷◌, length, filter, nat_lt, Option, Some, None, option_map, Result, Ok, Err, if◌then◌else◌, codes}
+use Rattle.std.specs.List.{slice_split, onto_first}
+use Rattle.std.specs.Str.{bytes_eq}
+use Rattle.std.specs.Io.BufRead.{strip_last}
+use Rattle.nvm_base.specs.declared.units.Span.{Span}
+use Rattle.nvm_base.specs.Numbers.{number_of}
+use Rattle.nvm_base.specs.Data.{data_within}
+use Rattle.line_device.specs.declared.line.Choice.TheVariants.{Firsts, Lasts}
+use Rattle.script_text.specs.Action.{Action}
+use Rattle.script_text.specs.Action.Action.{BRead, BWrite, BDiscard, BDiscardIf, BExists, BScar, VLoad, VStore, VSync, Cut, Restart}
+
+-- a line: nothing to do, no command, or what it asks for
+pub data Input : Type 0 where
+  Skipped : Input
+  Malformed : Input
+  Asked : Action → Input
+
+-- the lines of a script: each ends at a newline, the last one also at the script's end
+unfoldable pub lines_of : List ℕ → List (List ℕ)
+lines_of [] = []
+lines_of (c ∷ cs) = if c == 10 then [] ∷ lines_of cs else onto_first c (lines_of cs)
+
+-- blanks are the space and the tab
+abbrev pub is_blank : ℕ → Bool
+is_blank c = (c == 32) || (c == 9)
+
+-- the words between blanks
+unfoldable pub words_of : List ℕ → List (List ℕ)
+words_of line = filter (λ word. nat_lt 0 (length word)) (slice_split is_blank line)
+
+-- an action on two numbers
+abbrev pub of_numbers : (ℕ → ℕ → Action) → Option ℕ → Option ℕ → Option Action
+of_numbers make (Some a) (Some b) = Some (make a b)
+of_numbers make (Some a) None = None
+of_numbers make None b = None
+
+-- an action on a number and DATA
+abbrev pub of_data : {E : Type 0} → (ℕ → List ℕ → Action) → Option ℕ → Result (List ℕ) E → Option Action
+of_data make (Some a) (Ok bytes) = Some (make a bytes)
+of_data make (Some a) (Err e) = None
+of_data make None bytes = None
+
+-- the words after a command's name: one number, two, a number and DATA, or pairs of numbers
+abbrev pub number_action : (ℕ → Action) → List (List ℕ) → Option Action
+number_action make (a ∷ []) = option_map make (number_of a)
+number_action make _ = None
+
+abbrev pub span_action : (ℕ → ℕ → Action) → List (List ℕ) → Option Action
+span_action make (a ∷ b ∷ []) = of_numbers make (number_of a) (number_of b)
+span_action make _ = None
+
+abbrev pub data_action : (ℕ → List ℕ → Action) → List (List ℕ) → Option Action
+data_action make (a ∷ text ∷ []) = of_data make (number_of a) (data_within 65536 text)
+data_action make _ = None
+
+-- one span more, where all of it is there
+abbrev pub with_span : Option ℕ → Option ℕ → Option (List Span) → Option (List Span)
+with_span (Some start) (Some len) (Some spans) = Some (record { start = start; len = len } ∷ spans)
+with_span (Some start) (Some len) None = None
+with_span (Some start) None spans = None
+with_span None len spans = None
+
+abbrev pub spans_of : List (List ℕ) → Option (List Span)
+spans_of [] = Some []
+spans_of (a ∷ []) = None
+spans_of (a ∷ b ∷ words) = with_span (number_of a) (number_of b) (spans_of words)
+
+abbrev pub spans_action : (List Span → Action) → List (List ℕ) → Option Action
+spans_action make [] = None
+spans_action make (a ∷ words) = option_map make (spans_of (a ∷ words))
+
+abbrev pub cut_action : List (List ℕ) → Option Action
+cut_action [] = Some Cut
+cut_action (a ∷ more) = None
+
+abbrev pub restart_action : List (List ℕ) → Option Action
+restart_action (choice ∷ []) =
+    if bytes_eq choice (codes "none") then Some (Restart Firsts) else (if bytes_eq choice (codes "all") then Some (Restart Lasts) else None)
+restart_action _ = None
+
+-- What a command's name and words ask for, None where they are no command: of those on the volume and the power, of all
+-- that bring no list, of all.
+abbrev pub volume_action : List ℕ → List (List ℕ) → Option Action
+volume_action name words =
+    if bytes_eq name (codes "vload") then span_action VLoad words
+    else (if bytes_eq name (codes "vsync") then span_action VSync words
+    else (if bytes_eq name (codes "cut") then cut_action words
+    else (if bytes_eq name (codes "restart") then restart_action words else None)))
+
+abbrev pub plain_action : List ℕ → List (List ℕ) → Option Action
+plain_action name words =
+    if bytes_eq name (codes "bread") then span_action BRead words
+    else (if bytes_eq name (codes "bdiscard") then span_action BDiscard words
+    else (if bytes_eq name (codes "bdiscardif") then span_action BDiscardIf words
+    else (if bytes_eq name (codes "bexists") then number_action BExists words else volume_action name words)))
+
+unfoldable pub command_action : List ℕ → List (List ℕ) → Option Action
+command_action name words =
+    if bytes_eq name (codes "bwrite") then data_action BWrite words
+    else (if bytes_eq name (codes "vstore") then data_action VStore words
+    else (if bytes_eq name (codes "bscar") then spans_action BScar words else plain_action name words))
+
+abbrev pub asked : Option Action → Input
+asked None = Malformed
+asked (Some action) = Asked action
+
+-- the word begins with `#`
+abbrev pub is_comment : List ℕ → Bool
+is_comment [] = false
+is_comment (c ∷ cs) = c == 35
+
+abbrev pub words_input : List (List ℕ) → Input
+words_input [] = Skipped
+words_input (name ∷ words) = if is_comment name then Skipped else asked (command_action name words)
+
+-- A line of over 65,536 bytes is no command, whatever it has. One carriage return at its end is dropped.
+unfoldable pub line_input : List ℕ → Input
+line_input line = if nat_lt 65536 (length line) then Malformed else words_input (words_of (strip_last 13 line))
+
+-- what lines ask for, one by one
+abbrev pub inputs_of : List (List ℕ) → List Input
+inputs_of [] = []
+inputs_of (line ∷ lines) = line_input line ∷ inputs_of lines
+
+-- what a script asks for
+abbrev pub inputs : List ℕ → List Input
+inputs script = inputs_of (lines_of script)

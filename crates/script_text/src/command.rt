@@ -1,0 +1,150 @@
+ghost use Rattle.std.specs.Prelude.{◌≡◌, ℕ, List, IfErr, codes, option_map};
+ghost use Rattle.script_text.specs.Action.{Action, action_of};
+ghost use Rattle.script_text.specs.Action.Action.{BScar, BWrite, Restart, VStore};
+ghost use Rattle.script_text.specs.Parsing.{IsLong, Reads};
+ghost use Rattle.script_text.specs.Script.{command_action, data_action, number_action, plain_action, restart_action, span_action, spans_action, volume_action, words_of};
+
+use crate::LineFault;
+use crate::spans::read_spans;
+use crate::words::{next_word, only_word, two_words};
+use line_device::Choice;
+use nvm_base::{Bytes, MOST, Spans, TextFault, read_bytes, read_number};
+use std::alloc::Global;
+
+/// A command of a script. Blocks are numbered and counted; offsets and lengths are in bytes of the volume.
+#[derive(Debug, Drop)]
+pub enum Command {
+    BRead { block: u64, count: u64 },
+    BWrite { block: u64, bytes: Bytes },
+    BDiscard { block: u64, count: u64 },
+    BDiscardIf { block: u64, count: u64 },
+    BExists { block: u64 },
+    BScar { ranges: Spans },
+    VLoad { offset: u64, len: u64 },
+    VStore { offset: u64, bytes: Bytes },
+    VSync { offset: u64, len: u64 },
+    Cut,
+    Restart { choice: Choice },
+}
+
+// The command of that name with those words after it.
+#[tactic(auto, unfolding(crate::specs::Script::command_action))]
+pub(crate) fn read_command(alloc: Global, name: &[u8], words: &[u8]) -> Result<Command, LineFault>
+    ensures command { Reads action_of (command_action name.now (words_of words.now)) result }
+    ensures memory { IfErr result (λ e. e ≡ LineFault.Memory → IsLong name.now) }
+{
+    if name == b"bwrite".as_slice() {
+        read_write(alloc, words)
+    } else if name == b"vstore".as_slice() {
+        read_store(alloc, words)
+    } else if name == b"bscar".as_slice() {
+        read_scar(alloc, words)
+    } else {
+        read_plain(name, words).ok_or(LineFault::Syntax)
+    }
+}
+
+// A command that brings no list.
+fn read_plain(name: &[u8], words: &[u8]) -> Option<Command>
+    ensures { option_map action_of result ≡ plain_action name.now (words_of words.now) }
+{
+    if name == b"bread".as_slice() {
+        read_span(words).map(|(block, count)| Command::BRead { block, count })
+    } else if name == b"bdiscard".as_slice() {
+        read_span(words).map(|(block, count)| Command::BDiscard { block, count })
+    } else if name == b"bdiscardif".as_slice() {
+        read_span(words).map(|(block, count)| Command::BDiscardIf { block, count })
+    } else if name == b"bexists".as_slice() {
+        read_only(words).map(|block| Command::BExists { block })
+    } else {
+        read_volume(name, words)
+    }
+}
+
+// A command on the volume or the power.
+fn read_volume(name: &[u8], words: &[u8]) -> Option<Command>
+    ensures { option_map action_of result ≡ volume_action name.now (words_of words.now) }
+{
+    if name == b"vload".as_slice() {
+        read_span(words).map(|(offset, len)| Command::VLoad { offset, len })
+    } else if name == b"vsync".as_slice() {
+        read_span(words).map(|(offset, len)| Command::VSync { offset, len })
+    } else if name == b"cut".as_slice() {
+        next_word(words).is_none().then_some(Command::Cut)
+    } else if name == b"restart".as_slice() {
+        read_choice(words).map(|choice| Command::Restart { choice })
+    } else {
+        None
+    }
+}
+
+fn read_write(alloc: Global, words: &[u8]) -> Result<Command, LineFault>
+    ensures { Reads action_of (data_action BWrite (words_of words.now)) result }
+{
+    match read_data(alloc, words) {
+        Ok((block, bytes)) => Ok(Command::BWrite { block, bytes }),
+        Err(fault) => Err(fault),
+    }
+}
+
+fn read_store(alloc: Global, words: &[u8]) -> Result<Command, LineFault>
+    ensures { Reads action_of (data_action VStore (words_of words.now)) result }
+{
+    match read_data(alloc, words) {
+        Ok((offset, bytes)) => Ok(Command::VStore { offset, bytes }),
+        Err(fault) => Err(fault),
+    }
+}
+
+fn read_scar(alloc: Global, words: &[u8]) -> Result<Command, LineFault>
+    ensures { Reads action_of (spans_action BScar (words_of words.now)) result }
+{
+    match read_spans(alloc, words) {
+        Ok(ranges) => Ok(Command::BScar { ranges }),
+        Err(fault) => Err(fault),
+    }
+}
+
+// A number and DATA.
+fn read_data(alloc: Global, words: &[u8]) -> Result<(u64, Bytes), LineFault>
+    ensures { (make : ℕ → List ℕ → Action) → Reads (λ p. make p.0 p.1.items) (data_action make (words_of words.now)) result }
+{
+    let Some((number, text)) = two_words(words) else {
+        return Err(LineFault::Syntax);
+    };
+    let Some(number) = read_number(number) else {
+        return Err(LineFault::Syntax);
+    };
+    match read_bytes(alloc, text, MOST) {
+        Ok(bytes) => Ok((number, bytes)),
+        Err(TextFault::Bad | TextFault::TooLong) => Err(LineFault::Syntax),
+        Err(TextFault::Memory) => Err(LineFault::Memory),
+    }
+}
+
+fn read_span(words: &[u8]) -> Option<(u64, u64)>
+    ensures { (make : ℕ → ℕ → Action)
+        → option_map (λ p. make p.0 p.1) result ≡ span_action make (words_of words.now) }
+{
+    let (start, len) = two_words(words)?;
+    Some((read_number(start)?, read_number(len)?))
+}
+
+fn read_only(words: &[u8]) -> Option<u64>
+    ensures { (make : ℕ → Action) → option_map make result ≡ number_action make (words_of words.now) }
+{
+    read_number(only_word(words)?)
+}
+
+fn read_choice(words: &[u8]) -> Option<Choice>
+    ensures { option_map Restart result ≡ restart_action (words_of words.now) }
+{
+    let word = only_word(words)?;
+    if word == b"none".as_slice() {
+        Some(Choice::Firsts)
+    } else if word == b"all".as_slice() {
+        Some(Choice::Lasts)
+    } else {
+        None
+    }
+}

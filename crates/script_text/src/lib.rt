@@ -1,0 +1,14 @@
+//! Script text: its lines, and the command that each asks for.
+#![tactic(auto)]
+
+mod command;
+mod lines;
+mod parsing;
+mod spans;
+#[cfg(test)]
+mod tests;
+mod words;
+
+pub use command::Command;
+pub use lines::split_line;
+pub use parsing::{LineFault, parse};

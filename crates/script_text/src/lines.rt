@@ -1,0 +1,17 @@
+// The lines of a script.
+ghost use Rattle.std.specs.Prelude.{◌≡◌, ◌<◌, ◌∷◌, length};
+ghost use Rattle.script_text.specs.Script.{lines_of};
+
+use memchr::memchr;
+
+/// The first line of a script, without its newline, and what comes after it.
+pub fn split_line(script: &[u8]) -> (&[u8], &[u8])
+    requires { 0 < length script.now }
+    ensures lines { lines_of script.now ≡ result.0.now ∷ lines_of result.1.now }
+    ensures shorter { length result.1.now < length script.now }
+{
+    match memchr(b'\n', script) {
+        Some(end) => (&script[..end], &script[end + 1..]),
+        None => (script, &[]),
+    }
+}

@@ -1,0 +1,152 @@
+use crate::{Command, LineFault, parse, split_line};
+use line_device::Choice;
+use std::alloc::{AllocError, Global};
+
+// What a line gave. Of bytes and of spans it tells how many there are.
+#[derive(Clone, Copy, Debug, PartialEq, Eq)]
+enum Gave {
+    Nothing,
+    Fault(LineFault),
+    Read(u64, u64),
+    Write(u64, u64),
+    Discard(u64, u64),
+    DiscardIf(u64, u64),
+    Exists(u64),
+    Scar(u64),
+    Load(u64, u64),
+    Store(u64, u64),
+    Sync(u64, u64),
+    Cut,
+    Restart(Choice),
+}
+
+const SYNTAX: Gave = Gave::Fault(LineFault::Syntax);
+
+fn parsed(alloc: Global, line: &[u8]) -> Gave {
+    match parse(alloc, line) {
+        Ok(None) => Gave::Nothing,
+        Ok(Some(Command::BRead { block, count })) => Gave::Read(block, count),
+        Ok(Some(Command::BWrite { block, bytes })) => Gave::Write(block, bytes.len()),
+        Ok(Some(Command::BDiscard { block, count })) => Gave::Discard(block, count),
+        Ok(Some(Command::BDiscardIf { block, count })) => Gave::DiscardIf(block, count),
+        Ok(Some(Command::BExists { block })) => Gave::Exists(block),
+        Ok(Some(Command::BScar { ranges })) => Gave::Scar(ranges.len()),
+        Ok(Some(Command::VLoad { offset, len })) => Gave::Load(offset, len),
+        Ok(Some(Command::VStore { offset, bytes })) => Gave::Store(offset, bytes.len()),
+        Ok(Some(Command::VSync { offset, len })) => Gave::Sync(offset, len),
+        Ok(Some(Command::Cut)) => Gave::Cut,
+        Ok(Some(Command::Restart { choice })) => Gave::Restart(choice),
+        Err(fault) => Gave::Fault(fault),
+    }
+}
+
+#[test]
+fn each_command_is_read(rt: HostRuntime) {
+    for (line, wanted) in [
+        ("bread 7 1", Gave::Read(7, 1)),
+        ("bwrite 0 00*512", Gave::Write(0, 512)),
+        ("bdiscard 0 8", Gave::Discard(0, 8)),
+        ("bdiscardif 1 2", Gave::DiscardIf(1, 2)),
+        ("bexists 3", Gave::Exists(3)),
+        ("bscar 2 1 4 1", Gave::Scar(2)),
+        ("vload 64 1", Gave::Load(64, 1)),
+        ("vstore 4088 00*8", Gave::Store(4088, 8)),
+        ("vsync 0 65536", Gave::Sync(0, 65536)),
+        ("cut", Gave::Cut),
+        ("restart none", Gave::Restart(Choice::Firsts)),
+        ("restart all", Gave::Restart(Choice::Lasts)),
+        ("fread a 0 1", SYNTAX),
+        ("Vload 0 1", SYNTAX),
+        ("vloads 0 1", SYNTAX),
+    ] {
+        assert_eq!(rt; parsed(rt.alloc(), line.as_bytes()), wanted, "{line}");
+    }
+}
+
+#[test]
+fn words_stand_between_blanks_and_are_counted(rt: HostRuntime) {
+    for (line, wanted) in [
+        ("", Gave::Nothing),
+        (" \t ", Gave::Nothing),
+        ("\r", Gave::Nothing),
+        ("#vload 0 1", Gave::Nothing),
+        ("\t# vload 0 1", Gave::Nothing),
+        ("vload# 0 1", SYNTAX),
+        ("vload 0 1 #", SYNTAX),
+        ("\tvload \t 0\t1 ", Gave::Load(0, 1)),
+        ("vload 0 1\r", Gave::Load(0, 1)),
+        ("vload 0 1 \r", Gave::Load(0, 1)),
+        ("vload 0 1\r\r", SYNTAX),
+        ("vload 0 1\r ", SYNTAX),
+        ("\rvload 0 1", SYNTAX),
+        ("cut\r", Gave::Cut),
+        ("vload", SYNTAX),
+        ("vload 0", SYNTAX),
+        ("vload 0 1 2", SYNTAX),
+        ("vstore 0", SYNTAX),
+        ("vstore 0 00 00", SYNTAX),
+        ("cut 1", SYNTAX),
+        ("bread 0", SYNTAX),
+        ("bexists", SYNTAX),
+        ("bexists 0 1", SYNTAX),
+        ("bscar", SYNTAX),
+        ("bscar 0", SYNTAX),
+        ("bscar 0 1 2", SYNTAX),
+        ("bscar 0 1 2 x", SYNTAX),
+        ("restart", SYNTAX),
+        ("restart All", SYNTAX),
+        ("restart all none", SYNTAX),
+    ] {
+        assert_eq!(rt; parsed(rt.alloc(), line.as_bytes()), wanted, "{line}");
+    }
+}
+
+#[test]
+fn numbers_and_bytes_have_limits(rt: HostRuntime) {
+    for (line, wanted) in [
+        ("vload 4294967295 0", Gave::Load(4294967295, 0)),
+        ("vload 4294967296 0", SYNTAX),
+        ("vload 0000000001 0000000002", Gave::Load(1, 2)),
+        ("vload 00000000001 0", SYNTAX),
+        ("vload -1 0", SYNTAX),
+        ("vload 0x1 0", SYNTAX),
+        ("vstore 0 aBCd,0F*2", Gave::Store(0, 4)),
+        ("vstore 0 00*65536", Gave::Store(0, 65536)),
+        ("vstore 0 00*65537", SYNTAX),
+        ("vstore 0 00*65535,01", Gave::Store(0, 65536)),
+        ("vstore 0 00*65535,0102", SYNTAX),
+        ("vstore 0 00*0", SYNTAX),
+        ("vstore 0 0", SYNTAX),
+        ("vstore 0 00,", SYNTAX),
+        ("vstore 00 0g", SYNTAX),
+    ] {
+        assert_eq!(rt; parsed(rt.alloc(), line.as_bytes()), wanted, "{line}");
+    }
+}
+
+#[test]
+fn a_line_has_at_most_65536_bytes(rt: HostRuntime) -> Result<(), AllocError> {
+    let mut line = vec![in rt.alloc(); b'#'; 65535]?;
+    line.push(b'\r')?;
+    assert_eq!(rt; parsed(rt.alloc(), line.as_slice()), Gave::Nothing);
+    line.push(b'\r')?;
+    assert_eq!(rt; parsed(rt.alloc(), line.as_slice()), SYNTAX);
+    let mut line = vec![in rt.alloc(); b' '; 65533]?;
+    line.extend_from_slice(b"cut")?;
+    assert_eq!(rt; parsed(rt.alloc(), line.as_slice()), Gave::Cut);
+    line.push(b' ')?;
+    assert_eq!(rt; parsed(rt.alloc(), line.as_slice()), SYNTAX);
+    Ok(())
+}
+
+#[test]
+fn lines_end_at_newlines_and_at_the_end(rt: HostRuntime) {
+    let (line, rest) = split_line(b"cut\n\nvload 0 1");
+    assert_eq!(rt; line, b"cut".as_slice());
+    assert_eq!(rt; rest, b"\nvload 0 1".as_slice());
+    let (line, rest) = split_line(b"\n");
+    assert!(rt; line.is_empty() && rest.is_empty());
+    let (line, rest) = split_line(b"vload 0 1");
+    assert_eq!(rt; line, b"vload 0 1".as_slice());
+    assert!(rt; rest.is_empty());
+}
