@@ -1,21 +1,15 @@
--- Costs, one input after another.
-use Rattle.std.proofs.Common.{◌≡◌, ℕ, ◌+◌, List, [], ◌∷◌, ◌++◌, refl, ◌∙◌, arith}
-use Rattle.line_device.specs.Panel.{Panel}
+-- Costs, one after another.
+use Rattle.std.proofs.Common.{◌≡◌, ℕ, ◌+◌, ◌≤◌, List, [], ◌∷◌, ◌++◌, refl, ◌∙◌, arith}
+use Rattle.line_device.specs.Panel.{Panel, Runs, Outcome}
 use Rattle.line_device.proofs.PanelLemmas.{arms_nothing-refl, arms_nothing-trans}
-use Rattle.machine_host.specs.Action.{Action}
-use Rattle.machine_host.specs.Script.{Input}
-use Rattle.machine_host.specs.Script.Input.{Skipped, Malformed, Asked}
-use Rattle.machine_host.specs.Stands.{Costs, Spends, total, most_calls, most_persists, most_offs, most_restarts}
-
-pub total-append : (most : Action → ℕ) (x y : List Input) → total most (x ++ y) ≡ total most x + total most y
-total-append most [] y = omega arith
-total-append most (Skipped ∷ x) y = total-append most x y
-total-append most (Malformed ∷ x) y = total-append most x y
-total-append most (Asked action ∷ x) y = omega (arith, total-append most x y)
+use Rattle.script_text.specs.Action.{Action}
+use Rattle.script_text.specs.Script.{Input}
+use Rattle.script_text.specs.Script.Input.{Skipped, Malformed, Asked}
+use Rattle.machine_host.specs.Stands.{SpendsAtMost, Costs, Spends, total, most_calls, most_persists, most_offs, most_restarts}
 
 -- what was not done costs nothing
-pub spends-idle : (inputs : List Input) (p : Panel) → Spends inputs p p
-spends-idle inputs p = record {
+pub spends_nothing : (p : Panel) → SpendsAtMost 0 0 0 0 p p
+spends_nothing p = record {
   calls = omega arith;
   persists = omega arith;
   offs = omega arith;
@@ -27,28 +21,64 @@ spends-idle inputs p = record {
   armed = arms_nothing-refl p;
 }
 
-pub spends_then : (x y : List Input) (p q r : Panel) → Spends x p q → Spends y q r → Spends (x ++ y) p r
-spends_then x y p q r a b = record {
-  calls = omega (arith, total-append most_calls x y, a.calls, b.calls);
-  persists = omega (arith, total-append most_persists x y, a.persists, b.persists);
-  offs = omega (arith, total-append most_offs x y, a.offs, b.offs);
-  restarts = omega (arith, total-append most_restarts x y, a.restarts, b.restarts);
-  arms = b.arms ∙ a.arms;
-  evicts = b.evicts ∙ a.evicts;
-  disarms = b.disarms ∙ a.disarms;
-  last_order = b.last_order ∙ a.last_order;
-  armed = arms_nothing-trans p q r a.armed b.armed;
+pub spends_within : (a b c d w x y z : ℕ) (p q : Panel) → a ≤ w → b ≤ x → c ≤ y → d ≤ z → SpendsAtMost a b c d p q → SpendsAtMost w x y z p q
+spends_within a b c d w x y z p q aw bx cy dz s = record {
+  calls = omega (arith, s.calls);
+  persists = omega (arith, s.persists);
+  offs = omega (arith, s.offs);
+  restarts = omega (arith, s.restarts);
+  arms = s.arms;
+  evicts = s.evicts;
+  disarms = s.disarms;
+  last_order = s.last_order;
+  armed = s.armed;
 }
 
-pub spends-asked : (action : Action) (p q : Panel) → Costs action p q → Spends (Asked action ∷ []) p q
-spends-asked action p q c = record {
-  calls = omega (arith, c.calls);
-  persists = omega (arith, c.persists);
-  offs = omega (arith, c.offs);
-  restarts = omega (arith, c.restarts);
-  arms = c.arms;
-  evicts = c.evicts;
-  disarms = c.disarms;
-  last_order = c.last_order;
-  armed = c.armed;
+pub spends_both : (a b c d w x y z : ℕ) (p q r : Panel) → SpendsAtMost a b c d p q → SpendsAtMost w x y z q r → SpendsAtMost (a + w) (b + x) (c + y) (d + z) p r
+spends_both a b c d w x y z p q r s t = record {
+  calls = omega (arith, s.calls, t.calls);
+  persists = omega (arith, s.persists, t.persists);
+  offs = omega (arith, s.offs, t.offs);
+  restarts = omega (arith, s.restarts, t.restarts);
+  arms = t.arms ∙ s.arms;
+  evicts = t.evicts ∙ s.evicts;
+  disarms = t.disarms ∙ s.disarms;
+  last_order = t.last_order ∙ s.last_order;
+  armed = arms_nothing-trans p q r s.armed t.armed;
 }
+
+-- work on lines
+pub spends_runs : (calls persists : ℕ) (end : Outcome) (p q : Panel) → Runs calls persists end p q → SpendsAtMost calls persists 0 0 p q
+spends_runs calls persists end p q runs = record {
+  calls = runs.few_calls;
+  persists = runs.few_persists;
+  offs = omega (arith, runs.orders.offs);
+  restarts = omega (arith, runs.orders.restarts);
+  arms = runs.orders.arms;
+  evicts = runs.orders.evicts;
+  disarms = runs.orders.disarms;
+  last_order = runs.orders.last_order;
+  armed = runs.armed;
+}
+
+pub total-append : (most : Action → ℕ) (x y : List Input) → total most (x ++ y) ≡ total most x + total most y
+total-append most [] y = omega arith
+total-append most (Skipped ∷ x) y = total-append most x y
+total-append most (Malformed ∷ x) y = total-append most x y
+total-append most (Asked action ∷ x) y = omega (arith, total-append most x y)
+
+pub spends-idle : (inputs : List Input) (p : Panel) → Spends inputs p p
+spends-idle inputs p = spends_within 0 0 0 0 _ _ _ _ p p (omega arith) (omega arith) (omega arith) (omega arith) (spends_nothing p)
+
+pub spends_then : (x y : List Input) (p q r : Panel) → Spends x p q → Spends y q r → Spends (x ++ y) p r
+spends_then x y p q r a b =
+    spends_within _ _ _ _ _ _ _ _ p r
+    (omega (arith, total-append most_calls x y))
+    (omega (arith, total-append most_persists x y))
+    (omega (arith, total-append most_offs x y))
+    (omega (arith, total-append most_restarts x y))
+    (spends_both _ _ _ _ _ _ _ _ p q r a b)
+
+pub spends-asked : (action : Action) (p q : Panel) → Costs action p q → Spends (Asked action ∷ []) p q
+spends-asked action p q c =
+    spends_within _ _ _ _ _ _ _ _ p q (omega arith) (omega arith) (omega arith) (omega arith) c

@@ -1,10 +1,13 @@
+pub mod VolumeLemmas
 pub mod SpanLemmas
 pub mod LoadLemmas
-pub mod BoundLemmas
-pub mod LineLemmas
-pub mod WordLemmas
 pub mod StepLemmas
-pub mod ShortLemmas
 pub mod RefusalLemmas
 pub mod RunLemmas
 pub mod CostLemmas
+pub mod ElsewhereLemmas
+pub mod BlockLemmas
+pub mod RestartLemmas
+pub mod ExistsLemmas
+pub mod MountLemmas
+pub mod BlockReadLemmas

@@ -2,14 +2,13 @@
 use Rattle.std.proofs.Common.{◌≡◌, ℕ, Option, List, [], ◌∷◌, ◌++◌, refl, sym, ap, subst, ◌∙◌, append_assoc, append-nil}
 use Rattle.nvm_base.specs.Counts.{raised}
 use Rattle.line_device.specs.Panel.{Start, told}
-use Rattle.nvm_model.specs.Page.{KeepsPages}
-use Rattle.machine_host.specs.declared.reply.Why.TheVariants.{Syntax}
-use Rattle.machine_host.specs.Action.{Action}
-use Rattle.machine_host.specs.Answer.{Answer, answer_line, reply_text}
-use Rattle.machine_host.specs.Answer.Answer.{Refused}
-use Rattle.machine_host.specs.Script.{Input}
-use Rattle.machine_host.specs.Script.Input.{Skipped, Malformed, Asked}
-use Rattle.machine_host.specs.Machine.{Machine, Fate, fate, restarted, restart_answer}
+use Rattle.reply_text.specs.declared.reply.Why.TheVariants.{Syntax}
+use Rattle.script_text.specs.Action.{Action}
+use Rattle.reply_text.specs.Answer.{Answer, answer_line, reply_text}
+use Rattle.reply_text.specs.Answer.Answer.{Refused}
+use Rattle.script_text.specs.Script.{Input}
+use Rattle.script_text.specs.Script.Input.{Skipped, Malformed, Asked}
+use Rattle.machine_host.specs.Machine.{Machine, Keeps, Fate, fate, restarted, restart_answer}
 use Rattle.machine_host.specs.Machine.Fate.{Gives, Restarts}
 use Rattle.machine_host.specs.Run.{Transcript, said, perform, Allows, Run, Goes, after}
 use Rattle.machine_host.specs.Stands.{Takes, bumped_by}
@@ -60,7 +59,7 @@ allowed h f inputs starts = elim f as (λ _. Type 0) [
   | Gives answer next ↦ Allows next inputs starts
   | Restarts choice ↦ elim starts as (λ _. Type 0) [
     | [] ↦ ⊥
-    | start ∷ others ↦ (start.choice ≡ choice) × KeepsPages choice start.image h.volume × Allows (restarted h start.image) inputs others
+    | start ∷ others ↦ (start.choice ≡ choice) × Keeps choice start.image h × Allows (restarted h start.image) inputs others
   ]
 ]
 

@@ -5,12 +5,12 @@ use Rattle.std.proofs.lemmas.Bool.{cases_lt}
 use Rattle.std.proofs.lemmas.List.{get_or-take, get_or-drop}
 use Rattle.line_device.specs.Word.{word_over, reaches}
 use Rattle.line_device.specs.History.{latest, newest}
-use Rattle.line_device.specs.Medium.{Medium, Wander, on_line, stored, settled, persisted, word_stored}
+use Rattle.line_device.specs.Medium.{Medium, Wander, on_line, stored, settled, word_stored}
 use Rattle.line_device.proofs.HistoryLemmas.{fades-refl}
-use Rattle.line_device.proofs.WanderLemmas.{wander-trans, wander-stored, wander-settled, persisted-strong}
+use Rattle.line_device.proofs.WanderLemmas.{wander-trans, wander-stored, wander-settled}
 use Rattle.line_device.proofs.WordLemmas.{word_over-line, word_over-piece, reaches-out}
 use Rattle.nvm_model.specs.Cell.{touches}
-use Rattle.nvm_model.specs.Lines.{IsIntact, SameMarks, each, settled_within}
+use Rattle.nvm_model.specs.Lines.{SameMarks, each, settled_within}
 use Rattle.machine_host.specs.Volume.{below}
 
 -- media that agree place by place
@@ -21,20 +21,6 @@ wander-same a b marks same = record {
   weak = marks.weak;
   fades = λ p. rw (same p) (fades-refl (a.is_weak (p / 8)) (a.history p));
 }
-
-pub same_marks-wander : (a b : Medium) → Wander a b → SameMarks a b
-same_marks-wander a b w = record { count = w.count; bad = w.bad; weak = w.weak }
-
-pub same_marks-trans : (a b c : Medium) → SameMarks a b → SameMarks b c → SameMarks a c
-same_marks-trans a b c x y = record {
-  count = y.count ∙ x.count;
-  bad = λ n. y.bad n ∙ x.bad n;
-  weak = λ n. y.weak n ∙ x.weak n;
-}
-
-pub is_intact-marks : (a b : Medium) → IsIntact a → SameMarks a b → IsIntact b
-is_intact-marks a b intact marks n lt =
-    let old = intact n (subst (λ k. n < k) marks.count lt) in (marks.bad n ∙ old.0, marks.weak n ∙ old.1)
 
 -- nothing is done below the first line
 pub below-first : (m : Medium) (first : ℕ) (f : ℕ → List ℕ → List ℕ) → ((p : ℕ) (h : List ℕ) → p / 8 < first → f p h ≡ h) → Wander (each m (below first f)) m
@@ -68,13 +54,11 @@ pub stored-next : (m a b : Medium) (line at : ℕ) (piece : List ℕ) (f : ℕ �
 stored-next m a b line at piece f agree before after =
     wander-trans _ _ _ (below-next m line f (word_stored at piece) agree) (wander-trans _ _ _ (wander-stored line at piece _ a before) after)
 
--- a persist of the next line, which is not weak
-pub persisted-next : (m a b : Medium) (line : ℕ) (f : ℕ → List ℕ → List ℕ) → a.is_weak line ≡ false
-    → ((p : ℕ) (h : List ℕ) → p / 8 ≡ line → latest h ≡ f p h)
-    → Wander (each m (below line f)) a → Wander (persisted a line) b → Wander (each m (below (line + 1) f)) b
-persisted-next m a b line f strong agree before after =
-    let settles : Wander (settled a line) b = subst (λ x. Wander x b) (persisted-strong a line strong) after in
-    wander-trans _ _ _ (below-next m line f (λ _ h. latest h) agree) (wander-trans _ _ _ (wander-settled line _ a before) settles)
+-- the next line made durable
+pub settled-next : (m a b : Medium) (line : ℕ) (f : ℕ → List ℕ → List ℕ) → ((p : ℕ) (h : List ℕ) → p / 8 ≡ line → latest h ≡ f p h)
+    → Wander (each m (below line f)) a → Wander (settled a line) b → Wander (each m (below (line + 1) f)) b
+settled-next m a b line f agree before after =
+    wander-trans _ _ _ (below-next m line f (λ _ h. latest h) agree) (wander-trans _ _ _ (wander-settled line _ a before) after)
 
 -- nothing is done from the last line on
 pub below-last : (m b : Medium) (last : ℕ) (f : ℕ → List ℕ → List ℕ) → ((p : ℕ) (h : List ℕ) → last ≤ p / 8 → f p h ≡ h)

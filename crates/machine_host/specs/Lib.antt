@@ -1,10 +1,6 @@
-pub mod Action
-pub mod Answer
-pub mod Room
-pub mod Script
-pub mod Parsing
 pub mod Machine
 pub mod Run
 pub mod Volume
 pub mod Stands
 pub mod Rows
+pub mod BlockRows

@@ -1,11 +1,11 @@
 -- Worked scripts: what the machine writes, from the script's bytes and what each restart left.
-use Rattle.std.specs.Prelude.{◌≡◌, ◌==◌, ℕ, List, [], ◌∷◌, ◌++◌, codes, if◌then◌else◌}
+use Rattle.std.specs.Prelude.{◌≡◌, ◌+◌, ◌==◌, ℕ, List, [], ◌∷◌, ◌++◌, codes, if◌then◌else◌}
 use Rattle.line_device.specs.Panel.{Start}
 use Rattle.line_device.specs.declared.line.Choice.{Choice}
 use Rattle.line_device.specs.declared.line.Choice.TheVariants.{Firsts, Lasts}
 use Rattle.word_tables.specs.declared.geometry.Geometry.{Geometry}
-use Rattle.machine_host.specs.Answer.{reply_text}
-use Rattle.machine_host.specs.Script.{inputs}
+use Rattle.reply_text.specs.Answer.{reply_text}
+use Rattle.script_text.specs.Script.{inputs}
 use Rattle.machine_host.specs.Machine.{fresh, zero_image}
 use Rattle.machine_host.specs.Run.{perform}
 
@@ -13,9 +13,10 @@ use Rattle.machine_host.specs.Run.{perform}
 abbrev pub small : Geometry
 small = record { blocks = 8; vpages = 2; fpages = 32 }
 
--- a restart that left zeros but for one word
+-- a restart that left zeros but for one word of the volume, which begins at line 2304 of 5056
 abbrev pub leaving : Choice → ℕ → ℕ → Start
-leaving choice place value = record { choice = choice; image = record (zero_image 128) { word = λ p. if p == place then value else 0 } }
+leaving choice word value =
+    record { choice = choice; image = record (zero_image 5056) { word = λ p. if p == 18432 + word then value else 0 } }
 
 -- lines, each ended by a newline
 abbrev pub text : List (List ℕ) → List ℕ
@@ -37,7 +38,7 @@ pub record Rows : Type 0 where
       (leaving Lasts 0 506381209866536711 ∷ []) (codes "ok" ∷ codes "ok" ∷ codes "ok bad 0" ∷ codes "data 07*8" ∷ [])
   pub refusals_in_order : Writes
       (text (codes "vload 8184 8" ∷ codes "vload 8188 8" ∷ codes "vload 0 0" ∷ codes "restart all" ∷ codes "cut" ∷ codes "vload 0 1"
-      ∷ codes "bread 0 1" ∷ []))
+      ∷ codes "fread a 0 1" ∷ []))
       []
       (codes "data 00*8" ∷ codes "refused range" ∷ codes "refused length" ∷ codes "refused on" ∷ codes "ok" ∷ codes "refused off"
       ∷ codes "refused syntax" ∷ [])

@@ -1,13 +1,12 @@
 -- Whole runs: what the machine answers to a script, given what each restart left.
 use Rattle.std.specs.Prelude.{◌≡◌, List, [], ◌∷◌, ◌++◌}
 use Rattle.line_device.specs.Panel.{Start}
-use Rattle.nvm_model.specs.Page.{KeepsPages}
-use Rattle.machine_host.specs.declared.reply.Why.TheVariants.{Syntax}
-use Rattle.machine_host.specs.Answer.{Answer}
-use Rattle.machine_host.specs.Answer.Answer.{Refused}
-use Rattle.machine_host.specs.Script.{Input}
-use Rattle.machine_host.specs.Script.Input.{Skipped, Malformed, Asked}
-use Rattle.machine_host.specs.Machine.{Machine, fate, restarted, restart_answer}
+use Rattle.reply_text.specs.declared.reply.Why.TheVariants.{Syntax}
+use Rattle.reply_text.specs.Answer.{Answer}
+use Rattle.reply_text.specs.Answer.Answer.{Refused}
+use Rattle.script_text.specs.Script.{Input}
+use Rattle.script_text.specs.Script.Input.{Skipped, Malformed, Asked}
+use Rattle.machine_host.specs.Machine.{Machine, Keeps, fate, restarted, restart_answer}
 use Rattle.machine_host.specs.Machine.Fate.{Gives, Restarts}
 
 -- the answers to a script, and the state after it
@@ -42,7 +41,7 @@ Allows h (Asked action ∷ inputs) starts = elim (fate h action) as (λ _. Type 
   | Gives answer next ↦ Allows next inputs starts
   | Restarts choice ↦ elim starts as (λ _. Type 0) [
     | [] ↦ ⊥
-    | start ∷ others ↦ (start.choice ≡ choice) × KeepsPages choice start.image h.volume × Allows (restarted h start.image) inputs others
+    | start ∷ others ↦ (start.choice ≡ choice) × Keeps choice start.image h × Allows (restarted h start.image) inputs others
   ]
 ]
 

@@ -1,15 +1,46 @@
--- The volume's bytes over the lines of a device: byte i lies in line i / 64.
-use Rattle.std.specs.Prelude.{◌+◌, ◌-◌, ◌*◌, ◌/◌, ◌%◌, ◌<◌, ◌≤◌, ℕ, min, max, List, nat_lt, Result, Ok, Err, if◌then◌else◌}
+-- The volume on the lines of a device: its byte i lies in its line i / 64, and its lines lie in two ranges.
+use Rattle.std.specs.Prelude.{◌≡◌, ◌+◌, ◌-◌, ◌*◌, ◌/◌, ◌%◌, ◌<◌, ◌≤◌, ℕ, min, max, List, nat_lt, if◌then◌else◌}
 use Rattle.std.specs.Int.{byte_at}
 use Rattle.line_device.specs.Word.{word_at}
 use Rattle.line_device.specs.Medium.{Medium}
-use Rattle.line_device.specs.Panel.{Outcome}
-use Rattle.line_device.specs.Panel.Outcome.{went, failed, lost}
-use Rattle.line_device.specs.declared.fault.DeviceFault.{DeviceFault}
-use Rattle.line_device.specs.declared.fault.DeviceFault.TheVariants.{Poisoned, Failed, PowerLost}
+use Rattle.line_device.specs.Panel.{Image}
 use Rattle.nvm_base.specs.declared.units.Span.{Span}
-use Rattle.machine_host.specs.declared.volume.Interruption.{Interruption}
-use Rattle.machine_host.specs.declared.volume.Interruption.TheVariants as interruption
+use Rattle.nvm_model.specs.Lines.{IsIntact}
+use Rattle.word_tables.specs.declared.geometry.Geometry.{Geometry}
+use Rattle.word_tables.specs.Bounds.{IsValid}
+use Rattle.word_tables.specs.Layout.{volume_line, total_lines, IsVolumeLine}
+
+-- where word p of the volume lies on the device
+abbrev pub volume_place : Geometry → ℕ → ℕ
+volume_place geo p = 8 * volume_line geo (p / 8) + p % 8
+
+-- the volume's lines as a medium of their own
+abbrev pub volume_of : Geometry → Medium → Medium
+volume_of geo m = record {
+  count = 64 * geo.vpages;
+  is_bad = λ n. m.is_bad (volume_line geo n);
+  is_weak = λ n. m.is_weak (volume_line geo n);
+  history = λ p. m.history (volume_place geo p);
+}
+
+-- the same of what a restart left
+abbrev pub volume_image : Geometry → Image → Image
+volume_image geo image = record {
+  count = 64 * geo.vpages;
+  is_bad = λ n. image.is_bad (volume_line geo n);
+  is_weak = λ n. image.is_weak (volume_line geo n);
+  word = λ p. image.word (volume_place geo p);
+}
+
+-- the device's words that are the volume's
+abbrev pub IsVolumePlace : Geometry → ℕ → Type 0
+IsVolumePlace geo p = IsVolumeLine geo (p / 8)
+
+-- The medium has the lines of the whole layout, none bad or weak.
+pub record HasLayout (geo : Geometry) (m : Medium) : Type 0 where
+  pub valid : IsValid geo
+  pub lines : m.count ≡ total_lines geo
+  pub intact : IsIntact m
 
 -- bytes of a line, word by word
 abbrev pub line_byte : List ℕ → ℕ → ℕ
@@ -18,27 +49,6 @@ line_byte bytes i = byte_at (i % 8) (word_at bytes (i / 8))
 -- what is done to the words of the lines below a limit
 abbrev pub below : ℕ → (ℕ → List ℕ → List ℕ) → ℕ → List ℕ → List ℕ
 below limit change p old = if nat_lt (p / 8) limit then change p old else old
-
--- how work on lines ended
-abbrev pub ended : {T : Type 0} → Result T Interruption → Outcome
-ended (Ok x) = went
-ended (Err interruption.Failed) = failed
-ended (Err interruption.PowerLost) = lost
-
--- a fault that is no media error, and what it interrupts
-abbrev pub Interrupts : DeviceFault → Type 0
-Interrupts (Poisoned line) = ⊥
-Interrupts Failed = Unit {0}
-Interrupts PowerLost = Unit {0}
-
-abbrev pub fault_outcome : DeviceFault → Outcome
-fault_outcome (Poisoned line) = went
-fault_outcome Failed = failed
-fault_outcome PowerLost = lost
-
-abbrev pub interruption_outcome : Interruption → Outcome
-interruption_outcome interruption.Failed = failed
-interruption_outcome interruption.PowerLost = lost
 
 -- the bytes of a span that lie in a line
 abbrev pub part_in : Span → ℕ → Span
@@ -49,8 +59,8 @@ part_in span line =
 abbrev pub before_line : Span → ℕ → ℕ
 before_line span line = min (span.start + span.len) (max span.start (64 * line)) - span.start
 
--- a stretch of bytes in one line, which a call can reach
-pub record IsReachable (m : Medium) (start len : ℕ) : Type 0 where
+-- a stretch of bytes in one line of the volume, which a call can reach
+pub record IsReachable (geo : Geometry) (start len : ℕ) : Type 0 where
   pub some : 0 < len
   pub one_line : start % 64 + len ≤ 64
-  pub there : start / 64 < m.count
+  pub there : start / 64 < 64 * geo.vpages

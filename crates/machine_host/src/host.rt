@@ -1,24 +1,29 @@
 // The host: it refuses a command, or performs it on the device and answers it by one line.
+mod blocks;
 mod commands;
+mod power;
 mod refusals;
 #[cfg(test)]
 mod tests;
 
 use crate::Mode;
-use crate::reply::{Reply, print};
-use crate::script::Command;
+use block_device::{Blocks, MountFault};
 use commands::longest_reply;
 use line_device::LineDevice;
 use nvm_base::Bytes;
+use reply_text::{Reply, print};
+use script_text::Command;
 use std::alloc::{AllocError, Global};
 use std::marker::Model;
+use word_tables::Geometry;
 
 /// The host of a volume. What the volume holds is kept by the device alone.
 #[derive(Drop)]
 pub struct Host {
     alloc: Global,
-    vpages: u64,
+    geometry: Geometry,
     mode: Mode,
+    blocks: Blocks,
 }
 
 impl Model for Host {
@@ -26,26 +31,52 @@ impl Model for Host {
 
     ghost Value = { HostState };
 
-    ghost view = { λ h. record { vpages = h.vpages; mode = h.mode } };
+    ghost view = { λ h. record { geometry = h.geometry; mode = h.mode; blocks = h.blocks } };
 }
 
 impl Host {
-    ghost use Rattle.std.specs.Prelude.{◌≡◌, ◌≤◌, ◌+◌, ◌*◌, OnOk, OnErr};
+    ghost use Rattle.std.specs.Prelude.{◌≡◌, ◌≤◌, ◌+◌, ◌*◌, IsTrue, IfErr, IfOk, OnOk, OnErr};
     ghost use Rattle.machine_host.specs.declared.mode.Mode.TheVariants as modes;
-    ghost use Rattle.machine_host.specs.Action.{action_of};
+    ghost use Rattle.script_text.specs.Action.{action_of};
     ghost use Rattle.machine_host.specs.Machine.{Machine, refusal};
-    ghost use Rattle.machine_host.specs.Stands.{Serves, Stands, IsUnarmed, Steps, Costs, Leaves};
-    ghost use Rattle.machine_host.specs.Parsing.{InBounds};
+    ghost use Rattle.machine_host.specs.Stands.{Serves, Stands, IsUnarmed, Steps, Costs, IsStop, Leaves, mount_calls, mount_persists};
+    ghost use Rattle.script_text.specs.Parsing.{InBounds};
+    ghost use Rattle.line_device.specs.Medium.{last_image};
+    ghost use Rattle.line_device.specs.Panel.{Runs};
+    ghost use Rattle.line_words.specs.Words.{WandersOutside};
+    ghost use Rattle.word_log.specs.Area.{IsOf};
+    ghost use Rattle.block_device.specs.Area.{block_area};
+    ghost use Rattle.block_device.specs.Reading.{blocks_read};
+    ghost use Rattle.block_device.specs.Object.{blocks_of};
+    ghost use Rattle.block_device.specs.Images.{AreReadable, KeepsReads};
+    ghost use Rattle.block_device.specs.Mounting.{mount_outcome};
+    ghost use Rattle.machine_host.specs.Volume.{HasLayout};
 
-    /// The host of a device that was reset to 64 lines a volume page.
-    pub fn start(alloc: Global, vpages: u64) -> Self
-        ensures { result ≡ record { vpages = vpages; mode = modes.On } }
+    /// The host of a device that has all lines of a layout. It mounts the blocks.
+    pub fn start<D: LineDevice>(
+        alloc: Global,
+        device: &mut D,
+        geometry: Geometry,
+    ) -> Result<Self, MountFault>
+        requires layout { HasLayout geometry (D.state device.old).medium }
+        requires readable { AreReadable geometry (D.state device.old).medium }
+        requires on { IsTrue (D.state device.old).panel.power }
+        ensures ok { IfOk result (λ host. (host.geometry ≡ geometry) × (host.mode ≡ modes.On)
+            × (blocks_of host.blocks (D.state device.new).medium
+            ≡ blocks_read geometry (D.state device.old).medium.is_bad (last_image (D.state device.old).medium))) }
+        ensures stop { IfErr result IsStop }
+        ensures lines { WandersOutside (IsOf (block_area geometry)) (D.state device.old).medium (D.state device.new).medium }
+        ensures reads { KeepsReads geometry (D.state device.old).medium (D.state device.new).medium }
+        ensures serves { IfOk result (λ host. Serves host (D.state device.new)) }
+        ensures runs { Runs mount_calls mount_persists (mount_outcome result) (D.state device.old).panel (D.state device.new).panel }
     {
-        Host {
+        let blocks = Blocks::mount(alloc, device, geometry)?;
+        Ok(Host {
             alloc,
-            vpages,
+            geometry,
             mode: Mode::On,
-        }
+            blocks,
+        })
     }
 
     pub fn mode(&self) -> Mode
@@ -67,8 +98,8 @@ impl Host {
         // Where nothing is armed, it is one step of the machine, whichever state host and device stand for.
         ensures step { OnOk result ((h : Machine) → Stands self.old (D.state device.old) h → IsUnarmed (D.state device.old).panel
             → Steps h (action_of command.now) out.old.items out.new.items self.new (D.state device.old) (D.state device.new)) }
-        ensures memory { OnErr result ((out.new.items ≡ out.old.items) × (self.new ≡ self.old)
-            × Leaves (action_of command.now) (D.state device.old) (D.state device.new)) }
+        ensures memory { OnErr result ((out.new.items ≡ out.old.items)
+            × Leaves (action_of command.now) self.old self.new (D.state device.old) (D.state device.new)) }
 
         // Whatever is armed
         ensures serves { Serves self.new (D.state device.new) }

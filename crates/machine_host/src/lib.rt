@@ -3,9 +3,7 @@
 
 mod host;
 mod mode;
-pub mod reply;
 mod rows;
-pub mod script;
 mod volume;
 
 pub use host::Host;

@@ -1,6 +1,8 @@
 ghost use Rattle.machine_host.specs.Rows.{Rows};
+ghost use Rattle.machine_host.specs.BlockRows.{BlockRows};
 
 /// What the machine writes for the worked scripts.
 pub fn worked_scripts()
-    ensures { Rows }
+    ensures volume { Rows }
+    ensures blocks { BlockRows }
 {}

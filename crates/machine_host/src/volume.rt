@@ -1,33 +1,18 @@
-// The volume's bytes over the lines of a device: byte i lies in line i / 64. Each line that a span touches is one call.
+// The volume's bytes over the lines of a device. Each line that a span touches is one call.
 ghost use Rattle.std.specs.Prelude.{◌≡◌, ◌+◌, ◌-◌, ◌*◌, ◌/◌, ◌%◌, ◌<◌, ◌≤◌, ◌^◌, ◌++◌, ℕ, IsTrue, length, min, max, OnOk};
 ghost use Rattle.nvm_base.specs.Units.{units_of};
-ghost use Rattle.line_device.specs.Medium.{Wander, stored, persisted};
+ghost use Rattle.line_device.specs.Medium.{Wander, stored, settled};
 ghost use Rattle.line_device.specs.Panel.{Runs};
+ghost use Rattle.line_words.specs.Ending.{ended};
+ghost use Rattle.line_words.specs.Words.{WandersOutside};
 ghost use Rattle.nvm_model.specs.Numbered.{list_from};
-ghost use Rattle.nvm_model.specs.Lines.{IsIntact, SameMarks, span_stored, span_settled, span_shown};
-ghost use Rattle.machine_host.specs.Volume.{Interrupts, line_byte, part_in as part_of, IsReachable, ended, fault_outcome, interruption_outcome};
+ghost use Rattle.nvm_model.specs.Lines.{span_stored, span_settled, span_shown};
+ghost use Rattle.machine_host.specs.Volume.{HasLayout, IsReachable, IsVolumePlace, line_byte, part_in as part_of, volume_of};
 
 use line_device::{DeviceFault, Lines};
+use line_words::Interruption;
 use nvm_base::{Bytes, LINE, LineNo, Span, lines_of};
-
-/// What ends a piece of work on lines before its end.
-#[derive(Clone, Copy, Debug, PartialEq, Eq)]
-pub enum Interruption {
-    Failed,
-    PowerLost,
-}
-
-// What a fault of the device interrupts, where no line is bad.
-fn interrupted_by(fault: DeviceFault) -> Interruption
-    requires { Interrupts fault }
-    ensures { interruption_outcome result ≡ fault_outcome fault }
-{
-    match fault {
-        DeviceFault::Poisoned(_) => unreachable!(),
-        DeviceFault::Failed => Interruption::Failed,
-        DeviceFault::PowerLost => Interruption::PowerLost,
-    }
-}
+use word_tables::Geometry;
 
 // The bytes of the span that lie in a line.
 fn part_in(span: Span, line: u64) -> Span
@@ -44,22 +29,30 @@ fn part_in(span: Span, line: u64) -> Span
 }
 
 // Appends bytes of one line as last stored.
-fn load_part<L: Lines>(device: &mut L, part: Span, out: &mut Bytes) -> Result<(), Interruption>
-    requires reachable { IsReachable (L.state device.old).medium part.start part.len }
-    requires intact { IsIntact (L.state device.old).medium }
+fn load_part<L: Lines>(
+    device: &mut L,
+    geo: Geometry,
+    part: Span,
+    out: &mut Bytes,
+) -> Result<(), Interruption>
+    requires layout { HasLayout geo (L.state device.old).medium }
+    requires reachable { IsReachable geo part.start part.len }
     requires on { IsTrue (L.state device.old).panel.power }
     requires room { part.len ≤ out.old.spare }
-    ensures ok { OnOk result (out.new.items ≡ out.old.items ++ span_shown (L.state device.old).medium part.start part.len) }
+    ensures ok { OnOk result (out.new.items
+        ≡ out.old.items ++ span_shown (volume_of geo (L.state device.old).medium) part.start part.len) }
     ensures room { out.old.spare ≤ out.new.spare + part.len }
     ensures lines { Wander (L.state device.old).medium (L.state device.new).medium }
     ensures runs { Runs 1 0 (ended result) (L.state device.old).panel (L.state device.new).panel }
 {
-    match device.load(LineNo(part.start / LINE)) {
+    match device.load(LineNo(geo.volume_line(part.start / LINE))) {
         Ok(line) => {
             append_part(out, line, (part.start % LINE) as usize, part.len as usize);
             Ok(())
         }
-        Err(fault) => Err(interrupted_by(fault)),
+        Err(DeviceFault::Poisoned(_)) => unreachable!(),
+        Err(DeviceFault::Failed) => Err(Interruption::Failed),
+        Err(DeviceFault::PowerLost) => Err(Interruption::PowerLost),
     }
 }
 
@@ -77,49 +70,67 @@ fn append_part(out: &mut Bytes, line: &[u8], start: usize, len: usize)
 }
 
 /// Appends the bytes of a span as last stored.
-pub fn load_span<L: Lines>(device: &mut L, span: Span, out: &mut Bytes) -> Result<(), Interruption>
+pub fn load_span<L: Lines>(
+    device: &mut L,
+    geo: Geometry,
+    span: Span,
+    out: &mut Bytes,
+) -> Result<(), Interruption>
+    requires layout { HasLayout geo (L.state device.old).medium }
     requires some { 1 ≤ span.len }
-    requires small { span.start + span.len ≤ 2 ^ 40 }
-    requires within { span.start + span.len ≤ 64 * (L.state device.old).medium.count }
-    requires intact { IsIntact (L.state device.old).medium }
+    requires within { span.start + span.len ≤ 4096 * geo.vpages }
     requires on { IsTrue (L.state device.old).panel.power }
     requires room { span.len ≤ out.old.spare }
-    ensures ok { OnOk result (out.new.items ≡ out.old.items ++ span_shown (L.state device.old).medium span.start span.len) }
+    ensures ok { OnOk result (out.new.items
+        ≡ out.old.items ++ span_shown (volume_of geo (L.state device.old).medium) span.start span.len) }
     ensures lines { Wander (L.state device.old).medium (L.state device.new).medium }
     ensures runs { Runs (units_of LINE span).len 0 (ended result) (L.state device.old).panel (L.state device.new).panel }
 {
     let lines = lines_of(span);
     for line in lines.start..lines.start + lines.len {
-        load_part(device, part_in(span, line), out)?;
+        load_part(device, geo, part_in(span, line), out)?;
     }
     Ok(())
 }
 
 // Stores bytes into one line.
-fn store_part<L: Lines>(device: &mut L, offset: u64, bytes: &[u8]) -> Result<(), Interruption>
-    requires reachable { IsReachable (L.state device.old).medium offset (length bytes.now) }
-    requires intact { IsIntact (L.state device.old).medium }
+fn store_part<L: Lines>(
+    device: &mut L,
+    geo: Geometry,
+    offset: u64,
+    bytes: &[u8],
+) -> Result<(), Interruption>
+    requires layout { HasLayout geo (L.state device.old).medium }
+    requires reachable { IsReachable geo offset (length bytes.now) }
     requires on { IsTrue (L.state device.old).panel.power }
-    ensures ok { OnOk result (Wander (stored (L.state device.old).medium (offset / 64) (offset % 64) bytes.now)
-        (L.state device.new).medium) }
-    ensures marks { SameMarks (L.state device.old).medium (L.state device.new).medium }
+    ensures ok { OnOk result (Wander
+        (stored (volume_of geo (L.state device.old).medium) (offset / 64) (offset % 64) bytes.now)
+        (volume_of geo (L.state device.new).medium)) }
+    ensures outside { WandersOutside (IsVolumePlace geo) (L.state device.old).medium (L.state device.new).medium }
     ensures runs { Runs 1 0 (ended result) (L.state device.old).panel (L.state device.new).panel }
 {
-    match device.store(LineNo(offset / LINE), offset % LINE, bytes) {
+    match device.store(LineNo(geo.volume_line(offset / LINE)), offset % LINE, bytes) {
         Ok(()) => Ok(()),
-        Err(fault) => Err(interrupted_by(fault)),
+        Err(DeviceFault::Poisoned(_)) => unreachable!(),
+        Err(DeviceFault::Failed) => Err(Interruption::Failed),
+        Err(DeviceFault::PowerLost) => Err(Interruption::PowerLost),
     }
 }
 
 /// Puts bytes at an offset. Until a sync, a cut may lose them, word by word.
-pub fn store_span<L: Lines>(device: &mut L, offset: u64, bytes: &[u8]) -> Result<(), Interruption>
+pub fn store_span<L: Lines>(
+    device: &mut L,
+    geo: Geometry,
+    offset: u64,
+    bytes: &[u8],
+) -> Result<(), Interruption>
+    requires layout { HasLayout geo (L.state device.old).medium }
     requires some { 1 ≤ length bytes.now }
-    requires small { offset + length bytes.now ≤ 2 ^ 40 }
-    requires within { offset + length bytes.now ≤ 64 * (L.state device.old).medium.count }
-    requires intact { IsIntact (L.state device.old).medium }
+    requires within { offset + length bytes.now ≤ 4096 * geo.vpages }
     requires on { IsTrue (L.state device.old).panel.power }
-    ensures ok { OnOk result (Wander (span_stored (L.state device.old).medium offset bytes.now) (L.state device.new).medium) }
-    ensures marks { SameMarks (L.state device.old).medium (L.state device.new).medium }
+    ensures ok { OnOk result (Wander (span_stored (volume_of geo (L.state device.old).medium) offset bytes.now)
+        (volume_of geo (L.state device.new).medium)) }
+    ensures outside { WandersOutside (IsVolumePlace geo) (L.state device.old).medium (L.state device.new).medium }
     ensures runs { Runs (units_of LINE (record { start = offset; len = length bytes.now })).len 0 (ended result)
         (L.state device.old).panel (L.state device.new).panel }
 {
@@ -131,41 +142,44 @@ pub fn store_span<L: Lines>(device: &mut L, offset: u64, bytes: &[u8]) -> Result
     for line in lines.start..lines.start + lines.len {
         let part = part_in(span, line);
         let from = (part.start - offset) as usize;
-        store_part(device, part.start, &bytes[from..from + part.len as usize])?;
+        store_part(
+            device,
+            geo,
+            part.start,
+            &bytes[from..from + part.len as usize],
+        )?;
     }
     Ok(())
 }
 
 // Makes one line durable.
-fn persist_line<L: Lines>(device: &mut L, line: u64) -> Result<(), Interruption>
-    requires there { line < (L.state device.old).medium.count }
-    requires intact { IsIntact (L.state device.old).medium }
+fn persist_line<L: Lines>(device: &mut L, geo: Geometry, line: u64) -> Result<(), Interruption>
+    requires layout { HasLayout geo (L.state device.old).medium }
+    requires there { line < 64 * geo.vpages }
     requires on { IsTrue (L.state device.old).panel.power }
-    ensures ok { OnOk result (Wander (persisted (L.state device.old).medium line) (L.state device.new).medium) }
-    ensures marks { SameMarks (L.state device.old).medium (L.state device.new).medium }
+    ensures ok { OnOk result (Wander (settled (volume_of geo (L.state device.old).medium) line)
+        (volume_of geo (L.state device.new).medium)) }
+    ensures outside { WandersOutside (IsVolumePlace geo) (L.state device.old).medium (L.state device.new).medium }
     ensures runs { Runs 1 1 (ended result) (L.state device.old).panel (L.state device.new).panel }
 {
-    match device.persist(LineNo(line)) {
-        Ok(()) => Ok(()),
-        Err(fault) => Err(interrupted_by(fault)),
-    }
+    line_words::persist_line(device, geo.volume_line(line))
 }
 
 /// Makes the lines that a span touches durable, each by one persist.
-pub fn persist_span<L: Lines>(device: &mut L, span: Span) -> Result<(), Interruption>
+pub fn persist_span<L: Lines>(device: &mut L, geo: Geometry, span: Span) -> Result<(), Interruption>
+    requires layout { HasLayout geo (L.state device.old).medium }
     requires some { 1 ≤ span.len }
-    requires small { span.start + span.len ≤ 2 ^ 40 }
-    requires within { span.start + span.len ≤ 64 * (L.state device.old).medium.count }
-    requires intact { IsIntact (L.state device.old).medium }
+    requires within { span.start + span.len ≤ 4096 * geo.vpages }
     requires on { IsTrue (L.state device.old).panel.power }
-    ensures ok { OnOk result (Wander (span_settled (L.state device.old).medium span.start span.len) (L.state device.new).medium) }
-    ensures marks { SameMarks (L.state device.old).medium (L.state device.new).medium }
+    ensures ok { OnOk result (Wander (span_settled (volume_of geo (L.state device.old).medium) span.start span.len)
+        (volume_of geo (L.state device.new).medium)) }
+    ensures outside { WandersOutside (IsVolumePlace geo) (L.state device.old).medium (L.state device.new).medium }
     ensures runs { Runs (units_of LINE span).len (units_of LINE span).len (ended result) (L.state device.old).panel
         (L.state device.new).panel }
 {
     let lines = lines_of(span);
     for line in lines.start..lines.start + lines.len {
-        persist_line(device, line)?;
+        persist_line(device, geo, line)?;
     }
     Ok(())
 }

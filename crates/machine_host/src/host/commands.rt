@@ -2,20 +2,21 @@
 ghost use Rattle.std.specs.Prelude.{◌≡◌, ◌≤◌, ◌+◌, ◌*◌, None, length, IfOk, OnErr};
 ghost use Rattle.line_device.specs.Panel.{Runs};
 ghost use Rattle.machine_host.specs.declared.mode.Mode.TheVariants.{On, Off};
-ghost use Rattle.machine_host.specs.Action.{action_of};
-ghost use Rattle.machine_host.specs.Action.Action.{VLoad, VStore, VSync, Cut, Restart};
-ghost use Rattle.machine_host.specs.Answer.{answer_of, answer_line};
+ghost use Rattle.script_text.specs.Action.{action_of};
+ghost use Rattle.script_text.specs.Action.Action.{VLoad, VStore, VSync, Cut, Restart};
+ghost use Rattle.reply_text.specs.Answer.{answer_of, answer_line};
 ghost use Rattle.machine_host.specs.Machine.{Machine, refusal, effect};
-ghost use Rattle.machine_host.specs.Parsing.{InBounds};
+ghost use Rattle.script_text.specs.Parsing.{InBounds};
 ghost use Rattle.machine_host.specs.Stands.{Serves, Stands, IsUnarmed, Comes, Costs, Leaves, longest, interrupted_mode, interrupted_answer};
 
 use super::Host;
 use crate::Mode;
-use crate::reply::{Reply, Why};
-use crate::script::Command;
-use crate::volume::{Interruption, load_span, persist_span, store_span};
+use crate::volume::{load_span, persist_span, store_span};
 use line_device::{Choice, LineDevice};
-use nvm_base::{Bytes, Span};
+use line_words::Interruption;
+use nvm_base::{BLOCK, Bytes, Span};
+use reply_text::{Reply, Why};
+use script_text::Command;
 use std::alloc::AllocError;
 
 /// The most bytes that the reply's line may have.
@@ -24,8 +25,9 @@ pub fn longest_reply(command: &Command) -> u64
     ensures { result ≡ longest (action_of command.now) }
 {
     match command {
-        Command::VLoad { len, .. } => 32 + 3 * *len,
-        _ => 32,
+        Command::BRead { count, .. } => 64 + 3 * (BLOCK * *count),
+        Command::VLoad { len, .. } => 64 + 3 * *len,
+        _ => 64,
     }
 }
 
@@ -37,17 +39,22 @@ impl Host {
     ) -> Result<Reply, AllocError>
         requires serves { Serves self.old (D.state device.old) }
         requires bounded { InBounds (action_of command.now) }
-        requires allowed { refusal self.old.mode self.old.vpages (action_of command.now) ≡ None }
+        requires allowed { refusal self.old.mode self.old.geometry (action_of command.now) ≡ None }
         ensures step { IfOk result (λ reply. (h : Machine) → Stands self.old (D.state device.old) h
             → IsUnarmed (D.state device.old).panel
             → Comes h (effect h (action_of command.now)) (answer_of reply) self.new (D.state device.old) (D.state device.new)) }
         ensures short { IfOk result (λ reply. length (answer_line (answer_of reply)) ≤ longest (action_of command.now)) }
-        ensures memory { OnErr result ((self.new ≡ self.old)
-            × Leaves (action_of command.now) (D.state device.old) (D.state device.new)) }
+        ensures memory { OnErr result (Leaves (action_of command.now) self.old self.new (D.state device.old) (D.state device.new)) }
         ensures serves { Serves self.new (D.state device.new) }
         ensures costs { Costs (action_of command.now) (D.state device.old).panel (D.state device.new).panel }
     {
         match command {
+            Command::BRead { block, count } => self.bread(device, *block, *count),
+            Command::BWrite { block, bytes } => Ok(self.bwrite(device, *block, bytes.as_slice())),
+            Command::BDiscard { block, count } => Ok(self.bdiscard(device, *block, *count)),
+            Command::BDiscardIf { block, count } => Ok(self.bdiscardif(device, *block, *count)),
+            Command::BExists { block } => Ok(self.bexists(device, *block)),
+            Command::BScar { ranges } => Ok(self.bscar(device, ranges.as_slice())),
             Command::VLoad { offset, len } => self.vload(device, *offset, *len),
             Command::VStore { offset, bytes } => Ok(self.vstore(device, *offset, bytes.as_slice())),
             Command::VSync { offset, len } => Ok(self.vsync(device, *offset, *len)),
@@ -65,7 +72,7 @@ impl Host {
         requires serves { Serves self.old (D.state device.old) }
         requires on { self.old.mode ≡ On }
         requires some { 1 ≤ len }
-        requires within { offset + len ≤ 4096 * self.old.vpages }
+        requires within { offset + len ≤ 4096 * self.old.geometry.vpages }
         ensures step { IfOk result (λ reply. (h : Machine) → Stands self.old (D.state device.old) h
             → IsUnarmed (D.state device.old).panel
             → Comes h (effect h (VLoad offset len)) (answer_of reply) self.new (D.state device.old) (D.state device.new)) }
@@ -77,7 +84,7 @@ impl Host {
         let mut bytes = Bytes::new(self.alloc);
         bytes.reserve(len)?;
         let span = Span { start: offset, len };
-        match load_span(device, span, &mut bytes) {
+        match load_span(device, self.geometry, span, &mut bytes) {
             Ok(()) => Ok(Reply::Bytes(bytes)),
             Err(interruption) => Ok(self.interrupt(interruption)),
         }
@@ -87,14 +94,14 @@ impl Host {
         requires serves { Serves self.old (D.state device.old) }
         requires on { self.old.mode ≡ On }
         requires some { 1 ≤ length bytes.now }
-        requires within { offset + length bytes.now ≤ 4096 * self.old.vpages }
+        requires within { offset + length bytes.now ≤ 4096 * self.old.geometry.vpages }
         ensures step { (h : Machine) → Stands self.old (D.state device.old) h → IsUnarmed (D.state device.old).panel
             → Comes h (effect h (VStore offset bytes.now)) (answer_of result) self.new (D.state device.old) (D.state device.new) }
-        ensures short { length (answer_line (answer_of result)) ≤ 32 }
+        ensures short { length (answer_line (answer_of result)) ≤ 64 }
         ensures serves { Serves self.new (D.state device.new) }
         ensures costs { Costs (VStore offset bytes.now) (D.state device.old).panel (D.state device.new).panel }
     {
-        match store_span(device, offset, bytes) {
+        match store_span(device, self.geometry, offset, bytes) {
             Ok(()) => Reply::Done,
             Err(interruption) => self.interrupt(interruption),
         }
@@ -104,70 +111,16 @@ impl Host {
         requires serves { Serves self.old (D.state device.old) }
         requires on { self.old.mode ≡ On }
         requires some { 1 ≤ len }
-        requires within { offset + len ≤ 4096 * self.old.vpages }
+        requires within { offset + len ≤ 4096 * self.old.geometry.vpages }
         ensures step { (h : Machine) → Stands self.old (D.state device.old) h → IsUnarmed (D.state device.old).panel
             → Comes h (effect h (VSync offset len)) (answer_of result) self.new (D.state device.old) (D.state device.new) }
-        ensures short { length (answer_line (answer_of result)) ≤ 32 }
+        ensures short { length (answer_line (answer_of result)) ≤ 64 }
         ensures serves { Serves self.new (D.state device.new) }
         ensures costs { Costs (VSync offset len) (D.state device.old).panel (D.state device.new).panel }
     {
-        match persist_span(device, Span { start: offset, len }) {
+        match persist_span(device, self.geometry, Span { start: offset, len }) {
             Ok(()) => Reply::Done,
             Err(interruption) => self.interrupt(interruption),
-        }
-    }
-
-    fn cut<D: LineDevice>(&mut self, device: &mut D) -> Reply
-        requires serves { Serves self.old (D.state device.old) }
-        requires powered { self.old.mode ≡ Off → ⊥ }
-        ensures step { (h : Machine) → Stands self.old (D.state device.old) h → IsUnarmed (D.state device.old).panel
-            → Comes h (effect h Cut) (answer_of result) self.new (D.state device.old) (D.state device.new) }
-        ensures short { length (answer_line (answer_of result)) ≤ 32 }
-        ensures serves { Serves self.new (D.state device.new) }
-        ensures costs { Costs Cut (D.state device.old).panel (D.state device.new).panel }
-    {
-        device.power_off();
-        self.mode = Mode::Off;
-        Reply::Done
-    }
-
-    fn restart<D: LineDevice>(
-        &mut self,
-        device: &mut D,
-        choice: Choice,
-    ) -> Result<Reply, AllocError>
-        requires serves { Serves self.old (D.state device.old) }
-        requires off { self.old.mode ≡ Off }
-        ensures step { IfOk result (λ reply. (h : Machine) → Stands self.old (D.state device.old) h
-            → IsUnarmed (D.state device.old).panel
-            → Comes h (effect h (Restart choice)) (answer_of reply) self.new (D.state device.old) (D.state device.new)) }
-        ensures short { IfOk result (λ reply. length (answer_line (answer_of reply)) ≤ 32) }
-        ensures memory { OnErr result ((self.new ≡ self.old)
-            × Leaves (Restart choice) (D.state device.old) (D.state device.new)) }
-        ensures serves { Serves self.new (D.state device.new) }
-        ensures costs { Costs (Restart choice) (D.state device.old).panel (D.state device.new).panel }
-    {
-        device.restart(choice)?;
-        self.mode = Mode::On;
-        Ok(Reply::DoneBad(0))
-    }
-
-    // What an interrupted command is answered, and the mode after it.
-    fn interrupt(&mut self, interruption: Interruption) -> Reply
-        ensures vpages { self.new.vpages ≡ self.old.vpages }
-        ensures mode { self.new.mode ≡ interrupted_mode interruption }
-        ensures answer { answer_of result ≡ interrupted_answer interruption }
-        ensures short { length (answer_line (answer_of result)) ≤ 32 }
-    {
-        match interruption {
-            Interruption::Failed => {
-                self.mode = Mode::Unsettled;
-                Reply::Refused(Why::Device)
-            }
-            Interruption::PowerLost => {
-                self.mode = Mode::Off;
-                Reply::PowerLost
-            }
         }
     }
 }

@@ -1,25 +1,30 @@
 // Why a command is not done: the mode decides first, then the places that it names.
 ghost use Rattle.std.specs.Prelude.{◌≡◌, ◌≤◌, ◌<◌, ◌+◌, ◌*◌, ◌^◌, length};
-ghost use Rattle.machine_host.specs.Action.{action_of};
-ghost use Rattle.machine_host.specs.Machine.{refusal, mode_refusal, place_refusal, span_refusal, volume_size};
-ghost use Rattle.machine_host.specs.Parsing.{InBounds};
+ghost use Rattle.word_tables.specs.Bounds.{IsValid};
+ghost use Rattle.script_text.specs.Action.{action_of};
+ghost use Rattle.machine_host.specs.Machine.{refusal, mode_refusal, place_refusal, read_refusal, span_refusal};
+ghost use Rattle.script_text.specs.Parsing.{InBounds};
 
 use super::Host;
 use crate::Mode;
-use crate::reply::Why;
-use crate::script::Command;
 use nvm_base::PAGE;
+use reply_text::Why;
+use script_text::Command;
+use word_tables::Geometry;
+
+/// Most blocks that are read at once.
+const MOST_READ: u64 = 128;
 
 #[tactic(auto, unfolding(crate::specs::Machine::refusal))]
 impl Host {
     pub(crate) fn refusal(&self, command: &Command) -> Option<Why>
-        requires few { self.now.vpages ≤ 256 }
+        requires valid { IsValid self.now.geometry }
         requires bounded { InBounds (action_of command.now) }
-        ensures { result ≡ refusal self.now.mode self.now.vpages (action_of command.now) }
+        ensures { result ≡ refusal self.now.mode self.now.geometry (action_of command.now) }
     {
         match mode_refusal(self.mode, command) {
             Some(why) => Some(why),
-            None => place_refusal(PAGE * self.vpages, command),
+            None => place_refusal(self.geometry, command),
         }
     }
 }
@@ -36,16 +41,33 @@ fn mode_refusal(mode: Mode, command: &Command) -> Option<Why>
     }
 }
 
-fn place_refusal(size: u64, command: &Command) -> Option<Why>
-    requires { InBounds (action_of command.now) }
-    ensures { result ≡ place_refusal size (action_of command.now) }
+fn place_refusal(geo: Geometry, command: &Command) -> Option<Why>
+    requires valid { IsValid geo }
+    requires bounded { InBounds (action_of command.now) }
+    ensures { result ≡ place_refusal geo (action_of command.now) }
 {
     match command {
+        Command::BRead { block, count } => read_refusal(geo.blocks, *block, *count),
         Command::VLoad { offset, len } | Command::VSync { offset, len } => span_refusal(
-            size, *offset, *len,
+            PAGE * geo.vpages,
+            *offset,
+            *len,
         ),
-        Command::VStore { offset, bytes } => (*offset + bytes.len() > size).then_some(Why::Range),
-        Command::Cut | Command::Restart { .. } => None,
+        Command::VStore { offset, bytes } => {
+            (*offset + bytes.len() > PAGE * geo.vpages).then_some(Why::Range)
+        }
+        _ => None,
+    }
+}
+
+// What is wrong with so many blocks that a read asks for.
+fn read_refusal(blocks: u64, block: u64, count: u64) -> Option<Why>
+    requires { block + count < 2 ^ 64 }
+    ensures { result ≡ read_refusal blocks block count }
+{
+    match span_refusal(blocks, block, count) {
+        Some(why) => Some(why),
+        None => (count > MOST_READ).then_some(Why::Limit),
     }
 }
 

@@ -1,13 +1,30 @@
-// Stories of a host of two volume pages over a device of memory.
+// Stories of a host of eight blocks and two volume pages over a device of memory.
+ghost use Rattle.std.specs.Prelude.{IfOk};
 ghost use Rattle.line_device.specs.Plain.{device_of};
 ghost use Rattle.machine_host.specs.Stands.{Serves};
 
-use crate::script::parse;
 use crate::{Host, Mode};
-use line_device::{LineDevice, Plain};
+use line_device::{LineDevice, Order, Plain};
 use nvm_base::Bytes;
+use script_text::parse;
 use std::alloc::{AllocError, Global};
 use std::test::Fail;
+use word_tables::Geometry;
+
+// A device of zeros, and its host.
+fn set_up(alloc: Global) -> Result<(Host, Plain), Fail>
+    ensures { IfOk result (λ both. Serves both.0 (device_of both.1)) }
+{
+    let geometry = Geometry {
+        blocks: 8,
+        vpages: 2,
+        fpages: 32,
+    };
+    let mut device = Plain::new(alloc);
+    device.reset(geometry.total_lines(), 8)?;
+    let host = Host::start(alloc, &mut device, geometry)?;
+    Ok((host, device))
+}
 
 // Performs the command of a line, and appends what the host answers.
 fn tell(
@@ -26,11 +43,21 @@ fn tell(
     }
 }
 
+// Arms a cut or a failure at so many counted calls from now on.
+fn arm(host: &Host, device: &mut Plain, order: Order)
+    requires { Serves host.now (device_of device.old) }
+    ensures { Serves host.now (device_of device.new) }
+{
+    match order {
+        Order::Cut(calls) => device.arm_cut(calls.max(1)),
+        Order::Fail(calls) => device.arm_fail(calls.max(1)),
+        Order::Evict(lines) => device.evict(lines),
+    }
+}
+
 #[test]
 fn what_was_synced_outlives_a_cut(rt: HostRuntime) -> Result<(), Fail> {
-    let mut device = Plain::new(rt.alloc());
-    device.reset(128, 8)?;
-    let mut host = Host::start(rt.alloc(), 2);
+    let (mut host, mut device) = set_up(rt.alloc())?;
     let mut out = Bytes::new(rt.alloc());
     tell(
         &mut host,
@@ -58,9 +85,7 @@ fn what_was_synced_outlives_a_cut(rt: HostRuntime) -> Result<(), Fail> {
 
 #[test]
 fn an_armed_cut_takes_the_power_in_a_sync(rt: HostRuntime) -> Result<(), Fail> {
-    let mut device = Plain::new(rt.alloc());
-    device.reset(128, 8)?;
-    let mut host = Host::start(rt.alloc(), 2);
+    let (mut host, mut device) = set_up(rt.alloc())?;
     let mut out = Bytes::new(rt.alloc());
     tell(
         &mut host,
@@ -69,7 +94,7 @@ fn an_armed_cut_takes_the_power_in_a_sync(rt: HostRuntime) -> Result<(), Fail> {
         "vstore 60 aa*8",
         &mut out,
     )?;
-    device.arm_cut(2);
+    arm(&host, &mut device, Order::Cut(2));
     tell(&mut host, &mut device, rt.alloc(), "vsync 60 8", &mut out)?;
     assert_eq!(rt; host.mode(), Mode::Off);
     tell(&mut host, &mut device, rt.alloc(), "vload 60 8", &mut out)?;
@@ -84,11 +109,9 @@ fn an_armed_cut_takes_the_power_in_a_sync(rt: HostRuntime) -> Result<(), Fail> {
 
 #[test]
 fn after_a_failed_call_only_a_cut_is_done(rt: HostRuntime) -> Result<(), Fail> {
-    let mut device = Plain::new(rt.alloc());
-    device.reset(128, 8)?;
-    let mut host = Host::start(rt.alloc(), 2);
+    let (mut host, mut device) = set_up(rt.alloc())?;
     let mut out = Bytes::new(rt.alloc());
-    device.arm_fail(2);
+    arm(&host, &mut device, Order::Fail(2));
     tell(
         &mut host,
         &mut device,

@@ -4,15 +4,19 @@ use Rattle.std.specs.Fmt.{digits}
 use Rattle.line_device.specs.Word.{word_from, byte_over, word_over, reaches}
 use Rattle.nvm_base.specs.Numbers.{number_of}
 use Rattle.nvm_base.specs.Data.{runs_of, data_within, data_text}
+use Rattle.word_tables.specs.Layout.{size, first_line, total_lines, volume_line}
 use Rattle.nvm_model.specs.Page.{fill, put, persist, look, read_pages}
-use Rattle.machine_host.specs.Answer.{answer_line}
-use Rattle.machine_host.specs.Script.{lines_of, words_of, command_action, line_input}
+use Rattle.nvm_model.specs.Blocks.{write, change, look as look_blocks}
+use Rattle.word_log.specs.Replay.{listed}
+use Rattle.block_device.specs.Reading.{states_read, blocks_read}
+use Rattle.reply_text.specs.Answer.{answer_line}
+use Rattle.script_text.specs.Script.{lines_of, words_of, command_action, line_input}
 use Rattle.machine_host.specs.Machine.{refusal, reading}
 use Rattle.machine_host.proofs.rows.worked_scripts.Goals as goal
 
-pub returns : goal.returns
-unfolding digits word_from byte_over word_over reaches number_of runs_of data_within data_text fill put persist look read_pages answer_line lines_of words_of command_action line_input refusal reading
-returns c = record {
+pub returns-clause-volume : goal.returns-clause-volume
+unfolding digits word_from byte_over word_over reaches number_of runs_of data_within data_text fill put persist look read_pages answer_line lines_of words_of command_action line_input refusal size first_line total_lines volume_line reading states_read blocks_read listed
+returns-clause-volume c = record {
   unsynced_store_lost = refl;
   synced_store_kept = refl;
   last_values_kept = refl;
@@ -23,4 +27,19 @@ returns c = record {
   two_restarts = refl;
   across_lines_and_pages = refl;
   comments_and_blank_lines = refl;
+}
+
+pub returns-clause-blocks : goal.returns-clause-blocks
+unfolding digits word_from byte_over word_over reaches number_of runs_of data_within data_text fill put persist look read_pages answer_line lines_of words_of command_action line_input refusal size first_line total_lines volume_line reading write change look_blocks states_read blocks_read listed
+returns-clause-blocks c = record {
+  read_of_new_blocks = refl;
+  discard_of_absent_block = refl;
+  written_block_kept = refl;
+  write_over_a_scar = refl;
+  absent_written_and_scarred = refl;
+  scar_of_pairs = refl;
+  last_block = refl;
+  whole_blocks_alone = refl;
+  limits_of_spans = refl;
+  blocks_and_volume_apart = refl;
 }

@@ -3,7 +3,7 @@ use Rattle.line_device.specs.Medium.{Wander}
 use Rattle.line_device.specs.Panel.{Runs}
 use Rattle.line_device.specs.Panel.Outcome.{went}
 use Rattle.nvm_model.specs.Lines.{span_shown}
-use Rattle.machine_host.specs.Volume.{before_line}
+use Rattle.machine_host.specs.Volume.{before_line, volume_of}
 use Rattle.machine_host.proofs.volume.load_span.Given as goal
 
 -- the bytes of the lines below this one are there
@@ -13,7 +13,7 @@ invariant-loop-line g l =
     let now = g.L.Lines.state l.device in
     let done = before_line l.fn.span l.line in
     record {
-      bytes : l.out.items ≡ l.fn.out.items ++ span_shown old.medium l.fn.span.start done;
+      bytes : l.out.items ≡ l.fn.out.items ++ span_shown (volume_of l.fn.geo old.medium) l.fn.span.start done;
       room : l.fn.out.spare ≤ l.out.spare + done;
       lines : Wander old.medium now.medium;
       runs : Runs (l.line - l.fn.span.start / 64) 0 went old.panel now.panel;

@@ -1,24 +1,38 @@
-use Rattle.std.proofs.Common.{◌≡◌, ◌/◌, ◌≤◌, ap, ◌∙◌, inl, arith}
+use Rattle.std.proofs.Common.{◌≡◌, ◌/◌, ◌≤◌, ap, inl, arith}
 use Rattle.line_device.specs.Panel.Outcome.{went}
 use Rattle.line_device.proofs.PanelLemmas.{runs-refl, runs_then, runs_within}
-use Rattle.machine_host.proofs.SpanLemmas.{below-first, persisted-next, settled_within-in, settled_within-out}
+use Rattle.line_words.proofs.FrameLemmas.{outside-refl, outside-trans}
 use Rattle.nvm_model.specs.Lines.{settled_within}
+use Rattle.machine_host.specs.Volume.{volume_of, IsVolumePlace}
+use Rattle.machine_host.proofs.SpanLemmas.{below-first, settled-next, settled_within-in, settled_within-out}
+use Rattle.machine_host.proofs.VolumeLemmas.{has_layout-outside}
 use Rattle.machine_host.proofs.volume.persist_span.Goals as goal
 
 pub loop-line-init : goal.loop-line-init
 loop-line-init g c =
+    let old = volume_of c.args.geo (g.L.Lines.state c.args.device.now).medium in
     let first : c.lines_of-lines.result.start ≡ c.args.span.start / 64 = ap (λ s. s.start) c.lines_of-lines.ensures.value in
     record {
-      lines = below-first _ _ _ (λ p h lt. settled_within-out c.args.span.start c.args.span.len p h (inl (omega arith)));
+      lines = below-first old _ _ (λ p h lt. settled_within-out c.args.span.start c.args.span.len p h (inl (omega arith)));
+      outside = outside-refl (IsVolumePlace c.args.geo) _;
       runs = runs_within 0 0 _ _ went _ _ (runs-refl _) (omega arith) (omega arith);
     }
 
 pub loop-line-preserved : goal.loop-line-preserved
 loop-line-preserved g c =
+    let old = volume_of c.args.geo (g.L.Lines.state c.args.device.now).medium in
+    let now = volume_of c.args.geo (g.L.Lines.state c.loop-line.device).medium in
     let first : c.lines_of-lines.result.start ≡ c.args.span.start / 64 = ap (λ s. s.start) c.lines_of-lines.ensures.value in
     let count = ap (λ s. s.len) c.lines_of-lines.ensures.value in
     let from : c.args.span.start / 64 ≤ c.loop-line.line = omega arith in
     record {
-      lines = persisted-next (g.L.Lines.state c.args.device.now).medium _ _ c.loop-line.line (settled_within c.args.span.start c.args.span.len) (c.loop-line.invariant.lines.weak c.loop-line.line ∙ (c.requires.intact c.loop-line.line (omega arith)).1) (λ p h e. settled_within-in c.args.span.start c.args.span.len c.loop-line.line p h (omega arith) (omega arith) e) c.loop-line.invariant.lines c.in_ok-persist_line.ensures.ok;
+      lines = settled-next old now _ c.loop-line.line (settled_within c.args.span.start c.args.span.len) (λ p h e. settled_within-in c.args.span.start c.args.span.len c.loop-line.line p h (omega arith) (omega arith) e) c.loop-line.invariant.lines c.in_ok-persist_line.ensures.ok;
+      outside = outside-trans (IsVolumePlace c.args.geo) _ _ _ c.loop-line.invariant.outside c.in_ok-persist_line.ensures.outside;
       runs = runs_within _ _ _ _ went _ _ (runs_then _ _ 1 1 went _ _ _ c.loop-line.invariant.runs c.in_ok-persist_line.ensures.runs) (omega arith) (omega arith);
     }
+
+pub persist_line-requires-clause-layout : goal.persist_line-requires-clause-layout
+persist_line-requires-clause-layout g c = has_layout-outside c.args.geo (IsVolumePlace c.args.geo) _ _ c.requires.layout c.loop-line.invariant.outside
+
+pub returns-in_err-persist_line-clause-outside : goal.returns-in_err-persist_line-clause-outside
+returns-in_err-persist_line-clause-outside g c = outside-trans (IsVolumePlace c.args.geo) _ _ _ c.loop-line.invariant.outside c.in_err-persist_line.ensures.outside

@@ -3,7 +3,8 @@ use Rattle.line_device.specs.Medium.{Wander, word_stored}
 use Rattle.line_device.specs.Panel.{Runs}
 use Rattle.line_device.specs.Panel.Outcome.{went}
 use Rattle.nvm_model.specs.Lines.{each}
-use Rattle.machine_host.specs.Volume.{below}
+use Rattle.line_words.specs.Words.{WandersOutside}
+use Rattle.machine_host.specs.Volume.{below, volume_of, IsVolumePlace}
 use Rattle.machine_host.proofs.volume.store_span.Given as goal
 
 -- the lines below this one have their bytes
@@ -12,6 +13,7 @@ invariant-loop-line g l =
     let old = g.L.Lines.state l.fn.device in
     let now = g.L.Lines.state l.device in
     record {
-      lines : Wander (each old.medium (below l.line (word_stored l.offset l.bytes))) now.medium;
+      lines : Wander (each (volume_of l.fn.geo old.medium) (below l.line (word_stored l.offset l.bytes))) (volume_of l.fn.geo now.medium);
+      outside : WandersOutside (IsVolumePlace l.fn.geo) old.medium now.medium;
       runs : Runs (l.line - l.offset / 64) 0 went old.panel now.panel;
     }

@@ -1,7 +1,7 @@
 use Rattle.std.proofs.Common.{sym}
 use Rattle.std.proofs.lemmas.Result.{IfOk-weaker}
-use Rattle.machine_host.specs.Action.{action_of}
-use Rattle.machine_host.specs.Answer.Answer.{Refused}
+use Rattle.script_text.specs.Action.{action_of}
+use Rattle.reply_text.specs.Answer.Answer.{Refused}
 use Rattle.machine_host.proofs.StepLemmas.{comes_of_refusal}
 use Rattle.machine_host.proofs.host.Host.step.Goals as goal
 

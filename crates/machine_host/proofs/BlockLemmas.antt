@@ -1,0 +1,280 @@
+-- What a host and its device stand for, after a call on the blocks.
+use Rattle.std.proofs.Common.{◌≡◌, ◌≢◌, ◌⊎◌, ℕ, true, IsTrue, Option, Some, None, option_map, Result, Ok, Err, OnOk, List, [], ◌∷◌, length, inl, inr, refl, sym, ap, ap₂, subst, ◌∙◌, arith}
+use Rattle.line_device.specs.Medium.{Medium}
+use Rattle.line_device.specs.Panel.{Runs}
+use Rattle.line_device.specs.Panel.Outcome.{failed, lost}
+use Rattle.line_device.specs.Device.{Device}
+use Rattle.line_words.specs.Words.{WandersBeside}
+use Rattle.nvm_model.specs.Storage.{Block}
+use Rattle.nvm_model.specs.Page.{PagesStand}
+use Rattle.nvm_model.proofs.StandLemmas.{stand-loaded}
+use Rattle.block_device.specs.Area.{IsBlockLine}
+use Rattle.block_device.specs.Object.{BlocksState, HasGoodMetadata, blocks_of}
+use Rattle.block_device.specs.Object as object
+use Rattle.block_device.specs.Images.{EachReads, AreReadable}
+use Rattle.block_device.specs.Refusals.{Refusal, told, Answers, OnRefused, OnWorked, block_outcome, is_done}
+use Rattle.block_device.specs.Refusals.Refusal.{Range, Length, Limit, Overlap, Meta, Unreadable}
+use Rattle.nvm_model.specs.Blocks.Obstacle.{scar, bad_line}
+use Rattle.std.proofs.lemmas.Option.{same_Some}
+use Rattle.block_device.specs.declared.fault.BlockFault.{BlockFault}
+use Rattle.block_device.specs.declared.fault.BlockFault.TheVariants as fault
+use Rattle.block_device.specs.Refusals as blocks
+use Rattle.block_device.proofs.PositionLemmas.{none_below}
+use Rattle.block_device.proofs.ImageLemmas.{each_reads-then, served_reads}
+use Rattle.nvm_base.specs.declared.units.Span.{Span}
+use Rattle.nvm_model.specs.Blocks.{first_there}
+use Rattle.script_text.specs.Action.{Action}
+use Rattle.script_text.specs.Action.Action.{BWrite}
+use Rattle.reply_text.specs.Answer.{Answer}
+use Rattle.word_tables.specs.Layout.{first_line, meta_lines, total_lines}
+use Rattle.word_tables.specs.declared.geometry.Geometry.{Geometry}
+use Rattle.machine_host.specs.declared.mode.Mode.TheVariants.{On}
+use Rattle.machine_host.specs.Machine.{Machine, block_refusal, done, effect, meta_refusal, unless, refusal_answer}
+use Rattle.machine_host.specs.Machine.Fate.{Gives}
+use Rattle.machine_host.specs.Volume.{HasLayout, volume_of}
+use Rattle.machine_host.specs.Stands.{HostState, Serves, AreMounted, Stands, IsUnarmed, Comes, answer_after, fault_answer, fault_mode, is_powered, mode_after}
+use Rattle.machine_host.proofs.ElsewhereLemmas.{layout-beside, wander_volume-beside}
+use Rattle.machine_host.proofs.VolumeLemmas.{volume_intact}
+use Rattle.machine_host.proofs.StepLemmas.{ends_well, stands_volume, stays_unarmed}
+
+-- what a call on the blocks says, whichever it is
+pub record Called {T : Type 0} (host : HostState) (s : BlocksState) (r : Result T BlockFault) (P : List Block → Type 0) (calls persists : ℕ) (old new : Device) : Type 0 where
+  pub untouched : OnRefused r ((s ≡ host.blocks) × (new ≡ old))
+  pub images : OnWorked r (EachReads host.blocks.geo new.medium P)
+  pub outside : WandersBeside (IsBlockLine host.blocks.geo) old.medium new.medium
+  pub serves : IsTrue s.settled → object.Serves s new.medium
+  pub object : (s.geo ≡ host.blocks.geo) × (s.settled ≡ is_done (block_outcome r))
+  pub runs : Runs calls persists (block_outcome r) old.panel new.panel
+
+-- a fault refuses and leaves the mode, or the device stopped
+pub record Refuses (f : BlockFault) : Type 0 where
+  pub told : told f ≢ None
+  pub mode : fault_mode On f ≡ On
+
+pub refuses_or_stops : (f : BlockFault) → Refuses f ⊎ (f ≡ fault.Device) ⊎ (f ≡ fault.PowerLost)
+refuses_or_stops fault.Range = inl (record { told = λ e. cc; mode = refl })
+refuses_or_stops fault.Length = inl (record { told = λ e. cc; mode = refl })
+refuses_or_stops fault.Limit = inl (record { told = λ e. cc; mode = refl })
+refuses_or_stops fault.Overlap = inl (record { told = λ e. cc; mode = refl })
+refuses_or_stops (fault.Meta line) = inl (record { told = λ e. cc; mode = refl })
+refuses_or_stops (fault.Scarred block) = inl (record { told = λ e. cc; mode = refl })
+refuses_or_stops (fault.Poison block line) = inl (record { told = λ e. cc; mode = refl })
+refuses_or_stops fault.Device = inr (inl refl)
+refuses_or_stops fault.PowerLost = inr (inr refl)
+
+-- a fault that refuses is answered as its reason is, and leaves the mode
+answer_told : (f : BlockFault) (w : Refusal) → told f ≡ Some w → fault_answer f ≡ refusal_answer w
+answer_told fault.Range w e = ap refusal_answer (same_Some Range w e)
+answer_told fault.Length w e = ap refusal_answer (same_Some Length w e)
+answer_told fault.Limit w e = ap refusal_answer (same_Some Limit w e)
+answer_told fault.Overlap w e = ap refusal_answer (same_Some Overlap w e)
+answer_told (fault.Meta line) w e = ap refusal_answer (same_Some (Meta line.0) w e)
+answer_told (fault.Scarred block) w e = ap refusal_answer (same_Some (Unreadable (scar block)) w e)
+answer_told (fault.Poison block line) w e = ap refusal_answer (same_Some (Unreadable (bad_line block line)) w e)
+answer_told fault.Device w e = absurd (cc)
+answer_told fault.PowerLost w e = absurd (cc)
+
+told_stays : (f : BlockFault) (w : Refusal) → told f ≡ Some w → fault_mode On f ≡ On
+told_stays fault.Range w e = refl
+told_stays fault.Length w e = refl
+told_stays fault.Limit w e = refl
+told_stays fault.Overlap w e = refl
+told_stays (fault.Meta line) w e = refl
+told_stays (fault.Scarred block) w e = refl
+told_stays (fault.Poison block line) w e = refl
+told_stays fault.Device w e = absurd (cc)
+told_stays fault.PowerLost w e = absurd (cc)
+
+good_metadata : (geo : Geometry) (m : Medium) → HasLayout geo m → HasGoodMetadata geo m
+unfolding first_line total_lines
+good_metadata geo m layout n below = (layout.intact n (omega (arith, layout.lines, below))).0
+
+-- the host after the call
+abbrev pub host_after : {T : Type 0} → HostState → BlocksState → Result T BlockFault → HostState
+host_after host s r = record { geometry = host.geometry; mode = mode_after r; blocks = s }
+
+module _ (host : HostState) (s : BlocksState) (P : List Block → Type 0) (calls persists : ℕ) (old new : Device) (on : host.mode ≡ On) (serves : Serves host old) where
+  mounted : AreMounted host.geometry host.blocks old.medium
+  mounted = serves.mounted on
+
+  power_was : old.panel.power ≡ true
+  power_was = serves.power ∙ ap is_powered on
+
+  -- what each image reads as is enough to mount the blocks again
+  readable : EachReads host.blocks.geo new.medium P → AreReadable host.geometry new.medium
+  readable each =
+      subst (λ geo. AreReadable geo new.medium) mounted.geometry
+      (each_reads-then host.blocks.geo new.medium P (λ bs. Unit {0}) (λ bs x. tt) each)
+
+  layout_after : WandersBeside (IsBlockLine host.blocks.geo) old.medium new.medium → HasLayout host.geometry new.medium
+  layout_after x = layout-beside host.geometry (IsBlockLine host.blocks.geo) old.medium new.medium serves.layout x
+
+  mounted_after : s.geo ≡ host.blocks.geo → IsTrue s.settled → object.Serves s new.medium → AreMounted host.geometry s new.medium
+  mounted_after geo settled served = record { geometry = geo ∙ mounted.geometry; settled = settled; serves = served }
+
+  served_after : (served : object.Serves s new.medium) → s.geo ≡ host.blocks.geo → HasLayout host.geometry new.medium → EachReads host.geometry new.medium (λ bs. bs ≡ blocks_of s new.medium)
+  served_after served geo layout =
+      let same = geo ∙ mounted.geometry in
+      subst (λ g. EachReads g new.medium (λ bs. bs ≡ blocks_of s new.medium)) same
+      (served_reads s new.medium (subst (λ g. HasGoodMetadata g new.medium) (sym same) (good_metadata host.geometry new.medium layout)) served)
+
+  pub serves_called : {T : Type 0} (r : Result T BlockFault) → Called host s r P calls persists old new → Serves (host_after host s r) new
+  serves_called (Ok x) c =
+      let layout = layout_after c.outside in
+      let served = c.serves c.object.1 in
+      record {
+        layout = layout;
+        power = c.runs.cause.0 ∙ power_was;
+        readable = each_reads-then host.geometry new.medium (λ bs. bs ≡ blocks_of s new.medium) (λ bs. Unit {0}) (λ bs x. tt) (served_after served c.object.0 layout);
+        mounted = λ _. mounted_after c.object.0 c.object.1 served;
+      }
+  serves_called {T} (Err f) c = elim (refuses_or_stops f) as (λ _. Serves (host_after {T = T} host s (Err f)) new) [
+    | inl refuses ↦ refused refuses (c.untouched refuses.told)
+    | inr stops ↦ elim stops as (λ _. Serves (host_after {T = T} host s (Err f)) new) [
+      | inl is ↦ failed_ is (subst (λ g. Called {T = T} host s (Err g) P calls persists old new) is c)
+      | inr is ↦ lost_ is (subst (λ g. Called {T = T} host s (Err g) P calls persists old new) is c)
+    ]
+  ]
+    where
+      refused : Refuses f → (s ≡ host.blocks) × (new ≡ old) → Serves (record { geometry = host.geometry; mode = fault_mode On f; blocks = s }) new
+      refused refuses same =
+          subst (λ m. Serves (record { geometry = host.geometry; mode = m; blocks = s }) new) (on ∙ sym refuses.mode)
+          (subst (λ d. Serves (record { geometry = host.geometry; mode = host.mode; blocks = s }) d) (sym same.1)
+          (subst (λ b. Serves (record { geometry = host.geometry; mode = host.mode; blocks = b }) old) (sym same.0) serves))
+
+      failed_ : f ≡ fault.Device → Called {T = T} host s (Err fault.Device) P calls persists old new → Serves (record { geometry = host.geometry; mode = fault_mode On f; blocks = s }) new
+      failed_ is c =
+          subst (λ g. Serves (record { geometry = host.geometry; mode = fault_mode On g; blocks = s }) new) (sym is)
+          (record { layout = layout_after c.outside; power = c.runs.cause.0 ∙ power_was; readable = readable (c.images refl); mounted = λ e. cc })
+
+      lost_ : f ≡ fault.PowerLost → Called {T = T} host s (Err fault.PowerLost) P calls persists old new → Serves (record { geometry = host.geometry; mode = fault_mode On f; blocks = s }) new
+      lost_ is c =
+          subst (λ g. Serves (record { geometry = host.geometry; mode = fault_mode On g; blocks = s }) new) (sym is)
+          (record { layout = layout_after c.outside; power = c.runs.cause.0; readable = readable (c.images refl); mounted = λ e. cc })
+
+  -- A change of the blocks that was done or refused comes to what the machine makes of it.
+  module _ (h : Machine) (stands : Stands host old h) (unarmed : IsUnarmed old.panel) (f : List Block → List Block) where
+    -- the state after a call that went well
+    pub stands_called : Called {T = Unit {0}} host s (Ok tt) P calls persists old new → blocks_of s new.medium ≡ f (blocks_of host.blocks old.medium)
+        → Stands (host_after {T = Unit {0}} host s (Ok tt)) new (record h { blocks = f h.blocks })
+    stands_called c ok =
+        let layout = layout_after c.outside in
+        let now : blocks_of s new.medium ≡ f h.blocks = ok ∙ ap f (stands.blocks on) in
+        let panel = stays_unarmed host old new h calls persists stands unarmed c.runs in
+        let lines = wander_volume-beside host.geometry (IsBlockLine host.blocks.geo) old.medium new.medium serves.layout.valid (λ n at. subst (λ g. IsBlockLine g n) mounted.geometry at) c.outside in
+        record {
+          geometry = stands.geometry;
+          mode = sym on ∙ stands.mode;
+          blocks = λ _. now;
+          device = record {
+            blocks =
+                subst (λ g. EachReads g new.medium (λ bs. bs ≡ f h.blocks)) stands.geometry
+                (each_reads-then host.geometry new.medium (λ bs. bs ≡ blocks_of s new.medium) (λ bs. bs ≡ f h.blocks) (λ bs e. e ∙ now) (served_after (c.serves c.object.1) c.object.0 layout));
+            pages = stands.device.pages;
+            volume =
+                subst (λ geo. PagesStand (volume_of geo new.medium) geo.vpages h.volume) stands.geometry
+                (stand-loaded (volume_of host.geometry old.medium) (volume_of host.geometry new.medium) host.geometry.vpages h.volume (stands_volume host old h stands)
+                (volume_intact host.geometry old.medium serves.layout) lines);
+            power = panel.power;
+            cut_armed = panel.cut_armed;
+            fail_armed = panel.fail_armed;
+            good_meta = stands.device.good_meta;
+            whole = stands.device.whole;
+          };
+        }
+
+    pub comes_of_change : (action : Action) (good : Answer) (r : Result (Unit {0}) BlockFault) (why : Option Refusal) → block_refusal h action ≡ why
+        → done h action ≡ Gives good (record h { blocks = f h.blocks }) → Answers why r → OnOk r (blocks_of s new.medium ≡ f (blocks_of host.blocks old.medium))
+        → Called host s r P calls persists old new → Comes h (effect h action) (answer_after good r) (host_after host s r) old new
+    comes_of_change action good (Ok tt) None why_is done_is answers ok c =
+        subst (λ fate. Comes h fate good (host_after {T = Unit {0}} host s (Ok tt)) old new) (sym (ap (λ w. unless h w (done h action)) why_is ∙ done_is)) (record {
+          starts = [];
+          next = record h { blocks = f h.blocks };
+          takes = (refl, refl, refl);
+          told_starts = c.runs.orders.starts;
+          restarts = c.runs.orders.restarts;
+          stands = stands_called c ok;
+        })
+    comes_of_change action good (Ok tt) (Some w) why_is done_is answers ok c = absurd answers
+    comes_of_change action good (Err e) (Some w) why_is done_is answers ok c =
+        subst (λ fate. Comes h fate (fault_answer e) (host_after {T = Unit {0}} host s (Err e)) old new) (sym (ap (λ w. unless h w (done h action)) why_is))
+        (refused_here (c.untouched (λ none. cc)))
+      where
+        mode_stays : fault_mode On e ≡ host.mode
+        mode_stays = told_stays e w answers ∙ sym on
+
+        refused_here : (s ≡ host.blocks) × (new ≡ old) → Comes h (Gives (refusal_answer w) h) (fault_answer e) (record { geometry = host.geometry; mode = fault_mode On e; blocks = s }) old new
+        refused_here same =
+            subst (λ m. Comes h (Gives (refusal_answer w) h) (fault_answer e) (record { geometry = host.geometry; mode = m; blocks = s }) old new) (sym mode_stays)
+            (subst (λ b. Comes h (Gives (refusal_answer w) h) (fault_answer e) (record { geometry = host.geometry; mode = host.mode; blocks = b }) old new) (sym same.0)
+            (subst (λ d. Comes h (Gives (refusal_answer w) h) (fault_answer e) host old d) (sym same.1) (record {
+              starts = [];
+              next = h;
+              takes = (refl, answer_told e w answers, refl);
+              told_starts = refl;
+              restarts = refl;
+              stands = stands;
+            })))
+    comes_of_change action good (Err e) None why_is done_is answers ok c = absurd (stopped (refuses_or_stops e))
+      where
+        stopped : Refuses e ⊎ (e ≡ fault.Device) ⊎ (e ≡ fault.PowerLost) → ⊥
+        stopped (inl refuses) = refuses.told answers
+        stopped (inr (inl is)) = by_device (subst (λ g. Runs calls persists (block_outcome {T = Unit {0}} (Err g)) old.panel new.panel) is c.runs)
+          where
+            by_device : Runs calls persists failed old.panel new.panel → ⊥
+            by_device runs = let e = ends_well calls persists failed old.panel new.panel unarmed runs in cc
+        stopped (inr (inr is)) = by_cut (subst (λ g. Runs calls persists (block_outcome {T = Unit {0}} (Err g)) old.panel new.panel) is c.runs)
+          where
+            by_cut : Runs calls persists lost old.panel new.panel → ⊥
+            by_cut runs = let e = ends_well calls persists lost old.panel new.panel unarmed runs in cc
+
+-- a call that changes blocks, whichever: what it says of device and object is what the host asks for
+pub on_refused-then : {T P Q : Type 0} (r : Result T BlockFault) → (P → Q) → OnRefused r P → OnRefused r Q
+on_refused-then (Ok x) then_ p = tt
+on_refused-then (Err f) then_ p = λ told. then_ (p told)
+
+-- where nothing is bad, no line of metadata refuses
+pub no_meta : (geo : Geometry) (m : Medium) → HasLayout geo m → blocks.meta_refusal geo m ≡ None
+no_meta geo m layout = ap (option_map Meta) (none_below m.is_bad (meta_lines geo) (good_metadata geo m layout))
+
+-- of a state that the host stands for, the refusals of the blocks are the machine's
+module _ (host : HostState) (old : Device) (h : Machine) (serves : Serves host old) (stands : Stands host old h) (on : host.mode ≡ On) where
+  blocks_there : host.blocks.geo.blocks ≡ h.geometry.blocks
+  blocks_there = ap (λ g. g.blocks) ((serves.mounted on).geometry ∙ stands.geometry)
+
+  meta_none : blocks.meta_refusal host.blocks.geo old.medium ≡ None
+  meta_none = subst (λ g. blocks.meta_refusal g old.medium ≡ None) (sym (serves.mounted on).geometry) (no_meta host.geometry old.medium serves.layout)
+
+  machine_meta_none : meta_refusal h.bad_meta ≡ None
+  machine_meta_none = ap meta_refusal stands.device.good_meta
+
+  pub refused_write : (block : ℕ) (bytes : List ℕ) → block_refusal h (BWrite block bytes) ≡ blocks.write_refusal host.blocks old.medium block (length bytes)
+  refused_write block bytes =
+      ap₂ first_there (ap (λ n. blocks.bytes_refusal n block (length bytes)) (sym blocks_there)) (machine_meta_none ∙ sym meta_none)
+
+  pub refused_change : (spans : List Span) → first_there (blocks.together_refusal h.geometry.blocks spans) (meta_refusal h.bad_meta) ≡ blocks.change_refusal host.blocks old.medium spans
+  refused_change spans = ap₂ first_there (ap (λ n. blocks.together_refusal n spans) (sym blocks_there)) (machine_meta_none ∙ sym meta_none)
+
+  pub refused_hint : (span : Span) → first_there (blocks.spans_refusal h.geometry.blocks (span ∷ [])) (meta_refusal h.bad_meta) ≡ blocks.hint_refusal host.blocks old.medium span
+  refused_hint span = ap₂ first_there (ap (λ n. blocks.spans_refusal n (span ∷ [])) (sym blocks_there)) (machine_meta_none ∙ sym meta_none)
+
+-- The same of a host behind a reference: `host` is what is inside `now`, and `after` what the answer leaves.
+module _ (now host after : HostState) (s : BlocksState) (r : Result (Unit {0}) BlockFault) (P : List Block → Type 0) (calls persists : ℕ) (old new : Device)
+    (inside : host ≡ now) (state : after ≡ host_after host s r) (on : now.mode ≡ On) (serves : Serves now old) (call : Called host s r P calls persists old new) where
+  on_inside : host.mode ≡ On
+  on_inside = ap (λ k. k.mode) inside ∙ on
+
+  serves_inside : Serves host old
+  serves_inside = subst (λ k. Serves k old) (sym inside) serves
+
+  pub change_serves : Serves after new
+  change_serves = subst (λ k. Serves k new) (sym state) (serves_called host s P calls persists old new on_inside serves_inside r call)
+
+  pub change_comes : (h : Machine) (action : Action) (good answer : Answer) (why : BlocksState → Option Refusal) (f : List Block → List Block) → Stands now old h → IsUnarmed old.panel
+      → (Serves host old → Stands host old h → host.mode ≡ On → block_refusal h action ≡ why host.blocks) → done h action ≡ Gives good (record h { blocks = f h.blocks })
+      → Answers (why host.blocks) r → OnOk r (blocks_of s new.medium ≡ f (blocks_of host.blocks old.medium)) → answer ≡ answer_after good r → Comes h (effect h action) answer after old new
+  change_comes h action good answer why f stands unarmed refusal done_is refused ok answer_is =
+      let stands_inside = subst (λ k. Stands k old h) (sym inside) stands in
+      subst (λ a. Comes h (effect h action) a after old new) (sym answer_is)
+      (subst (λ k. Comes h (effect h action) (answer_after good r) k old new) (sym state)
+      (comes_of_change host s P calls persists old new on_inside serves_inside h stands_inside unarmed f action good r (why host.blocks) (refusal serves_inside stands_inside on_inside) done_is refused ok call))

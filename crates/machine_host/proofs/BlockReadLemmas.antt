@@ -1,0 +1,131 @@
+-- What a host and its device stand for, after a read of blocks.
+use Rattle.std.proofs.Common.{◌≡◌, ◌≢◌, ℕ, ◌+◌, ◌*◌, ◌/◌, ◌%◌, ◌==◌, ◌||◌, ◌≤◌, true, false, not, None, option_map, Result, Ok, Err, OnOk, List, [], ◌++◌, length, replicate, take, drop, nat_lt, refl, sym, ap, subst, ◌∙◌, arith, append-nil}
+use Rattle.std.proofs.lemmas.Bool.{le-ltb, ne_eqb}
+use Rattle.std.proofs.lemmas.List.{take_all, drop_all, length-replicate}
+use Rattle.line_device.specs.Medium.{Wander}
+use Rattle.line_device.specs.Panel.{Runs}
+use Rattle.line_device.specs.Device.{Device}
+use Rattle.line_words.proofs.BesideLemmas.{beside-wander}
+use Rattle.nvm_model.specs.Storage.{Block}
+use Rattle.nvm_model.specs.Blocks.{first_there, first_obstacle, look}
+use Rattle.nvm_model.proofs.NumberedLemmas.{length-list_from}
+use Rattle.block_device.specs.Area.{IsBlockLine}
+use Rattle.block_device.specs.Object.{BlocksState, blocks_of}
+use Rattle.block_device.specs.Object as object
+use Rattle.block_device.specs.Images.{EachReads}
+use Rattle.block_device.specs.Refusals.{told, Answers, OnRefused, OnWorked, block_outcome, is_done, bytes_refusal, read_refusal, where_}
+use Rattle.block_device.specs.Refusals.Refusal.{Range, Length, Unreadable}
+use Rattle.block_device.specs.declared.fault.BlockFault.{BlockFault}
+use Rattle.block_device.specs.declared.fault.BlockFault.TheVariants as fault
+use Rattle.block_device.proofs.ReadLemmas.{map_read-wander}
+use Rattle.block_device.proofs.FrameLemmas.{each_reads-wander}
+use Rattle.script_text.specs.Action.Action.{BRead}
+use Rattle.reply_text.specs.Answer.{Answer}
+use Rattle.reply_text.specs.Answer.Answer.{Bytes}
+use Rattle.machine_host.specs.declared.mode.Mode.TheVariants.{On}
+use Rattle.machine_host.specs.Machine.{Machine, block_refusal, effect}
+use Rattle.machine_host.specs.Stands.{HostState, Serves, Stands, IsUnarmed, Comes, answer_after}
+use Rattle.machine_host.proofs.BlockLemmas.{Called, host_after, change_serves, change_comes}
+
+-- a buffer that a call filled
+pub refilled : (items out : List ℕ) → length out ≡ length items → take (length items) (out ++ drop (length out) items) ≡ out
+refilled items out same =
+    let rest = drop_all (length out) items (omega arith) in
+    ap (λ xs. take (length items) (out ++ xs)) rest ∙ ap (take (length items)) (append-nil out) ∙ take_all (length items) out (omega arith)
+
+-- a buffer of as many bytes as the blocks have
+pub buffer_size : (count : ℕ) (before items out : List ℕ) → before ≡ [] → items ≡ before ++ replicate (512 * count) 0 → out ≡ items → length out ≡ 512 * count
+buffer_size count before items out none filled is = ap length (is ∙ filled) ∙ ap (λ xs. length (xs ++ replicate (512 * count) 0)) none ∙ length-replicate (512 * count) 0
+
+-- what is read into it is what it has
+pub refill_is : (count : ℕ) (old items out shown : List ℕ) → length old ≡ length items → length old ≡ 512 * count → out ≡ shown → length shown ≡ 512 * count → take (length items) (out ++ drop (length out) items) ≡ shown
+refill_is count old items out shown same size is long = refilled items out (ap length is ∙ long ∙ sym size ∙ same) ∙ is
+
+-- a fault that refuses leaves the object settled
+refused_done : (f : BlockFault) → told f ≢ None → is_done (block_outcome {T = Unit {0}} (Err f)) ≡ true
+refused_done fault.Range told = refl
+refused_done fault.Length told = refl
+refused_done fault.Limit told = refl
+refused_done fault.Overlap told = refl
+refused_done (fault.Meta line) told = refl
+refused_done (fault.Scarred block) told = refl
+refused_done (fault.Poison block line) told = refl
+refused_done fault.Device told = absurd (told refl)
+refused_done fault.PowerLost told = absurd (told refl)
+
+-- so many whole blocks that are there
+pub length-look : (blocks : List Block) (at count : ℕ) → length (look blocks at count) ≡ 512 * count
+unfolding look
+length-look blocks at count = length-list_from _ (512 * at) (512 * count)
+
+-- the bytes of a buffer that blocks were read into
+pub read_bytes : (count block : ℕ) (old items out : List ℕ) (blocks : List Block) → length old ≡ length items → length old ≡ 512 * count → out ≡ look blocks block (length old / 512)
+    → take (length items) (out ++ drop (length out) items) ≡ look blocks block count
+read_bytes count block old items out blocks same size is =
+    let many : length old / 512 ≡ count = omega (arith, size) in
+    refill_is count old items out (look blocks block count) same size (is ∙ ap (look blocks block) many) (length-look blocks block count)
+
+whole_blocks : (blocks block count : ℕ) → 1 ≤ count → block + count ≤ blocks → bytes_refusal blocks block (512 * count) ≡ None
+whole_blocks blocks block count some within =
+    let touched : (512 * count + 511) / 512 ≡ count = omega arith in
+    let inside : nat_lt blocks (block + (512 * count + 511) / 512) ≡ false = le-ltb blocks (block + (512 * count + 511) / 512) (omega (arith, touched)) in
+    let rest : (512 * count) % 512 ≡ 0 = omega arith in
+    ap (λ b. first_there (where_ b Range) (where_ (512 * count == 0 || not ((512 * count) % 512 == 0)) Length)) inside
+    ∙ ap (λ b. where_ (b || not ((512 * count) % 512 == 0)) Length) (nonzero (512 * count) (omega arith))
+    ∙ ap (λ n. where_ (not (n == 0)) Length) rest
+  where
+    nonzero : (n : ℕ) → 1 ≤ n → (n == 0) ≡ false
+    nonzero n some = ne_eqb n 0 (λ e. omega arith)
+
+module _ (now host after : HostState) (s : BlocksState) (r : Result (Unit {0}) BlockFault) (block count len calls : ℕ) (Q : Type 0) (old new : Device)
+    (inside : host ≡ now) (state : after ≡ host_after host s r) (on : now.mode ≡ On) (serves : Serves now old) (size : len ≡ 512 * count)
+    (untouched : OnRefused r (Q × (new ≡ old))) (lines : Wander old.medium new.medium) (served : object.Serves s new.medium)
+    (object : s ≡ record host.blocks { settled = is_done (block_outcome r) }) (runs : Runs calls 0 (block_outcome r) old.panel new.panel) where
+  settled_was : host.blocks.settled ≡ true
+  settled_was = ap (λ k. k.blocks.settled) inside ∙ (serves.mounted on).settled
+
+  geo_was : now.geometry ≡ host.blocks.geo
+  geo_was = sym (serves.mounted on).geometry ∙ sym (ap (λ k. k.blocks.geo) inside)
+
+  same_object : (q : Result (Unit {0}) BlockFault) → OnRefused q (Q × (new ≡ old)) → s ≡ record host.blocks { settled = is_done (block_outcome q) } → OnRefused q ((s ≡ host.blocks) × (new ≡ old))
+  same_object (Ok x) left is = tt
+  same_object (Err f) left is = λ told. (is ∙ ap (λ b. record host.blocks { settled = b }) (refused_done f told ∙ sym settled_was), (left told).1)
+
+  on_worked : {P : Type 0} (q : Result (Unit {0}) BlockFault) → P → OnWorked q P
+  on_worked (Ok x) p = p
+  on_worked (Err f) p = λ told. p
+
+  call : Called host s r (λ bs. Unit {0}) calls 0 old new
+  call = record {
+    untouched = same_object r untouched object;
+    images = on_worked r (subst (λ g. EachReads g new.medium (λ bs. Unit {0})) geo_was (each_reads-wander now.geometry old.medium new.medium (λ bs. Unit {0}) serves.layout.valid lines serves.readable));
+    outside = beside-wander (IsBlockLine host.blocks.geo) old.medium new.medium lines;
+    serves = λ _. served;
+    object = (ap (λ k. k.geo) object, ap (λ k. k.settled) object);
+    runs = runs;
+  }
+
+  pub read_serves : Serves after new
+  read_serves = change_serves now host after s r (λ bs. Unit {0}) calls 0 old new inside state on serves call
+
+  blocks_stay : blocks_of s new.medium ≡ blocks_of host.blocks old.medium
+  blocks_stay = ap (λ k. blocks_of k new.medium) object ∙ map_read-wander host.blocks.geo host.blocks.map old.medium new.medium lines
+
+  on_ok : {P : Type 0} (q : Result (Unit {0}) BlockFault) → P → OnOk q P
+  on_ok (Ok x) p = p
+  on_ok (Err f) p = tt
+
+  pub read_comes : (h : Machine) (answer : Answer) → Stands now old h → IsUnarmed old.panel → 1 ≤ count → block + count ≤ now.geometry.blocks
+      → Answers (read_refusal host.blocks old.medium block len) r → (host.mode ≡ On → blocks_of host.blocks old.medium ≡ h.blocks → answer ≡ answer_after (Bytes (look h.blocks block count)) r)
+      → Comes h (effect h (BRead block count)) answer after old new
+  read_comes h answer stands unarmed some within refused answer_is =
+      let stays : blocks_of host.blocks old.medium ≡ h.blocks = ap (λ k. blocks_of k.blocks old.medium) inside ∙ stands.blocks on in
+      let many : 512 * count / 512 ≡ count = omega arith in
+      let none : bytes_refusal host.blocks.geo.blocks block (512 * count) ≡ None = whole_blocks host.blocks.geo.blocks block count some (subst (λ g. block + count ≤ g.blocks) geo_was within) in
+      let why : read_refusal host.blocks old.medium block (512 * count) ≡ block_refusal h (BRead block count) =
+      ap (λ o. first_there o (option_map Unreadable (first_obstacle (blocks_of host.blocks old.medium) block (512 * count / 512)))) none
+      ∙ ap (λ n. option_map Unreadable (first_obstacle (blocks_of host.blocks old.medium) block n)) many
+      ∙ ap (λ bs. option_map Unreadable (first_obstacle bs block count)) stays in
+      change_comes now host after s r (λ bs. Unit {0}) calls 0 old new inside state on serves call h (BRead block count) (Bytes (look h.blocks block count)) answer
+      (λ b. read_refusal b old.medium block (512 * count)) (λ bs. bs) stands unarmed (λ _ _ _. sym why) refl
+      (subst (λ n. Answers (read_refusal host.blocks old.medium block n) r) size refused) (on_ok r blocks_stay) (answer_is (ap (λ k. k.mode) inside ∙ on) stays)

@@ -1,0 +1,68 @@
+-- Whether a block is there, as the host and as the machine see it.
+use Rattle.std.proofs.Common.{◌≡◌, ◌≢◌, ◌↔◌, ℕ, zero, suc, ◌<◌, ◌≤◌, Bool, true, false, IsTrue, Some, None, List, [], ◌∷◌, length, slice_get, if◌then◌else◌, refl, sym, ap, subst, ◌∙◌, arith}
+use Rattle.std.proofs.lemmas.Bool.{false≢true, lt-ltb, le-ltb}
+use Rattle.line_device.specs.Medium.{last_image}
+use Rattle.line_device.specs.Device.{Device}
+use Rattle.nvm_model.specs.Blocks.{nth, is_there}
+use Rattle.word_tables.specs.declared.geometry.Geometry.{Geometry}
+use Rattle.block_map.specs.declared.state.BlockState.{BlockState}
+use Rattle.block_map.specs.declared.state.BlockState.TheVariants as state
+use Rattle.block_device.specs.Object.{blocks_of}
+use Rattle.block_device.specs.Reading.{block_read, map_read}
+use Rattle.block_device.specs.Refusals.Refusal.{Range}
+use Rattle.script_text.specs.Action.Action.{BExists}
+use Rattle.reply_text.specs.Answer.{Answer}
+use Rattle.reply_text.specs.Answer.Answer.{Yes, No, Refused}
+use Rattle.reply_text.specs.declared.reply.Why.TheVariants as because
+use Rattle.machine_host.specs.declared.mode.Mode.TheVariants.{On}
+use Rattle.machine_host.specs.Machine.{Machine, effect, unless}
+use Rattle.machine_host.specs.Machine.Fate.{Gives}
+use Rattle.machine_host.specs.Stands.{HostState, Serves, Stands, Comes}
+
+-- a block that is read is there where its state is not absent
+there_by_state : (geo : Geometry) (bad : ℕ → Bool) (word : ℕ → ℕ) (s : BlockState) (there : Bool) → (IsTrue there ↔ (Some s ≢ Some state.Absent)) → is_there (block_read geo bad word s) ≡ there
+there_by_state geo bad word state.Absent true told = absurd (told.0 refl refl)
+there_by_state geo bad word state.Absent false told = refl
+there_by_state geo bad word state.Scarred true told = refl
+there_by_state geo bad word state.Scarred false told = absurd (false≢true (told.1 (λ e. cc)))
+there_by_state geo bad word (state.At unit) true told = refl
+there_by_state geo bad word (state.At unit) false told = absurd (false≢true (told.1 (λ e. cc)))
+
+there_in_map : (geo : Geometry) (bad : ℕ → Bool) (word : ℕ → ℕ) (states : List BlockState) (block : ℕ) (there : Bool) → block < length states
+    → (IsTrue there ↔ (slice_get states block ≢ Some state.Absent)) → is_there (nth (map_read geo bad word states) block) ≡ there
+there_in_map geo bad word [] block there below told = absurd (omega arith)
+there_in_map geo bad word (s ∷ ss) zero there below told = there_by_state geo bad word s there told
+there_in_map geo bad word (s ∷ ss) (suc block) there below told = there_in_map geo bad word ss block there (omega arith) told
+
+-- nothing changes, and this is answered
+same_state : (host : HostState) (d : Device) (h : Machine) (answer : Answer) → Stands host d h → Comes h (Gives answer h) answer host d d
+same_state host d h answer stands = record { starts = []; next = h; takes = (refl, refl, refl); told_starts = refl; restarts = refl; stands = stands }
+
+module _ (now host : HostState) (d : Device) (h : Machine) (block : ℕ) where
+  blocks_there : host ≡ now → Serves now d → Stands now d h → now.mode ≡ On → host.blocks.geo.blocks ≡ h.geometry.blocks
+  blocks_there inside serves stands on = ap (λ k. k.blocks.geo.blocks) inside ∙ ap (λ g. g.blocks) ((serves.mounted on).geometry ∙ stands.geometry)
+
+  abbrev said : Bool → Answer
+  said there = if there then Yes else No
+
+  pub comes_of_exists : (test there : Bool) → test ≡ there → host ≡ now → Serves now d → Stands now d h → now.mode ≡ On
+      → (block < host.blocks.geo.blocks) × (IsTrue test ↔ (slice_get host.blocks.map block ≢ Some state.Absent)) → Comes h (effect h (BExists block)) (said there) now d d
+  comes_of_exists test there is inside serves stands on told =
+      let mounted = serves.mounted on in
+      let within : block < h.geometry.blocks = omega (arith, told.0, blocks_there inside serves stands on) in
+      let all : length host.blocks.map ≡ host.blocks.geo.blocks = ap (λ k. length k.blocks.map) inside ∙ mounted.serves.all ∙ sym (ap (λ k. k.blocks.geo.blocks) inside) in
+      let seen : is_there (nth h.blocks block) ≡ there =
+      ap (λ bs. is_there (nth bs block)) (sym (stands.blocks on))
+      ∙ ap (λ s. is_there (nth (blocks_of s d.medium) block)) (sym (ap (λ k. k.blocks) inside))
+      ∙ there_in_map host.blocks.geo d.medium.is_bad (last_image d.medium) host.blocks.map block test (omega (arith, told.0, all)) told.1 ∙ is in
+      let gives : effect h (BExists block) ≡ Gives (said there) h =
+      ap (λ b. unless h (if b then None else Some Range) (Gives (if is_there (nth h.blocks block) then Yes else No) h)) (lt-ltb block h.geometry.blocks within)
+      ∙ ap (λ b. Gives (if b then Yes else No) h) seen in
+      subst (λ fate. Comes h fate (said there) now d d) (sym gives) (same_state now d h (said there) stands)
+
+  pub comes_of_no_such : host ≡ now → Serves now d → Stands now d h → now.mode ≡ On → host.blocks.geo.blocks ≤ block → Comes h (effect h (BExists block)) (Refused because.Range) now d d
+  comes_of_no_such inside serves stands on past =
+      let beyond : h.geometry.blocks ≤ block = omega (arith, past, blocks_there inside serves stands on) in
+      let gives : effect h (BExists block) ≡ Gives (Refused because.Range) h =
+      ap (λ b. unless h (if b then None else Some Range) (Gives (if is_there (nth h.blocks block) then Yes else No) h)) (le-ltb block h.geometry.blocks beyond) in
+      subst (λ fate. Comes h fate (Refused because.Range) now d d) (sym gives) (same_state now d h (Refused because.Range) stands)

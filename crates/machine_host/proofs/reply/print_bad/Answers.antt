@@ -1,6 +1,0 @@
-use Rattle.std.proofs.Common.{arith}
-use Rattle.std.proofs.lemmas.Fmt.{length-decimal-le}
-use Rattle.machine_host.proofs.reply.print_bad.Goals as goal
-
-pub returns-in_err-extend-clause-short : goal.returns-in_err-extend-clause-short
-returns-in_err-extend-clause-short c = length-decimal-le 20 c.args.n (omega arith) (omega arith) (omega arith)

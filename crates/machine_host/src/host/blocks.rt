@@ -1,0 +1,188 @@
+// Commands on blocks.
+ghost use Rattle.std.specs.Prelude.{◌≡◌, ◌≤◌, ◌<◌, ◌*◌, ◌+◌, IfOk, OnErr, length};
+ghost use Rattle.machine_host.specs.declared.mode.Mode.TheVariants.{On};
+ghost use Rattle.script_text.specs.Action.Action.{BRead, BWrite, BDiscard, BDiscardIf, BExists, BScar};
+ghost use Rattle.reply_text.specs.Answer.{answer_of, answer_line};
+ghost use Rattle.reply_text.specs.Answer.Answer.{Done, PoisonBlock, RefusedMeta, Scarred};
+ghost use Rattle.machine_host.specs.Machine.{Machine, effect};
+ghost use Rattle.machine_host.specs.Stands.{Serves, Stands, IsUnarmed, Comes, Costs, longest, answer_after, fault_answer, fault_mode, mode_after};
+
+use super::Host;
+use block_device::BlockFault;
+use line_device::LineDevice;
+use line_words::Interruption;
+use nvm_base::{BLOCK, Bytes, Span};
+use reply_text::{Reply, Why};
+use std::alloc::AllocError;
+
+impl Host {
+    pub(super) fn bread<D: LineDevice>(
+        &mut self,
+        device: &mut D,
+        block: u64,
+        count: u64,
+    ) -> Result<Reply, AllocError>
+        requires serves { Serves self.old (D.state device.old) }
+        requires on { self.old.mode ≡ On }
+        requires some { 1 ≤ count }
+        requires few { count ≤ 128 }
+        requires within { block + count ≤ self.old.geometry.blocks }
+        ensures step { IfOk result (λ reply. (h : Machine) → Stands self.old (D.state device.old) h
+            → IsUnarmed (D.state device.old).panel
+            → Comes h (effect h (BRead block count)) (answer_of reply) self.new (D.state device.old) (D.state device.new)) }
+        ensures short { IfOk result (λ reply. length (answer_line (answer_of reply)) ≤ longest (BRead block count)) }
+        ensures memory { OnErr result ((self.new ≡ self.old) × (D.state device.new ≡ D.state device.old)) }
+        ensures serves { Serves self.new (D.state device.new) }
+        ensures costs { Costs (BRead block count) (D.state device.old).panel (D.state device.new).panel }
+    {
+        let mut bytes = Bytes::new(self.alloc);
+        bytes.repeat(0, BLOCK * count)?;
+        match self.blocks.read_into(device, block, bytes.as_mut_slice()) {
+            Ok(()) => Ok(Reply::Bytes(bytes)),
+            Err(fault) => Ok(self.fault(fault)),
+        }
+    }
+
+    pub(super) fn bwrite<D: LineDevice>(
+        &mut self,
+        device: &mut D,
+        block: u64,
+        bytes: &[u8],
+    ) -> Reply
+        requires serves { Serves self.old (D.state device.old) }
+        requires on { self.old.mode ≡ On }
+        ensures step { (h : Machine) → Stands self.old (D.state device.old) h → IsUnarmed (D.state device.old).panel
+            → Comes h (effect h (BWrite block bytes.now)) (answer_of result) self.new (D.state device.old) (D.state device.new) }
+        ensures short { length (answer_line (answer_of result)) ≤ 64 }
+        ensures serves { Serves self.new (D.state device.new) }
+        ensures costs { Costs (BWrite block bytes.now) (D.state device.old).panel (D.state device.new).panel }
+    {
+        let call = self.blocks.write(device, block, bytes);
+        self.answer(call)
+    }
+
+    pub(super) fn bdiscard<D: LineDevice>(
+        &mut self,
+        device: &mut D,
+        block: u64,
+        count: u64,
+    ) -> Reply
+        requires serves { Serves self.old (D.state device.old) }
+        requires on { self.old.mode ≡ On }
+        ensures step { (h : Machine) → Stands self.old (D.state device.old) h → IsUnarmed (D.state device.old).panel
+            → Comes h (effect h (BDiscard block count)) (answer_of result) self.new (D.state device.old) (D.state device.new) }
+        ensures short { length (answer_line (answer_of result)) ≤ 64 }
+        ensures serves { Serves self.new (D.state device.new) }
+        ensures costs { Costs (BDiscard block count) (D.state device.old).panel (D.state device.new).panel }
+    {
+        let span = Span {
+            start: block,
+            len: count,
+        };
+        let call = self.blocks.discard_now(device, span);
+        self.answer(call)
+    }
+
+    pub(super) fn bdiscardif<D: LineDevice>(
+        &mut self,
+        device: &mut D,
+        block: u64,
+        count: u64,
+    ) -> Reply
+        requires serves { Serves self.old (D.state device.old) }
+        requires on { self.old.mode ≡ On }
+        ensures step { (h : Machine) → Stands self.old (D.state device.old) h → IsUnarmed (D.state device.old).panel
+            → Comes h (effect h (BDiscardIf block count)) (answer_of result) self.new (D.state device.old) (D.state device.new) }
+        ensures short { length (answer_line (answer_of result)) ≤ 64 }
+        ensures serves { Serves self.new (D.state device.new) }
+        ensures costs { Costs (BDiscardIf block count) (D.state device.old).panel (D.state device.new).panel }
+    {
+        let span = Span {
+            start: block,
+            len: count,
+        };
+        let call = self.blocks.discard_hint(device, span);
+        self.answer(call)
+    }
+
+    pub(super) fn bscar<D: LineDevice>(&mut self, device: &mut D, spans: &[Span]) -> Reply
+        requires serves { Serves self.old (D.state device.old) }
+        requires on { self.old.mode ≡ On }
+        requires some { 0 < length spans.now }
+        ensures step { (h : Machine) → Stands self.old (D.state device.old) h → IsUnarmed (D.state device.old).panel
+            → Comes h (effect h (BScar spans.now)) (answer_of result) self.new (D.state device.old) (D.state device.new) }
+        ensures short { length (answer_line (answer_of result)) ≤ 64 }
+        ensures serves { Serves self.new (D.state device.new) }
+        ensures costs { Costs (BScar spans.now) (D.state device.old).panel (D.state device.new).panel }
+    {
+        let call = self.blocks.scar(device, spans);
+        self.answer(call)
+    }
+
+    pub(super) fn bexists<D: LineDevice>(&self, device: &D, block: u64) -> Reply
+        requires serves { Serves self.now (D.state device.now) }
+        requires on { self.now.mode ≡ On }
+        ensures step { (h : Machine) → Stands self.now (D.state device.now) h
+            → Comes h (effect h (BExists block)) (answer_of result) self.now (D.state device.now) (D.state device.now) }
+        ensures short { length (answer_line (answer_of result)) ≤ 64 }
+    {
+        match self.blocks.exists(block) {
+            Ok(true) => Reply::Yes,
+            Ok(false) => Reply::No,
+            Err(_) => Reply::Refused(Why::Range),
+        }
+    }
+
+    // What a call that changes blocks is answered, and the mode after it.
+    fn answer(&mut self, call: Result<(), BlockFault>) -> Reply
+        requires on { self.old.mode ≡ On }
+        ensures state { self.new ≡ record self.old { mode = mode_after call } }
+        ensures answer { answer_of result ≡ answer_after Done call }
+        ensures short { length (answer_line (answer_of result)) ≤ 64 }
+    {
+        match call {
+            Ok(()) => Reply::Done,
+            Err(fault) => self.fault(fault),
+        }
+    }
+
+    // What a fault of the blocks is answered, and the mode after it.
+    fn fault(&mut self, fault: BlockFault) -> Reply
+        ensures state { self.new ≡ record self.old { mode = fault_mode self.old.mode fault } }
+        ensures answer { answer_of result ≡ fault_answer fault }
+        ensures short { length (answer_line (answer_of result)) ≤ 64 }
+    {
+        match fault {
+            BlockFault::Range => Reply::Refused(Why::Range),
+            BlockFault::Length => Reply::Refused(Why::Length),
+            BlockFault::Limit => Reply::Refused(Why::Limit),
+            BlockFault::Overlap => Reply::Refused(Why::Overlap),
+            BlockFault::Meta(line) => bad_meta(line.0),
+            BlockFault::Scarred(block) => scarred(block),
+            BlockFault::Poison(block, line) => poisoned(block, line),
+            BlockFault::Device => self.interrupt(Interruption::Failed),
+            BlockFault::PowerLost => self.interrupt(Interruption::PowerLost),
+        }
+    }
+}
+
+fn bad_meta(line: u64) -> Reply
+    ensures answer { answer_of result ≡ RefusedMeta line }
+    ensures short { length (answer_line (answer_of result)) ≤ 64 }
+{
+    Reply::RefusedMeta(line)
+}
+
+fn scarred(block: u64) -> Reply
+    ensures answer { answer_of result ≡ Scarred block }
+    ensures short { length (answer_line (answer_of result)) ≤ 64 }
+{
+    Reply::Scarred(block)
+}
+
+fn poisoned(block: u64, line: u64) -> Reply
+    ensures answer { answer_of result ≡ PoisonBlock block line }
+    ensures short { length (answer_line (answer_of result)) ≤ 64 }
+{
+    Reply::PoisonBlock(block, line)
+}
