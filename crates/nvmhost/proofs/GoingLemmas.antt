@@ -6,13 +6,12 @@ use Rattle.line_device.specs.Panel.{Panel, Start, ArmsNothing, told}
 use Rattle.line_device.specs.Device.{Device}
 use Rattle.host_io.specs.Writing.{AppendsSome}
 use Rattle.word_tables.specs.declared.geometry.Geometry.{Geometry}
-use Rattle.machine_host.specs.Answer.{Answer, reply_text}
-use Rattle.machine_host.specs.Script.{line_input, inputs_of, lines_of}
-use Rattle.machine_host.specs.Machine.{Machine, reading, fresh}
-use Rattle.machine_host.specs.declared.mode.Mode.TheVariants.{On}
+use Rattle.reply_text.specs.Answer.{Answer, reply_text}
+use Rattle.script_text.specs.Script.{line_input, inputs_of, lines_of}
+use Rattle.machine_host.specs.Machine.{Machine, fresh}
 use Rattle.machine_host.proofs.StepLemmas.{not_true}
 use Rattle.machine_host.specs.Run.{Goes}
-use Rattle.machine_host.specs.Stands.{HostState, Stands, DeviceStands, IsUnarmed, Spends, bumped_by}
+use Rattle.machine_host.specs.Stands.{HostState, Stands, IsUnarmed, Spends, bumped_by}
 use Rattle.machine_host.proofs.RunLemmas.{goes-none, goes_then, run_of_goes, reply_text-append, told-append, bumped_by-append}
 use Rattle.machine_host.proofs.CostLemmas.{spends-idle, spends_then}
 use Rattle.nvmhost.specs.declared.ending.Ending.{Ending}
@@ -33,22 +32,20 @@ pub record Said (geo : Geometry) (lines : List (List ℕ)) (host : HostState) (o
   pub stands : Stands host now state
   pub unarmed : IsUnarmed now.panel
 
--- some lines of the script are performed
-pub record Going (geo : Geometry) (script rest : List ℕ) (host : HostState) (out : List ℕ) (written_old written : Option (List ℕ)) (old now : Device) : Type 0 where
+-- some lines of the script are performed, from the host that was there first
+pub record Going (geo : Geometry) (script rest : List ℕ) (first host : HostState) (out : List ℕ) (written_old written : Option (List ℕ)) (old now : Device) : Type 0 where
   pub lines : List (List ℕ)
   pub split : lines_of script ≡ lines ++ lines_of rest
   pub spends : Spends (inputs_of lines) old.panel now.panel
-  pub says : DeviceStands old (fresh geo) → IsUnarmed old.panel → Said geo lines host out written_old written old now
+  pub says : Stands first old (fresh geo) → IsUnarmed old.panel → Said geo lines host out written_old written old now
 
 pub inputs_of-append : (x y : List (List ℕ)) → inputs_of (x ++ y) ≡ inputs_of x ++ inputs_of y
 inputs_of-append [] y = refl
 inputs_of-append (line ∷ x) y = ap (λ inputs. line_input line ∷ inputs) (inputs_of-append x y)
 
 -- nothing yet
-pub going-start : (geo : Geometry) (script : List ℕ) (written : Option (List ℕ)) (d : Device)
-    → Going geo script script (record { vpages = geo.vpages; mode = On }) [] written written d d
-unfolding reading
-going-start geo script written d = record {
+pub going-start : (geo : Geometry) (script : List ℕ) (host : HostState) (written : Option (List ℕ)) (d : Device) → Going geo script script host host [] written written d d
+going-start geo script host written d = record {
   lines = [];
   split = refl;
   spends = spends-idle [] d.panel;
@@ -62,26 +59,26 @@ going-start geo script written d = record {
     text = refl;
     told_starts = refl;
     restarts = refl;
-    stands = record { vpages = refl; mode = refl; device = stands };
+    stands = stands;
     unarmed = unarmed;
   };
 }
 
-still_unarmed : (p q : Panel) → ArmsNothing p q → IsUnarmed p → IsUnarmed q
+pub still_unarmed : (p q : Panel) → ArmsNothing p q → IsUnarmed p → IsUnarmed q
 still_unarmed p q armed unarmed = record {
   cut = not_true q.cut_armed (λ t. cc (unarmed.cut, armed.cut t));
   fail = not_true q.fail_armed (λ t. cc (unarmed.fail, armed.fail t));
 }
 
 -- one line more
-pub going-line : (geo : Geometry) (script rest line others : List ℕ) (host host' : HostState) (out out' : List ℕ) (written_old written : Option (List ℕ)) (old now next : Device)
-    → Going geo script rest host out written_old written old now → lines_of rest ≡ line ∷ lines_of others
+pub going-line : (geo : Geometry) (script rest line others : List ℕ) (first host host' : HostState) (out out' : List ℕ) (written_old written : Option (List ℕ)) (old now next : Device)
+    → Going geo script rest first host out written_old written old now → lines_of rest ≡ line ∷ lines_of others
     → ((h : Machine) → Stands host now h → IsUnarmed now.panel → LineGoes h (line_input line) out out' host' now next)
-    → Spends (line_input line ∷ []) now.panel next.panel → Going geo script others host' out' written_old written old next
-going-line geo script rest line others host host' out out' written_old written old now next going first goes spends = record {
+    → Spends (line_input line ∷ []) now.panel next.panel → Going geo script others first host' out' written_old written old next
+going-line geo script rest line others first host host' out out' written_old written old now next going begins goes spends = record {
   lines = going.lines ++ line ∷ [];
-  split = going.split ∙ ap (λ ls. going.lines ++ ls) first ∙ sym (append_assoc going.lines (line ∷ []) (lines_of others));
-  spends = subst (λ i. Spends i old.panel next.panel) inputs (spends_then _ _ _ _ _ going.spends spends);
+  split = going.split ∙ ap (λ ls. going.lines ++ ls) begins ∙ sym (append_assoc going.lines (line ∷ []) (lines_of others));
+  spends = subst (λ i. Spends i old.panel next.panel) inputs (spends_then (inputs_of going.lines) (line_input line ∷ []) _ _ _ going.spends spends);
   says = λ stands unarmed.
       let before = going.says stands unarmed in
       let step = goes before.state before.stands before.unarmed in
@@ -105,9 +102,9 @@ going-line geo script rest line others host host' out out' written_old written o
     inputs = sym (inputs_of-append going.lines (line ∷ []))
 
 -- waiting replies written
-pub going-flush : (geo : Geometry) (script rest : List ℕ) (host : HostState) (out out' : List ℕ) (written_old written written' : Option (List ℕ)) (old now : Device)
-    → Going geo script rest host out written_old written old now → Flushes out out' written written' → Going geo script rest host out' written_old written' old now
-going-flush geo script rest host out out' written_old written written' old now going flushes = record {
+pub going-flush : (geo : Geometry) (script rest : List ℕ) (first host : HostState) (out out' : List ℕ) (written_old written written' : Option (List ℕ)) (old now : Device)
+    → Going geo script rest first host out written_old written old now → Flushes out out' written written' → Going geo script rest first host out' written_old written' old now
+going-flush geo script rest first host out out' written_old written written' old now going flushes = record {
   lines = going.lines;
   split = going.split;
   spends = going.spends;
@@ -129,10 +126,10 @@ going-flush geo script rest host out out' written_old written written' old now g
 }
 
 -- the script's end, with nothing waiting
-pub going-end : (geo : Geometry) (script : List ℕ) (host : HostState) (written_old written : Option (List ℕ)) (old now : Device)
-    → Going geo script [] host [] written_old written old now → Performs geo script (Ok tt) written_old written old now
+pub going-end : (geo : Geometry) (script : List ℕ) (first host : HostState) (written_old written : Option (List ℕ)) (old now : Device)
+    → Going geo script [] first host [] written_old written old now → Performs geo first script (Ok tt) written_old written old now
 unfolding lines_of
-going-end geo script host written_old written old now going = record {
+going-end geo script first host written_old written old now going = record {
   begun = going.lines;
   others = [];
   split = going.split;
@@ -156,14 +153,14 @@ going-end geo script host written_old written old now going = record {
 }
 
 -- an end before the end: some of the replies that wait may be written, and a further line may be begun
-pub going-broken : (geo : Geometry) (script rest : List ℕ) (host : HostState) (out : List ℕ) (written_old written written' : Option (List ℕ)) (old now next : Device)
-    (ending : Ending) (more later : List (List ℕ)) → Going geo script rest host out written_old written old now → lines_of rest ≡ more ++ later
-    → Spends (inputs_of more) now.panel next.panel → AppendsSome out written written' → Performs geo script (Err ending) written_old written' old next
-going-broken geo script rest host out written_old written written' old now next ending more later going splits spends some = record {
+pub going-broken : (geo : Geometry) (script rest : List ℕ) (first host : HostState) (out : List ℕ) (written_old written written' : Option (List ℕ)) (old now next : Device)
+    (ending : Ending) (more later : List (List ℕ)) → Going geo script rest first host out written_old written old now → lines_of rest ≡ more ++ later
+    → Spends (inputs_of more) now.panel next.panel → AppendsSome out written written' → Performs geo first script (Err ending) written_old written' old next
+going-broken geo script rest first host out written_old written written' old now next ending more later going splits spends some = record {
   begun = going.lines ++ more;
   others = later;
   split = going.split ∙ ap (λ ls. going.lines ++ ls) splits ∙ sym (append_assoc going.lines more later);
-  spends = subst (λ i. Spends i old.panel next.panel) (sym (inputs_of-append going.lines more)) (spends_then _ _ _ _ _ going.spends spends);
+  spends = subst (λ i. Spends i old.panel next.panel) (sym (inputs_of-append going.lines more)) (spends_then (inputs_of going.lines) (inputs_of more) _ _ _ going.spends spends);
   says = λ stands unarmed.
       let before = going.says stands unarmed in
       record {

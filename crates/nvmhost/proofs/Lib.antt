@@ -2,4 +2,5 @@ pub mod BytesLemmas
 pub mod ReadLemmas
 pub mod LineLemmas
 pub mod GoingLemmas
+pub mod SetUpLemmas
 pub mod TopLemmas

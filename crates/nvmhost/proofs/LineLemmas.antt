@@ -1,12 +1,12 @@
 -- One line of a script, by what it asks for.
 use Rattle.std.proofs.Common.{◌≡◌, ℕ, List, [], ◌∷◌, ◌++◌, refl, sym, ap, subst, ◌∙◌, append-nil}
 use Rattle.line_device.specs.Device.{Device}
-use Rattle.machine_host.specs.declared.reply.Why.TheVariants.{Syntax}
-use Rattle.machine_host.specs.Action.{Action}
-use Rattle.machine_host.specs.Answer.{answer_line}
-use Rattle.machine_host.specs.Answer.Answer.{Refused}
-use Rattle.machine_host.specs.Script.{Input}
-use Rattle.machine_host.specs.Script.Input.{Skipped, Malformed, Asked}
+use Rattle.reply_text.specs.declared.reply.Why.TheVariants.{Syntax}
+use Rattle.script_text.specs.Action.{Action}
+use Rattle.reply_text.specs.Answer.{answer_line}
+use Rattle.reply_text.specs.Answer.Answer.{Refused}
+use Rattle.script_text.specs.Script.{Input}
+use Rattle.script_text.specs.Script.Input.{Skipped, Malformed, Asked}
 use Rattle.machine_host.specs.Machine.{Machine}
 use Rattle.machine_host.specs.Stands.{HostState, Stands, Steps}
 use Rattle.machine_host.proofs.RunLemmas.{goes-skipped, goes-malformed, goes-asked}

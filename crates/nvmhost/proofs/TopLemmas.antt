@@ -1,65 +1,27 @@
 -- A call as a whole.
-use Rattle.std.proofs.Common.{◌≡◌, ◌⊎◌, inl, inr, ℕ, ◌*◌, ◌/◌, ◌<◌, ◌≤◌, true, false, IsTrue, cond, ltb, List, [], ◌∷◌, ◌++◌, length, take, drop, Option, Some, None, Result, Ok, Err, refl, sym, ap, subst, ◌∙◌, append-nil, length-append, arith}
-use Rattle.std.proofs.lemmas.Bool.Decides.{nat_tests}
+use Rattle.std.proofs.Common.{◌≡◌, ◌⊎◌, inl, inr, ℕ, ◌≤◌, List, [], ◌++◌, length, take, drop, Option, Some, None, Result, Ok, Err, refl, sym, ap, subst, ◌∙◌, append-nil, length-append, arith}
 use Rattle.std.proofs.lemmas.List.{take-append-drop}
 use Rattle.std.specs.Prelude.{IfSome, IfErr, MatchResult}
 use Rattle.std.specs.Io.KnownBytes.{Appends, Consumes}
-use Rattle.line_device.specs.History.{Fades}
-use Rattle.line_device.specs.Medium.{Wander, zeros}
-use Rattle.line_device.specs.Panel.{Panel, SetsUp, told}
-use Rattle.line_device.specs.Panel.Outcome.{went}
+use Rattle.line_device.specs.Panel.{Panel, told}
 use Rattle.line_device.specs.Device.{Device}
-use Rattle.line_device.proofs.HistoryLemmas.{fades-one}
 use Rattle.host_io.specs.Writing.{WritesAll}
 use Rattle.word_tables.specs.declared.geometry.Geometry.{Geometry}
 use Rattle.nvm_base.specs.Stock.{Stock}
 use Rattle.nvm_base.specs.Counts.{Rose}
-use Rattle.nvm_model.proofs.RestartLemmas.{pages_stand-read}
-use Rattle.machine_host.specs.Script.{inputs_of, lines_of}
-use Rattle.machine_host.specs.Machine.{reading, fresh, zero_image}
+use Rattle.script_text.specs.Script.{inputs_of, lines_of}
+use Rattle.machine_host.specs.Machine.{reading, fresh}
 use Rattle.machine_host.specs.Run.{Run}
-use Rattle.machine_host.specs.Stands.{IsUnarmed, Spends, bumped_by}
+use Rattle.machine_host.specs.Stands.{HostState, Stands, IsUnarmed, Opens, bumped_by}
 use Rattle.machine_host.proofs.RunLemmas.{goes-none, run_of_goes}
-use Rattle.nvm_model.proofs.PageLemmas.{length-read_pages}
-use Rattle.machine_host.proofs.StepLemmas.{not_true}
-use Rattle.machine_host.proofs.CostLemmas.{spends_then}
+use Rattle.machine_host.proofs.CostLemmas.{spends-idle, spends_nothing, spends_within}
 use Rattle.nvmhost.specs.declared.ending.Ending.{Ending}
 use Rattle.nvmhost.specs.declared.ending.Ending.TheVariants.{Usage, Read, Write, Memory, Script}
 use Rattle.nvmhost.specs.declared.ending.Ending.TheVariants as endings
 use Rattle.nvmhost.specs.Words.{IsForm}
 use Rattle.nvmhost.specs.Ending.{status}
-use Rattle.nvmhost.specs.Whole.{Completes, WritesFront, Halts, Costs, IsReady, IsCaused, Reads, Performs}
+use Rattle.nvmhost.specs.Whole.{Completes, WritesFront, Halts, Costs, DeviceFailed, IsReady, IsCaused, Reads, Says, Performs}
 use Rattle.nvmhost.proofs.BytesLemmas.{appends-none}
-
--- a device that was reset is ready for a host
-pub ready_of_reset : (geo : Geometry) (old new : Device) → geo.vpages ≤ 16 → Wander (zeros (64 * geo.vpages)) new.medium → IsTrue new.panel.power
-    → SetsUp went old.panel new.panel → IsReady geo old new
-unfolding reading
-ready_of_reset geo old new few w on sets = record {
-  serves = record { few = omega arith; lines = w.count; intact = λ n lt. (w.bad n, w.weak n); power = on };
-  starts = sets.orders.starts;
-  restarts = sets.orders.restarts;
-  stands = λ unarmed. record {
-    pages = length-read_pages (zero_image (64 * geo.vpages)) geo.vpages;
-    volume = pages_stand-read new.medium (zero_image (64 * geo.vpages)) geo.vpages (λ n lt. (w.bad n, w.weak n)) (λ n lt. (refl, refl)) one;
-    power = on;
-    cut_armed = (still unarmed).cut;
-    fail_armed = (still unarmed).fail;
-    whole = refl;
-  };
-  unarmed = still;
-}
-  where
-    still : IsUnarmed old.panel → IsUnarmed new.panel
-    still unarmed = record {
-      cut = not_true new.panel.cut_armed (λ t. cc (unarmed.cut, sets.armed.cut t));
-      fail = not_true new.panel.fail_armed (λ t. cc (unarmed.fail, sets.armed.fail t));
-    }
-
-    one : (p : ℕ) → p < 512 * geo.vpages → new.medium.history p ≡ 0 ∷ []
-    one p lt =
-        let there : ltb (p / 8) (64 * geo.vpages) ≡ true = grind (arith, nat_tests) in
-        fades-one false 0 _ (subst (λ b. Fades false (cond b (0 ∷ []) []) (new.medium.history p)) there (w.fades p))
 
 -- what was written of some bytes is how they begin
 pub writes_front : {E : Type 0} (bytes : List ℕ) (r : Result (Unit {0}) E) (old new : Option (List ℕ)) → WritesAll bytes r old new → WritesFront bytes old new
@@ -82,28 +44,33 @@ halts-silent geo left_old left_new written script read = record {
   wrote = record { part = []; front = record { rest = []; joined = refl }; wrote = appends-none written };
 }
 
+-- what was not done opens nothing
+pub opens-none : (p : Panel) → Opens p p
+opens-none p = spends_within 0 0 0 0 _ _ _ _ p p (omega arith) (omega arith) (omega arith) (omega arith) (spends_nothing p)
+
 -- a call that began no line
-pub costs-none : (left_old left_new : Option (List ℕ)) (script : List ℕ) (old new : Panel) → Consumes left_old left_new script → Spends [] old new → Costs left_old left_new old new
-costs-none left_old left_new script old new read spends = record { script = script; begun = []; others = lines_of script; read = read; split = refl; spends = spends }
+pub costs-none : (left_old left_new : Option (List ℕ)) (script : List ℕ) (old new : Panel) → Consumes left_old left_new script → Opens old new → Costs left_old left_new old new
+costs-none left_old left_new script old new read opens =
+    record { opened = new; script = script; begun = []; others = lines_of script; read = read; split = refl; opens = opens; spends = spends-idle [] new }
 
--- a script that was performed, on a device that was made ready
-pub costs-performed : (geo : Geometry) (left_old left_new written_old written_new : Option (List ℕ)) (script : List ℕ) (result : Result (Unit {0}) Ending) (old ready new : Device)
-    → Consumes left_old left_new script → Spends [] old.panel ready.panel → Performs geo script result written_old written_new ready new → Costs left_old left_new old.panel new.panel
-costs-performed geo left_old left_new written_old written_new script result old ready new read set_up performs = record {
-  script = script;
-  begun = performs.begun;
-  others = performs.others;
-  read = read;
-  split = performs.split;
-  spends = spends_then [] (inputs_of performs.begun) old.panel ready.panel new.panel set_up performs.spends;
-}
+-- a host that stands for a fresh machine has its sizes
+same_sizes : (geo : Geometry) (host : HostState) (d : Device) → Stands host d (fresh geo) → host.geometry ≡ geo
+unfolding reading
+same_sizes geo host d stands = stands.geometry
 
--- and what came of it
-pub ends_performed : (geo : Geometry) (left_old left_new written_old written_new : Option (List ℕ)) (script : Stock ℕ) (result : Result (Unit {0}) Ending) (old ready new : Device)
-    → Reads left_old left_new (Ok script) → IsReady geo old ready → IsUnarmed old.panel → Performs geo script.items result written_old written_new ready new
+-- and what was said of it
+says_ready : (geo : Geometry) (host : HostState) (written_old written_new : Option (List ℕ)) (script : List ℕ) (result : Result (Unit {0}) Ending) (old ready new : Device)
+    → IsReady geo host old ready → IsUnarmed old.panel → Performs host.geometry host script result written_old written_new ready new → Says geo script result written_old written_new ready new
+says_ready geo host written_old written_new script result old ready new is_ready unarmed performs =
+    let stands = is_ready.stands unarmed in
+    let same = subst (λ g. Performs g host script result written_old written_new ready new) (same_sizes geo host ready stands) performs in
+    same.says stands (is_ready.unarmed unarmed)
+
+pub ends_performed : (geo : Geometry) (host : HostState) (left_old left_new written_old written_new : Option (List ℕ)) (script : Stock ℕ) (result : Result (Unit {0}) Ending) (old ready new : Device)
+    → Reads left_old left_new (Ok script) → IsReady geo host old ready → IsUnarmed old.panel → Performs host.geometry host script.items result written_old written_new ready new
     → MatchResult result (λ _. Completes geo left_old left_new written_old written_new old new) (λ _. Halts geo left_old left_new written_old written_new)
-ends_performed geo left_old left_new written_old written_new script (Ok x) old ready new reads is_ready unarmed performs =
-    let says = performs.says (is_ready.stands unarmed) (is_ready.unarmed unarmed) in
+ends_performed geo host left_old left_new written_old written_new script (Ok x) old ready new reads is_ready unarmed performs =
+    let says = says_ready geo host written_old written_new script.items (Ok x) old ready new is_ready unarmed performs in
     let whole = says.whole in
     let same : script.items ≡ reads.script = reads.outcome.0 in
     let all : lines_of reads.script ≡ says.lines = sym (ap lines_of same) ∙ says.split ∙ ap (λ ls. says.lines ++ ls) whole.none_left ∙ append-nil says.lines in
@@ -123,8 +90,8 @@ ends_performed geo left_old left_new written_old written_new script (Ok x) old r
       };
       wrote = subst (λ t. Appends written_old written_new t) whole.all says.wrote;
     }
-ends_performed geo left_old left_new written_old written_new script (Err e) old ready new reads is_ready unarmed performs =
-    let says = performs.says (is_ready.stands unarmed) (is_ready.unarmed unarmed) in
+ends_performed geo host left_old left_new written_old written_new script (Err e) old ready new reads is_ready unarmed performs =
+    let says = says_ready geo host written_old written_new script.items (Err e) old ready new is_ready unarmed performs in
     record {
       script = reads.script;
       lines = says.lines;
@@ -152,38 +119,38 @@ pub same_form : (words : List (List ℕ)) (a b : Geometry) → IsForm words a �
 same_form words a b x y = cc (x.named, y.named)
 
 -- endings that are none of those of other steps
-pub run_cause : (e : Ending) (read_old read_new write_old write_new setups_old setups_new : ℕ) (left : Option (List ℕ)) → (e ≡ Write) ⊎ (e ≡ Memory)
-    → (e ≡ Write → Rose write_old write_new) → IsCaused e read_old read_new write_old write_new setups_old setups_new left
-run_cause e a b c d m n left (inl is) rose = record { read = λ x. cc; write = rose; device = λ x. cc; script = λ x. cc }
-run_cause e a b c d m n left (inr is) rose = record { read = λ x. cc; write = λ x. cc; device = λ x. cc; script = λ x. cc }
+pub run_cause : (e : Ending) (read_old read_new write_old write_new : ℕ) (old new : Panel) (left_old left_new : Option (List ℕ)) → (e ≡ Write) ⊎ (e ≡ Memory)
+    → (e ≡ Write → Rose write_old write_new) → IsCaused e read_old read_new write_old write_new old new left_old left_new
+run_cause e a b c d old new left_old left_new (inl is) rose = record { read = λ x. cc; write = rose; device = λ x. cc; script = λ x. cc }
+run_cause e a b c d old new left_old left_new (inr is) rose = record { read = λ x. cc; write = λ x. cc; device = λ x. cc; script = λ x. cc }
 
-pub read_cause : (e : Ending) (read_old read_new write_old write_new setups_old setups_new : ℕ) (left_old left_new : Option (List ℕ)) → Reads left_old left_new (Err e)
-    → (e ≡ Read → Rose read_old read_new) → IsCaused e read_old read_new write_old write_new setups_old setups_new left_old
-read_cause Read a b c d m n left_old left_new reads rose = record { read = rose; write = λ x. cc; device = λ x. cc; script = λ x. cc }
-read_cause Memory a b c d m n left_old left_new reads rose = record { read = λ x. cc; write = λ x. cc; device = λ x. cc; script = λ x. cc }
-read_cause Script a b c d m n left_old left_new reads rose =
+pub read_cause : (e : Ending) (read_old read_new write_old write_new : ℕ) (old new : Panel) (left_old left_new : Option (List ℕ)) → Reads left_old left_new (Err e)
+    → (e ≡ Read → Rose read_old read_new) → IsCaused e read_old read_new write_old write_new old new left_old left_new
+read_cause Read a b c d old new left_old left_new reads rose = record { read = rose; write = λ x. cc; device = λ x. cc; script = λ x. cc }
+read_cause Memory a b c d old new left_old left_new reads rose = record { read = λ x. cc; write = λ x. cc; device = λ x. cc; script = λ x. cc }
+read_cause Script a b c d old new left_old left_new reads rose =
     record { read = λ x. cc; write = λ x. cc; device = λ x. cc; script = λ x. at_least left_old left_new reads.read }
   where
     at_least : (o n : Option (List ℕ)) → Consumes o n reads.script → IfSome o (λ script. 1073741824 ≤ length script)
     at_least None n c = tt
     at_least (Some xs) None c = absurd c
     at_least (Some xs) (Some ys) c = omega (arith, ap length c, length-append reads.script ys, reads.outcome)
-read_cause Usage a b c d m n left_old left_new reads rose = absurd reads.outcome
-read_cause Write a b c d m n left_old left_new reads rose = absurd reads.outcome
-read_cause endings.Device a b c d m n left_old left_new reads rose = absurd reads.outcome
+read_cause Usage a b c d old new left_old left_new reads rose = absurd reads.outcome
+read_cause Write a b c d old new left_old left_new reads rose = absurd reads.outcome
+read_cause endings.Device a b c d old new left_old left_new reads rose = absurd reads.outcome
 
-pub set_up_cause : (e : Ending) (read_old read_new write_old write_new setups_old setups_new : ℕ) (left : Option (List ℕ))
-    → (e ≡ Memory) ⊎ ((e ≡ endings.Device) × Rose setups_old setups_new) → IsCaused e read_old read_new write_old write_new setups_old setups_new left
-set_up_cause e a b c d m n left (inl is) = record { read = λ x. cc; write = λ x. cc; device = λ x. cc; script = λ x. cc }
-set_up_cause e a b c d m n left (inr is) = record { read = λ x. cc (is.0, x); write = λ x. cc (is.0, x); device = λ x. is.1; script = λ x. cc (is.0, x) }
+pub set_up_cause : (e : Ending) (read_old read_new write_old write_new : ℕ) (old new : Panel) (left : Option (List ℕ))
+    → (e ≡ Memory) ⊎ ((e ≡ endings.Device) × DeviceFailed old new) → IsCaused e read_old read_new write_old write_new old new left left
+set_up_cause e a b c d old new left (inl is) = record { read = λ x. cc; write = λ x. cc; device = λ x. cc; script = λ x. cc }
+set_up_cause e a b c d old new left (inr is) = record { read = λ x. cc (is.0, x); write = λ x. cc (is.0, x); device = λ x. (is.1, refl); script = λ x. cc (is.0, x) }
 
 pub never_usage : (r : Result (Unit {0}) Ending) → IfErr r (λ e. (e ≡ Write) ⊎ (e ≡ Memory)) → r ≡ Err Usage → ⊥
 never_usage (Ok x) others is = cc
 never_usage (Err e) (inl w) is = cc
 never_usage (Err e) (inr m) is = cc
 
-pub run_causes : (r : Result (Unit {0}) Ending) (read_old read_new write_old write_new setups_old setups_new : ℕ) (left : Option (List ℕ))
+pub run_causes : (r : Result (Unit {0}) Ending) (read_old read_new write_old write_new : ℕ) (old new : Panel) (left_old left_new : Option (List ℕ))
     → IfErr r (λ e. (e ≡ Write) ⊎ (e ≡ Memory)) → IfErr r (λ e. e ≡ Write → Rose write_old write_new)
-    → IfErr r (λ e. IsCaused e read_old read_new write_old write_new setups_old setups_new left)
-run_causes (Ok x) a b c d m n left others rose = tt
-run_causes (Err e) a b c d m n left others rose = run_cause e a b c d m n left others rose
+    → IfErr r (λ e. IsCaused e read_old read_new write_old write_new old new left_old left_new)
+run_causes (Ok x) a b c d old new left_old left_new others rose = tt
+run_causes (Err e) a b c d old new left_old left_new others rose = run_cause e a b c d old new left_old left_new others rose

@@ -4,6 +4,8 @@ use Rattle.host_io.specs.declared.sink.WriteFault.{WriteFault}
 use Rattle.host_io.specs.declared.sink.WriteFault.TheVariants as write
 use Rattle.line_device.specs.declared.fault.ResetFault.{ResetFault}
 use Rattle.line_device.specs.declared.fault.ResetFault.TheVariants as reset
+use Rattle.block_device.specs.declared.fault.MountFault.{MountFault}
+use Rattle.block_device.specs.declared.fault.MountFault.TheVariants as mount
 use Rattle.nvmhost.specs.declared.ending.Ending.{Ending}
 use Rattle.nvmhost.specs.declared.ending.Ending.TheVariants.{Usage, Read, Write, Memory, Script, Device}
 
@@ -33,7 +35,7 @@ abbrev pub status_of : Result (Unit {0}) Ending → ℕ
 status_of (Ok x) = 0
 status_of (Err ending) = status ending
 
--- how a write or a reset that failed ends the call
+-- how a write, a reset or a mount that failed ends the call
 abbrev pub of_write : WriteFault → Ending
 of_write write.Failed = Write
 of_write write.Memory = Memory
@@ -41,3 +43,7 @@ of_write write.Memory = Memory
 abbrev pub of_reset : ResetFault → Ending
 of_reset reset.Failed = Device
 of_reset reset.Memory = Memory
+
+abbrev pub of_mount : MountFault → Ending
+of_mount mount.Memory = Memory
+of_mount _ = Device

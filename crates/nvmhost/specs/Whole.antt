@@ -1,17 +1,16 @@
 -- What a whole call did: over which lines of which script, with which answers, and what the device is left as.
-use Rattle.std.specs.Prelude.{◌≡◌, ◌≤◌, ◌<◌, ℕ, List, [], ◌∷◌, ◌++◌, length, Option, IfSome, Result, Ok, Err, OnOk}
+use Rattle.std.specs.Prelude.{◌≡◌, ◌⊎◌, ◌≤◌, ◌<◌, ℕ, List, [], ◌∷◌, ◌++◌, length, Option, IfSome, Result, Ok, Err, OnOk}
 use Rattle.std.specs.Io.KnownBytes.{Appends, Consumes, IsAtEnd}
 use Rattle.nvm_base.specs.Counts.{Rose}
 use Rattle.line_device.specs.Panel.{Panel, Start, told}
 use Rattle.line_device.specs.Device.{Device}
 use Rattle.word_tables.specs.declared.geometry.Geometry.{Geometry}
-use Rattle.machine_host.specs.Answer.{Answer, reply_text}
-use Rattle.machine_host.specs.Script.{Input, inputs_of, lines_of}
+use Rattle.reply_text.specs.Answer.{Answer, reply_text}
+use Rattle.script_text.specs.Script.{Input, inputs_of, lines_of}
 use Rattle.machine_host.specs.Machine.{Machine, fresh}
 use Rattle.machine_host.specs.Run.{Run, Goes}
-use Rattle.machine_host.specs.Stands.{HostState, Serves, DeviceStands, Stands, IsUnarmed, Spends, bumped_by}
+use Rattle.machine_host.specs.Stands.{HostState, Serves, DeviceStands, Stands, IsUnarmed, Opens, Spends, bumped_by}
 use Rattle.nvm_base.specs.Stock.{Stock}
-use Rattle.machine_host.specs.declared.mode.Mode.TheVariants.{On}
 use Rattle.nvmhost.specs.declared.ending.Ending.{Ending}
 use Rattle.nvmhost.specs.declared.ending.Ending.TheVariants.{Usage, Read, Write, Memory, Script}
 use Rattle.nvmhost.specs.declared.ending.Ending.TheVariants as endings
@@ -66,28 +65,34 @@ pub record BreaksOff (geo : Geometry) (ending : Ending) (left_old left_new writt
   pub halts : Halts geo left_old left_new written_old between
   pub line : WritesFront (ending_text ending) between written_new
 
--- What the call did to the device's counts: no more than the commands of the lines that it began.
+-- What the call did to the device's counts: no more than a mount and then the commands of the lines that it began.
 pub record Costs (left_old left_new : Option (List ℕ)) (old new : Panel) : Type 0 where
+  pub opened : Panel
   pub script : List ℕ
   pub begun : List (List ℕ)
   pub others : List (List ℕ)
   pub read : Consumes left_old left_new script
   pub split : lines_of script ≡ begun ++ others
-  pub spends : Spends (inputs_of begun) old new
+  pub opens : Opens old opened
+  pub spends : Spends (inputs_of begun) opened new
 
--- The device was made one of zeros for a host.
-pub record IsReady (geo : Geometry) (old new : Device) : Type 0 where
-  pub serves : Serves (record { vpages = geo.vpages; mode = On }) new
+-- The device was made one of zeros, and a host mounted it.
+pub record IsReady (geo : Geometry) (host : HostState) (old new : Device) : Type 0 where
+  pub serves : Serves host new
   pub starts : new.panel.starts ≡ old.panel.starts
   pub restarts : new.panel.counts.restarts ≡ old.panel.counts.restarts
-  pub stands : IsUnarmed old.panel → DeviceStands new (fresh geo)
+  pub stands : IsUnarmed old.panel → Stands host new (fresh geo)
   pub unarmed : IsUnarmed old.panel → IsUnarmed new.panel
 
--- why a call ended early, by the counts of what failed
-pub record IsCaused (ending : Ending) (read_old read_new write_old write_new setups_old setups_new : ℕ) (left_old : Option (List ℕ)) : Type 0 where
+-- the device could not be set up, or failed or lost power as it was mounted
+abbrev pub DeviceFailed : Panel → Panel → Type 0
+DeviceFailed old new = Rose old.counts.setups new.counts.setups ⊎ Rose old.counts.faults new.counts.faults ⊎ Rose old.counts.cuts new.counts.cuts
+
+-- Why a call ended early, by the counts of what failed. A device that failed did so before anything was read.
+pub record IsCaused (ending : Ending) (read_old read_new write_old write_new : ℕ) (old new : Panel) (left_old left_new : Option (List ℕ)) : Type 0 where
   pub read : ending ≡ Read → Rose read_old read_new
   pub write : ending ≡ Write → Rose write_old write_new
-  pub device : ending ≡ endings.Device → Rose setups_old setups_new
+  pub device : ending ≡ endings.Device → DeviceFailed old new × (left_new ≡ left_old)
   pub script : ending ≡ Script → IfSome left_old (λ script. 1073741824 ≤ length script)
 
 -- Reading all of a script: it is what the source told, unless it is too long or the source fails.
@@ -159,10 +164,10 @@ pub record Says (geo : Geometry) (script : List ℕ) (result : Result (Unit {0})
   pub wrote : Appends written_old written_new said
   pub whole : OnOk result (IsWhole starts answers end said others old new)
 
--- A script was performed up to some line. Where the device stood for zeros with nothing armed, it is a run.
-pub record Performs (geo : Geometry) (script : List ℕ) (result : Result (Unit {0}) Ending) (written_old written_new : Option (List ℕ)) (old new : Device) : Type 0 where
+-- A script was performed up to some line. Where host and device stood for zeros with nothing armed, it is a run.
+pub record Performs (geo : Geometry) (host : HostState) (script : List ℕ) (result : Result (Unit {0}) Ending) (written_old written_new : Option (List ℕ)) (old new : Device) : Type 0 where
   pub begun : List (List ℕ)
   pub others : List (List ℕ)
   pub split : lines_of script ≡ begun ++ others
   pub spends : Spends (inputs_of begun) old.panel new.panel
-  pub says : DeviceStands old (fresh geo) → IsUnarmed old.panel → Says geo script result written_old written_new old new
+  pub says : Stands host old (fresh geo) → IsUnarmed old.panel → Says geo script result written_old written_new old new

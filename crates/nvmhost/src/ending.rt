@@ -1,8 +1,9 @@
 // Why a call ends early.
 ghost use Rattle.std.specs.Prelude.{◌≡◌};
-ghost use Rattle.nvmhost.specs.Ending.{status, ending_text, of_write, of_reset};
+ghost use Rattle.nvmhost.specs.Ending.{status, ending_text, of_mount, of_reset, of_write};
 ghost use Rattle.nvmhost.specs.declared.ending.Ending.TheVariants.{Memory, Read};
 
+use block_device::MountFault;
 use host_io::{ReadFailed, WriteFault};
 use line_device::ResetFault;
 use std::alloc::AllocError;
@@ -87,6 +88,17 @@ impl From<ResetFault> for Ending {
         match fault {
             ResetFault::Failed => Ending::Device,
             ResetFault::Memory => Ending::Memory,
+        }
+    }
+}
+
+impl From<MountFault> for Ending {
+    ghost from_gives = { λ fault e. e ≡ of_mount fault };
+
+    fn from(fault: MountFault) -> Self {
+        match fault {
+            MountFault::Memory => Ending::Memory,
+            _ => Ending::Device,
         }
     }
 }

@@ -3,8 +3,7 @@ ghost use Rattle.std.specs.Prelude.{◌≡◌, ◌≤◌, ◌++◌, ◌⊎◌, [
 ghost use Rattle.std.specs.Io.KnownBytes.{Appends};
 ghost use Rattle.nvm_base.specs.Counts.{Rose};
 ghost use Rattle.host_io.specs.Writing.{AppendsSome};
-ghost use Rattle.machine_host.specs.declared.mode.Mode.TheVariants.{On};
-ghost use Rattle.machine_host.specs.Script.{line_input};
+ghost use Rattle.script_text.specs.Script.{line_input};
 ghost use Rattle.machine_host.specs.Machine.{Machine};
 ghost use Rattle.machine_host.specs.Stands.{Serves, Stands, IsUnarmed, Spends};
 ghost use Rattle.nvmhost.specs.Whole.{Performs, LineGoes, Flushes};
@@ -13,36 +12,34 @@ use crate::ending::Ending;
 use host_io::{Sink, WriteFault, write_all};
 use line_device::LineDevice;
 use machine_host::Host;
-use machine_host::reply::{Reply, Why, print};
-use machine_host::script::{LineFault, parse, split_line};
 use nvm_base::Bytes;
+use reply_text::{Reply, Why, print};
+use script_text::{LineFault, parse, split_line};
 use std::alloc::{AllocError, Global};
-use word_tables::Geometry;
 
 /// Replies are written once they have so many bytes together.
 const PIECE: u64 = 65536;
 
-/// Performs a script on a device of zeros, and writes its replies.
+/// Performs a script, and writes its replies.
 pub fn run_script<D: LineDevice, K: Sink>(
     alloc: Global,
-    geometry: Geometry,
+    host: &mut Host,
     device: &mut D,
     script: &[u8],
     replies: &mut K,
 ) -> Result<(), Ending>
-    requires { Serves (record { vpages = geometry.vpages; mode = On }) (D.state device.old) }
-    ensures performs { Performs geometry script.now result (K.written replies.old) (K.written replies.new)
+    requires { Serves host.old (D.state device.old) }
+    ensures performs { Performs host.old.geometry host.old script.now result (K.written replies.old) (K.written replies.new)
         (D.state device.old) (D.state device.new) }
     ensures cause { IfErr result (λ e. e ≡ Ending.Write → Rose (K.count replies.old) (K.count replies.new)) }
     ensures others { IfErr result (λ e. (e ≡ Ending.Write) ⊎ (e ≡ Ending.Memory)) }
 {
-    let mut host = Host::start(alloc, geometry.vpages);
     let mut out = Bytes::new(alloc);
     let mut rest = script;
     while !rest.is_empty() {
         let (line, others) = split_line(rest);
         rest = others;
-        perform_line(alloc, &mut host, device, line, &mut out)?;
+        perform_line(alloc, host, device, line, &mut out)?;
         flush_long(&mut out, replies)?;
     }
     Ok(flush(&mut out, replies)?)

@@ -20,7 +20,15 @@ const SYNCED: &str = "vstore 0 07*8\nvsync 0 1\ncut\nrestart none\nvload 0 8\n";
 const KEPT: &str = "vstore 0 07*8\ncut\nrestart all\nvload 0 8\n";
 
 const REFUSED: &str =
-    "vload 8184 8\nvload 8188 8\nvload 0 0\nrestart all\ncut\nvload 0 1\nbread 0 1\n";
+    "vload 8184 8\nvload 8188 8\nvload 0 0\nrestart all\ncut\nvload 0 1\nfread a 0 1\n";
+
+const NEW_BLOCKS: &str = "bread 7 1\nbread 7 2\nbread 0 0\n";
+
+const ABSENT: &str = "bexists 0\nbdiscard 0 1\nbexists 0\n";
+
+const WRITTEN: &str = "bwrite 1 aa*512\ncut\nrestart none\nbread 1 1\n";
+
+const SCARRED: &str = "bscar 2 1\nbread 1 3\nbexists 2\nbwrite 2 05*512\nbread 2 1\n";
 
 // A source of the text, in pieces, of which the named calls fail.
 fn source(
@@ -47,6 +55,30 @@ fn no_commands(alloc: Global, count: usize) -> Result<Bytes, AllocError> {
         script.extend(b"x\n")?;
     }
     Ok(script)
+}
+
+// A hundred writes, each followed by a discard; then all blocks are read, and once more after a cut.
+fn writes_and_discards(alloc: Global) -> Result<Bytes, AllocError> {
+    let mut script = Bytes::new(alloc);
+    for turn in 0..100_u64 {
+        let written = format!(in alloc; "bwrite {} {}{}*512\n", turn % 8, turn / 10, turn % 10)?;
+        script.extend(written.as_bytes())?;
+        let discarded = format!(in alloc; "bdiscard {} 1\n", (turn + 3) % 8)?;
+        script.extend(discarded.as_bytes())?;
+    }
+    script.extend(b"bread 0 8\ncut\nrestart none\nbread 0 8\n")?;
+    Ok(script)
+}
+
+// What is answered to that script.
+fn last_bytes(alloc: Global) -> Result<Bytes, AllocError> {
+    let mut replies = Bytes::new(alloc);
+    for _ in 0..200 {
+        replies.extend(b"ok\n")?;
+    }
+    replies.extend(b"data 96*512,97*512,98*512,99*512,00*1536,95*512\nok\nok bad 0\n")?;
+    replies.extend(b"data 96*512,97*512,98*512,99*512,00*1536,95*512\n")?;
+    Ok(replies)
 }
 
 // The status of a call with these words.
@@ -76,6 +108,10 @@ fn a_script_is_performed_whatever_pieces_it_comes_in(rt: HostRuntime) -> Result<
             REFUSED,
             "data 00*8\nrefused range\nrefused length\nrefused on\nok\nrefused off\nrefused syntax\n",
         ),
+        (NEW_BLOCKS, "data 00*512\nrefused range\nrefused length\n"),
+        (ABSENT, "no\nok\nno\n"),
+        (WRITTEN, "ok\nok\nok bad 0\ndata aa*512\n"),
+        (SCARRED, "ok\nscarred 2\nyes\nok\ndata 05*512\n"),
     ] {
         for piece in [1, 7, 65536] {
             let mut device = Plain::new(alloc);
@@ -85,6 +121,22 @@ fn a_script_is_performed_whatever_pieces_it_comes_in(rt: HostRuntime) -> Result<
             assert_eq!(rt; status, 0, "{script}");
             assert_eq!(rt; sink.written(), replies.as_bytes(), "{script}");
         }
+    }
+    Ok(())
+}
+
+#[test]
+fn blocks_are_written_and_discarded_in_turn(rt: HostRuntime) -> Result<(), Fail> {
+    let alloc = rt.alloc();
+    let script = writes_and_discards(alloc)?;
+    let replies = last_bytes(alloc)?;
+    for piece in [1, 65536] {
+        let mut device = Plain::new(alloc);
+        let mut source = source(alloc, script.as_slice(), piece, &[])?;
+        let mut sink = MemSink::new(alloc, Words::new(alloc));
+        let status = call(alloc, WORDS, &mut device, &mut source, &mut sink)?;
+        assert_eq!(rt; status, 0);
+        assert_eq!(rt; sink.written(), replies.as_slice());
     }
     Ok(())
 }
@@ -166,7 +218,7 @@ fn a_device_is_restarted_as_the_script_says(rt: HostRuntime) -> Result<(), Fail>
     assert_eq!(rt; starts.len(), 1);
     assert_eq!(rt; starts[0].choice, Choice::Firsts);
     let lines = starts[0].lines.as_slice();
-    assert_eq!(rt; lines.len(), 128);
+    assert_eq!(rt; lines.len(), 5056);
     assert_eq!(rt; lines[0], LineState::Healthy([0; 64]));
     Ok(())
 }

@@ -1,16 +1,15 @@
 // The top call: the words, the device, the script, the replies, the status.
-ghost use Rattle.std.specs.Prelude.{◌≡◌, ◌≢◌, ◌≤◌, ◌↔◌, ◌++◌, ◌⊎◌, ℕ, IfSome, IfErr, OnOk, MatchResult, Contains, map, [], ◌∷◌, Err};
+ghost use Rattle.std.specs.Prelude.{◌≡◌, ◌≢◌, ◌≤◌, ◌↔◌, ◌++◌, ◌⊎◌, ℕ, IfErr, IfOk, IfSome, MatchResult, Contains, map, [], ◌∷◌, Err};
 ghost use Rattle.std.specs.String.{string_bytes};
-ghost use Rattle.nvm_base.specs.Counts.{Rose};
 ghost use Rattle.line_device.specs.Panel.{Start};
 ghost use Rattle.word_tables.specs.declared.geometry.Geometry.{Geometry as Sizes};
 ghost use Rattle.word_tables.specs.Bounds.{IsValid};
-ghost use Rattle.machine_host.specs.Stands.{IsUnarmed, Spends};
+ghost use Rattle.machine_host.specs.Stands.{IsUnarmed, Opens};
 ghost use Rattle.nvmhost.specs.declared.ending.Ending.{Ending as Early};
 ghost use Rattle.nvmhost.specs.declared.ending.Ending.TheVariants.{Usage};
 ghost use Rattle.nvmhost.specs.Words.{IsForm};
 ghost use Rattle.nvmhost.specs.Ending.{status, ending_text};
-ghost use Rattle.nvmhost.specs.Whole.{Completes, Halts, BreaksOff, WritesFront, Costs, IsReady, IsCaused};
+ghost use Rattle.nvmhost.specs.Whole.{Completes, Halts, BreaksOff, WritesFront, Costs, DeviceFailed, IsReady, IsCaused};
 
 use crate::ending::Ending;
 use crate::reading::read_all;
@@ -18,6 +17,7 @@ use crate::running::run_script;
 use crate::words::read_words;
 use host_io::{Images, Sink, Source, write_all};
 use line_device::LineDevice;
+use machine_host::Host;
 use std::alloc::Global;
 use word_tables::Geometry;
 
@@ -46,8 +46,8 @@ pub fn nvmhost<D: LineDevice, F: Images, T: Source, K: Sink>(
     // Each status has its cause; want of memory alone is free.
     ensures usage { (result ≡ 2) ↔ ((geo : Sizes) → IsForm (map (λ word. string_bytes word) words.now) geo → ⊥) }
     ensures causes { (ending : Early) → result ≡ status ending → IsCaused ending (T.count script.old) (T.count script.new)
-        (K.count replies.old) (K.count replies.new) (D.state device.old).panel.counts.setups
-        (D.state device.new).panel.counts.setups (T.left script.old) }
+        (K.count replies.old) (K.count replies.new) (D.state device.old).panel (D.state device.new).panel
+        (T.left script.old) (T.left script.new) }
     ensures statuses { (result ≡ 0) ⊎ ((ending : Early) × (result ≡ status ending)) }
 
     // Whatever is armed, the device is given no order but the script's.
@@ -79,26 +79,26 @@ fn perform<D: LineDevice, T: Source, K: Sink>(
     ensures usage { (result ≡ Err Usage) ↔ ((geo : Sizes) → IsForm (map (λ word. string_bytes word) words.now) geo → ⊥) }
     ensures untouched { result ≡ Err Usage → K.written replies.new ≡ K.written replies.old }
     ensures causes { IfErr result (λ ending. IsCaused ending (T.count script.old) (T.count script.new)
-        (K.count replies.old) (K.count replies.new) (D.state device.old).panel.counts.setups
-        (D.state device.new).panel.counts.setups (T.left script.old)) }
+        (K.count replies.old) (K.count replies.new) (D.state device.old).panel (D.state device.new).panel
+        (T.left script.old) (T.left script.new)) }
     ensures costs { Costs (T.left script.old) (T.left script.new) (D.state device.old).panel (D.state device.new).panel }
 {
     let Some(geometry) = read_words(words) else {
         return Err(Ending::Usage);
     };
-    set_up(device, geometry)?;
+    let mut host = set_up(alloc, device, geometry)?;
     let text = read_all(alloc, script)?;
-    run_script(alloc, geometry, device, text.as_slice(), replies)
+    run_script(alloc, &mut host, device, text.as_slice(), replies)
 }
 
-// Makes the device one of zeros, 64 lines a volume page.
-fn set_up<D: LineDevice>(device: &mut D, geometry: Geometry) -> Result<(), Ending>
-    requires valid { IsValid geometry }
-    requires few { geometry.vpages ≤ 16 }
-    ensures ready { OnOk result (IsReady geometry (D.state device.old) (D.state device.new)) }
+// Makes the device one of zeros, with all lines of the layout, and mounts its blocks.
+fn set_up<D: LineDevice>(alloc: Global, device: &mut D, geometry: Geometry) -> Result<Host, Ending>
+    requires { IsValid geometry }
+    ensures ready { IfOk result (λ host. IsReady geometry host (D.state device.old) (D.state device.new)) }
     ensures cause { IfErr result (λ e. (e ≡ Ending.Memory) ⊎ ((e ≡ Ending.Device)
-        × Rose (D.state device.old).panel.counts.setups (D.state device.new).panel.counts.setups)) }
-    ensures spends { Spends [] (D.state device.old).panel (D.state device.new).panel }
+        × DeviceFailed (D.state device.old).panel (D.state device.new).panel)) }
+    ensures opens { Opens (D.state device.old).panel (D.state device.new).panel }
 {
-    Ok(device.reset(64 * geometry.vpages, 8)?)
+    device.reset(geometry.total_lines(), 8)?;
+    Ok(Host::start(alloc, device, geometry)?)
 }

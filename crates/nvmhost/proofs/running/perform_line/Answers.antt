@@ -1,5 +1,5 @@
 use Rattle.std.proofs.lemmas.Result.{IfOk-weaker}
-use Rattle.machine_host.specs.Action.{action_of}
+use Rattle.script_text.specs.Action.{action_of}
 use Rattle.nvmhost.proofs.LineLemmas.{line_goes-skipped, line_goes-malformed, line_goes-asked}
 use Rattle.nvmhost.proofs.running.perform_line.Goals as goal
 
