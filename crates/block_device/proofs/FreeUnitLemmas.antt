@@ -37,11 +37,11 @@ free_is_vacant states free unnamed unit step is_free block at = differ (sym is_f
     differ : Some true ≡ Some false → ⊥
     differ e = cc
 
--- once it is taken, one unit is taken and not named
-pub in_step-taken : (states : List BlockState) (free : List Bool) (unit : ℕ) → IsInStep states free 0 → IsFree free unit → IsInStep states (set free unit false) 1
-in_step-taken states free unit step is_free = record {
+-- once it is taken, one unit more is taken and not named
+pub in_step-taken : (states : List BlockState) (free : List Bool) (unit unnamed : ℕ) → IsInStep states free unnamed → IsFree free unit → IsInStep states (set free unit false) (unnamed + 1)
+in_step-taken states free unit unnamed step is_free = record {
   taken = λ block other at.
-      slice_get-set_other free unit other false (λ same. free_is_vacant states free 0 unit step is_free block (subst (IsAt states block) same at))
+      slice_get-set_other free unit other false (λ same. free_is_vacant states free unnamed unit step is_free block (subst (IsAt states block) same at))
       ∙ step.taken block other at;
   count = let less = free_count-taken free unit is_free in let same = length-set free unit false in let before = step.count in omega (arith, less, same, before);
 }

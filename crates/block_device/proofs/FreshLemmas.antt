@@ -92,7 +92,7 @@ module _ (s t : BlocksState) (unit : ℕ) (x : HasTaken s t unit) where
   pub taken_step : IsInStep t.map t.free 1
   taken_step =
       subst (λ states. IsInStep states t.free 1) (sym x.map)
-      (subst (λ free. IsInStep s.map free 1) (sym x.free) (in_step-taken s.map s.free unit x.step x.was_free))
+      (subst (λ free. IsInStep s.map free 1) (sym x.free) (in_step-taken s.map s.free unit 0 x.step x.was_free))
 
 -- before the map names the unit
 module _ (s t : BlocksState) (unit : ℕ) (m n : Medium) (r : HasRenewed s t unit m n) where

@@ -32,3 +32,6 @@ pub mod MarkLemmas
 pub mod MountLemmas
 pub mod PoisonLemmas
 pub mod PlainLemmas
+pub mod PreparedLemmas
+pub mod MadeLemmas
+pub mod ApartLemmas

@@ -1,5 +1,5 @@
 -- When calls are refused, and why.
-use Rattle.std.specs.Prelude.{◌≡◌, ◌≢◌, ◌+◌, ◌/◌, ◌%◌, ◌==◌, ◌||◌, ℕ, Bool, true, false, not, List, [], ◌∷◌, length, sum_by, nat_lt, Option, Some, None, option_map, position, Result, Ok, Err, if◌then◌else◌}
+use Rattle.std.specs.Prelude.{◌≡◌, ◌≢◌, ◌+◌, ◌/◌, ◌%◌, ◌==◌, ◌||◌, ℕ, Bool, true, false, not, List, [], ◌∷◌, length, map, sum_by, nat_lt, Option, Some, None, option_map, position, Result, Ok, Err, if◌then◌else◌}
 use Rattle.std.specs.List.{list_any, range_with_len}
 use Rattle.nvm_base.specs.declared.units.Span.{Span}
 use Rattle.line_device.specs.Medium.{Medium}
@@ -109,6 +109,11 @@ read_refusal s m block len =
 abbrev pub write_refusal : BlocksState → Medium → ℕ → ℕ → Option Refusal
 write_refusal s m block len = first_there (bytes_refusal s.geo.blocks block len) (meta_refusal s.geo m)
 
+-- the same of blocks that are written together, at most 64 of them
+abbrev pub atomic_refusal : BlocksState → Medium → ℕ → ℕ → Option Refusal
+atomic_refusal s m block len =
+    first_there (bytes_refusal s.geo.blocks block len) (first_there (where_ (nat_lt 64 (len / 512)) Limit) (meta_refusal s.geo m))
+
 -- spans of blocks: one goes past the last block, or one is empty
 abbrev pub spans_refusal : ℕ → List Span → Option Refusal
 spans_refusal count spans =
@@ -121,6 +126,20 @@ together_refusal count spans =
     first_there (spans_refusal count spans)
     (first_there (where_ (nat_lt 64 (sum_by (λ (s : Span). s.len) spans) || nat_lt 8 (length spans)) Limit)
     (where_ (not (is_disjoint spans)) Overlap))
+
+-- the blocks of ranges, which have their lengths in bytes
+abbrev pub block_spans : List Span → List Span
+block_spans ranges = map (λ (r : Span). record { start = r.start; len = r.len / 512 }) ranges
+
+-- Ranges of bytes that are written together: one goes past the last block, or has no whole blocks; or their blocks can't
+-- change together.
+abbrev pub ranges_refusal : ℕ → List Span → Option Refusal
+ranges_refusal count ranges =
+    first_there (where_ (list_any (λ (r : Span). nat_lt count (r.start + blocks_touched r.len)) ranges) Range)
+    (first_there (where_ (list_any (λ (r : Span). r.len == 0 || not (r.len % 512 == 0)) ranges) Length) (together_refusal count (block_spans ranges)))
+
+abbrev pub multiwrite_refusal : BlocksState → Medium → List Span → Option Refusal
+multiwrite_refusal s m ranges = first_there (ranges_refusal s.geo.blocks ranges) (meta_refusal s.geo m)
 
 abbrev pub change_refusal : BlocksState → Medium → List Span → Option Refusal
 change_refusal s m spans = first_there (together_refusal s.geo.blocks spans) (meta_refusal s.geo m)

@@ -14,14 +14,11 @@ ghost use Rattle.block_device.specs.Images.{EachReads, IsEither};
 
 use crate::change::Change;
 use crate::checks::{check_meta, check_spans, check_together};
+use crate::preparing::Changes;
 use crate::{BlockFault, Blocks};
-use arrayvec::ArrayVec;
 use block_map::BlockState;
 use line_device::Lines;
 use nvm_base::Span;
-
-/// Blocks that change together.
-type Changes = ArrayVec<Change, 64>;
 
 impl Blocks {
     /// Makes blocks absent, all of them or none.

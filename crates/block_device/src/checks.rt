@@ -1,11 +1,11 @@
 // When calls are refused. None of this makes a counted call.
-ghost use Rattle.std.specs.Prelude.{◌≡◌, ◌+◌, ◌/◌, ◌^◌, ◌<◌, ◌≤◌, ◌||◌, ◌==◌, IfOk, length, sum_by, nat_lt};
+ghost use Rattle.std.specs.Prelude.{◌≡◌, ◌+◌, ◌/◌, ◌%◌, ◌^◌, ◌<◌, ◌≤◌, ◌||◌, ◌==◌, IfOk, length, not, sum_by, nat_lt, take};
 ghost use Rattle.std.specs.List.{list_any};
 ghost use Rattle.nvm_base.specs.declared.units.Span.{Span as Blocks};
 ghost use Rattle.word_tables.specs.Bounds.{IsValid};
 ghost use Rattle.word_tables.specs.Layout.{total_lines};
 ghost use Rattle.range_sets.specs.Ranges.{is_disjoint};
-ghost use Rattle.block_device.specs.Refusals.{Checks, bytes_refusal, spans_refusal, together_refusal, meta_refusal};
+ghost use Rattle.block_device.specs.Refusals.{Checks, block_spans, blocks_touched, bytes_refusal, meta_refusal, ranges_refusal, spans_refusal, together_refusal};
 
 use crate::BlockFault;
 use crate::area::MOST_TOGETHER;
@@ -80,6 +80,66 @@ pub fn check_together(count: u64, spans: &[Span]) -> Result<(), BlockFault>
         Some(_) => Err(BlockFault::Overlap),
         None => Ok(()),
     }
+}
+
+/// Whether ranges, which have their lengths in bytes, can be written together.
+pub fn check_ranges(count: u64, ranges: &[Span]) -> Result<(), BlockFault>
+    requires { count ≤ 4096 }
+    ensures { Checks (ranges_refusal count ranges.now) result }
+{
+    if is_range_past(count, ranges) {
+        return Err(BlockFault::Range);
+    }
+    if is_range_part(ranges) {
+        return Err(BlockFault::Length);
+    }
+    if ranges.len() > MOST_SPANS {
+        return Err(BlockFault::Limit);
+    }
+    let spans = block_spans(ranges);
+    check_together(count, &spans[..ranges.len()])
+}
+
+// Whether a range ends past the last block.
+fn is_range_past(count: u64, ranges: &[Span]) -> bool
+    requires { count ≤ 4096 }
+    ensures { result ≡ list_any (λ (r : Blocks). nat_lt count (r.start + blocks_touched r.len)) ranges.now }
+{
+    ranges.iter().any(|range| is_past(count, touched(*range)))
+}
+
+// The blocks that a range touches.
+fn touched(range: Span) -> Span
+    ensures { result ≡ record { start = range.start; len = blocks_touched range.len } }
+{
+    Span {
+        start: range.start,
+        len: range.len.div_ceil(BLOCK),
+    }
+}
+
+// Whether a range has no blocks, or no whole ones.
+fn is_range_part(ranges: &[Span]) -> bool
+    ensures { result ≡ list_any (λ (r : Blocks). r.len == 0 || not (r.len % 512 == 0)) ranges.now }
+{
+    ranges
+        .iter()
+        .any(|range| range.len == 0 || range.len % BLOCK != 0)
+}
+
+// The blocks of ranges that have whole ones, before spans of none.
+fn block_spans(ranges: &[Span]) -> [Span; 8]
+    requires { length ranges.now ≤ 8 }
+    ensures { take (length ranges.now) result ≡ block_spans ranges.now }
+{
+    let mut spans = [Span { start: 0, len: 0 }; 8];
+    for i in 0..ranges.len() {
+        spans[i] = Span {
+            start: ranges[i].start,
+            len: ranges[i].len / BLOCK,
+        };
+    }
+    spans
 }
 
 /// Whether no line of metadata is bad.

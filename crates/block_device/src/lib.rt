@@ -5,11 +5,14 @@
 #![tactic(auto)]
 
 mod area;
+mod atomic;
 mod change;
 mod changing;
 mod checks;
 mod fault;
 mod mounting;
+mod multiwrite;
+mod preparing;
 mod queries;
 mod reading;
 mod switching;

@@ -13,6 +13,7 @@ use std::alloc::Global;
 use std::test::Fail;
 use word_tables::Geometry;
 
+mod atomic;
 mod cuts;
 mod refusals;
 

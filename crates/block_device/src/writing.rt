@@ -5,10 +5,10 @@ ghost use Rattle.line_device.specs.Panel.{Runs};
 ghost use Rattle.line_words.specs.Words.{WandersBeside};
 ghost use Rattle.line_words.specs.Ending.{ended};
 ghost use Rattle.word_tables.specs.Bounds.{IsValid};
-ghost use Rattle.free_pool.specs.Units.{IsFree};
+ghost use Rattle.free_pool.specs.Units.{IsFree, free_count};
 ghost use Rattle.nvm_model.specs.Blocks.{IsMixed, write};
 ghost use Rattle.block_device.specs.Area.{IsBlockLine};
-ghost use Rattle.block_device.specs.Object.{Serves, HasGoodMetadata, IsInStep, blocks_of};
+ghost use Rattle.block_device.specs.Object.{Serves, HasGoodMetadata, blocks_of};
 ghost use Rattle.block_device.specs.Refusals.{Answers, OnRefused, OnWorked, block_outcome, is_done, write_refusal};
 ghost use Rattle.block_device.specs.Images.{EachReads, IsEither};
 
@@ -117,10 +117,10 @@ impl Blocks {
         self.switch(dev, &[change])
     }
 
-    // Takes a free unit. There is one, since there are more units than blocks.
-    fn take_unit(&mut self) -> u64
+    // Takes a free unit.
+    pub(crate) fn take_unit(&mut self) -> u64
         requires unsettled { self.old.settled ≡ false }
-        requires in_step { IsInStep self.old.map self.old.free 0 }
+        requires some { 0 < free_count self.old.free }
         ensures unit { result < self.old.geo.blocks + 64 }
         ensures was_free { IsFree self.old.free result }
         ensures after { self.new ≡ record self.old { free = slice_set self.old.free result false } }

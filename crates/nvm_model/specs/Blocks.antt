@@ -1,5 +1,5 @@
 -- Blocks of 512 bytes, numbered from 0, and what actions make of them. Bytes are counted from the first block on.
-use Rattle.std.specs.Prelude.{◌≡◌, ◌⊎◌, ◌+◌, ◌-◌, ◌*◌, ◌/◌, ◌%◌, ◌&&◌, ℕ, zero, suc, Bool, List, length, nat_le, nat_lt, Option, Some, None, option_map, position, slice_index, slice_index_or, count_by, is_none, if◌then◌else◌, true, false, sum_by}
+use Rattle.std.specs.Prelude.{◌≡◌, ◌⊎◌, ◌+◌, ◌-◌, ◌*◌, ◌/◌, ◌%◌, ◌&&◌, ℕ, zero, suc, Bool, List, [], ◌∷◌, take, drop, length, nat_le, nat_lt, Option, Some, None, option_map, position, slice_index, slice_index_or, count_by, is_none, if◌then◌else◌, true, false, sum_by}
 use Rattle.std.specs.List.{list_any}
 use Rattle.nvm_base.specs.declared.units.Span.{Span}
 use Rattle.nvm_model.specs.Numbered.{map_from, list_from}
@@ -24,6 +24,11 @@ write_block at bytes i old = if is_among at (length bytes / 512) i then data_fro
 
 unfoldable pub write : ℕ → List ℕ → List Block → List Block
 write at bytes blocks = map_from (write_block at bytes) 0 blocks
+
+-- bytes written to several ranges, to each its part of them: a range has its first block and its length in bytes
+abbrev pub write_ranges : List Span → List ℕ → List Block → List Block
+write_ranges [] bytes blocks = blocks
+write_ranges (range ∷ ranges) bytes blocks = write_ranges ranges (drop range.len bytes) (write range.start (take range.len bytes) blocks)
 
 -- the blocks of some spans become this one: absent by a discard, scarred by a scar
 abbrev pub change_block : List Span → Block → ℕ → Block → Block

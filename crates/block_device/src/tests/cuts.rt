@@ -25,7 +25,11 @@ fn write_behind<D: LineDevice>(
 }
 
 // Takes a plain device behind a fuse through a cut, and mounts its blocks.
-fn start_fused(alloc: Global, dev: &mut Fuse<Plain>, choice: Choice) -> Result<Blocks, MountFault>
+pub(super) fn start_fused(
+    alloc: Global,
+    dev: &mut Fuse<Plain>,
+    choice: Choice,
+) -> Result<Blocks, MountFault>
     ensures { IfOk result (λ blocks. IsTrue blocks.settled → Serves blocks (fused device_of dev.new).medium) }
 {
     open(alloc, dev, choice, SMALL)

@@ -1,0 +1,43 @@
+use Rattle.std.proofs.Common.{sym, ◌∙◌, arith, append-nil}
+use Rattle.line_device.proofs.PanelLemmas.{runs-refl, runs_then, runs_within}
+use Rattle.block_device.specs.Prepared.{numbers_of}
+use Rattle.block_device.proofs.WriteLemmas.{written-none, written-all, piece_is, so_far}
+use Rattle.block_device.proofs.MadeLemmas.{before-refl, before-trans, next_fresh, numbers_len, numbers_more}
+use Rattle.block_device.proofs.Blocks.prepare_blocks.Goals as goal
+
+pub loop-k-init : goal.loop-k-init
+loop-k-init g c = record {
+  before = before-refl _ _ c.requires.serves c.requires.good c.requires.unsettled;
+  prepared = c.requires.prepared;
+  numbers = sym (append-nil (numbers_of c.args.changes.now.items));
+  written = sym (written-none c.args.block c.args.bytes.now _);
+  runs = runs-refl _;
+}
+
+pub prepare_block-requires-clause-room : goal.prepare_block-requires-clause-room
+prepare_block-requires-clause-room g c =
+    let len = numbers_len c.loop-k.changes.items c.args.changes.now.items c.args.block c.loop-k.k c.loop-k.invariant.numbers in
+    let room = c.requires.room in
+    omega arith
+
+pub prepare_block-requires-clause-fresh : goal.prepare_block-requires-clause-fresh
+prepare_block-requires-clause-fresh g c =
+    next_fresh c.loop-k.changes.items c.args.changes.now.items c.args.block c.loop-k.k c.loop-k.invariant.numbers (c.requires.fresh c.loop-k.k (omega arith))
+
+pub returns-in_err-prepare_block-clause-before : goal.returns-in_err-prepare_block-clause-before
+returns-in_err-prepare_block-clause-before g c = before-trans _ _ _ _ _ _ c.loop-k.invariant.before c.in_err-prepare_block.ensures.before
+
+pub loop-k-preserved : goal.loop-k-preserved
+loop-k-preserved g c =
+    let before = c.loop-k.invariant in
+    let after = c.in_ok-prepare_block.ensures in
+    record {
+      before = before-trans _ _ _ _ _ _ before.before after.before;
+      prepared = after.prepared;
+      numbers = numbers_more c.loop-k.changes.items c.args.changes.now.items c.args.block c.loop-k.k before.numbers _ after.numbers;
+      written = so_far c.args.block c.loop-k.k c.args.bytes.now _ _ _ _ (omega arith) (piece_is c.args.bytes.now c.loop-k.k) before.written after.written;
+      runs = runs_within _ _ _ _ _ _ _ (runs_then _ _ 24 8 _ _ _ _ before.runs after.runs) (omega arith) (omega arith);
+    }
+
+pub returns-clause-written : goal.returns-clause-written
+returns-clause-written g c = c.loop-k.invariant.written ∙ written-all c.args.block c.loop-k.k c.args.bytes.now _ (omega arith)

@@ -1,0 +1,164 @@
+-- One prepared change more, on a unit that was free.
+use Rattle.std.proofs.Common.{◌≡◌, inl, inr, ℕ, Bool, true, false, cond, ◌+◌, ◌*◌, ◌/◌, ◌<◌, ◌≤◌, List, [], ◌∷◌, ◌++◌, length, map, get_or, set, take, drop, Some, refl, sym, ◌∙◌, ap, subst, arith}
+use Rattle.std.proofs.lemmas.Bool.{ne_eqb, or_from}
+use Rattle.std.proofs.lemmas.List.{map-set, length-map}
+use Rattle.std.proofs.lemmas.List.Sums.{sum_by-append}
+use Rattle.line_device.specs.Medium.{Medium, IsSound, last_image}
+use Rattle.line_words.specs.Words.{HoldsLine, WandersBeside}
+use Rattle.line_words.proofs.BesideLemmas.{beside-wider}
+use Rattle.word_tables.specs.Layout.{block_line}
+use Rattle.block_map.specs.declared.state.BlockState.{BlockState}
+use Rattle.block_map.specs.declared.state.BlockState.TheVariants.{Absent, Scarred, At}
+use Rattle.block_map.specs.States.{IsAt}
+use Rattle.free_pool.specs.Units.{IsFree, IsTaken}
+use Rattle.nvm_model.specs.Storage.{Block}
+use Rattle.nvm_model.specs.Blocks.{data_from, write}
+use Rattle.block_device.specs.declared.change.Change.{Change}
+use Rattle.block_device.specs.Area.{IsBlockLine}
+use Rattle.block_device.specs.Object.{BlocksState, IsInStep, Serves, AreDurable, HasGoodMetadata, is_at}
+use Rattle.block_device.specs.Reading.{block_read, map_read}
+use Rattle.block_device.specs.Changes.{MayChange, AreTaken, changed_map, is_on, names, takes, units_named}
+use Rattle.block_device.specs.Prepared.{ArePrepared, AreAsBefore, blocks_with}
+use Rattle.block_device.proofs.ReadLemmas.{map_read-beside, durable-beside}
+use Rattle.block_device.proofs.ServesLemmas.{serves-beside}
+use Rattle.block_device.proofs.ChangeLemmas.{slice_get-set_other, is_at-set, length-changed_map, may_change-later, may_change-push}
+use Rattle.block_device.proofs.FreeUnitLemmas.{IsUnitLine, durable-set, free_is_vacant, holds_block, in_step-taken, is_unit_line, taken-set, unit_is_block, unit_off_area, unit_off_named, unit_reads}
+use Rattle.block_device.proofs.FreshLemmas.{HasBytes}
+use Rattle.block_device.proofs.WriteLemmas.{write_one}
+
+abbrev pub put : ℕ → ℕ → Change
+put block unit = record { block = block; state = At unit }
+
+pub changed_map-push : (cs : List Change) (c : Change) (states : List BlockState) → changed_map (cs ++ c ∷ []) states ≡ set (changed_map cs states) c.block c.state
+changed_map-push [] c states = refl
+changed_map-push (d ∷ ds) c states = changed_map-push ds c (set states d.block d.state)
+
+pub units_named-push : (cs : List Change) (block unit : ℕ) → units_named (cs ++ put block unit ∷ []) ≡ units_named cs + 1
+units_named-push cs block unit = sum_by-append (λ (c : Change). cond (is_at c.state) 1 0) cs (put block unit ∷ [])
+
+free_not_taken : (free : List Bool) (unit other : ℕ) → IsFree free unit → IsTaken free other → other ≡ unit → ⊥
+free_not_taken free unit other is_free taken same = differ (sym is_free ∙ subst (IsTaken free) same taken)
+  where
+    differ : Some true ≡ Some false → ⊥
+    differ e = cc
+
+-- changes to units that are taken put no block on a free one
+takes-free : (free : List Bool) (unit : ℕ) (cs : List Change) → IsFree free unit → AreTaken free cs → takes cs (At unit) ≡ false
+takes-free free unit [] is_free taken = refl
+takes-free free unit (c ∷ cs) is_free taken =
+    or_from (is_on unit c.state) (takes cs (At unit)) (off c.state taken.0) (takes-free free unit cs is_free taken.1)
+  where
+    off : (s : BlockState) → ((u : ℕ) → s ≡ At u → IsTaken free u) → is_on unit s ≡ false
+    off Absent of = refl
+    off Scarred of = refl
+    off (At u) of = ne_eqb u unit (λ e. free_not_taken free unit u is_free (of u refl) e)
+
+taken-push : (free : List Bool) (block unit : ℕ) (cs : List Change) → IsFree free unit → AreTaken free cs → AreTaken (set free unit false) (cs ++ put block unit ∷ [])
+taken-push free block unit [] is_free taken = (λ u is. taken-set free unit u is_free is, tt)
+taken-push free block unit (c ∷ cs) is_free taken = (
+  λ u is. slice_get-set_other free unit u false (λ e. free_not_taken free unit u is_free (taken.0 u is) e) ∙ taken.0 u is,
+  taken-push free block unit cs is_free taken.1,
+)
+
+-- what the map names after them is taken
+changed_taken : (free : List Bool) (cs : List Change) (states : List BlockState) → MayChange states cs → AreTaken free cs → ((block unit : ℕ) → IsAt states block unit → IsTaken free unit) → (block unit : ℕ) → IsAt (changed_map cs states) block unit → IsTaken free unit
+changed_taken free [] states may taken named = named
+changed_taken free (c ∷ cs) states may taken named =
+    changed_taken free cs (set states c.block c.state) (may_change-later states c cs may) taken.1
+    (λ block unit at. elim (is_at-set states c.block block unit c.state may.0 at) as (λ _. IsTaken free unit) [
+      | inl here ↦ taken.0 unit here.1
+      | inr there ↦ named block unit there.1
+    ])
+
+-- a free unit beside prepared changes, its lines made new
+pub record HasSpare (s : BlocksState) (m n : Medium) (cs : List Change) (unit : ℕ) : Type 0 where
+  pub serves : Serves s m
+  pub good : HasGoodMetadata s.geo m
+  pub unsettled : s.settled ≡ false
+  pub prepared : ArePrepared s m cs
+  pub within : unit < s.geo.blocks + 64
+  pub was_free : IsFree s.free unit
+  pub lines : WandersBeside (IsUnitLine s.geo unit) m n
+
+-- the object once the unit is taken
+abbrev pub without : BlocksState → ℕ → BlocksState
+without s unit = record s { free = set s.free unit false }
+
+module _ (s : BlocksState) (m n : Medium) (cs : List Change) (unit : ℕ) (x : HasSpare s m n cs unit) where
+  vacant : (block : ℕ) → IsAt s.map block unit → ⊥
+  vacant = free_is_vacant s.map s.free (units_named cs) unit x.prepared.in_step x.was_free
+
+  vacant_then : (block : ℕ) → IsAt (changed_map cs s.map) block unit → ⊥
+  vacant_then block at =
+      free_not_taken s.free unit unit x.was_free (changed_taken s.free cs s.map x.prepared.may x.prepared.taken x.prepared.in_step.taken block unit at) refl
+
+  serves_then : Serves s n
+  serves_then =
+      serves-beside s (IsUnitLine s.geo unit) m n x.serves.valid (unit_off_area s.geo x.serves.valid unit x.within) (unit_off_named s.geo s.map unit vacant) x.lines x.serves
+
+  pub spare_before : AreAsBefore s (without s unit) m n
+  spare_before =
+      let now = serves_then in
+      record {
+        geo = refl;
+        map = refl;
+        quiet = refl;
+        unsettled = x.unsettled;
+        blocks = map_read-beside s.geo s.map m n (IsUnitLine s.geo unit) x.lines (unit_off_named s.geo s.map unit vacant);
+        serves = record { valid = now.valid; all = now.all; is_map = now.is_map; count = now.count; strong = now.strong; rest = now.rest; durable = now.durable };
+        good = λ k below. x.lines.stays_good k (x.good k below);
+        outside = beside-wider (IsUnitLine s.geo unit) (IsBlockLine s.geo) m n (unit_is_block s.geo x.serves.valid unit x.within) x.lines;
+      }
+
+  module _ (block : ℕ) (bytes : List ℕ) (b : HasBytes s unit n block bytes) where
+    pub spare_prepared : names cs block ≡ false → ArePrepared (without s unit) n (cs ++ put block unit ∷ [])
+    spare_prepared fresh = record {
+      may =
+          may_change-push s.map cs (put block unit) (omega (arith, x.serves.all, b.there)) (omega (arith, x.serves.all, x.within), vacant) fresh
+          (takes-free s.free unit cs x.was_free x.prepared.taken) x.prepared.may;
+      taken = taken-push s.free block unit cs x.was_free x.prepared.taken;
+      in_step =
+          subst (λ k. IsInStep s.map (set s.free unit false) k) (sym (units_named-push cs block unit))
+          (in_step-taken s.map s.free unit (units_named cs) x.prepared.in_step x.was_free);
+      durable =
+          let states : List BlockState = changed_map cs s.map in
+          subst (AreDurable s.geo n) (sym (changed_map-push cs (put block unit) s.map))
+          (durable-set s.geo m n states block unit bytes (omega (arith, b.there, x.serves.all, length-changed_map cs s.map))
+          (durable-beside s.geo states m n (IsUnitLine s.geo unit) x.lines (unit_off_named s.geo states unit vacant_then) x.prepared.durable) b.holds);
+    }
+
+    pub spare_written : blocks_with (cs ++ put block unit ∷ []) (without s unit) n ≡ write block bytes (blocks_with cs s m)
+    spare_written =
+        let states : List BlockState = changed_map cs s.map in
+        let read : BlockState → Block = block_read s.geo n.is_bad (last_image n) in
+        ap (map_read s.geo n.is_bad (last_image n)) (changed_map-push cs (put block unit) s.map)
+        ∙ map-set read states block (At unit)
+        ∙ ap (λ new. set (map read states) block new) (unit_reads s.geo n unit bytes b.sound b.small b.holds)
+        ∙ ap (λ bs. set bs block (data_from bytes 0)) (map_read-beside s.geo states m n (IsUnitLine s.geo unit) x.lines (unit_off_named s.geo states unit vacant_then))
+        ∙ sym
+        (write_one bytes block (blocks_with cs s m) b.whole
+        (omega (arith, x.serves.all, b.there, length-map states (block_read s.geo m.is_bad (last_image m)), length-changed_map cs s.map)))
+
+-- as code finds them
+pub unit_at : (v s : BlocksState) (unit first : ℕ) → v ≡ s → first ≡ block_line v.geo unit → first ≡ block_line s.geo unit
+unit_at v s unit first same at = at ∙ ap (λ (z : BlocksState). block_line z.geo unit) same
+
+pub has_spare : (v s : BlocksState) (m n : Medium) (cs : List Change) (unit first len : ℕ) → v ≡ s → Serves s m → HasGoodMetadata s.geo m → s.settled ≡ false → ArePrepared s m cs → unit < s.geo.blocks + 64 → IsFree s.free unit → first ≡ block_line v.geo unit → len ≡ 512 → WandersBeside (λ k. (first ≤ k) × (k < first + len / 64)) m n → HasSpare s m n cs unit
+has_spare v s m n cs unit first len same serves good unsettled prepared within was_free at whole lines = record {
+  serves = serves;
+  good = good;
+  unsettled = unsettled;
+  prepared = prepared;
+  within = within;
+  was_free = was_free;
+  lines = beside-wider _ _ m n (λ k h. is_unit_line s.geo unit first (len / 64) k (unit_at v s unit first same at) (omega arith) h) lines;
+}
+
+pub spare_bytes : (v s : BlocksState) (n : Medium) (unit first block : ℕ) (bytes : List ℕ) → v ≡ s → first ≡ block_line v.geo unit → block < s.geo.blocks → IsSound n → ((k : ℕ) → get_or bytes k 0 < 256) → length bytes ≡ 512 → ((k : ℕ) → k < length bytes / 64 → HoldsLine n (first + k) (take 64 (drop (64 * k) bytes))) → HasBytes s unit n block bytes
+spare_bytes v s n unit first block bytes same at there sound small whole holds = record {
+  there = there;
+  holds = holds_block s.geo n unit first (length bytes / 64) bytes (unit_at v s unit first same at) (omega arith) holds;
+  sound = sound;
+  small = small;
+  whole = whole;
+}
