@@ -29,7 +29,8 @@ rose_later a b c later rose = omega arith
 
 -- what came before only adds to the cause
 pub has_cause-after : (a b : ℕ) (e : Outcome) (p q r : Panel) → Runs a b went p q → HasCause e q r → HasCause e p r
-has_cause-after a b went p q r before cause = (cause.0 ∙ before.cause.0, cause.1 ∙ before.cause.1)
+has_cause-after a b went p q r before cause =
+    (cause.0 ∙ before.cause.0, cause.1 ∙ before.cause.1, cause.2 ∙ before.cause.2, cause.3 ∙ before.cause.3)
 has_cause-after a b failed p q r before cause =
     (cause.0 ∙ before.cause.0, cause.1 ∙ before.cause.1, before.armed.fail cause.2, rose_later p.counts.faults q.counts.faults r.counts.faults before.faults cause.3)
 has_cause-after a b lost p q r before cause =
@@ -38,7 +39,7 @@ has_cause-after a b lost p q r before cause =
 -- no work
 pub runs-refl : (p : Panel) → Runs 0 0 went p p
 runs-refl p = record {
-  cause = (refl, refl);
+  cause = (refl, refl, refl, refl);
   armed = arms_nothing-refl p;
   faults = omega arith;
   cuts = omega arith;

@@ -47,9 +47,10 @@ outcome (Err Failed) = failed
 outcome (Err PowerLost) = lost
 
 -- A failure comes only where one was armed and `faults` rose, a loss of power only where a cut was armed and `cuts` rose.
--- Power goes, and `cuts` rises, in no other way.
+-- Power goes, `cuts` rises and what is armed ends in no other way.
 abbrev pub HasCause : Outcome → Panel → Panel → Type 0
-HasCause went old new = (new.power ≡ old.power) × (new.counts.cuts ≡ old.counts.cuts)
+HasCause went old new =
+    (new.power ≡ old.power) × (new.counts.cuts ≡ old.counts.cuts) × (new.cut_armed ≡ old.cut_armed) × (new.fail_armed ≡ old.fail_armed)
 HasCause failed old new =
     (new.power ≡ old.power) × (new.counts.cuts ≡ old.counts.cuts) × IsTrue old.fail_armed × Rose old.counts.faults new.counts.faults
 HasCause lost old new = (new.power ≡ false) × IsTrue old.cut_armed × Rose old.counts.cuts new.counts.cuts
