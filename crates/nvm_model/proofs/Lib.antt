@@ -4,3 +4,4 @@ pub mod PutLemmas
 pub mod StandLemmas
 pub mod RestartLemmas
 pub mod LineLemmas
+pub mod InterruptedLemmas

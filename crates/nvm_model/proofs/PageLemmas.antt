@@ -78,6 +78,10 @@ pub length-put_fill : (at len : ℕ) (bytes : List ℕ) (pages : List Page) → 
 unfolding put fill
 length-put_fill at len bytes pages = length-map_from _ 0 _ ∙ length-map_from _ 0 pages
 
+pub length-fill : (at len : ℕ) (pages : List Page) → length (fill at len pages) ≡ length pages
+unfolding fill
+length-fill at len pages = length-map_from _ 0 pages
+
 pub length-read_pages : (image : Image) (count : ℕ) → length (read_pages image count) ≡ count
 unfolding read_pages
 length-read_pages image count = length-list_from _ 0 count

@@ -161,7 +161,8 @@ unfolding look
 look-stand m count pages offset len stand intact within =
     list_from-same (shown_byte m) (byte_in pages) offset offset len (λ k lt. sym (byte_in-stand m count pages (offset + k) stand intact (omega arith)))
 
-after_wander : (m b : Medium) (count : ℕ) → SameMarks m b → AreIntact m (64 * count) → AreIntact b (64 * count)
+-- marks stay
+pub after_wander : (m b : Medium) (count : ℕ) → SameMarks m b → AreIntact m (64 * count) → AreIntact b (64 * count)
 after_wander m b count marks intact n lt = let was = intact n lt in (marks.bad n ∙ was.0, marks.weak n ∙ was.1)
 
 pub stand-loaded : (m b : Medium) (count : ℕ) (pages : List Page) → PagesStand m count pages → AreIntact m (64 * count) → Wander m b → PagesStand b count pages

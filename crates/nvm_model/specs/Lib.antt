@@ -2,5 +2,6 @@ pub mod Numbered
 pub mod Cell
 pub mod Page
 pub mod Lines
+pub mod Interrupted
 pub mod Storage
 pub mod Blocks

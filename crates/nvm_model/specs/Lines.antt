@@ -1,5 +1,5 @@
 -- The lines of a medium as storage: byte i lies in line i / 64.
-use Rattle.std.specs.Prelude.{◌≡◌, ◌*◌, ◌/◌, ◌%◌, ◌<◌, ◌≤◌, ℕ, false, List, length, if◌then◌else◌}
+use Rattle.std.specs.Prelude.{◌≡◌, ◌*◌, ◌/◌, ◌%◌, ◌<◌, ◌≤◌, ℕ, false, List, length, nat_lt, if◌then◌else◌}
 use Rattle.std.specs.Int.{byte_at}
 use Rattle.line_device.specs.History.{latest, newest}
 use Rattle.line_device.specs.Medium.{Medium, Wander, Survivors, word_stored}
@@ -27,6 +27,10 @@ pub record SameMarks (old new : Medium) : Type 0 where
 -- each word changed by what is done to it at its place
 abbrev pub each : Medium → (ℕ → List ℕ → List ℕ) → Medium
 each m change = record m { history = λ p. change p (m.history p) }
+
+-- what is done to the words of the lines below a limit
+abbrev pub below : ℕ → (ℕ → List ℕ → List ℕ) → ℕ → List ℕ → List ℕ
+below limit change p old = if nat_lt (p / 8) limit then change p old else old
 
 -- bytes put at an offset
 abbrev pub span_stored : Medium → ℕ → List ℕ → Medium

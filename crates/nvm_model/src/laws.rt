@@ -2,14 +2,15 @@
 ghost use Rattle.std.specs.Prelude.{◌≡◌, ◌<◌, ◌+◌, ◌*◌, ◌/◌, ◌%◌, ◌≤◌, ℕ, Bool, true, false, List, Some, length, option_map, slice_index};
 ghost use Rattle.std.specs.Int.{byte_at};
 ghost use Rattle.line_device.specs.Word.{byte_over};
-ghost use Rattle.line_device.specs.Medium.{Medium, persisted};
+ghost use Rattle.line_device.specs.Medium.{Medium, Wander, persisted, word_stored};
 ghost use Rattle.line_device.specs.Panel.{Image};
 ghost use Rattle.line_device.specs.declared.line.Choice.{Choice};
 ghost use Rattle.line_device.specs.declared.line.Choice.TheVariants.{Lasts};
 ghost use Rattle.nvm_model.specs.Cell.{Cell, put_cell, persist_cell, settle_cell, TakesPut, touches, CellStands};
 ghost use Rattle.nvm_model.specs.Cell.Cell.{Kept};
 ghost use Rattle.nvm_model.specs.Page.{Page, cell_of, fill, put, persist, byte_in, look, read_pages, KeepsPages, PagesStand};
-ghost use Rattle.nvm_model.specs.Lines.{AreIntact, KeepStep, RestartKeepsStep, span_shown, span_stored, span_settled};
+ghost use Rattle.nvm_model.specs.Interrupted.{MayStore};
+ghost use Rattle.nvm_model.specs.Lines.{AreIntact, KeepStep, each, below, RestartKeepsStep, span_shown, span_stored, span_settled};
 
 /// An action changes each line by its number, and filling changes no line that is there.
 pub fn actions_go_line_by_line()
@@ -52,4 +53,11 @@ pub fn what_was_persisted_is_kept()
     ensures lasts { (image : Image) (i : ℕ) (pages : List Page) (weak : Bool) (words : List (List ℕ))
         → cell_of pages (i / 64) ≡ Some (Kept weak words) → length words ≡ 8
         → KeepsPages Lasts image pages → byte_at (i % 8) (image.word (i / 8)) ≡ byte_in pages i }
+{}
+
+/// A store that got to some line leaves what an interrupted store may leave, and the lines stand for that.
+pub fn an_interrupted_store_keeps_step()
+    ensures { (old new : Medium) (limit at count : ℕ) (bytes : List ℕ) (pages : List Page) → PagesStand old count pages
+        → AreIntact old (64 * count) → Wander (each old (below limit (word_stored at bytes))) new
+        → (after : List Page) × MayStore at bytes pages after × PagesStand new count after }
 {}
