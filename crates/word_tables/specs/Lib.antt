@@ -1,3 +1,4 @@
 pub mod Bounds
 pub mod Layout
 pub mod Words
+pub mod Superblock

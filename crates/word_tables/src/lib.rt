@@ -3,11 +3,13 @@
 
 mod areas;
 mod geometry;
+mod superblock;
 mod volume;
 mod words;
 
 pub use areas::areas_follow;
 pub use geometry::Geometry;
+pub use superblock::{LAYOUT, MARK, WORD_BYTES, superblocks_tell_their_sizes};
 pub use volume::volume_lines_differ;
 pub use words::places_differ;
 

@@ -73,3 +73,12 @@ fn logs_and_words_lie_in_the_metadata(rt: HostRuntime) {
     // The last table word is in the last of 2,266 lines.
     assert_eq!(rt; geo.page_word(63, 255), 8 * 2265 + 7);
 }
+
+#[test]
+fn a_superblock_tells_mark_layout_and_sizes(rt: HostRuntime) {
+    let geo = sizes(8, 2, 32);
+    assert!(rt; geo.valid());
+    let words = geo.superblock();
+    assert_eq!(rt; words[0].to_le_bytes(), *b"NVMPMH01");
+    assert_eq!(rt; &words[1..], [1, 8, 2, 32, 2304, 5056, 8].as_slice());
+}
