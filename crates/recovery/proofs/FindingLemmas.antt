@@ -1,0 +1,154 @@
+-- What is found of a device, by what is found of its parts.
+use Rattle.std.proofs.Common.{◌≡◌, slice_index, ◌*◌, inl, inr, ℕ, Bool, true, false, List, Option, Some, None, Result, Ok, Err, if◌then◌else◌, option_map, position, refl, sym, ◌∙◌, ap, ap₂, subst}
+use Rattle.std.specs.List.{range_with_len}
+use Rattle.std.proofs.lemmas.Bool.{cases_Bool}
+use Rattle.std.proofs.lemmas.Option.{none-some}
+use Rattle.line_device.specs.Medium.{Medium, Wander, last_image}
+use Rattle.line_device.specs.Panel.Outcome.{went}
+use Rattle.line_words.specs.declared.interruption.Interruption.{Interruption}
+use Rattle.line_words.specs.declared.interruption.Interruption.TheVariants as stop
+use Rattle.nvm_model.specs.Numbered.{list_from}
+use Rattle.nvm_model.specs.Blocks.{first_there}
+use Rattle.word_tables.specs.declared.geometry.Geometry.{Geometry}
+use Rattle.word_tables.specs.Layout.{meta_lines}
+use Rattle.word_tables.specs.Superblock.{first_wrong_word, geometry_of, IsSuperblock}
+use Rattle.word_tables.proofs.SuperblockLemmas.{right}
+use Rattle.block_device.specs.Object.{HasStrongMetadata, HasGoodMetadata}
+use Rattle.block_device.specs.Mounting.{wrong_place}
+use Rattle.recovery.specs.declared.fault.MountFault.{MountFault}
+use Rattle.recovery.specs.declared.fault.MountFault.TheVariants.{Meta, Layout, Device, PowerLost, Memory}
+use Rattle.recovery.specs.Stopped.{as_mount_fault}
+use Rattle.recovery.specs.Findings.{Finding, geometry_told, superblock_finding, meta_finding, early_finding, first_finding}
+use Rattle.recovery.specs.Findings.Finding.{bad_line, wrong_word}
+use Rattle.recovery.specs.Mounting.{Checks, Finds, mount_outcome}
+use Rattle.recovery.proofs.SearchLemmas.{fails_below}
+
+-- what the first of two searches finds, and what the second does where the first finds nothing
+pub finds_first : (T U : Type 0) (a b : Option Finding) (f : MountFault) → Finds {T = U} a (Err f) → Finds {T = T} (first_there a b) (Err f)
+finds_first T U a b (Meta line) h = ap (λ o. first_there o b) h
+finds_first T U a b (Layout place) h = ap (λ o. first_there o b) h
+finds_first T U a b Device h = tt
+finds_first T U a b PowerLost h = tt
+finds_first T U a b Memory h = tt
+
+pub finds_second : {T : Type 0} (a b : Option Finding) (r : Result T MountFault) → a ≡ None → Finds b r → Finds (first_there a b) r
+finds_second a b r none h = subst (λ o. Finds (first_there o b) r) (sym none) h
+
+-- a search that the device stopped finds nothing
+pub finds_stop : (T : Type 0) (found : Option Finding) (f : Interruption) → Finds {T = T} found (Err (as_mount_fault f))
+finds_stop T found stop.Failed = tt
+finds_stop T found stop.PowerLost = tt
+
+-- the same on another result
+pub finds_on : {T : Type 0} (found : Option Finding) (r : Result T MountFault) (f : MountFault) → r ≡ Err f → Finds {T = T} found (Err f) → Finds found r
+finds_on found r f is h = subst (λ q. Finds found q) (sym is) h
+
+-- a test that nothing stops
+pub finds_checked : {T : Type 0} (found : Option Finding) (r : Result T MountFault) → Checks found r → Finds found r
+finds_checked found (Ok x) h = h
+finds_checked found (Err (Meta line)) h = h
+finds_checked found (Err (Layout place)) h = h
+finds_checked found (Err Device) h = absurd h
+finds_checked found (Err PowerLost) h = absurd h
+finds_checked found (Err Memory) h = absurd h
+
+pub went_checked : {T : Type 0} (found : Option Finding) (r : Result T MountFault) → Checks found r → mount_outcome r ≡ went
+went_checked found (Ok x) h = refl
+went_checked found (Err (Meta line)) h = refl
+went_checked found (Err (Layout place)) h = refl
+went_checked found (Err Device) h = absurd h
+went_checked found (Err PowerLost) h = absurd h
+went_checked found (Err Memory) h = absurd h
+
+pub checks_on : (T U : Type 0) (found : Option Finding) (f : MountFault) → Checks {T = U} found (Err f) → Checks {T = T} found (Err f)
+checks_on T U found (Meta line) h = h
+checks_on T U found (Layout place) h = h
+checks_on T U found Device h = absurd h
+checks_on T U found PowerLost h = absurd h
+checks_on T U found Memory h = absurd h
+
+-- the first line
+pub superblock_bad : (m : Medium) → m.is_bad 0 ≡ true → superblock_finding m ≡ Some (bad_line 0)
+superblock_bad m bad = ap (λ b. if b then Some (bad_line 0) else option_map wrong_word (first_wrong_word m.count (last_image m))) bad
+
+superblock_good : (m : Medium) → m.is_bad 0 ≡ false → superblock_finding m ≡ option_map wrong_word (first_wrong_word m.count (last_image m))
+superblock_good m good = ap (λ b. if b then Some (bad_line 0) else option_map wrong_word (first_wrong_word m.count (last_image m))) good
+
+none_mapped : {A B : Type 0} (f : A → B) (o : Option A) → option_map f o ≡ None → o ≡ None
+none_mapped f None h = refl
+none_mapped f (Some x) h = absurd (none-some (f x) (sym h))
+
+-- only its words are looked at
+pub words_alone : (lines : ℕ) (word : ℕ → ℕ) → first_wrong_word lines (slice_index (list_from word 0 8)) ≡ first_wrong_word lines word
+unfolding first_wrong_word
+words_alone lines word = refl
+
+pub sizes_alone : (word : ℕ → ℕ) → geometry_of (slice_index (list_from word 0 8)) ≡ geometry_of word
+sizes_alone word = refl
+
+pub superblock_checked : {T : Type 0} (m : Medium) (lines : ℕ) (words : List ℕ) (r : Result T MountFault) → m.is_bad 0 ≡ false → lines ≡ m.count → words ≡ list_from (last_image m) 0 8
+    → Finds (option_map wrong_word (first_wrong_word lines (slice_index words))) r → Finds (superblock_finding m) r
+superblock_checked m lines words r good count is h =
+    subst (λ o. Finds o r)
+    (ap₂ (λ n (ws : List ℕ). option_map wrong_word (first_wrong_word n (slice_index ws))) count is ∙ ap (option_map wrong_word) (words_alone m.count (last_image m)) ∙ sym (superblock_good m good)) h
+
+-- where it is as it has to be
+pub is_superblock : (m : Medium) → superblock_finding m ≡ None → IsSuperblock m.count (last_image m)
+is_superblock m none =
+    elim (cases_Bool (m.is_bad 0)) as (λ _. IsSuperblock m.count (last_image m)) [
+      | inl bad ↦ absurd (none-some (bad_line 0) (sym none ∙ superblock_bad m bad))
+      | inr good ↦ right m.count (last_image m) (none_mapped wrong_word (first_wrong_word m.count (last_image m)) (sym (superblock_good m good) ∙ none))
+    ]
+
+-- of two searches that find nothing
+first_none : {A : Type 0} (a b : Option A) → first_there a b ≡ None → (a ≡ None) × (b ≡ None)
+first_none None b h = (refl, h)
+first_none (Some x) b h = absurd (none-some x (sym h))
+
+pub early_none : (m : Medium) → early_finding m ≡ None → (superblock_finding m ≡ None) × (meta_finding (geometry_told m) m ≡ None)
+unfolding early_finding
+early_none m none = first_none (superblock_finding m) (meta_finding (geometry_told m) m) none
+
+-- lines of metadata of which none is found
+pub good_metadata : (geo : Geometry) (m : Medium) → meta_finding geo m ≡ None → HasGoodMetadata geo m
+good_metadata geo m none n below =
+    let parts = first_none (option_map bad_line (position m.is_bad (range_with_len 0 (meta_lines geo)))) _ none in
+    fails_below m.is_bad (meta_lines geo) n (none_mapped bad_line _ parts.0) below
+
+pub strong_metadata : (geo : Geometry) (m : Medium) → meta_finding geo m ≡ None → HasStrongMetadata geo m
+strong_metadata geo m none n below =
+    let parts = first_none (option_map bad_line (position m.is_bad (range_with_len 0 (meta_lines geo)))) _ none in
+    fails_below m.is_weak (meta_lines geo) n (none_mapped (λ k. wrong_word (8 * k)) _ parts.1) below
+
+-- lines that wander keep their marks
+pub bad-wander : (old new : Medium) → Wander old new → new.is_bad ≡ old.is_bad
+bad-wander old new x = λ i n. x.bad n i
+
+weak-wander : (old new : Medium) → Wander old new → new.is_weak ≡ old.is_weak
+weak-wander old new x = λ i n. x.weak n i
+
+pub meta-wander : (geo : Geometry) (old new : Medium) → Wander old new → meta_finding geo new ≡ meta_finding geo old
+meta-wander geo old new x =
+    ap₂ (λ (bad weak : ℕ → Bool). first_there (option_map bad_line (position bad (range_with_len 0 (meta_lines geo)))) (option_map (λ n. wrong_word (8 * n)) (position weak (range_with_len 0 (meta_lines geo)))))
+    (bad-wander old new x) (weak-wander old new x)
+
+pub finds_superblock : (T U : Type 0) (m : Medium) (f : MountFault) → Finds {T = U} (superblock_finding m) (Err f) → Finds {T = T} (early_finding m) (Err f)
+unfolding early_finding
+finds_superblock T U m f h = finds_first T U (superblock_finding m) (meta_finding (geometry_told m) m) f h
+
+-- once the superblock is found to be right
+pub finds_early : {T : Type 0} (geo : Geometry) (old new : Medium) (r : Result T MountFault) → geo ≡ geometry_told old → Wander old new → superblock_finding old ≡ None
+    → Finds (meta_finding geo new) r → Finds (early_finding old) r
+unfolding early_finding
+finds_early geo old new r is x none h =
+    finds_second (superblock_finding old) (meta_finding (geometry_told old) old) r none
+    (subst (λ o. Finds o r) (meta-wander geo old new x ∙ ap (λ g. meta_finding g old) is) h)
+
+-- and once nothing is found before the log
+pub first_late : (m : Medium) → early_finding m ≡ None → first_finding m ≡ option_map wrong_word (wrong_place (geometry_told m) (last_image m))
+unfolding first_finding
+first_late m none = ap (λ o. first_there o (option_map wrong_word (wrong_place (geometry_told m) (last_image m)))) none
+
+pub finds_before : (T U : Type 0) (m : Medium) (f : MountFault) → Finds {T = U} (early_finding m) (Err f) → Finds {T = T} (first_finding m) (Err f)
+unfolding first_finding
+finds_before T U m f h = finds_first T U (early_finding m) (option_map wrong_word (wrong_place (geometry_told m) (last_image m))) f h

@@ -1,0 +1,78 @@
+-- What a mount of the blocks gives, once nothing was found before their log.
+use Rattle.std.proofs.Common.{◌≡◌, ℕ, None, Err, option_map, sym, ◌∙◌, ap, ap₂, subst, arith}
+use Rattle.std.proofs.lemmas.Bool.{false≢true}
+use Rattle.line_device.specs.Medium.{Medium, Wander, last_image}
+use Rattle.line_device.proofs.WanderLemmas.{wander-trans, newest-wander}
+use Rattle.line_words.specs.Words.{WandersOutside}
+use Rattle.line_words.proofs.FrameLemmas.{last_image-wander, outside-trans, outside-wander}
+use Rattle.word_tables.specs.declared.geometry.Geometry.{Geometry}
+use Rattle.word_tables.specs.Bounds.{IsValid}
+use Rattle.word_log.specs.Area.{IsOf, IsWhole, gate_place}
+use Rattle.block_device.specs.declared.fault.MountFault as below
+use Rattle.block_device.specs.declared.fault.MountFault.TheVariants as blocks
+use Rattle.block_device.specs.Area.{block_area}
+use Rattle.block_device.specs.Object.{AreDurable, HasGoodMetadata}
+use Rattle.block_device.specs.Reading.{states_read, blocks_read}
+use Rattle.block_device.specs.Mounting as below_mount
+use Rattle.block_device.specs.Mounting.{wrong_place}
+use Rattle.block_device.specs.Images.{KeepsReads}
+use Rattle.block_device.proofs.PlaceLemmas.{area_in_metadata, area_whole}
+use Rattle.block_device.proofs.ReachLemmas.{keeps_reads-trans, keeps_reads-wander}
+use Rattle.block_device.proofs.ReadLemmas.{durable-wander}
+use Rattle.recovery.specs.Stopped.{of_block_fault}
+use Rattle.recovery.specs.Findings.{geometry_told, early_finding, first_finding}
+use Rattle.recovery.specs.Findings.Finding.{wrong_word}
+use Rattle.recovery.specs.Mounting.{Finds, HasDurableBlocks, IsInOrder}
+use Rattle.recovery.proofs.FindingLemmas.{bad-wander, first_late}
+
+-- a mount of the blocks keeps all marks
+pub in_order-outside : (geo : Geometry) (now new : Medium) → IsInOrder geo now → WandersOutside (IsOf (block_area geo)) now new → IsInOrder geo new
+in_order-outside geo now new order x = record {
+  valid = order.valid;
+  count = x.count ∙ order.count;
+  good = λ n below. x.bad n ∙ order.good n below;
+  strong = λ n below. x.weak n ∙ order.strong n below;
+}
+
+module _ (old now : Medium) (geo : Geometry) (is : geo ≡ geometry_told old) (x : Wander old now) (early : early_finding old ≡ None) where
+  place_same : wrong_place geo (last_image now) ≡ wrong_place (geometry_told old) (last_image old)
+  place_same = ap₂ wrong_place is (last_image-wander old now x)
+
+  -- what was durable is so after the look
+  pub durable_now : HasDurableBlocks old → AreDurable geo now (states_read geo (last_image now))
+  durable_now durable =
+      let told = subst (λ g. AreDurable g old (states_read g (last_image old))) (sym is) (durable early) in
+      subst (λ (word : ℕ → ℕ). AreDurable geo now (states_read geo word)) (sym (last_image-wander old now x)) (durable-wander geo (states_read geo (last_image old)) old now x told)
+
+  -- and the blocks are the same
+  pub blocks_same : blocks_read geo now.is_bad (last_image now) ≡ blocks_read (geometry_told old) old.is_bad (last_image old)
+  blocks_same =
+      ap₂ (blocks_read geo) (bad-wander old now x) (last_image-wander old now x) ∙ ap (λ g. blocks_read g old.is_bad (last_image old)) is
+
+  -- nothing is wrong with the blocks, or it is the first finding
+  pub finds_right : wrong_place geo (last_image now) ≡ None → first_finding old ≡ None
+  finds_right none = first_late old early ∙ ap (option_map wrong_word) (sym place_same ∙ none)
+
+  pub finds_blocks : (T U : Type 0) (f : below.MountFault) → IsValid geo → HasGoodMetadata geo now → below_mount.Finds {T = U} geo now (Err f) → Finds {T = T} (first_finding old) (Err (of_block_fault f))
+  finds_blocks T U (blocks.Poisoned line) valid good h =
+      let at = h.0 in
+      let within = area_in_metadata geo valid at.0 at.1 in
+      absurd (false≢true (sym (good line.0 (omega (arith, at.2))) ∙ h.1))
+  finds_blocks T U (blocks.Bad place) valid good h = first_late old early ∙ ap (option_map wrong_word) (sym place_same ∙ h.1)
+  finds_blocks T U blocks.Device valid good h = tt
+  finds_blocks T U blocks.PowerLost valid good h = tt
+  finds_blocks T U blocks.Memory valid good h = tt
+
+  -- what the mount of the blocks leaves, it leaves of the device
+  pub mount_reads : (new : Medium) → IsValid geo → HasGoodMetadata geo now → (IsWhole (block_area geo) now → KeepsReads geo now new) → KeepsReads (geometry_told old) old new
+  mount_reads new valid good keeps =
+      subst (λ g. KeepsReads g old new) is (keeps_reads-trans geo old now new (keeps_reads-wander geo old now x) (keeps (area_whole geo valid now good)))
+
+  pub mount_closed : (new : Medium) → (last_image now (gate_place (block_area geo)) ≡ 0 → Wander now new) → last_image old (gate_place (block_area (geometry_told old))) ≡ 0 → Wander old new
+  mount_closed new closed zero =
+      wander-trans old now new x (closed (newest-wander old now x (gate_place (block_area geo)) ∙ ap (λ g. last_image old (gate_place (block_area g))) is ∙ zero))
+
+  pub mount_outside : (new : Medium) → WandersOutside (IsOf (block_area geo)) now new → WandersOutside (IsOf (block_area (geometry_told old))) old new
+  mount_outside new out =
+      subst (λ g. WandersOutside (IsOf (block_area g)) old new) is
+      (outside-trans (IsOf (block_area geo)) old now new (outside-wander (IsOf (block_area geo)) old now x) out)

@@ -1,0 +1,36 @@
+-- What keeps a device from being mounted, in the order in which it is found.
+use Rattle.std.specs.Prelude.{◌*◌, ℕ, Option, Some, option_map, position, if◌then◌else◌}
+use Rattle.std.specs.List.{range_with_len}
+use Rattle.line_device.specs.Medium.{Medium, last_image}
+use Rattle.word_tables.specs.declared.geometry.Geometry.{Geometry}
+use Rattle.word_tables.specs.Layout.{meta_lines}
+use Rattle.word_tables.specs.Superblock.{geometry_of, first_wrong_word}
+use Rattle.nvm_model.specs.Blocks.{first_there}
+use Rattle.block_device.specs.Mounting.{wrong_place}
+
+-- a bad line of metadata, or a word that is not as it has to be
+pub data Finding : Type 0 where
+  bad_line : ℕ → Finding
+  wrong_word : ℕ → Finding
+
+-- the sizes that the first line tells, as last stored
+abbrev pub geometry_told : Medium → Geometry
+geometry_told m = geometry_of (last_image m)
+
+-- the first line is bad, or else this is its lowest wrong word
+abbrev pub superblock_finding : Medium → Option Finding
+superblock_finding m = if m.is_bad 0 then Some (bad_line 0) else option_map wrong_word (first_wrong_word m.count (last_image m))
+
+-- the lowest bad line of metadata, or else the first word of the lowest weak one
+abbrev pub meta_finding : Geometry → Medium → Option Finding
+meta_finding geo m =
+    first_there (option_map bad_line (position m.is_bad (range_with_len 0 (meta_lines geo))))
+    (option_map (λ n. wrong_word (8 * n)) (position m.is_weak (range_with_len 0 (meta_lines geo))))
+
+-- what is found before any log is read
+unfoldable pub early_finding : Medium → Option Finding
+early_finding m = first_there (superblock_finding m) (meta_finding (geometry_told m) m)
+
+-- what is found first: that, or else the first wrong word of the block log, or of the block map after its replay
+unfoldable pub first_finding : Medium → Option Finding
+first_finding m = first_there (early_finding m) (option_map wrong_word (wrong_place (geometry_told m) (last_image m)))

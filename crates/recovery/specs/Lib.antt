@@ -1,0 +1,5 @@
+pub mod Stopped
+pub mod Findings
+pub mod Mounting
+pub mod Examples
+pub mod Fresh
