@@ -1,24 +1,21 @@
 -- How large what a line asks for can be.
-use Rattle.std.proofs.Common.{All, ◌≡◌, ◌==◌, ◌&&◌, ℕ, ◌^◌, ◌<◌, ◌≤◌, Bool, true, false, nat_lt, nat_le, List, [], ◌∷◌, ◌++◌, length, replicate, Option, Some, None, Result, Ok, Err, option_map, option_and_then, if◌then◌else◌, codes, IfOk, IfSome, refl, subst, ap, arith, rules, tests, length-append}
-use Rattle.std.specs.List.{slice_split}
+use Rattle.std.proofs.Common.{All, ◌≡◌, ◌&&◌, ℕ, ◌+◌, ◌^◌, ◌<◌, ◌≤◌, Bool, true, false, nat_lt, nat_le, List, [], ◌∷◌, ◌++◌, length, Option, Some, None, Result, Ok, Err, option_map, option_and_then, if◌then◌else◌, codes, IfOk, IfSome, refl, sym, ◌∙◌, subst, ap, arith, rules, tests, sum_by, length-append}
 use Rattle.std.specs.Str.{bytes_eq}
-use Rattle.std.proofs.lemmas.List.Splits.{length-slice_split}
 use Rattle.nvm_base.specs.Numbers.{digits_after, number_of}
 use Rattle.nvm_base.specs.declared.units.Span.{Span}
 use Rattle.nvm_base.specs.declared.reading.TextFault.{TextFault}
-use Rattle.nvm_base.specs.declared.reading.TextFault.TheVariants.{TooLong}
-use Rattle.std.proofs.lemmas.List.{length-replicate}
+use Rattle.std.proofs.lemmas.List.Sums.{sum_by-cons}
 use Rattle.std.proofs.lemmas.List.Elements.{All-nil, All-cons}
-use Rattle.nvm_base.specs.Data.{Run, size, spelled, run, followed, pair_of, pairs_of, repeated, item_of, items_of, runs_of, within, data_within}
-use Rattle.nvm_base.proofs.ReadingLemmas.{size-append}
+use Rattle.nvm_base.specs.Data.{data_of, data_within}
+use Rattle.script_text.proofs.DataLemmas.{data_of-some, data_within-ok}
 use Rattle.script_text.specs.Action.{Action, action_of}
-use Rattle.script_text.specs.Action.Action.{BRead, BWrite, BDiscard, BDiscardIf, BExists, BScar, VLoad, VStore, VSync, Cut, Restart}
-use Rattle.script_text.specs.Script.{of_numbers, of_data, number_action, span_action, data_action, with_span, spans_of, spans_action, cut_action, restart_action, volume_action, plain_action, command_action, is_comment, asked, words_input}
+use Rattle.script_text.specs.Action.Action.{BRead, BWrite, BDiscard, BDiscardIf, BExists, BScar, BAtomic, BMulti, VLoad, VStore, VSync, Cut, CutIn, Restart}
+use Rattle.script_text.specs.Script.{of_numbers, of_data, number_action, span_action, data_action, with_span, spans_of, spans_action, with_range, ranges_of, fitting, ranges_action, cut_action, restart_action, volume_action, plain_action, command_action, is_comment, asked, words_input}
 use Rattle.script_text.specs.Script.Input.{Skipped, Asked}
 use Rattle.line_device.specs.declared.line.Choice.TheVariants.{Firsts, Lasts}
 use Rattle.script_text.specs.declared.parsing.LineFault.{LineFault}
 use Rattle.script_text.specs.declared.command.Command.{Command}
-use Rattle.script_text.specs.Parsing.{InBounds, IsSmall, Parses}
+use Rattle.script_text.specs.Parsing.{InBounds, IsSmall, IsSmallRange, Parses}
 
 -- a number is below 2 ^ 32
 number_of-below : (text : List ℕ) (n : ℕ) → number_of text ≡ Some n → n < 2 ^ 32
@@ -33,72 +30,6 @@ number_of-below text n e = go (nat_le 1 (length text) && nat_le (length text) 10
     go true None e = absurd (cc)
     go true (Some m) e = fits m (nat_lt m (2 ^ 32)) refl e
     go false o e = absurd (cc)
-
-followed-some : (first : List Run) (o : Option (List Run)) (runs : List Run) → 0 < size first → followed (Some first) o ≡ Some runs → 0 < size runs
-followed-some first None runs some e = absurd (cc)
-followed-some first (Some more) runs some e =
-    let is : first ++ more ≡ runs = cc in
-    omega (arith, size-append first more, ap size is)
-
-pairs_of-some : (a b : ℕ) (text : List ℕ) (runs : List Run) → pairs_of (a ∷ b ∷ text) ≡ Some runs → 0 < size runs
-pairs_of-some a b text runs e = go (pair_of a b) e
-  where
-    go : (o : Option ℕ) → followed (option_map (λ byte. run byte 1) o) (pairs_of text) ≡ Some runs → 0 < size runs
-    go None e = absurd (cc)
-    go (Some byte) e = followed-some (run byte 1) (pairs_of text) runs (omega arith) e
-
-repeated-some : (byte count : Option ℕ) (runs : List Run) → repeated byte count ≡ Some runs → 0 < size runs
-repeated-some None count runs e = absurd (cc)
-repeated-some (Some byte) None runs e = absurd (cc)
-repeated-some (Some byte) (Some count) runs e = go (nat_lt 0 count) refl e
-  where
-    go : (b : Bool) → nat_lt 0 count ≡ b → (if b then Some (run byte count) else None) ≡ Some runs → 0 < size runs
-    go true t e =
-        let is : run byte count ≡ runs = cc in
-        let some : 0 < count = search (rules, tests) in
-        omega (arith, ap size is)
-    go false t e = absurd (cc)
-
-item_of-some : (item : List ℕ) (runs : List Run) → item_of item ≡ Some runs → 0 < size runs
-item_of-some [] runs e = absurd (cc)
-item_of-some (a ∷ []) runs e = absurd (cc)
-item_of-some (a ∷ b ∷ []) runs e = pairs_of-some a b [] runs e
-item_of-some (a ∷ b ∷ c ∷ text) runs e = go (c == 42) e
-  where
-    go : (t : Bool) → elim t [ true ↦ repeated (pair_of a b) (number_of text) | false ↦ pairs_of (a ∷ b ∷ c ∷ text) ] ≡ Some runs → 0 < size runs
-    go true e = repeated-some (pair_of a b) (number_of text) runs e
-    go false e = pairs_of-some a b (c ∷ text) runs e
-
-items_of-some : (items : List (List ℕ)) (runs : List Run) → 0 < length items → items_of items ≡ Some runs → 0 < size runs
-items_of-some [] runs some e = absurd (omega arith)
-items_of-some (item ∷ items) runs some e = go (item_of item) refl e
-  where
-    go : (o : Option (List Run)) → item_of item ≡ o → followed o (items_of items) ≡ Some runs → 0 < size runs
-    go None is e = absurd (cc)
-    go (Some first) is e = followed-some first (items_of items) runs (item_of-some item first is) e
-
-length-spelled : (runs : List Run) → length (spelled runs) ≡ size runs
-length-spelled [] = refl
-length-spelled (r ∷ rs) = omega (arith, length-append (replicate r.count r.byte) (spelled rs), length-replicate r.count r.byte, length-spelled rs)
-
--- DATA spells a byte or more, and no more than there is room for
-data_within-size : (room : ℕ) (text bytes : List ℕ) → data_within room text ≡ Ok bytes → (0 < length bytes) × (length bytes ≤ room)
-unfolding data_within runs_of
-data_within-size room text bytes e = go (items_of (slice_split (λ c. c == 44) text)) refl e
-  where
-    sized : (runs : List Run) (b : Bool) → nat_le (size runs) room ≡ b → 0 < size runs → ◌≡◌ {A = Result (List ℕ) TextFault} (elim b [ true ↦ Ok (spelled runs) | false ↦ Err TooLong ]) (Ok bytes) → (0 < length bytes) × (length bytes ≤ room)
-    sized runs true t some e =
-        let is : spelled runs ≡ bytes = cc in
-        let most : size runs ≤ room = search (rules, tests) in
-        let count = length-spelled runs in
-        (omega (arith, ap length is), omega (arith, ap length is))
-    sized runs false t some e = absurd (cc)
-
-    go : (o : Option (List Run)) → items_of (slice_split (λ c. c == 44) text) ≡ o → within room o ≡ Ok bytes → (0 < length bytes) × (length bytes ≤ room)
-    go None is e = absurd (cc)
-    go (Some runs) is e =
-        let some = items_of-some (slice_split (λ c. c == 44) text) runs (omega (arith, length-slice_split (λ c. c == 44) text)) is in
-        sized runs (nat_le (size runs) room) refl some e
 
 -- two numbers of text
 of_numbers-bounds : (make : ℕ → ℕ → Action) → ((a b : ℕ) → a < 2 ^ 32 → b < 2 ^ 32 → InBounds (make a b)) → (x y : List ℕ) (action : Action) → of_numbers make (number_of x) (number_of y) ≡ Some action → InBounds action
@@ -129,8 +60,8 @@ of_data-bounds make small x text action e = go (number_of x) (data_within 65536 
     go (Some a) (Err fault) is also e = absurd (cc)
     go (Some a) (Ok bytes) is also e =
         let same : make a bytes ≡ action = cc in
-        let sized = data_within-size 65536 text bytes also in
-        subst InBounds same (small a bytes (number_of-below x a is) sized.0 sized.1)
+        let read = data_within-ok 65536 text bytes also in
+        subst InBounds same (small a bytes (number_of-below x a is) (data_of-some text bytes read.0) read.1)
 
 data_action-bounds : (make : ℕ → List ℕ → Action) → DataInBounds make → (words : List (List ℕ)) (action : Action) → data_action make words ≡ Some action → InBounds action
 data_action-bounds make small [] action e = absurd (cc)
@@ -181,9 +112,70 @@ scar_action-bounds (x ∷ words) action e = go (spans_of (x ∷ words)) refl e
     go None is e = absurd (cc)
     go (Some spans) is e = let same : BScar spans ≡ action = cc in subst InBounds same (spans_of-some x words spans is, spans_of-small (x ∷ words) spans is)
 
+-- ranges and their bytes
+abbrev AreSmall : List Span × List ℕ → Type 0
+AreSmall p = All IsSmallRange p.0 × (length p.1 ≡ sum_by (λ (r : Span). r.len) p.0)
+
+with_range-small : (start : ℕ) (bytes : List ℕ) (p : List Span × List ℕ) → start < 2 ^ 32 → 0 < length bytes → length (bytes ++ p.1) ≤ 65536 → (length p.1 ≤ 65536 → AreSmall p) → AreSmall (record { start = start; len = length bytes } ∷ p.0, bytes ++ p.1)
+with_range-small start bytes p below some most small =
+    let both = length-append bytes p.1 in
+    let rest = small (omega arith) in
+    let total = sum_by-cons (λ (r : Span). r.len) (record { start = start; len = length bytes }) p.0 in
+    let few : length bytes ≤ 65536 = omega arith in
+    (All-cons IsSmallRange _ p.0 (below, some, few) rest.0, both ∙ ap (λ n. length bytes + n) rest.1 ∙ sym total)
+
+ranges_of-small : (words : List (List ℕ)) (p : List Span × List ℕ) → ranges_of words ≡ Some p → length p.1 ≤ 65536 → AreSmall p
+ranges_of-small [] p e most = let same : ([], []) ≡ p = cc in subst AreSmall same (All-nil IsSmallRange, refl)
+ranges_of-small (x ∷ []) p e most = absurd (cc)
+ranges_of-small (x ∷ text ∷ words) p e most = go (number_of x) (data_of text) (ranges_of words) refl refl (ranges_of-small words) refl e
+  where
+    go : (m : Option ℕ) (d : Option (List ℕ)) (o : Option (List Span × List ℕ)) → number_of x ≡ m → data_of text ≡ d
+        → ((q : List Span × List ℕ) → ranges_of words ≡ Some q → length q.1 ≤ 65536 → AreSmall q)
+        → ranges_of words ≡ o → with_range m d o ≡ Some p → AreSmall p
+    go None d o is also small rest e = absurd (cc)
+    go (Some a) None o is also small rest e = absurd (cc)
+    go (Some a) (Some b) None is also small rest e = absurd (cc)
+    go (Some a) (Some b) (Some q) is also small rest e =
+        let same : (record { start = a; len = length b } ∷ q.0, b ++ q.1) ≡ p = cc in
+        let fits : length (b ++ q.1) ≤ 65536 = omega (arith, ap (λ r. length r.1) same) in
+        subst AreSmall same (with_range-small a b q (number_of-below x a is) (data_of-some text b also) fits (small q rest))
+
+ranges_of-some : (x : List ℕ) (words : List (List ℕ)) (p : List Span × List ℕ) → ranges_of (x ∷ words) ≡ Some p → 0 < length p.0
+ranges_of-some x [] p e = absurd (cc)
+ranges_of-some x (text ∷ words) p e = go (number_of x) (data_of text) (ranges_of words) e
+  where
+    go : (m : Option ℕ) (d : Option (List ℕ)) (o : Option (List Span × List ℕ)) → with_range m d o ≡ Some p → 0 < length p.0
+    go None d o e = absurd (cc)
+    go (Some a) None o e = absurd (cc)
+    go (Some a) (Some b) None e = absurd (cc)
+    go (Some a) (Some b) (Some q) e =
+        let same : (record { start = a; len = length b } ∷ q.0, b ++ q.1) ≡ p = cc in
+        subst (λ r. 0 < length r.0) same (omega arith)
+
+multi_action-bounds : (words : List (List ℕ)) (action : Action) → ranges_action BMulti words ≡ Some action → InBounds action
+multi_action-bounds [] action e = absurd (cc)
+multi_action-bounds (x ∷ words) action e = go (ranges_of (x ∷ words)) refl e
+  where
+    sized : (p : List Span × List ℕ) (b : Bool) → nat_le (length p.1) 65536 ≡ b → ranges_of (x ∷ words) ≡ Some p
+        → option_map (λ p. BMulti p.0 p.1) (if b then Some p else None) ≡ Some action → InBounds action
+    sized p true t is e =
+        let same : BMulti p.0 p.1 ≡ action = cc in
+        let most : length p.1 ≤ 65536 = search (rules, tests) in
+        let small = ranges_of-small (x ∷ words) p is most in
+        subst InBounds same (ranges_of-some x words p is, small.0, small.1, most)
+    sized p false t is e = absurd (cc)
+
+    go : (o : Option (List Span × List ℕ)) → ranges_of (x ∷ words) ≡ o → option_map (λ p. BMulti p.0 p.1) (fitting 65536 o) ≡ Some action → InBounds action
+    go None is e = absurd (cc)
+    go (Some p) is e = sized p (nat_le (length p.1) 65536) refl is e
+
 cut_action-bounds : (words : List (List ℕ)) (action : Action) → cut_action words ≡ Some action → InBounds action
 cut_action-bounds [] action e = let same : Cut ≡ action = cc in subst InBounds same tt
-cut_action-bounds (x ∷ more) action e = absurd (cc)
+cut_action-bounds (x ∷ words) action e = go (bytes_eq x (codes "in")) e
+  where
+    go : (b : Bool) → (if b then number_action CutIn words else None) ≡ Some action → InBounds action
+    go true e = number_action-bounds CutIn (λ a p. p) words action e
+    go false e = absurd (cc)
 
 restart_action-bounds : (words : List (List ℕ)) (action : Action) → restart_action words ≡ Some action → InBounds action
 restart_action-bounds [] action e = absurd (cc)
@@ -219,13 +211,16 @@ plain_action-bounds name words action e =
 
 command_action-bounds : (name : List ℕ) (words : List (List ℕ)) (action : Action) → command_action name words ≡ Some action → InBounds action
 unfolding command_action
-command_action-bounds name words action e = go (bytes_eq name (codes "bwrite")) (bytes_eq name (codes "vstore")) (bytes_eq name (codes "bscar")) e
+command_action-bounds name words action e =
+    go (bytes_eq name (codes "bwrite")) (bytes_eq name (codes "vstore")) (bytes_eq name (codes "bscar")) (bytes_eq name (codes "batomic")) (bytes_eq name (codes "bmulti")) e
   where
-    go : (write store scar : Bool) → (if write then data_action BWrite words else (if store then data_action VStore words else (if scar then spans_action BScar words else plain_action name words))) ≡ Some action → InBounds action
-    go true store scar e = data_action-bounds BWrite (λ a bytes p q r. (p, q, r)) words action e
-    go false true scar e = data_action-bounds VStore (λ a bytes p q r. (p, q, r)) words action e
-    go false false true e = scar_action-bounds words action e
-    go false false false e = plain_action-bounds name words action e
+    go : (write store scar atomic multi : Bool) → (if write then data_action BWrite words else (if store then data_action VStore words else (if scar then spans_action BScar words else (if atomic then data_action BAtomic words else (if multi then ranges_action BMulti words else plain_action name words))))) ≡ Some action → InBounds action
+    go true store scar atomic multi e = data_action-bounds BWrite (λ a bytes p q r. (p, q, r)) words action e
+    go false true scar atomic multi e = data_action-bounds VStore (λ a bytes p q r. (p, q, r)) words action e
+    go false false true atomic multi e = scar_action-bounds words action e
+    go false false false true multi e = data_action-bounds BAtomic (λ a bytes p q r. (p, q, r)) words action e
+    go false false false false true e = multi_action-bounds words action e
+    go false false false false false e = plain_action-bounds name words action e
 
 asked-bounds : (o : Option Action) (action : Action) → ((a : Action) → o ≡ Some a → InBounds a) → asked o ≡ Asked action → InBounds action
 asked-bounds None action small e = absurd (cc)

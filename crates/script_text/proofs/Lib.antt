@@ -1,3 +1,5 @@
 pub mod LineLemmas
 pub mod WordLemmas
+pub mod DataLemmas
+pub mod RangeLemmas
 pub mod BoundLemmas

@@ -12,10 +12,13 @@ pub data Action : Type 0 where
   BDiscardIf : ℕ → ℕ → Action
   BExists : ℕ → Action
   BScar : List Span → Action
+  BAtomic : ℕ → List ℕ → Action
+  BMulti : List Span → List ℕ → Action
   VLoad : ℕ → ℕ → Action
   VStore : ℕ → List ℕ → Action
   VSync : ℕ → ℕ → Action
   Cut : Action
+  CutIn : ℕ → Action
   Restart : Choice → Action
 
 -- what a command asks for
@@ -26,8 +29,11 @@ action_of (command.BDiscard block count) = BDiscard block count
 action_of (command.BDiscardIf block count) = BDiscardIf block count
 action_of (command.BExists block) = BExists block
 action_of (command.BScar ranges) = BScar ranges.items
+action_of (command.BAtomic block bytes) = BAtomic block bytes.items
+action_of (command.BMulti ranges bytes) = BMulti ranges.items bytes.items
 action_of (command.VLoad offset len) = VLoad offset len
 action_of (command.VStore offset bytes) = VStore offset bytes.items
 action_of (command.VSync offset len) = VSync offset len
 action_of command.Cut = Cut
+action_of (command.CutIn calls) = CutIn calls
 action_of (command.Restart choice) = Restart choice

@@ -1,3 +1,4 @@
 pub mod Action
 pub mod Script
 pub mod Parsing
+pub mod Rows

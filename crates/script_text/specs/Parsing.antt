@@ -1,14 +1,14 @@
 -- What reading a script's text may give.
-use Rattle.std.specs.Prelude.{◌≡◌, ◌⊎◌, ℕ, ◌<◌, ◌≤◌, ◌^◌, List, [], ◌∷◌, length, Option, Some, None, Result, Ok, Err, codes, All, option_map}
+use Rattle.std.specs.Prelude.{◌≡◌, ◌⊎◌, ℕ, ◌<◌, ◌≤◌, ◌^◌, List, [], ◌∷◌, length, Option, Some, None, Result, Ok, Err, codes, All, option_map, sum_by}
 use Rattle.nvm_base.specs.declared.units.Span.{Span}
 use Rattle.nvm_base.specs.Stock.{Stock}
 use Rattle.script_text.specs.declared.command.Command.{Command}
 use Rattle.script_text.specs.declared.parsing.LineFault.{LineFault}
 use Rattle.script_text.specs.declared.parsing.LineFault.TheVariants.{Syntax, Memory}
 use Rattle.script_text.specs.Action.{Action, action_of}
-use Rattle.script_text.specs.Action.Action.{BRead, BWrite, BDiscard, BDiscardIf, BExists, BScar, VLoad, VStore, VSync, Cut, Restart}
+use Rattle.script_text.specs.Action.Action.{BRead, BWrite, BDiscard, BDiscardIf, BExists, BScar, BAtomic, BMulti, VLoad, VStore, VSync, Cut, CutIn, Restart}
 use Rattle.std.specs.Borrow.{Bor}
-use Rattle.script_text.specs.Script.{Input, spans_of, words_of}
+use Rattle.script_text.specs.Script.{Input, fitting, ranges_of, spans_of, with_range, words_of}
 use Rattle.script_text.specs.Script.Input.{Skipped, Malformed, Asked}
 
 -- what came of words that ask for this
@@ -23,6 +23,12 @@ ReadsSpans asks (Ok spans) = asks ≡ Some spans.items
 ReadsSpans asks (Err Syntax) = asks ≡ None
 ReadsSpans asks (Err Memory) = Unit {0}
 
+-- what came of words that are pairs of a block and DATA
+abbrev pub ReadsRanges : Option (List Span × List ℕ) → Result (Stock Span × Stock ℕ) LineFault → Type 0
+ReadsRanges asks (Ok p) = asks ≡ Some (p.0.items, p.1.items)
+ReadsRanges asks (Err Syntax) = asks ≡ None
+ReadsRanges asks (Err Memory) = Unit {0}
+
 -- what came of a line that stands for this
 abbrev pub Parses : Input → Result (Option Command) LineFault → Type 0
 Parses input (Ok None) = input ≡ Skipped
@@ -32,7 +38,7 @@ Parses input (Err Memory) = Unit {0}
 
 -- the name of a command that brings a list
 abbrev pub IsLong : List ℕ → Type 0
-IsLong name = (name ≡ codes "bwrite") ⊎ (name ≡ codes "vstore") ⊎ (name ≡ codes "bscar")
+IsLong name = (name ≡ codes "bwrite") ⊎ (name ≡ codes "vstore") ⊎ (name ≡ codes "bscar") ⊎ (name ≡ codes "batomic") ⊎ (name ≡ codes "bmulti")
 
 -- the words are of such a command
 abbrev pub BringsMore : List (List ℕ) → Type 0
@@ -43,7 +49,11 @@ BringsMore (name ∷ words) = IsLong name
 abbrev pub IsSmall : Span → Type 0
 IsSmall span = (span.start < 2 ^ 32) × (span.len < 2 ^ 32)
 
--- numbers are below 2 ^ 32, DATA is 1 to 65,536 bytes, and of pairs there is one
+-- a range begins below 2 ^ 32 and has 1 to 65,536 bytes
+abbrev pub IsSmallRange : Span → Type 0
+IsSmallRange range = (range.start < 2 ^ 32) × (1 ≤ range.len) × (range.len ≤ 65536)
+
+-- numbers are below 2 ^ 32, DATA is 1 to 65,536 bytes, of pairs there is one, and ranges have as many bytes as they are long
 abbrev pub InBounds : Action → Type 0
 InBounds (BRead block count) = (block < 2 ^ 32) × (count < 2 ^ 32)
 InBounds (BWrite block bytes) = (block < 2 ^ 32) × (0 < length bytes) × (length bytes ≤ 65536)
@@ -51,10 +61,14 @@ InBounds (BDiscard block count) = (block < 2 ^ 32) × (count < 2 ^ 32)
 InBounds (BDiscardIf block count) = (block < 2 ^ 32) × (count < 2 ^ 32)
 InBounds (BExists block) = block < 2 ^ 32
 InBounds (BScar ranges) = (0 < length ranges) × All IsSmall ranges
+InBounds (BAtomic block bytes) = (block < 2 ^ 32) × (0 < length bytes) × (length bytes ≤ 65536)
+InBounds (BMulti ranges bytes) = (0 < length ranges) × All IsSmallRange ranges
+    × (length bytes ≡ sum_by (λ (r : Span). r.len) ranges) × (length bytes ≤ 65536)
 InBounds (VLoad offset len) = (offset < 2 ^ 32) × (len < 2 ^ 32)
 InBounds (VStore offset bytes) = (offset < 2 ^ 32) × (0 < length bytes) × (length bytes ≤ 65536)
 InBounds (VSync offset len) = (offset < 2 ^ 32) × (len < 2 ^ 32)
 InBounds Cut = Unit {0}
+InBounds (CutIn calls) = calls < 2 ^ 32
 InBounds (Restart choice) = Unit {0}
 
 -- the word where it is the only one
@@ -74,3 +88,12 @@ FindsSpan text (Ok (Some p)) = (length (words_of p.1.now) < length (words_of tex
     × (spans_of (words_of text) ≡ option_map (λ spans. p.0 ∷ spans) (spans_of (words_of p.1.now)))
 FindsSpan text (Err Syntax) = spans_of (words_of text) ≡ None
 FindsSpan text (Err Memory) = ⊥
+
+-- What comes first of a text of pairs with DATA, where there is room for so many bytes: one of them and a text with fewer
+-- words, or nothing, or no pairs that fit.
+abbrev pub FindsRange : ℕ → List ℕ → Result (Option (ℕ × Stock ℕ × Bor (List ℕ))) LineFault → Type 0
+FindsRange room text (Ok None) = words_of text ≡ []
+FindsRange room text (Ok (Some p)) = (length (words_of p.2.now) < length (words_of text)) × (length p.1.items ≤ room)
+    × (ranges_of (words_of text) ≡ with_range (Some p.0) (Some p.1.items) (ranges_of (words_of p.2.now)))
+FindsRange room text (Err Syntax) = fitting room (ranges_of (words_of text)) ≡ None
+FindsRange room text (Err Memory) = Unit {0}

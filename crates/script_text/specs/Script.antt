@@ -1,14 +1,14 @@
 -- A script's bytes as lines, and a line as a command.
-use Rattle.std.specs.Prelude.{◌==◌, ◌||◌, ℕ, Bool, false, List, [], ◌∷◌, length, filter, nat_lt, Option, Some, None, option_map, Result, Ok, Err, if◌then◌else◌, codes}
+use Rattle.std.specs.Prelude.{◌==◌, ◌||◌, ℕ, Bool, false, List, [], ◌∷◌, ◌++◌, length, filter, nat_le, nat_lt, Option, Some, None, option_map, Result, Ok, Err, if◌then◌else◌, codes}
 use Rattle.std.specs.List.{slice_split, onto_first}
 use Rattle.std.specs.Str.{bytes_eq}
 use Rattle.std.specs.Io.BufRead.{strip_last}
 use Rattle.nvm_base.specs.declared.units.Span.{Span}
 use Rattle.nvm_base.specs.Numbers.{number_of}
-use Rattle.nvm_base.specs.Data.{data_within}
+use Rattle.nvm_base.specs.Data.{data_of, data_within}
 use Rattle.line_device.specs.declared.line.Choice.TheVariants.{Firsts, Lasts}
 use Rattle.script_text.specs.Action.{Action}
-use Rattle.script_text.specs.Action.Action.{BRead, BWrite, BDiscard, BDiscardIf, BExists, BScar, VLoad, VStore, VSync, Cut, Restart}
+use Rattle.script_text.specs.Action.Action.{BRead, BWrite, BDiscard, BDiscardIf, BExists, BScar, BAtomic, BMulti, VLoad, VStore, VSync, Cut, CutIn, Restart}
 
 -- a line: nothing to do, no command, or what it asks for
 pub data Input : Type 0 where
@@ -41,7 +41,7 @@ of_data make (Some a) (Ok bytes) = Some (make a bytes)
 of_data make (Some a) (Err e) = None
 of_data make None bytes = None
 
--- the words after a command's name: one number, two, a number and DATA, or pairs of numbers
+-- the words after a command's name: one number, two, a number and DATA, pairs of numbers, or pairs of a number and DATA
 abbrev pub number_action : (ℕ → Action) → List (List ℕ) → Option Action
 number_action make (a ∷ []) = option_map make (number_of a)
 number_action make _ = None
@@ -70,9 +70,31 @@ abbrev pub spans_action : (List Span → Action) → List (List ℕ) → Option 
 spans_action make [] = None
 spans_action make (a ∷ words) = option_map make (spans_of (a ∷ words))
 
+-- one range more and its bytes before those of the others, where all of it is there
+abbrev pub with_range : Option ℕ → Option (List ℕ) → Option (List Span × List ℕ) → Option (List Span × List ℕ)
+with_range (Some start) (Some bytes) (Some p) = Some (record { start = start; len = length bytes } ∷ p.0, bytes ++ p.1)
+with_range (Some start) (Some bytes) None = None
+with_range (Some start) None rest = None
+with_range None bytes rest = None
+
+-- ranges from pairs of a block and DATA, their lengths in bytes, and the bytes one after another
+abbrev pub ranges_of : List (List ℕ) → Option (List Span × List ℕ)
+ranges_of [] = Some ([], [])
+ranges_of (a ∷ []) = None
+ranges_of (a ∷ text ∷ words) = with_range (number_of a) (data_of text) (ranges_of words)
+
+-- ranges and their bytes, where there is room for all bytes together
+abbrev pub fitting : ℕ → Option (List Span × List ℕ) → Option (List Span × List ℕ)
+fitting room None = None
+fitting room (Some p) = if nat_le (length p.1) room then Some p else None
+
+abbrev pub ranges_action : (List Span → List ℕ → Action) → List (List ℕ) → Option Action
+ranges_action make [] = None
+ranges_action make (a ∷ words) = option_map (λ p. make p.0 p.1) (fitting 65536 (ranges_of (a ∷ words)))
+
 abbrev pub cut_action : List (List ℕ) → Option Action
 cut_action [] = Some Cut
-cut_action (a ∷ more) = None
+cut_action (word ∷ words) = if bytes_eq word (codes "in") then number_action CutIn words else None
 
 abbrev pub restart_action : List (List ℕ) → Option Action
 restart_action (choice ∷ []) =
@@ -99,7 +121,9 @@ unfoldable pub command_action : List ℕ → List (List ℕ) → Option Action
 command_action name words =
     if bytes_eq name (codes "bwrite") then data_action BWrite words
     else (if bytes_eq name (codes "vstore") then data_action VStore words
-    else (if bytes_eq name (codes "bscar") then spans_action BScar words else plain_action name words))
+    else (if bytes_eq name (codes "bscar") then spans_action BScar words
+    else (if bytes_eq name (codes "batomic") then data_action BAtomic words
+    else (if bytes_eq name (codes "bmulti") then ranges_action BMulti words else plain_action name words))))
 
 abbrev pub asked : Option Action → Input
 asked None = Malformed

@@ -1,10 +1,11 @@
 ghost use Rattle.std.specs.Prelude.{◌≡◌, ℕ, List, IfErr, codes, option_map};
 ghost use Rattle.script_text.specs.Action.{Action, action_of};
-ghost use Rattle.script_text.specs.Action.Action.{BScar, BWrite, Restart, VStore};
+ghost use Rattle.script_text.specs.Action.Action.{BAtomic, BMulti, BScar, BWrite, Restart, VStore};
 ghost use Rattle.script_text.specs.Parsing.{IsLong, Reads};
-ghost use Rattle.script_text.specs.Script.{command_action, data_action, number_action, plain_action, restart_action, span_action, spans_action, volume_action, words_of};
+ghost use Rattle.script_text.specs.Script.{command_action, cut_action, data_action, number_action, plain_action, ranges_action, restart_action, span_action, spans_action, volume_action, words_of};
 
 use crate::LineFault;
+use crate::ranges::read_ranges;
 use crate::spans::read_spans;
 use crate::words::{next_word, only_word, two_words};
 use line_device::Choice;
@@ -20,10 +21,13 @@ pub enum Command {
     BDiscardIf { block: u64, count: u64 },
     BExists { block: u64 },
     BScar { ranges: Spans },
+    BAtomic { block: u64, bytes: Bytes },
+    BMulti { ranges: Spans, bytes: Bytes },
     VLoad { offset: u64, len: u64 },
     VStore { offset: u64, bytes: Bytes },
     VSync { offset: u64, len: u64 },
     Cut,
+    CutIn { calls: u64 },
     Restart { choice: Choice },
 }
 
@@ -39,6 +43,10 @@ pub(crate) fn read_command(alloc: Global, name: &[u8], words: &[u8]) -> Result<C
         read_store(alloc, words)
     } else if name == b"bscar".as_slice() {
         read_scar(alloc, words)
+    } else if name == b"batomic".as_slice() {
+        read_atomic(alloc, words)
+    } else if name == b"bmulti".as_slice() {
+        read_multi(alloc, words)
     } else {
         read_plain(name, words).ok_or(LineFault::Syntax)
     }
@@ -70,7 +78,7 @@ fn read_volume(name: &[u8], words: &[u8]) -> Option<Command>
     } else if name == b"vsync".as_slice() {
         read_span(words).map(|(offset, len)| Command::VSync { offset, len })
     } else if name == b"cut".as_slice() {
-        next_word(words).is_none().then_some(Command::Cut)
+        read_cut(words)
     } else if name == b"restart".as_slice() {
         read_choice(words).map(|choice| Command::Restart { choice })
     } else {
@@ -105,6 +113,24 @@ fn read_scar(alloc: Global, words: &[u8]) -> Result<Command, LineFault>
     }
 }
 
+fn read_atomic(alloc: Global, words: &[u8]) -> Result<Command, LineFault>
+    ensures { Reads action_of (data_action BAtomic (words_of words.now)) result }
+{
+    match read_data(alloc, words) {
+        Ok((block, bytes)) => Ok(Command::BAtomic { block, bytes }),
+        Err(fault) => Err(fault),
+    }
+}
+
+fn read_multi(alloc: Global, words: &[u8]) -> Result<Command, LineFault>
+    ensures { Reads action_of (ranges_action BMulti (words_of words.now)) result }
+{
+    match read_ranges(alloc, words) {
+        Ok((ranges, bytes)) => Ok(Command::BMulti { ranges, bytes }),
+        Err(fault) => Err(fault),
+    }
+}
+
 // A number and DATA.
 fn read_data(alloc: Global, words: &[u8]) -> Result<(u64, Bytes), LineFault>
     ensures { (make : ℕ → List ℕ → Action) → Reads (λ p. make p.0 p.1.items) (data_action make (words_of words.now)) result }
@@ -134,6 +160,20 @@ fn read_only(words: &[u8]) -> Option<u64>
     ensures { (make : ℕ → Action) → option_map make result ≡ number_action make (words_of words.now) }
 {
     read_number(only_word(words)?)
+}
+
+// Nothing, or `in` and a number.
+fn read_cut(words: &[u8]) -> Option<Command>
+    ensures { option_map action_of result ≡ cut_action (words_of words.now) }
+{
+    let Some((word, rest)) = next_word(words) else {
+        return Some(Command::Cut);
+    };
+    if word == b"in".as_slice() {
+        read_only(rest).map(|calls| Command::CutIn { calls })
+    } else {
+        None
+    }
 }
 
 fn read_choice(words: &[u8]) -> Option<Choice>

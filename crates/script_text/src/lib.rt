@@ -4,6 +4,8 @@
 mod command;
 mod lines;
 mod parsing;
+mod ranges;
+mod rows;
 mod spans;
 #[cfg(test)]
 mod tests;
@@ -12,3 +14,4 @@ mod words;
 pub use command::Command;
 pub use lines::split_line;
 pub use parsing::{LineFault, parse};
+pub use rows::worked_lines;

@@ -1,0 +1,27 @@
+-- Worked lines: what they ask for.
+use Rattle.std.specs.Prelude.{◌≡◌, ℕ, [], ◌∷◌, ◌++◌, replicate, codes}
+use Rattle.nvm_base.specs.declared.units.Span.{Span}
+use Rattle.script_text.specs.Action.Action.{BAtomic, BMulti, Cut, CutIn}
+use Rattle.script_text.specs.Script.{line_input}
+use Rattle.script_text.specs.Script.Input.{Malformed, Asked}
+
+-- a range of blocks from its first block and its length in bytes
+abbrev pub range : ℕ → ℕ → Span
+range start len = record { start = start; len = len }
+
+pub record Rows : Type 0 where
+  pub one_range : line_input (codes "batomic 1 aa*512") ≡ Asked (BAtomic 1 (replicate 512 170))
+  pub several_ranges : line_input (codes "bmulti 0 11*512 3 22*512")
+      ≡ Asked (BMulti (range 0 512 ∷ range 3 512 ∷ []) (replicate 512 17 ++ replicate 512 34))
+  pub ranges_of_any_length : line_input (codes "bmulti 7 0102 0 ff*3") ≡ Asked (BMulti (range 7 2 ∷ range 0 3 ∷ []) (1 ∷ 2 ∷ 255 ∷ 255 ∷ 255 ∷ []))
+  pub no_range : line_input (codes "bmulti") ≡ Malformed
+  pub range_without_bytes : line_input (codes "bmulti 0") ≡ Malformed
+  pub last_range_without_bytes : line_input (codes "bmulti 0 11 1") ≡ Malformed
+  pub range_of_no_bytes : line_input (codes "bmulti 0 11*0 1 22") ≡ Malformed
+  pub too_many_bytes_together : line_input (codes "bmulti 0 00*40000 99 00*40000") ≡ Malformed
+  pub cut_at_once : line_input (codes "cut") ≡ Asked Cut
+  pub cut_later : line_input (codes "cut in 5") ≡ Asked (CutIn 5)
+  pub cut_in_no_calls : line_input (codes "cut in 0") ≡ Asked (CutIn 0)
+  pub cut_without_a_number : line_input (codes "cut in") ≡ Malformed
+  pub cut_at_another_word : line_input (codes "cut on 5") ≡ Malformed
+  pub cut_in_two_numbers : line_input (codes "cut in 5 6") ≡ Malformed
