@@ -1,10 +1,13 @@
 -- What a host and its device stand for, after a call on the blocks.
-use Rattle.std.proofs.Common.{◌≡◌, ◌≢◌, ◌⊎◌, ℕ, true, IsTrue, Option, Some, None, option_map, Result, Ok, Err, OnOk, List, [], ◌∷◌, length, inl, inr, refl, sym, ap, ap₂, subst, ◌∙◌, arith}
+use Rattle.std.proofs.Common.{◌≡◌, ◌≢◌, ◌⊎◌, ◌/◌, ℕ, true, IsTrue, nat_lt, Option, Some, None, option_map, Result, Ok, Err, OnOk, List, [], ◌∷◌, length, inl, inr, refl, sym, ap, ap₂, subst, ◌∙◌, arith}
 use Rattle.line_device.specs.Medium.{Medium}
 use Rattle.line_device.specs.Panel.{Runs}
-use Rattle.line_device.specs.Panel.Outcome.{failed, lost}
+use Rattle.line_device.specs.Panel.Outcome.{went}
 use Rattle.line_device.specs.Device.{Device}
 use Rattle.line_words.specs.Words.{WandersBeside}
+use Rattle.line_words.specs.Ending.{ended}
+use Rattle.line_words.specs.declared.interruption.Interruption.{Interruption}
+use Rattle.line_words.specs.declared.interruption.Interruption.TheVariants.{Failed, PowerLost}
 use Rattle.nvm_model.specs.Storage.{Block}
 use Rattle.nvm_model.specs.Page.{PagesStand}
 use Rattle.nvm_model.proofs.StandLemmas.{stand-loaded}
@@ -24,18 +27,22 @@ use Rattle.block_device.proofs.ImageLemmas.{each_reads-then, served_reads}
 use Rattle.nvm_base.specs.declared.units.Span.{Span}
 use Rattle.nvm_model.specs.Blocks.{first_there}
 use Rattle.script_text.specs.Action.{Action}
-use Rattle.script_text.specs.Action.Action.{BWrite}
+use Rattle.script_text.specs.Action.Action.{BWrite, BAtomic, BMulti}
 use Rattle.reply_text.specs.Answer.{Answer}
 use Rattle.word_tables.specs.Layout.{first_line, meta_lines, total_lines}
 use Rattle.word_tables.specs.declared.geometry.Geometry.{Geometry}
 use Rattle.machine_host.specs.declared.mode.Mode.TheVariants.{On}
 use Rattle.machine_host.specs.Machine.{Machine, block_refusal, done, effect, meta_refusal, unless, refusal_answer}
-use Rattle.machine_host.specs.Machine.Fate.{Gives}
+use Rattle.machine_host.specs.Machine.Fate.{Gives, Works}
+use Rattle.machine_host.specs.Interrupted.{MayLeaveBlocks, MayLeaveVolume, interrupted_answer, interrupted_mode}
+use Rattle.machine_host.specs.Run.{answered}
 use Rattle.machine_host.specs.Volume.{HasLayout, volume_of}
-use Rattle.machine_host.specs.Stands.{HostState, Serves, AreMounted, Stands, IsUnarmed, Comes, answer_after, fault_answer, fault_mode, is_powered, mode_after}
-use Rattle.machine_host.proofs.ElsewhereLemmas.{layout-beside, wander_volume-beside}
+use Rattle.machine_host.specs.Stands.{HostState, Serves, AreMounted, Stands, Comes, answer_after, fault_answer, fault_mode, is_powered, mode_after}
+use Rattle.machine_host.proofs.ElsewhereLemmas.{first_not_blocks, layout-beside, wander_volume-beside}
+use Rattle.recovery.specs.Fresh.{HasSuperblock}
+use Rattle.recovery.proofs.SuperblockLemmas.{superblock-beside}
 use Rattle.machine_host.proofs.VolumeLemmas.{volume_intact}
-use Rattle.machine_host.proofs.StepLemmas.{ends_well, stands_volume, stays_unarmed}
+use Rattle.machine_host.proofs.StepLemmas.{comes_of_interruption, is_whole, pages_left, stands_whole, tells_nothing, tells_work, whole_length, whole_pages}
 
 -- what a call on the blocks says, whichever it is
 pub record Called {T : Type 0} (host : HostState) (s : BlocksState) (r : Result T BlockFault) (P : List Block → Type 0) (calls persists : ℕ) (old new : Device) : Type 0 where
@@ -85,7 +92,7 @@ told_stays (fault.Poison block line) w e = refl
 told_stays fault.Device w e = absurd (cc)
 told_stays fault.PowerLost w e = absurd (cc)
 
-good_metadata : (geo : Geometry) (m : Medium) → HasLayout geo m → HasGoodMetadata geo m
+pub good_metadata : (geo : Geometry) (m : Medium) → HasLayout geo m → HasGoodMetadata geo m
 unfolding first_line total_lines
 good_metadata geo m layout n below = (layout.intact n (omega (arith, layout.lines, below))).0
 
@@ -106,13 +113,16 @@ module _ (host : HostState) (s : BlocksState) (P : List Block → Type 0) (calls
       subst (λ geo. AreReadable geo new.medium) mounted.geometry
       (each_reads-then host.blocks.geo new.medium P (λ bs. Unit {0}) (λ bs x. tt) each)
 
-  layout_after : WandersBeside (IsBlockLine host.blocks.geo) old.medium new.medium → HasLayout host.geometry new.medium
+  pub layout_after : WandersBeside (IsBlockLine host.blocks.geo) old.medium new.medium → HasLayout host.geometry new.medium
   layout_after x = layout-beside host.geometry (IsBlockLine host.blocks.geo) old.medium new.medium serves.layout x
+
+  superblock_after : WandersBeside (IsBlockLine host.blocks.geo) old.medium new.medium → HasSuperblock host.geometry new.medium
+  superblock_after x = superblock-beside host.geometry (IsBlockLine host.blocks.geo) old.medium new.medium x (first_not_blocks host.blocks.geo) serves.superblock
 
   mounted_after : s.geo ≡ host.blocks.geo → IsTrue s.settled → object.Serves s new.medium → AreMounted host.geometry s new.medium
   mounted_after geo settled served = record { geometry = geo ∙ mounted.geometry; settled = settled; serves = served }
 
-  served_after : (served : object.Serves s new.medium) → s.geo ≡ host.blocks.geo → HasLayout host.geometry new.medium → EachReads host.geometry new.medium (λ bs. bs ≡ blocks_of s new.medium)
+  pub served_after : (served : object.Serves s new.medium) → s.geo ≡ host.blocks.geo → HasLayout host.geometry new.medium → EachReads host.geometry new.medium (λ bs. bs ≡ blocks_of s new.medium)
   served_after served geo layout =
       let same = geo ∙ mounted.geometry in
       subst (λ g. EachReads g new.medium (λ bs. bs ≡ blocks_of s new.medium)) same
@@ -124,6 +134,7 @@ module _ (host : HostState) (s : BlocksState) (P : List Block → Type 0) (calls
       let served = c.serves c.object.1 in
       record {
         layout = layout;
+        superblock = superblock_after c.outside;
         power = c.runs.cause.0 ∙ power_was;
         readable = each_reads-then host.geometry new.medium (λ bs. bs ≡ blocks_of s new.medium) (λ bs. Unit {0}) (λ bs x. tt) (served_after served c.object.0 layout);
         mounted = λ _. mounted_after c.object.0 c.object.1 served;
@@ -145,93 +156,135 @@ module _ (host : HostState) (s : BlocksState) (P : List Block → Type 0) (calls
       failed_ : f ≡ fault.Device → Called {T = T} host s (Err fault.Device) P calls persists old new → Serves (record { geometry = host.geometry; mode = fault_mode On f; blocks = s }) new
       failed_ is c =
           subst (λ g. Serves (record { geometry = host.geometry; mode = fault_mode On g; blocks = s }) new) (sym is)
-          (record { layout = layout_after c.outside; power = c.runs.cause.0 ∙ power_was; readable = readable (c.images refl); mounted = λ e. cc })
+          (record { layout = layout_after c.outside; superblock = superblock_after c.outside; power = c.runs.cause.0 ∙ power_was; readable = readable (c.images refl); mounted = λ e. cc })
 
       lost_ : f ≡ fault.PowerLost → Called {T = T} host s (Err fault.PowerLost) P calls persists old new → Serves (record { geometry = host.geometry; mode = fault_mode On f; blocks = s }) new
       lost_ is c =
           subst (λ g. Serves (record { geometry = host.geometry; mode = fault_mode On g; blocks = s }) new) (sym is)
-          (record { layout = layout_after c.outside; power = c.runs.cause.0; readable = readable (c.images refl); mounted = λ e. cc })
+          (record { layout = layout_after c.outside; superblock = superblock_after c.outside; power = c.runs.cause.0; readable = readable (c.images refl); mounted = λ e. cc })
 
-  -- A change of the blocks that was done or refused comes to what the machine makes of it.
-  module _ (h : Machine) (stands : Stands host old h) (unarmed : IsUnarmed old.panel) (f : List Block → List Block) where
-    -- the state after a call that went well
-    pub stands_called : Called {T = Unit {0}} host s (Ok tt) P calls persists old new → blocks_of s new.medium ≡ f (blocks_of host.blocks old.medium)
-        → Stands (host_after {T = Unit {0}} host s (Ok tt)) new (record h { blocks = f h.blocks })
-    stands_called c ok =
-        let layout = layout_after c.outside in
-        let now : blocks_of s new.medium ≡ f h.blocks = ok ∙ ap f (stands.blocks on) in
-        let panel = stays_unarmed host old new h calls persists stands unarmed c.runs in
-        let lines = wander_volume-beside host.geometry (IsBlockLine host.blocks.geo) old.medium new.medium serves.layout.valid (λ n at. subst (λ g. IsBlockLine g n) mounted.geometry at) c.outside in
-        record {
-          geometry = stands.geometry;
-          mode = sym on ∙ stands.mode;
-          blocks = λ _. now;
-          device = record {
-            blocks =
-                subst (λ g. EachReads g new.medium (λ bs. bs ≡ f h.blocks)) stands.geometry
-                (each_reads-then host.geometry new.medium (λ bs. bs ≡ blocks_of s new.medium) (λ bs. bs ≡ f h.blocks) (λ bs e. e ∙ now) (served_after (c.serves c.object.1) c.object.0 layout));
-            pages = stands.device.pages;
-            volume =
-                subst (λ geo. PagesStand (volume_of geo new.medium) geo.vpages h.volume) stands.geometry
-                (stand-loaded (volume_of host.geometry old.medium) (volume_of host.geometry new.medium) host.geometry.vpages h.volume (stands_volume host old h stands)
-                (volume_intact host.geometry old.medium serves.layout) lines);
-            power = panel.power;
-            cut_armed = panel.cut_armed;
-            fail_armed = panel.fail_armed;
-            good_meta = stands.device.good_meta;
-            whole = stands.device.whole;
-          };
-        }
+-- A call on the blocks comes to what the machine makes of it: done, refused, or interrupted.
+module _ (host : HostState) (s : BlocksState) (action : Action) (calls persists : ℕ) (old new : Device) (on : host.mode ≡ On) (serves : Serves host old)
+    (h : Machine) (stands : Stands host old h) (f : List Block → List Block) where
+  -- what a call may leave
+  abbrev may : List Block → Type 0
+  may = MayLeaveBlocks (Some action) (blocks_of host.blocks old.medium)
 
-    pub comes_of_change : (action : Action) (good : Answer) (r : Result (Unit {0}) BlockFault) (why : Option Refusal) → block_refusal h action ≡ why
-        → done h action ≡ Gives good (record h { blocks = f h.blocks }) → Answers why r → OnOk r (blocks_of s new.medium ≡ f (blocks_of host.blocks old.medium))
-        → Called host s r P calls persists old new → Comes h (effect h action) (answer_after good r) (host_after host s r) old new
-    comes_of_change action good (Ok tt) None why_is done_is answers ok c =
-        subst (λ fate. Comes h fate good (host_after {T = Unit {0}} host s (Ok tt)) old new) (sym (ap (λ w. unless h w (done h action)) why_is ∙ done_is)) (record {
-          starts = [];
-          next = record h { blocks = f h.blocks };
-          takes = (refl, refl, refl);
-          told_starts = c.runs.orders.starts;
-          restarts = c.runs.orders.restarts;
-          stands = stands_called c ok;
-        })
-    comes_of_change action good (Ok tt) (Some w) why_is done_is answers ok c = absurd answers
-    comes_of_change action good (Err e) (Some w) why_is done_is answers ok c =
-        subst (λ fate. Comes h fate (fault_answer e) (host_after {T = Unit {0}} host s (Err e)) old new) (sym (ap (λ w. unless h w (done h action)) why_is))
-        (refused_here (c.untouched (λ none. cc)))
-      where
-        mode_stays : fault_mode On e ≡ host.mode
-        mode_stays = told_stays e w answers ∙ sym on
+  -- the volume's pages, which such a call leaves
+  pages_beside : WandersBeside (IsBlockLine host.blocks.geo) old.medium new.medium → PagesStand (volume_of host.geometry new.medium) host.geometry.vpages h.volume
+  pages_beside outside =
+      let geo_is = (serves.mounted on).geometry in
+      stand-loaded (volume_of host.geometry old.medium) (volume_of host.geometry new.medium) host.geometry.vpages h.volume
+      (whole_pages host old h stands (is_whole host old h stands on)) (volume_intact host.geometry old.medium serves.layout)
+      (wander_volume-beside host.geometry (IsBlockLine host.blocks.geo) old.medium new.medium serves.layout.valid (λ n at. subst (λ g. IsBlockLine g n) geo_is at) outside)
 
-        refused_here : (s ≡ host.blocks) × (new ≡ old) → Comes h (Gives (refusal_answer w) h) (fault_answer e) (record { geometry = host.geometry; mode = fault_mode On e; blocks = s }) old new
-        refused_here same =
-            subst (λ m. Comes h (Gives (refusal_answer w) h) (fault_answer e) (record { geometry = host.geometry; mode = m; blocks = s }) old new) (sym mode_stays)
-            (subst (λ b. Comes h (Gives (refusal_answer w) h) (fault_answer e) (record { geometry = host.geometry; mode = host.mode; blocks = b }) old new) (sym same.0)
-            (subst (λ d. Comes h (Gives (refusal_answer w) h) (fault_answer e) host old d) (sym same.1) (record {
-              starts = [];
-              next = h;
-              takes = (refl, answer_told e w answers, refl);
-              told_starts = refl;
-              restarts = refl;
-              stands = stands;
-            })))
-    comes_of_change action good (Err e) None why_is done_is answers ok c = absurd (stopped (refuses_or_stops e))
-      where
-        stopped : Refuses e ⊎ (e ≡ fault.Device) ⊎ (e ≡ fault.PowerLost) → ⊥
-        stopped (inl refuses) = refuses.told answers
-        stopped (inr (inl is)) = by_device (subst (λ g. Runs calls persists (block_outcome {T = Unit {0}} (Err g)) old.panel new.panel) is c.runs)
-          where
-            by_device : Runs calls persists failed old.panel new.panel → ⊥
-            by_device runs = let e = ends_well calls persists failed old.panel new.panel unarmed runs in cc
-        stopped (inr (inr is)) = by_cut (subst (λ g. Runs calls persists (block_outcome {T = Unit {0}} (Err g)) old.panel new.panel) is c.runs)
-          where
-            by_cut : Runs calls persists lost old.panel new.panel → ⊥
-            by_cut runs = let e = ends_well calls persists lost old.panel new.panel unarmed runs in cc
+  -- the state after a call that went well
+  stands_called : Called {T = Unit {0}} host s (Ok tt) may calls persists old new → blocks_of s new.medium ≡ f (blocks_of host.blocks old.medium)
+      → Stands (host_after {T = Unit {0}} host s (Ok tt)) new (record h { blocks = f h.blocks })
+  stands_called c ok =
+      let whole = is_whole host old h stands on in
+      let layout = layout_after host s may calls persists old new on serves c.outside in
+      let now : blocks_of s new.medium ≡ f h.blocks = ok ∙ ap f (stands.blocks on) in
+      let reads : EachReads h.geometry new.medium (λ bs. bs ≡ f h.blocks) =
+      subst (λ g. EachReads g new.medium (λ bs. bs ≡ f h.blocks)) stands.geometry
+      (each_reads-then host.geometry new.medium (λ bs. bs ≡ blocks_of s new.medium) (λ bs. bs ≡ f h.blocks) (λ bs e. e ∙ now)
+      (served_after host s may calls persists old new on serves (c.serves c.object.1) c.object.0 layout)) in
+      record {
+        geometry = stands.geometry;
+        mode = sym on ∙ stands.mode;
+        blocks = λ _. now;
+        device = record {
+          blocks = subst (λ torn. EachReads h.geometry new.medium (MayLeaveBlocks torn (f h.blocks))) (sym whole) reads;
+          volume = stands_whole host new h h.volume stands.geometry (whole_length host old h stands whole) (pages_beside c.outside) h.torn whole;
+          power = c.runs.cause.0 ∙ stands.device.power;
+          cut_armed = c.runs.cause.2 ∙ stands.device.cut_armed;
+          fail_armed = c.runs.cause.3 ∙ stands.device.fail_armed;
+          good_meta = stands.device.good_meta;
+          whole = stands.device.whole;
+        };
+      }
 
--- a call that changes blocks, whichever: what it says of device and object is what the host asks for
-pub on_refused-then : {T P Q : Type 0} (r : Result T BlockFault) → (P → Q) → OnRefused r P → OnRefused r Q
+  -- what each image reads as after an interruption
+  blocks_torn : EachReads host.blocks.geo new.medium may → EachReads h.geometry new.medium (MayLeaveBlocks (Some action) h.blocks)
+  blocks_torn each =
+      subst (λ bs. EachReads h.geometry new.medium (MayLeaveBlocks (Some action) bs)) (stands.blocks on)
+      (subst (λ g. EachReads g new.medium may) ((serves.mounted on).geometry ∙ stands.geometry) each)
+
+  -- what a fault comes to
+  abbrev Stopped : Answer → BlockFault → Type 0
+  Stopped good g = Comes h action (Works good (record h { blocks = f h.blocks })) (fault_answer g) (record { geometry = host.geometry; mode = fault_mode On g; blocks = s }) old new
+
+  comes_of_stop : (by : Interruption) (good : Answer) → MayLeaveVolume (Some action) h.volume h.volume → Runs calls persists (ended {T = Unit {0}} (Err by)) old.panel new.panel
+      → EachReads host.blocks.geo new.medium may → WandersBeside (IsBlockLine host.blocks.geo) old.medium new.medium
+      → Comes h action (Works good (record h { blocks = f h.blocks })) (interrupted_answer by) (record { geometry = host.geometry; mode = interrupted_mode by; blocks = s }) old new
+  comes_of_stop by good left runs each outside =
+      comes_of_interruption host old new h action stands serves on (record { geometry = host.geometry; mode = interrupted_mode by; blocks = s }) good (record h { blocks = f h.blocks })
+      by calls persists refl refl runs (blocks_torn each)
+      (pages_left host old new h action stands serves on h.volume (Some action) left refl (pages_beside outside))
+
+  pub comes_of_change : (good : Answer) (r : Result (Unit {0}) BlockFault) (why : Option Refusal) → MayLeaveVolume (Some action) h.volume h.volume → block_refusal h action ≡ why
+      → done h action ≡ Works good (record h { blocks = f h.blocks }) → Answers why r → OnOk r (blocks_of s new.medium ≡ f (blocks_of host.blocks old.medium))
+      → Called host s r may calls persists old new → Comes h action (effect h action) (answer_after good r) (host_after host s r) old new
+  comes_of_change good (Ok tt) None left why_is done_is answers ok c =
+      subst (λ fate. Comes h action fate good (host_after {T = Unit {0}} host s (Ok tt)) old new) (sym (ap (λ w. unless h w (done h action)) why_is ∙ done_is)) (record {
+        said = answered good;
+        next = record h { blocks = f h.blocks };
+        answers = refl;
+        takes = (good, refl, inl (refl, refl));
+        tells = tells_work calls persists went good old.panel new.panel c.runs;
+        stands = stands_called c ok;
+      })
+  comes_of_change good (Ok tt) (Some w) left why_is done_is answers ok c = absurd answers
+  comes_of_change good (Err e) (Some w) left why_is done_is answers ok c =
+      subst (λ fate. Comes h action fate (fault_answer e) (host_after {T = Unit {0}} host s (Err e)) old new) (sym (ap (λ w. unless h w (done h action)) why_is))
+      (refused_here (c.untouched (λ none. cc)))
+    where
+      mode_stays : fault_mode On e ≡ host.mode
+      mode_stays = told_stays e w answers ∙ sym on
+
+      refused_here : (s ≡ host.blocks) × (new ≡ old) → Comes h action (Gives (refusal_answer w) h) (fault_answer e) (record { geometry = host.geometry; mode = fault_mode On e; blocks = s }) old new
+      refused_here same =
+          subst (λ m. Comes h action (Gives (refusal_answer w) h) (fault_answer e) (record { geometry = host.geometry; mode = m; blocks = s }) old new) (sym mode_stays)
+          (subst (λ b. Comes h action (Gives (refusal_answer w) h) (fault_answer e) (record { geometry = host.geometry; mode = host.mode; blocks = b }) old new) (sym same.0)
+          (subst (λ d. Comes h action (Gives (refusal_answer w) h) (fault_answer e) host old d) (sym same.1)
+          (subst (λ a. Comes h action (Gives (refusal_answer w) h) a host old old) (sym (answer_told e w answers)) (record {
+            said = answered (refusal_answer w);
+            next = h;
+            answers = refl;
+            takes = (refl, refl);
+            tells = tells_nothing (refusal_answer w) old.panel;
+            stands = stands;
+          }))))
+  comes_of_change good (Err e) None left why_is done_is answers ok c =
+      subst (λ fate. Comes h action fate (fault_answer e) (host_after {T = Unit {0}} host s (Err e)) old new) (sym (ap (λ w. unless h w (done h action)) why_is ∙ done_is))
+      (elim (refuses_or_stops e) as (λ _. Stopped good e) [
+        | inl refuses ↦ absurd (refuses.told answers)
+        | inr stops ↦ elim stops as (λ _. Stopped good e) [
+          | inl is ↦ subst (Stopped good) (sym is)
+              (comes_of_stop Failed good left (subst (λ g. Runs calls persists (block_outcome {T = Unit {0}} (Err g)) old.panel new.panel) is c.runs) (c.images answers) c.outside)
+          | inr is ↦ subst (Stopped good) (sym is)
+              (comes_of_stop PowerLost good left (subst (λ g. Runs calls persists (block_outcome {T = Unit {0}} (Err g)) old.panel new.panel) is c.runs) (c.images answers) c.outside)
+        ]
+      ])
+
+on_refused-then : {T P Q : Type 0} (r : Result T BlockFault) → (P → Q) → OnRefused r P → OnRefused r Q
 on_refused-then (Ok x) then_ p = tt
 on_refused-then (Err f) then_ p = λ told. then_ (p told)
+
+-- a call that changes blocks, whichever, by its clauses
+pub called : {D : Type 0} (state : D → Device) (host : HostState) (s : BlocksState) (r : Result (Unit {0}) BlockFault) (P : List Block → Type 0) (calls persists : ℕ) (before after : D)
+    → OnRefused r ((s ≡ host.blocks) × (after ≡ before)) → OnWorked r (EachReads host.blocks.geo (state after).medium P)
+    → WandersBeside (IsBlockLine host.blocks.geo) (state before).medium (state after).medium → (IsTrue s.settled → object.Serves s (state after).medium)
+    → (s.geo ≡ host.blocks.geo) × (s.settled ≡ is_done (block_outcome r)) → Runs calls persists (block_outcome r) (state before).panel (state after).panel
+    → Called host s r P calls persists (state before) (state after)
+called state host s r P calls persists before after untouched images outside serves object runs = record {
+  untouched = on_refused-then r (λ same. (same.0, ap state same.1)) untouched;
+  images = images;
+  outside = outside;
+  serves = serves;
+  object = object;
+  runs = runs;
+}
 
 -- where nothing is bad, no line of metadata refuses
 pub no_meta : (geo : Geometry) (m : Medium) → HasLayout geo m → blocks.meta_refusal geo m ≡ None
@@ -252,6 +305,14 @@ module _ (host : HostState) (old : Device) (h : Machine) (serves : Serves host o
   refused_write block bytes =
       ap₂ first_there (ap (λ n. blocks.bytes_refusal n block (length bytes)) (sym blocks_there)) (machine_meta_none ∙ sym meta_none)
 
+  pub refused_atomic : (block : ℕ) (bytes : List ℕ) → block_refusal h (BAtomic block bytes) ≡ blocks.atomic_refusal host.blocks old.medium block (length bytes)
+  refused_atomic block bytes =
+      ap₂ first_there (ap (λ n. blocks.bytes_refusal n block (length bytes)) (sym blocks_there))
+      (ap (first_there (blocks.where_ (nat_lt 64 (length bytes / 512)) Limit)) (machine_meta_none ∙ sym meta_none))
+
+  pub refused_multi : (ranges : List Span) (bytes : List ℕ) → block_refusal h (BMulti ranges bytes) ≡ blocks.multiwrite_refusal host.blocks old.medium ranges
+  refused_multi ranges bytes = ap₂ first_there (ap (λ n. blocks.ranges_refusal n ranges) (sym blocks_there)) (machine_meta_none ∙ sym meta_none)
+
   pub refused_change : (spans : List Span) → first_there (blocks.together_refusal h.geometry.blocks spans) (meta_refusal h.bad_meta) ≡ blocks.change_refusal host.blocks old.medium spans
   refused_change spans = ap₂ first_there (ap (λ n. blocks.together_refusal n spans) (sym blocks_there)) (machine_meta_none ∙ sym meta_none)
 
@@ -259,8 +320,9 @@ module _ (host : HostState) (old : Device) (h : Machine) (serves : Serves host o
   refused_hint span = ap₂ first_there (ap (λ n. blocks.spans_refusal n (span ∷ [])) (sym blocks_there)) (machine_meta_none ∙ sym meta_none)
 
 -- The same of a host behind a reference: `host` is what is inside `now`, and `after` what the answer leaves.
-module _ (now host after : HostState) (s : BlocksState) (r : Result (Unit {0}) BlockFault) (P : List Block → Type 0) (calls persists : ℕ) (old new : Device)
-    (inside : host ≡ now) (state : after ≡ host_after host s r) (on : now.mode ≡ On) (serves : Serves now old) (call : Called host s r P calls persists old new) where
+module _ (now host after : HostState) (s : BlocksState) (r : Result (Unit {0}) BlockFault) (calls persists : ℕ) (old new : Device)
+    (inside : host ≡ now) (state : after ≡ host_after host s r) (on : now.mode ≡ On) (serves : Serves now old) (action : Action)
+    (call : Called host s r (MayLeaveBlocks (Some action) (blocks_of host.blocks old.medium)) calls persists old new) where
   on_inside : host.mode ≡ On
   on_inside = ap (λ k. k.mode) inside ∙ on
 
@@ -268,13 +330,15 @@ module _ (now host after : HostState) (s : BlocksState) (r : Result (Unit {0}) B
   serves_inside = subst (λ k. Serves k old) (sym inside) serves
 
   pub change_serves : Serves after new
-  change_serves = subst (λ k. Serves k new) (sym state) (serves_called host s P calls persists old new on_inside serves_inside r call)
+  change_serves =
+      subst (λ k. Serves k new) (sym state)
+      (serves_called host s (MayLeaveBlocks (Some action) (blocks_of host.blocks old.medium)) calls persists old new on_inside serves_inside r call)
 
-  pub change_comes : (h : Machine) (action : Action) (good answer : Answer) (why : BlocksState → Option Refusal) (f : List Block → List Block) → Stands now old h → IsUnarmed old.panel
-      → (Serves host old → Stands host old h → host.mode ≡ On → block_refusal h action ≡ why host.blocks) → done h action ≡ Gives good (record h { blocks = f h.blocks })
-      → Answers (why host.blocks) r → OnOk r (blocks_of s new.medium ≡ f (blocks_of host.blocks old.medium)) → answer ≡ answer_after good r → Comes h (effect h action) answer after old new
-  change_comes h action good answer why f stands unarmed refusal done_is refused ok answer_is =
+  pub change_comes : (h : Machine) (good answer : Answer) (why : BlocksState → Option Refusal) (f : List Block → List Block) → Stands now old h → MayLeaveVolume (Some action) h.volume h.volume
+      → (Serves host old → Stands host old h → host.mode ≡ On → block_refusal h action ≡ why host.blocks) → done h action ≡ Works good (record h { blocks = f h.blocks })
+      → Answers (why host.blocks) r → OnOk r (blocks_of s new.medium ≡ f (blocks_of host.blocks old.medium)) → answer ≡ answer_after good r → Comes h action (effect h action) answer after old new
+  change_comes h good answer why f stands left refusal done_is refused ok answer_is =
       let stands_inside = subst (λ k. Stands k old h) (sym inside) stands in
-      subst (λ a. Comes h (effect h action) a after old new) (sym answer_is)
-      (subst (λ k. Comes h (effect h action) (answer_after good r) k old new) (sym state)
-      (comes_of_change host s P calls persists old new on_inside serves_inside h stands_inside unarmed f action good r (why host.blocks) (refusal serves_inside stands_inside on_inside) done_is refused ok call))
+      subst (λ a. Comes h action (effect h action) a after old new) (sym answer_is)
+      (subst (λ k. Comes h action (effect h action) (answer_after good r) k old new) (sym state)
+      (comes_of_change host s action calls persists old new on_inside serves_inside h stands_inside f good r (why host.blocks) left (refusal serves_inside stands_inside on_inside) done_is refused ok call))

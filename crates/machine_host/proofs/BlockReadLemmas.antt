@@ -1,5 +1,5 @@
 -- What a host and its device stand for, after a read of blocks.
-use Rattle.std.proofs.Common.{◌≡◌, ◌≢◌, ℕ, ◌+◌, ◌*◌, ◌/◌, ◌%◌, ◌==◌, ◌||◌, ◌≤◌, true, false, not, None, option_map, Result, Ok, Err, OnOk, List, [], ◌++◌, length, replicate, take, drop, nat_lt, refl, sym, ap, subst, ◌∙◌, arith, append-nil}
+use Rattle.std.proofs.Common.{◌≡◌, ◌≢◌, ℕ, ◌+◌, ◌*◌, ◌/◌, ◌%◌, ◌==◌, ◌||◌, ◌≤◌, true, false, not, Some, None, inl, option_map, Result, Ok, Err, OnOk, List, [], ◌++◌, length, replicate, take, drop, nat_lt, refl, sym, ap, subst, ◌∙◌, arith, append-nil}
 use Rattle.std.proofs.lemmas.Bool.{le-ltb, ne_eqb}
 use Rattle.std.proofs.lemmas.List.{take_all, drop_all, length-replicate}
 use Rattle.line_device.specs.Medium.{Wander}
@@ -11,7 +11,7 @@ use Rattle.nvm_model.specs.Blocks.{first_there, first_obstacle, look}
 use Rattle.nvm_model.proofs.NumberedLemmas.{length-list_from}
 use Rattle.block_device.specs.Area.{IsBlockLine}
 use Rattle.block_device.specs.Object.{BlocksState, blocks_of}
-use Rattle.block_device.specs.Object as object
+use Rattle.block_device.specs.Object.{Serves as ServesBlocks}
 use Rattle.block_device.specs.Images.{EachReads}
 use Rattle.block_device.specs.Refusals.{told, Answers, OnRefused, OnWorked, block_outcome, is_done, bytes_refusal, read_refusal, where_}
 use Rattle.block_device.specs.Refusals.Refusal.{Range, Length, Unreadable}
@@ -19,13 +19,16 @@ use Rattle.block_device.specs.declared.fault.BlockFault.{BlockFault}
 use Rattle.block_device.specs.declared.fault.BlockFault.TheVariants as fault
 use Rattle.block_device.proofs.ReadLemmas.{map_read-wander}
 use Rattle.block_device.proofs.FrameLemmas.{each_reads-wander}
+use Rattle.block_device.proofs.ImageLemmas.{each_reads-then, served_reads}
 use Rattle.script_text.specs.Action.Action.{BRead}
 use Rattle.reply_text.specs.Answer.{Answer}
 use Rattle.reply_text.specs.Answer.Answer.{Bytes}
 use Rattle.machine_host.specs.declared.mode.Mode.TheVariants.{On}
-use Rattle.machine_host.specs.Machine.{Machine, block_refusal, effect}
-use Rattle.machine_host.specs.Stands.{HostState, Serves, Stands, IsUnarmed, Comes, answer_after}
-use Rattle.machine_host.proofs.BlockLemmas.{Called, host_after, change_serves, change_comes}
+use Rattle.machine_host.specs.Machine.{Machine, block_refusal}
+use Rattle.machine_host.specs.Interrupted.{MayLeaveBlocks}
+use Rattle.machine_host.specs.Volume.{HasLayout}
+use Rattle.machine_host.specs.Stands.{HostState, Serves, Stands, Performed, answer_after}
+use Rattle.machine_host.proofs.BlockLemmas.{Called, host_after, good_metadata, change_serves, change_comes}
 
 -- a buffer that a call filled
 pub refilled : (items out : List ℕ) → length out ≡ length items → take (length items) (out ++ drop (length out) items) ≡ out
@@ -79,7 +82,7 @@ whole_blocks blocks block count some within =
 
 module _ (now host after : HostState) (s : BlocksState) (r : Result (Unit {0}) BlockFault) (block count len calls : ℕ) (Q : Type 0) (old new : Device)
     (inside : host ≡ now) (state : after ≡ host_after host s r) (on : now.mode ≡ On) (serves : Serves now old) (size : len ≡ 512 * count)
-    (untouched : OnRefused r (Q × (new ≡ old))) (lines : Wander old.medium new.medium) (served : object.Serves s new.medium)
+    (untouched : OnRefused r (Q × (new ≡ old))) (lines : Wander old.medium new.medium) (served : ServesBlocks s new.medium)
     (object : s ≡ record host.blocks { settled = is_done (block_outcome r) }) (runs : Runs calls 0 (block_outcome r) old.panel new.panel) where
   settled_was : host.blocks.settled ≡ true
   settled_was = ap (λ k. k.blocks.settled) inside ∙ (serves.mounted on).settled
@@ -95,10 +98,22 @@ module _ (now host after : HostState) (s : BlocksState) (r : Result (Unit {0}) B
   on_worked (Ok x) p = p
   on_worked (Err f) p = λ told. p
 
-  call : Called host s r (λ bs. Unit {0}) calls 0 old new
+  -- a read leaves the blocks
+  abbrev may : List Block → Type 0
+  may = MayLeaveBlocks (Some (BRead block count)) (blocks_of host.blocks old.medium)
+
+  reads : EachReads host.blocks.geo new.medium may
+  reads =
+      let layout = subst (λ g. HasLayout g old.medium) geo_was serves.layout in
+      let served_was = subst (λ k. ServesBlocks k.blocks old.medium) (sym inside) (serves.mounted on).serves in
+      each_reads-wander host.blocks.geo old.medium new.medium may layout.valid lines
+      (each_reads-then host.blocks.geo old.medium (λ bs. bs ≡ blocks_of host.blocks old.medium) may (λ bs e. inl e)
+      (served_reads host.blocks old.medium (good_metadata host.blocks.geo old.medium layout) served_was))
+
+  call : Called host s r may calls 0 old new
   call = record {
     untouched = same_object r untouched object;
-    images = on_worked r (subst (λ g. EachReads g new.medium (λ bs. Unit {0})) geo_was (each_reads-wander now.geometry old.medium new.medium (λ bs. Unit {0}) serves.layout.valid lines serves.readable));
+    images = on_worked r reads;
     outside = beside-wander (IsBlockLine host.blocks.geo) old.medium new.medium lines;
     serves = λ _. served;
     object = (ap (λ k. k.geo) object, ap (λ k. k.settled) object);
@@ -106,7 +121,7 @@ module _ (now host after : HostState) (s : BlocksState) (r : Result (Unit {0}) B
   }
 
   pub read_serves : Serves after new
-  read_serves = change_serves now host after s r (λ bs. Unit {0}) calls 0 old new inside state on serves call
+  read_serves = change_serves now host after s r calls 0 old new inside state on serves (BRead block count) call
 
   blocks_stay : blocks_of s new.medium ≡ blocks_of host.blocks old.medium
   blocks_stay = ap (λ k. blocks_of k new.medium) object ∙ map_read-wander host.blocks.geo host.blocks.map old.medium new.medium lines
@@ -115,10 +130,10 @@ module _ (now host after : HostState) (s : BlocksState) (r : Result (Unit {0}) B
   on_ok (Ok x) p = p
   on_ok (Err f) p = tt
 
-  pub read_comes : (h : Machine) (answer : Answer) → Stands now old h → IsUnarmed old.panel → 1 ≤ count → block + count ≤ now.geometry.blocks
+  pub read_comes : (h : Machine) (answer : Answer) → Stands now old h → 1 ≤ count → block + count ≤ now.geometry.blocks
       → Answers (read_refusal host.blocks old.medium block len) r → (host.mode ≡ On → blocks_of host.blocks old.medium ≡ h.blocks → answer ≡ answer_after (Bytes (look h.blocks block count)) r)
-      → Comes h (effect h (BRead block count)) answer after old new
-  read_comes h answer stands unarmed some within refused answer_is =
+      → Performed h (BRead block count) answer after old new
+  read_comes h answer stands some within refused answer_is =
       let stays : blocks_of host.blocks old.medium ≡ h.blocks = ap (λ k. blocks_of k.blocks old.medium) inside ∙ stands.blocks on in
       let many : 512 * count / 512 ≡ count = omega arith in
       let none : bytes_refusal host.blocks.geo.blocks block (512 * count) ≡ None = whole_blocks host.blocks.geo.blocks block count some (subst (λ g. block + count ≤ g.blocks) geo_was within) in
@@ -126,6 +141,6 @@ module _ (now host after : HostState) (s : BlocksState) (r : Result (Unit {0}) B
       ap (λ o. first_there o (option_map Unreadable (first_obstacle (blocks_of host.blocks old.medium) block (512 * count / 512)))) none
       ∙ ap (λ n. option_map Unreadable (first_obstacle (blocks_of host.blocks old.medium) block n)) many
       ∙ ap (λ bs. option_map Unreadable (first_obstacle bs block count)) stays in
-      change_comes now host after s r (λ bs. Unit {0}) calls 0 old new inside state on serves call h (BRead block count) (Bytes (look h.blocks block count)) answer
-      (λ b. read_refusal b old.medium block (512 * count)) (λ bs. bs) stands unarmed (λ _ _ _. sym why) refl
+      change_comes now host after s r calls 0 old new inside state on serves (BRead block count) call h (Bytes (look h.blocks block count)) answer
+      (λ b. read_refusal b old.medium block (512 * count)) (λ bs. bs) stands refl (λ _ _ _. sym why) refl
       (subst (λ n. Answers (read_refusal host.blocks old.medium block n) r) size refused) (on_ok r blocks_stay) (answer_is (ap (λ k. k.mode) inside ∙ on) stays)

@@ -18,13 +18,15 @@ use Rattle.block_device.proofs.ServesLemmas.{serves-outside}
 use Rattle.block_device.proofs.FrameLemmas.{each_reads-outside}
 use Rattle.machine_host.specs.declared.mode.Mode.{Mode}
 use Rattle.machine_host.specs.declared.mode.Mode.TheVariants.{On, Off, Unsettled}
-use Rattle.machine_host.specs.Stands.{HostState, Serves, AreMounted, interrupted_mode, is_powered}
+use Rattle.machine_host.specs.Stands.{HostState, Serves, AreMounted, is_powered}
+use Rattle.machine_host.specs.Interrupted.{interrupted_mode}
 use Rattle.line_device.specs.Panel.{Runs}
 use Rattle.line_device.specs.Panel.Outcome.{went}
 use Rattle.line_words.specs.declared.interruption.Interruption.{Interruption}
 use Rattle.line_words.specs.declared.interruption.Interruption.TheVariants as stops
 use Rattle.line_words.specs.Ending.{ended}
 use Rattle.machine_host.specs.Volume.{volume_of, volume_place, IsVolumePlace, HasLayout}
+use Rattle.recovery.proofs.SuperblockLemmas.{superblock-outside}
 use Rattle.machine_host.proofs.VolumeLemmas.{has_layout-outside}
 
 -- no line of the volume is the blocks'
@@ -41,6 +43,15 @@ volume_apart geo n valid of_volume of_blocks =
         | inr more ↦ elim more as (λ _. ⊥) [ inl map ↦ omega (arith, second, map) | inr data_ ↦ omega (arith, second, data_) ]
       ]
     ]
+
+-- the first line is neither the volume's nor the blocks'
+first_not_volume : (geo : Geometry) (p : ℕ) → p < 8 → IsVolumePlace geo p → ⊥
+unfolding first_line
+first_not_volume geo p below of = elim of as (λ _. ⊥) [ inl first ↦ omega (arith, first) | inr second ↦ omega (arith, second) ]
+
+pub first_not_blocks : (geo : Geometry) → IsBlockLine geo 0 → ⊥
+unfolding first_line
+first_not_blocks geo of = elim of as (λ _. ⊥) [ inl log ↦ omega (arith, log) | inr more ↦ elim more as (λ _. ⊥) [ inl map ↦ omega (arith, map) | inr data_ ↦ omega (arith, data_) ] ]
 
 -- the layout stays
 pub layout-beside : (geo : Geometry) (lines : ℕ → Type 0) (old new : Medium) → HasLayout geo old → WandersBeside lines old new → HasLayout geo new
@@ -77,6 +88,7 @@ serves-volume host mode old new serves x power was_on =
     let apart : (p : ℕ) → IsBlockPlace geo p → IsVolumePlace geo p → ⊥ = λ p of_blocks of_volume. volume_apart geo (p / 8) valid of_volume of_blocks in
     record {
       layout = has_layout-outside geo (IsVolumePlace geo) old.medium new.medium serves.layout x;
+      superblock = superblock-outside geo (IsVolumePlace geo) old.medium new.medium x (first_not_volume geo) serves.superblock;
       power = power;
       readable = each_reads-outside geo (IsVolumePlace geo) old.medium new.medium (λ bs. Unit {0}) valid apart x serves.readable;
       mounted = λ on. mounted-outside geo host.blocks (IsVolumePlace geo) old.medium new.medium apart x (serves.mounted (was_on on));
@@ -94,6 +106,11 @@ volume_line_lies geo n =
       | inl below ↦ let is = ap line (lt-ltb n len below) in inl (omega (arith, is), omega (arith, is))
       | inr past ↦ let is = ap line (le-ltb n len past) in inr (omega (arith, is))
     ]
+
+-- so it is not the first line
+pub volume_line_some : (geo : Geometry) (n : ℕ) → 1 ≤ volume_line geo n
+unfolding first_line
+volume_line_some geo n = elim (volume_line_lies geo n) as (λ _. 1 ≤ volume_line geo n) [ inl first ↦ omega (arith, first) | inr after ↦ omega (arith, after) ]
 
 before_second : (geo : Geometry) (line : ℕ) → IsValid geo → first_line geo second_range ≤ line → IsBlockLine geo line → ⊥
 unfolding first_line size

@@ -15,9 +15,11 @@ use Rattle.reply_text.specs.Answer.{Answer}
 use Rattle.reply_text.specs.Answer.Answer.{Yes, No, Refused}
 use Rattle.reply_text.specs.declared.reply.Why.TheVariants as because
 use Rattle.machine_host.specs.declared.mode.Mode.TheVariants.{On}
-use Rattle.machine_host.specs.Machine.{Machine, effect, unless}
+use Rattle.machine_host.specs.Machine.{Machine, unless, effect}
 use Rattle.machine_host.specs.Machine.Fate.{Gives}
-use Rattle.machine_host.specs.Stands.{HostState, Serves, Stands, Comes}
+use Rattle.machine_host.specs.Stands.{HostState, Serves, Stands, Comes, Performed}
+use Rattle.machine_host.specs.Run.{answered}
+use Rattle.machine_host.proofs.StepLemmas.{tells_nothing}
 
 -- a block that is read is there where its state is not absent
 there_by_state : (geo : Geometry) (bad : ℕ → Bool) (word : ℕ → ℕ) (s : BlockState) (there : Bool) → (IsTrue there ↔ (Some s ≢ Some state.Absent)) → is_there (block_read geo bad word s) ≡ there
@@ -35,8 +37,9 @@ there_in_map geo bad word (s ∷ ss) zero there below told = there_by_state geo 
 there_in_map geo bad word (s ∷ ss) (suc block) there below told = there_in_map geo bad word ss block there (omega arith) told
 
 -- nothing changes, and this is answered
-same_state : (host : HostState) (d : Device) (h : Machine) (answer : Answer) → Stands host d h → Comes h (Gives answer h) answer host d d
-same_state host d h answer stands = record { starts = []; next = h; takes = (refl, refl, refl); told_starts = refl; restarts = refl; stands = stands }
+same_state : (host : HostState) (d : Device) (h : Machine) (block : ℕ) (answer : Answer) → Stands host d h → Comes h (BExists block) (Gives answer h) answer host d d
+same_state host d h block answer stands =
+    record { said = answered answer; next = h; answers = refl; takes = (refl, refl); tells = tells_nothing answer d.panel; stands = stands }
 
 module _ (now host : HostState) (d : Device) (h : Machine) (block : ℕ) where
   blocks_there : host ≡ now → Serves now d → Stands now d h → now.mode ≡ On → host.blocks.geo.blocks ≡ h.geometry.blocks
@@ -46,7 +49,7 @@ module _ (now host : HostState) (d : Device) (h : Machine) (block : ℕ) where
   said there = if there then Yes else No
 
   pub comes_of_exists : (test there : Bool) → test ≡ there → host ≡ now → Serves now d → Stands now d h → now.mode ≡ On
-      → (block < host.blocks.geo.blocks) × (IsTrue test ↔ (slice_get host.blocks.map block ≢ Some state.Absent)) → Comes h (effect h (BExists block)) (said there) now d d
+      → (block < host.blocks.geo.blocks) × (IsTrue test ↔ (slice_get host.blocks.map block ≢ Some state.Absent)) → Performed h (BExists block) (said there) now d d
   comes_of_exists test there is inside serves stands on told =
       let mounted = serves.mounted on in
       let within : block < h.geometry.blocks = omega (arith, told.0, blocks_there inside serves stands on) in
@@ -58,11 +61,11 @@ module _ (now host : HostState) (d : Device) (h : Machine) (block : ℕ) where
       let gives : effect h (BExists block) ≡ Gives (said there) h =
       ap (λ b. unless h (if b then None else Some Range) (Gives (if is_there (nth h.blocks block) then Yes else No) h)) (lt-ltb block h.geometry.blocks within)
       ∙ ap (λ b. Gives (if b then Yes else No) h) seen in
-      subst (λ fate. Comes h fate (said there) now d d) (sym gives) (same_state now d h (said there) stands)
+      subst (λ fate. Comes h (BExists block) fate (said there) now d d) (sym gives) (same_state now d h block (said there) stands)
 
-  pub comes_of_no_such : host ≡ now → Serves now d → Stands now d h → now.mode ≡ On → host.blocks.geo.blocks ≤ block → Comes h (effect h (BExists block)) (Refused because.Range) now d d
+  pub comes_of_no_such : host ≡ now → Serves now d → Stands now d h → now.mode ≡ On → host.blocks.geo.blocks ≤ block → Performed h (BExists block) (Refused because.Range) now d d
   comes_of_no_such inside serves stands on past =
       let beyond : h.geometry.blocks ≤ block = omega (arith, past, blocks_there inside serves stands on) in
       let gives : effect h (BExists block) ≡ Gives (Refused because.Range) h =
       ap (λ b. unless h (if b then None else Some Range) (Gives (if is_there (nth h.blocks block) then Yes else No) h)) (le-ltb block h.geometry.blocks beyond) in
-      subst (λ fate. Comes h fate (Refused because.Range) now d d) (sym gives) (same_state now d h (Refused because.Range) stands)
+      subst (λ fate. Comes h (BExists block) fate (Refused because.Range) now d d) (sym gives) (same_state now d h block (Refused because.Range) stands)

@@ -7,7 +7,11 @@ pub mod RunLemmas
 pub mod CostLemmas
 pub mod ElsewhereLemmas
 pub mod BlockLemmas
+pub mod DepictedLemmas
 pub mod RestartLemmas
 pub mod ExistsLemmas
 pub mod MountLemmas
 pub mod BlockReadLemmas
+pub mod LastLemmas
+pub mod CutLemmas
+pub mod PartLemmas

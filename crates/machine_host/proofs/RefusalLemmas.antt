@@ -7,7 +7,7 @@ use Rattle.machine_host.specs.declared.mode.Mode.TheVariants.{On, Off, Unsettled
 use Rattle.reply_text.specs.declared.reply.Why.{Why}
 use Rattle.reply_text.specs.declared.reply.Why.TheVariants.{Range, Length, Limit}
 use Rattle.line_device.specs.declared.line.Choice.{Choice}
-use Rattle.script_text.specs.Action.Action.{BRead, BWrite, BDiscard, BDiscardIf, BExists, BScar, VLoad, VStore, VSync, Cut, Restart}
+use Rattle.script_text.specs.Action.Action.{BRead, BWrite, BAtomic, BMulti, BDiscard, BDiscardIf, BExists, BScar, VLoad, VStore, VSync, Cut, CutIn, Restart}
 use Rattle.machine_host.specs.Machine.{first_refusal, read_refusal, refusal, span_refusal}
 use Rattle.nvm_base.specs.declared.units.Span.{Span}
 
@@ -54,6 +54,19 @@ cut_allowed On geo none off = cc
 cut_allowed Off geo none off = cc
 cut_allowed Unsettled geo none off = cc
 
+cut_in_some : (calls : ℕ) → cond (eqb calls 0) (Some Range) None ≡ None → 1 ≤ calls
+cut_in_some calls = by_test (eqb calls 0) refl
+  where
+    by_test : (none : Bool) → eqb calls 0 ≡ none → cond none (Some Range) None ≡ None → 1 ≤ calls
+    by_test true e none = cc
+    by_test false e none = grind (arith, nat_tests)
+
+pub cut_in_allowed : (mode : Mode) (geo : Geometry) (calls : ℕ) → refusal mode geo (CutIn calls) ≡ None → (mode ≡ Off → ⊥) × (1 ≤ calls)
+unfolding refusal
+cut_in_allowed On geo calls none = (λ off. cc, cut_in_some calls none)
+cut_in_allowed Off geo calls none = cc
+cut_in_allowed Unsettled geo calls none = (λ off. cc, cut_in_some calls none)
+
 pub restart_allowed : (mode : Mode) (geo : Geometry) (choice : Choice) → refusal mode geo (Restart choice) ≡ None → mode ≡ Off
 unfolding refusal
 restart_allowed On geo choice none = cc
@@ -66,6 +79,18 @@ unfolding refusal
 write_allowed On geo block bytes none = refl
 write_allowed Off geo block bytes none = cc
 write_allowed Unsettled geo block bytes none = cc
+
+pub atomic_allowed : (mode : Mode) (geo : Geometry) (block : ℕ) (bytes : List ℕ) → refusal mode geo (BAtomic block bytes) ≡ None → mode ≡ On
+unfolding refusal
+atomic_allowed On geo block bytes none = refl
+atomic_allowed Off geo block bytes none = cc
+atomic_allowed Unsettled geo block bytes none = cc
+
+pub multi_allowed : (mode : Mode) (geo : Geometry) (ranges : List Span) (bytes : List ℕ) → refusal mode geo (BMulti ranges bytes) ≡ None → mode ≡ On
+unfolding refusal
+multi_allowed On geo ranges bytes none = refl
+multi_allowed Off geo ranges bytes none = cc
+multi_allowed Unsettled geo ranges bytes none = cc
 
 pub discard_allowed : (mode : Mode) (geo : Geometry) (block count : ℕ) → refusal mode geo (BDiscard block count) ≡ None → mode ≡ On
 unfolding refusal

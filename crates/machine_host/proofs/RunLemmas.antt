@@ -1,95 +1,143 @@
 -- Runs, one input after another.
-use Rattle.std.proofs.Common.{◌≡◌, ℕ, Option, List, [], ◌∷◌, ◌++◌, refl, sym, ap, subst, ◌∙◌, append_assoc, append-nil}
+use Rattle.std.proofs.Common.{◌≡◌, ℕ, inl, Option, List, [], ◌∷◌, ◌++◌, refl, sym, ap, subst, ◌∙◌, append_assoc, append-nil}
 use Rattle.nvm_base.specs.Counts.{raised}
-use Rattle.line_device.specs.Panel.{Start, told}
+use Rattle.line_device.specs.Panel.{Panel, Start, told, ordered}
+use Rattle.line_device.specs.declared.order.Order.{Order}
+use Rattle.line_device.specs.declared.line.Choice.{Choice}
 use Rattle.reply_text.specs.declared.reply.Why.TheVariants.{Syntax}
-use Rattle.script_text.specs.Action.{Action}
 use Rattle.reply_text.specs.Answer.{Answer, answer_line, reply_text}
-use Rattle.reply_text.specs.Answer.Answer.{Refused}
+use Rattle.reply_text.specs.Answer.Answer.{Done, Refused}
 use Rattle.script_text.specs.Script.{Input}
 use Rattle.script_text.specs.Script.Input.{Skipped, Malformed, Asked}
-use Rattle.machine_host.specs.Machine.{Machine, Keeps, Fate, fate, restarted, restart_answer}
-use Rattle.machine_host.specs.Machine.Fate.{Gives, Restarts}
-use Rattle.machine_host.specs.Run.{Transcript, said, perform, Allows, Run, Goes, after}
-use Rattle.machine_host.specs.Stands.{Takes, bumped_by}
+use Rattle.machine_host.specs.Machine.{Machine, Fate, fate}
+use Rattle.machine_host.specs.Machine.Fate.{Gives, Works, Orders, Restarts}
+use Rattle.machine_host.specs.Restarting.{Keeps, restarted, restart_answer}
+use Rattle.machine_host.specs.Run.{Transcript, Hears, Run, Takes, answered, followed_by, silence, with_order, with_start}
+use Rattle.machine_host.specs.Performing.{Performance, Allows, after, perform}
+use Rattle.machine_host.specs.Stands.{Tells, bumped_by, last_of}
 
-pub goes-none : (h : Machine) → Goes h [] [] [] h
-goes-none h = record { allows = λ more others a. a; performs = λ more others. refl }
+-- one transcript after another
+followed_by-nil : (a : Transcript) → followed_by a silence ≡ a
+followed_by-nil a =
+    ap (λ xs. record { starts = xs; orders = a.orders ++ []; answers = a.answers ++ [] }) (append-nil a.starts)
+    ∙ ap (λ xs. record { starts = a.starts; orders = xs; answers = a.answers ++ [] }) (append-nil a.orders)
+    ∙ ap (λ xs. record { starts = a.starts; orders = a.orders; answers = xs }) (append-nil a.answers)
 
-pub goes_then : (a b c : Machine) (i j : List Input) (s t : List Start) (x y : List Answer) → Goes a i s x b → Goes b j t y c
-    → Goes a (i ++ j) (s ++ t) (x ++ y) c
-goes_then a b c i j s t x y first second = record {
-  allows = λ more others allowed. subst (λ k. Allows a k ((s ++ t) ++ others)) (sym (append_assoc i j more))
-      (subst (λ k. Allows a (i ++ (j ++ more)) k) (sym (append_assoc s t others)) (first.allows (j ++ more) (t ++ others) (second.allows more others allowed)));
-  performs = λ more others.
-      ap (λ k. perform a k ((s ++ t) ++ others)) (append_assoc i j more) ∙ ap (λ k. perform a (i ++ (j ++ more)) k) (append_assoc s t others)
-      ∙ first.performs (j ++ more) (t ++ others) ∙ ap (after x) (second.performs more others)
-      ∙ ap (λ zs. record { answers = zs; state = (perform c more others).state }) (sym (append_assoc x y (perform c more others).answers));
-}
+followed_by-assoc : (a b c : Transcript) → followed_by (followed_by a b) c ≡ followed_by a (followed_by b c)
+followed_by-assoc a b c =
+    ap (λ xs. record { starts = xs; orders = (a.orders ++ b.orders) ++ c.orders; answers = (a.answers ++ b.answers) ++ c.answers }) (append_assoc a.starts b.starts c.starts)
+    ∙ ap (λ xs. record { starts = a.starts ++ (b.starts ++ c.starts); orders = xs; answers = (a.answers ++ b.answers) ++ c.answers }) (append_assoc a.orders b.orders c.orders)
+    ∙ ap (λ xs. record { starts = a.starts ++ (b.starts ++ c.starts); orders = a.orders ++ (b.orders ++ c.orders); answers = xs }) (append_assoc a.answers b.answers c.answers)
 
--- to the end, it is a run
-pub run_of_goes : (from to : Machine) (inputs : List Input) (starts : List Start) (answers : List Answer) → Goes from inputs starts answers to → Run from inputs starts answers to
-run_of_goes from to inputs starts answers goes = record {
-  allowed = subst (λ k. Allows from k starts) (append-nil inputs) (subst (λ k. Allows from (inputs ++ []) k) (append-nil starts) (goes.allows [] [] refl));
-  answers_are = ap (λ t. t.answers) whole ∙ append-nil answers;
-  state_is = ap (λ t. t.state) whole;
-}
-  where
-    whole : perform from inputs starts ≡ after answers (perform to [] [])
-    whole = sym (ap (λ k. perform from k starts) (append-nil inputs)) ∙ sym (ap (λ k. perform from (inputs ++ []) k) (append-nil starts)) ∙ goes.performs [] []
+-- a run, and a run from there on
+pub run_then : (h m e : Machine) (x y : List Input) (s t : Transcript) → Run h x s m → Run m y t e → Run h (x ++ y) (followed_by s t) e
+run_then h m e [] y s t first second =
+    subst (λ k. Run h y (followed_by k t) e) (sym first.0) (subst (λ k. Run k y t e) first.1 second)
+run_then h m e (input ∷ x) y s t first second = (
+  first.0,
+  followed_by first.1 t,
+  first.2,
+  ap (λ k. followed_by k t) first.3 ∙ followed_by-assoc first.0 first.1 t,
+  first.4,
+  run_then first.2 m e x y first.1 t first.5 second,
+)
 
-pub goes-skipped : (h : Machine) → Goes h (Skipped ∷ []) [] [] h
-goes-skipped h = record { allows = λ more others a. a; performs = λ more others. refl }
+pub run_of_one : (h next : Machine) (input : Input) (said : Transcript) → Hears h input said next → Run h (input ∷ []) said next
+run_of_one h next input said hears = (said, silence, next, sym (followed_by-nil said), hears, (refl, refl))
 
-pub goes-malformed : (h : Machine) → Goes h (Malformed ∷ []) [] (Refused Syntax ∷ []) h
-goes-malformed h = record { allows = λ more others a. a; performs = λ more others. refl }
+-- what follows a restart, and what is asked of what it left
+abbrev gone_on : Machine → List Input → List Start → Performance
+gone_on h inputs starts = elim starts [
+  | [] ↦ record { said = silence; state = h }
+  | start ∷ others ↦ after (with_start start (restart_answer h start.image)) (perform (restarted h start.image) inputs others)
+]
 
--- what follows what came of a command
-abbrev performed : Machine → Fate → List Input → List Start → Transcript
+abbrev allows_on : Machine → List Input → Choice → List Start → Type 0
+allows_on h inputs choice starts = elim starts as (λ _. Type 0) [
+  | [] ↦ ⊥
+  | start ∷ others ↦ (start.choice ≡ choice) × Keeps choice start.image h × Allows (restarted h start.image) inputs others
+]
+
+-- what follows a command
+abbrev performed : Machine → Fate → List Input → List Start → Performance
 performed h f inputs starts = elim f [
-  | Gives answer next ↦ said answer (perform next inputs starts)
-  | Restarts choice ↦ elim starts [
-    | [] ↦ record { answers = []; state = h }
-    | start ∷ others ↦ said (restart_answer h start.image) (perform (restarted h start.image) inputs others)
-  ]
+  | Gives answer next ↦ after (answered answer) (perform next inputs starts)
+  | Works answer next ↦ after (answered answer) (perform next inputs starts)
+  | Orders order next ↦ after (with_order order Done) (perform next inputs starts)
+  | Restarts choice ↦ gone_on h inputs starts
 ]
 
 abbrev allowed : Machine → Fate → List Input → List Start → Type 0
 allowed h f inputs starts = elim f as (λ _. Type 0) [
   | Gives answer next ↦ Allows next inputs starts
-  | Restarts choice ↦ elim starts as (λ _. Type 0) [
-    | [] ↦ ⊥
-    | start ∷ others ↦ (start.choice ≡ choice) × Keeps choice start.image h × Allows (restarted h start.image) inputs others
-  ]
+  | Works answer next ↦ Allows next inputs starts
+  | Orders order next ↦ Allows next inputs starts
+  | Restarts choice ↦ allows_on h inputs choice starts
 ]
 
--- a command, by what came of it
-pub goes-asked : (h next : Machine) (action : Action) (starts : List Start) (answer : Answer) → Takes h (fate h action) starts answer next
-    → Goes h (Asked action ∷ []) starts (answer ∷ []) next
-goes-asked h next action starts answer takes = record {
-  allows = λ more others a. allows_by (fate h action) takes more others a;
-  performs = λ more others. performs_by (fate h action) takes more others;
-}
+-- what nothing interrupts is a run
+pub run_performed : (h : Machine) (inputs : List Input) (starts : List Start) → Allows h inputs starts → Run h inputs (perform h inputs starts).said (perform h inputs starts).state
+run_performed h [] starts ok = (refl, refl)
+run_performed h (Skipped ∷ inputs) starts ok = (silence, (perform h inputs starts).said, h, refl, (refl, refl), run_performed h inputs starts ok)
+run_performed h (Malformed ∷ inputs) starts ok =
+    (answered (Refused Syntax), (perform h inputs starts).said, h, refl, (refl, refl), run_performed h inputs starts ok)
+run_performed h (Asked action ∷ inputs) starts ok = by_fate (λ k others. run_performed k inputs others) (fate h action) refl ok
   where
-    allows_by : (f : Fate) → Takes h f starts answer next → (more : List Input) (others : List Start) → Allows next more others → allowed h f more (starts ++ others)
-    allows_by (Gives told state) t more others a = rw t.0 (subst (λ m. Allows m more others) t.2 a)
-    allows_by (Restarts choice) t more others a = rw t.1 (t.2, t.3, subst (λ m. Allows m more others) t.5 a)
+    by_start : ((k : Machine) (others : List Start) → Allows k inputs others → Run k inputs (perform k inputs others).said (perform k inputs others).state)
+        → (choice : Choice) (all : List Start) → fate h action ≡ Restarts choice → allows_on h inputs choice all
+        → Run h (Asked action ∷ inputs) (gone_on h inputs all).said (gone_on h inputs all).state
+    by_start rest choice [] is ok = absurd ok
+    by_start rest choice (start ∷ others) is ok = (
+      with_start start (restart_answer h start.image),
+      (perform (restarted h start.image) inputs others).said,
+      restarted h start.image,
+      refl,
+      subst (λ f. Takes h action f (with_start start (restart_answer h start.image)) (restarted h start.image)) (sym is)
+          (start, restart_answer h start.image, refl, ok.0, ok.1, inl (refl, refl)),
+      rest (restarted h start.image) others ok.2,
+    )
 
-    performs_by : (f : Fate) → Takes h f starts answer next → (more : List Input) (others : List Start)
-        → performed h f more (starts ++ others) ≡ after (answer ∷ []) (perform next more others)
-    performs_by (Gives told state) t more others = rw (t.0, t.1, t.2) refl
-    performs_by (Restarts choice) t more others = rw (t.1, t.4, t.5) refl
+    by_fate : ((k : Machine) (others : List Start) → Allows k inputs others → Run k inputs (perform k inputs others).said (perform k inputs others).state)
+        → (f : Fate) → fate h action ≡ f → allowed h f inputs starts → Run h (Asked action ∷ inputs) (performed h f inputs starts).said (performed h f inputs starts).state
+    by_fate rest (Gives answer next) is ok =
+        (answered answer, (perform next inputs starts).said, next, refl, subst (λ f. Takes h action f (answered answer) next) (sym is) (refl, refl), rest next starts ok)
+    by_fate rest (Works answer next) is ok = (
+      answered answer,
+      (perform next inputs starts).said,
+      next,
+      refl,
+      subst (λ f. Takes h action f (answered answer) next) (sym is) (answer, refl, inl (refl, refl)),
+      rest next starts ok,
+    )
+    by_fate rest (Orders order next) is ok =
+        (with_order order Done, (perform next inputs starts).said, next, refl, subst (λ f. Takes h action f (with_order order Done) next) (sym is) (refl, refl), rest next starts ok)
+    by_fate rest (Restarts choice) is ok = by_start rest choice starts is ok
 
 -- the lines of answers, one stretch after another
 pub reply_text-append : (x y : List Answer) → reply_text (x ++ y) ≡ reply_text x ++ reply_text y
 reply_text-append [] y = refl
 reply_text-append (answer ∷ x) y = ap (λ t. answer_line answer ++ t) (reply_text-append x y) ∙ sym (append_assoc (answer_line answer) (reply_text x) (reply_text y))
 
--- starts that were told in two stretches
-pub told-append : (before : Option (List Start)) (s t : List Start) → told before (s ++ t) ≡ told (told before s) t
+-- what was told in two stretches
+told-append : (before : Option (List Start)) (s t : List Start) → told before (s ++ t) ≡ told (told before s) t
 told-append before [] t = refl
 told-append before (start ∷ s) t = told-append _ s t
 
-pub bumped_by-append : (s t : List Start) (n : ℕ) → bumped_by (s ++ t) n ≡ bumped_by t (bumped_by s n)
+bumped_by-append : {A : Type 0} (s t : List A) (n : ℕ) → bumped_by (s ++ t) n ≡ bumped_by t (bumped_by s n)
 bumped_by-append [] t n = refl
-bumped_by-append (start ∷ s) t n = bumped_by-append s t (raised n)
+bumped_by-append (x ∷ s) t n = bumped_by-append s t (raised n)
+
+last_of-append : (s t : List Order) (before : Option (Option Order)) → last_of (s ++ t) before ≡ last_of t (last_of s before)
+last_of-append [] t before = refl
+last_of-append (order ∷ s) t before = last_of-append s t (ordered before order)
+
+pub tells_silence : (p : Panel) → Tells silence p p
+tells_silence p = record { starts = refl; restarts = refl; orders = refl; arms = refl }
+
+pub tells_then : (s t : Transcript) (p q r : Panel) → Tells s p q → Tells t q r → Tells (followed_by s t) p r
+tells_then s t p q r a b = record {
+  starts = b.starts ∙ ap (λ before. told before t.starts) a.starts ∙ sym (told-append p.starts s.starts t.starts);
+  restarts = b.restarts ∙ ap (bumped_by t.starts) a.restarts ∙ sym (bumped_by-append s.starts t.starts p.counts.restarts);
+  orders = b.orders ∙ ap (last_of t.orders) a.orders ∙ sym (last_of-append s.orders t.orders p.last_order);
+  arms = b.arms ∙ ap (bumped_by t.orders) a.arms ∙ sym (bumped_by-append s.orders t.orders p.counts.arms);
+}

@@ -1,5 +1,5 @@
 -- Work on the lines of a span, one line after another.
-use Rattle.std.proofs.Common.{◌≡◌, ◌⊎◌, inl, inr, ℕ, ◌+◌, ◌-◌, ◌*◌, ◌/◌, ◌%◌, ◌<◌, ◌≤◌, min, max, Bool, true, false, cond, eqb, ltb, List, [], ◌∷◌, ◌++◌, length, length-take, take, drop, get_or, refl, sym, ap, subst, ◌∙◌, arith}
+use Rattle.std.proofs.Common.{◌≡◌, ◌⊎◌, inl, inr, ℕ, ◌+◌, ◌-◌, ◌*◌, ◌/◌, ◌%◌, ◌<◌, ◌≤◌, min, max, Bool, true, false, cond, eqb, ltb, List, [], ◌∷◌, ◌++◌, length, length-take, take, drop, get_or, Result, Ok, Err, OnErr, refl, sym, ap, subst, ◌∙◌, arith}
 use Rattle.std.proofs.lemmas.Bool.Decides.{nat_tests}
 use Rattle.std.proofs.lemmas.Bool.{cases_lt}
 use Rattle.std.proofs.lemmas.List.{get_or-take, get_or-drop}
@@ -10,8 +10,12 @@ use Rattle.line_device.proofs.HistoryLemmas.{fades-refl}
 use Rattle.line_device.proofs.WanderLemmas.{wander-trans, wander-stored, wander-settled}
 use Rattle.line_device.proofs.WordLemmas.{word_over-line, word_over-piece, reaches-out}
 use Rattle.nvm_model.specs.Cell.{touches}
-use Rattle.nvm_model.specs.Lines.{SameMarks, each, settled_within}
-use Rattle.machine_host.specs.Volume.{below}
+use Rattle.nvm_model.specs.Lines.{SameMarks, below, each, settled_within}
+
+-- what holds holds at an error
+pub on_err : {T E P : Type 0} (r : Result T E) → P → OnErr r P
+on_err (Ok x) p = tt
+on_err (Err e) p = p
 
 -- media that agree place by place
 pub wander-same : (a b : Medium) → SameMarks a b → ((p : ℕ) → b.history p ≡ a.history p) → Wander a b

@@ -1,167 +1,350 @@
--- What a host and its device stand for, after work on the lines that went well.
-use Rattle.std.proofs.Common.{◌≡◌, ℕ, ◌+◌, ◌*◌, ◌/◌, ◌≤◌, Bool, true, false, IsTrue, Some, List, [], length, refl, sym, ap, subst, ◌∙◌}
-use Rattle.line_device.specs.Medium.{Wander}
-use Rattle.line_device.specs.Panel.{Panel, Runs, Outcome, after_power_off}
-use Rattle.line_device.specs.Panel.Outcome.{went, failed, lost}
+-- What a host and its device stand for, after work on the volume.
+use Rattle.std.proofs.Common.{◌≡◌, ℕ, ◌⊎◌, ◌+◌, ◌*◌, ◌/◌, ◌≤◌, inl, inr, true, false, IsTrue, Option, Some, None, Err, List, length, refl, sym, ap, subst, ◌∙◌}
+use Rattle.line_device.specs.Medium.{Wander, word_stored}
+use Rattle.line_device.specs.Panel.{Panel, Runs, after_arm_cut, after_power_off}
+use Rattle.line_device.specs.declared.order.Order.TheVariants.{Cut as ForCut}
+use Rattle.line_device.specs.Panel.Outcome.{went}
 use Rattle.line_device.specs.Device.{Device}
+use Rattle.line_words.specs.declared.interruption.Interruption.{Interruption}
+use Rattle.line_words.specs.declared.interruption.Interruption.TheVariants.{Failed, PowerLost}
+use Rattle.line_words.specs.Ending.{ended}
 use Rattle.nvm_model.specs.Page.{Page, look, PagesStand}
+use Rattle.nvm_model.specs.Lines.{below, each}
 use Rattle.nvm_model.proofs.StandLemmas.{look-stand, stand-loaded}
+use Rattle.nvm_model.proofs.InterruptedLemmas.{stored_below, may_store-below, stand-stored_below, length-stored_below, may_sync-none}
 use Rattle.script_text.specs.Action.{Action}
+use Rattle.script_text.specs.Action.Action.{Cut, CutIn, VLoad, VStore, VSync}
 use Rattle.reply_text.specs.Answer.{Answer}
 use Rattle.reply_text.specs.Answer.Answer.{Done, Bytes, Refused}
 use Rattle.reply_text.specs.declared.reply.Why.{Why}
-use Rattle.machine_host.specs.Machine.{Machine, refusal, fate_of, fate}
-use Rattle.machine_host.specs.Machine.Fate.{Gives}
+use Rattle.machine_host.specs.Machine.{Machine, Fate, refusal, fate_of, fate, while_torn}
+use Rattle.machine_host.specs.Machine.Fate.{Gives, Works, Orders}
+use Rattle.machine_host.specs.Interrupted.{MayLeaveBlocks, MayLeaveVolume, Interrupts, may_come, interrupted_answer, interrupted_mode}
+use Rattle.machine_host.specs.Run.{answered, with_order}
 use Rattle.machine_host.specs.declared.mode.Mode.TheVariants as modes
 use Rattle.nvm_model.specs.Lines.{span_shown}
-use Rattle.machine_host.specs.Volume.{volume_of, IsVolumePlace}
+use Rattle.machine_host.specs.Volume.{volume_of, HasLayout, IsVolumePlace}
 use Rattle.machine_host.proofs.VolumeLemmas.{wander-volume, volume_intact}
-use Rattle.machine_host.specs.Stands.{HostState, Serves, Stands, IsUnarmed, Comes, is_powered}
+use Rattle.machine_host.specs.Stands.{HostState, Serves, VolumeStands, Stands, Tells, Comes, is_powered}
 use Rattle.line_words.specs.Words.{WandersOutside}
 use Rattle.line_words.proofs.FrameLemmas.{outside-wander}
 use Rattle.block_device.specs.Area.{IsBlockPlace}
 use Rattle.block_device.specs.Object.{blocks_of}
 use Rattle.block_device.specs.Images.{EachReads}
 use Rattle.block_device.proofs.FrameLemmas.{each_reads-outside}
+use Rattle.block_device.proofs.ImageLemmas.{each_reads-then}
 use Rattle.machine_host.proofs.ElsewhereLemmas.{volume_apart, blocks_of-outside}
 
-pub not_true : (b : Bool) → (IsTrue b → ⊥) → b ≡ false
-not_true true h = absurd (h refl)
-not_true false h = refl
+-- the state after an interruption, with what is armed then
+abbrev pub struck : Machine → Interruption → Panel → Machine
+struck h by p = record h { mode = interrupted_mode by; cut_armed = p.cut_armed; fail_armed = p.fail_armed }
 
--- With nothing armed, work ends well.
-pub ends_well : (a b : ℕ) (e : Outcome) (p q : Panel) → IsUnarmed p → Runs a b e p q → e ≡ went
-ends_well a b went p q unarmed runs = refl
-ends_well a b failed p q unarmed runs = cc (unarmed.fail, runs.cause.2)
-ends_well a b lost p q unarmed runs = cc (unarmed.cut, runs.cause.1)
+module _ (by : Interruption) (h : Machine) (a b : ℕ) (p q : Panel) (runs : Runs a b (ended {T = Unit {0}} (Err by)) p q) where
+  -- what stopped the work may come in the state
+  pub interrupts : p.cut_armed ≡ h.cut_armed → p.fail_armed ≡ h.fail_armed → Interrupts by h (struck h by q)
+  interrupts cut fail = record {
+    armed = by_cause by runs;
+    state = refl;
+    cut = λ t. subst IsTrue cut (runs.armed.cut t);
+    fail = λ t. subst IsTrue fail (runs.armed.fail t);
+  }
+    where
+      by_cause : (x : Interruption) → Runs a b (ended {T = Unit {0}} (Err x)) p q → IsTrue (may_come x h)
+      by_cause Failed r = subst IsTrue fail r.cause.2
+      by_cause PowerLost r = subst IsTrue cut r.cause.1
 
--- the volume that a host's device stands for
-pub stands_volume : (host : HostState) (d : Device) (h : Machine) → Stands host d h → PagesStand (volume_of host.geometry d.medium) host.geometry.vpages h.volume
-stands_volume host d h stands =
-    subst (λ geo. PagesStand (volume_of geo d.medium) geo.vpages h.volume) (sym stands.geometry) stands.device.volume
+  pub power_struck : p.power ≡ true → q.power ≡ is_powered (interrupted_mode by)
+  power_struck on = by_cause by runs
+    where
+      by_cause : (x : Interruption) → Runs a b (ended {T = Unit {0}} (Err x)) p q → q.power ≡ is_powered (interrupted_mode x)
+      by_cause Failed r = r.cause.0 ∙ on
+      by_cause PowerLost r = r.cause.0
 
--- power and arming after work that went well, where nothing was armed
-pub record StaysUnarmed (d : Device) (h : Machine) : Type 0 where
-  pub power : d.panel.power ≡ is_powered h.mode
-  pub cut_armed : d.panel.cut_armed ≡ h.cut_armed
-  pub fail_armed : d.panel.fail_armed ≡ h.fail_armed
+pub never_on : (by : Interruption) → interrupted_mode by ≡ modes.On → ⊥
+never_on Failed on = cc on
+never_on PowerLost on = cc on
 
-pub stays_unarmed : (host : HostState) (old new : Device) (h : Machine) (a b : ℕ) → Stands host old h → IsUnarmed old.panel → Runs a b went old.panel new.panel → StaysUnarmed new h
-stays_unarmed host old new h a b stands unarmed runs = record {
-  power = runs.cause.0 ∙ stands.device.power;
-  cut_armed = not_true new.panel.cut_armed (λ t. cc (unarmed.cut, runs.armed.cut t)) ∙ sym unarmed.cut ∙ stands.device.cut_armed;
-  fail_armed = not_true new.panel.fail_armed (λ t. cc (unarmed.fail, runs.armed.fail t)) ∙ sym unarmed.fail ∙ stands.device.fail_armed;
+-- work gives no order and restarts nothing
+pub tells_work : (a b : ℕ) (e : _) (answer : Answer) (p q : Panel) → Runs a b e p q → Tells (answered answer) p q
+tells_work a b e answer p q runs = record {
+  starts = runs.orders.starts;
+  restarts = runs.orders.restarts;
+  orders = runs.orders.last_order;
+  arms = runs.orders.arms;
 }
 
+pub tells_nothing : (answer : Answer) (p : Panel) → Tells (answered answer) p p
+tells_nothing answer p = record { starts = refl; restarts = refl; orders = refl; arms = refl }
+
+-- of a state that is whole, what blocks and volume stand for
+module _ (host : HostState) (d : Device) (h : Machine) (stands : Stands host d h) where
+  pub whole_blocks : h.torn ≡ None → EachReads h.geometry d.medium (λ bs. bs ≡ h.blocks)
+  whole_blocks whole = subst (λ torn. EachReads h.geometry d.medium (MayLeaveBlocks torn h.blocks)) whole stands.device.blocks
+
+  pub whole_volume : h.torn ≡ None → VolumeStands h.geometry d.medium None h.volume
+  whole_volume whole = subst (λ torn. VolumeStands h.geometry d.medium torn h.volume) whole stands.device.volume
+
+  pub whole_pages : h.torn ≡ None → PagesStand (volume_of host.geometry d.medium) host.geometry.vpages h.volume
+  whole_pages whole =
+      let v = whole_volume whole in
+      subst (λ geo. PagesStand (volume_of geo d.medium) geo.vpages h.volume) (sym stands.geometry)
+      (subst (PagesStand (volume_of h.geometry d.medium) h.geometry.vpages) v.may v.stand)
+
+  pub whole_length : h.torn ≡ None → length h.volume ≡ h.geometry.vpages
+  whole_length whole = let v = whole_volume whole in sym (ap length v.may) ∙ v.length
+
+  -- with the power on nothing is torn
+  pub is_whole : host.mode ≡ modes.On → h.torn ≡ None
+  is_whole on = stands.device.whole (sym stands.mode ∙ on)
+
+-- the volume of a whole state, of pages that stand
+pub stands_whole : (host : HostState) (d : Device) (h : Machine) (pages : List Page) → host.geometry ≡ h.geometry → length pages ≡ h.geometry.vpages
+    → PagesStand (volume_of host.geometry d.medium) host.geometry.vpages pages → (torn : Option Action) → torn ≡ None → VolumeStands h.geometry d.medium torn pages
+stands_whole host d h pages same size stand torn whole = subst (λ t. VolumeStands h.geometry d.medium t pages) (sym whole) (record {
+  pages = pages;
+  may = refl;
+  length = size;
+  stand = subst (λ geo. PagesStand (volume_of geo d.medium) geo.vpages pages) same stand;
+})
+
 -- blocks stay for what they are, while the volume is worked on
-blocks_elsewhere : (host : HostState) (old new : Device) (h : Machine) → Stands host old h → Serves host old → WandersOutside (IsVolumePlace host.geometry) old.medium new.medium
-    → (EachReads h.geometry new.medium (λ bs. bs ≡ h.blocks)) × (host.mode ≡ modes.On → blocks_of host.blocks new.medium ≡ h.blocks)
+pub blocks_elsewhere : (host : HostState) (old new : Device) (h : Machine) → Stands host old h → Serves host old → WandersOutside (IsVolumePlace host.geometry) old.medium new.medium
+    → (EachReads h.geometry new.medium (MayLeaveBlocks h.torn h.blocks)) × (host.mode ≡ modes.On → blocks_of host.blocks new.medium ≡ h.blocks)
 blocks_elsewhere host old new h stands serves x =
     let geo = host.geometry in
+    let P = MayLeaveBlocks h.torn h.blocks in
     let apart : (p : ℕ) → IsBlockPlace geo p → IsVolumePlace geo p → ⊥ = λ p of_blocks of_volume. volume_apart geo (p / 8) serves.layout.valid of_volume of_blocks in (
-      subst (λ g. EachReads g new.medium (λ bs. bs ≡ h.blocks)) stands.geometry
-          (each_reads-outside geo (IsVolumePlace geo) old.medium new.medium (λ bs. bs ≡ h.blocks) serves.layout.valid apart x
-          (subst (λ g. EachReads g old.medium (λ bs. bs ≡ h.blocks)) (sym stands.geometry) stands.device.blocks)),
+      subst (λ g. EachReads g new.medium P) stands.geometry
+          (each_reads-outside geo (IsVolumePlace geo) old.medium new.medium P serves.layout.valid apart x
+          (subst (λ g. EachReads g old.medium P) (sym stands.geometry) stands.device.blocks)),
       λ on. blocks_of-outside geo host.blocks (IsVolumePlace geo) old.medium new.medium apart x (serves.mounted on) ∙ stands.blocks on,
     )
 
--- What the device stands for, after work that went well and changed the volume as the machine does.
-pub stands_after : (host : HostState) (old new : Device) (h : Machine) (pages : List Page) (a b : ℕ) → Stands host old h → Serves host old → IsUnarmed old.panel
-    → Runs a b went old.panel new.panel → WandersOutside (IsVolumePlace host.geometry) old.medium new.medium → length pages ≡ length h.volume
-    → PagesStand (volume_of host.geometry new.medium) host.geometry.vpages pages → Stands host new (record h { volume = pages })
-stands_after host old new h pages a b stands serves unarmed runs outside size stand =
-    let panel = stays_unarmed host old new h a b stands unarmed runs in
-    let kept = blocks_elsewhere host old new h stands serves outside in
+-- the volume stays for what it is, where all only wandered
+pub volume_wandered : (host : HostState) (old new : Device) (h : Machine) → Stands host old h → Serves host old → Wander old.medium new.medium → VolumeStands h.geometry new.medium h.torn h.volume
+volume_wandered host old new h stands serves wander =
+    let v = stands.device.volume in
+    let geo = h.geometry in
+    let layout = subst (λ g. HasLayout g old.medium) stands.geometry serves.layout in
     record {
+      pages = v.pages;
+      may = v.may;
+      length = v.length;
+      stand = stand-loaded (volume_of geo old.medium) (volume_of geo new.medium) geo.vpages v.pages v.stand (volume_intact geo old.medium layout) (wander-volume geo old.medium new.medium wander);
+    }
+
+module _ (host : HostState) (old new : Device) (h : Machine) (action : Action) (stands : Stands host old h) (serves : Serves host old) (on : host.mode ≡ modes.On) where
+  -- Work on the volume that went well comes to its answer and its state.
+  pub comes_of_work : (pages : List Page) (answer : Answer) (a b : ℕ) → Runs a b went old.panel new.panel → WandersOutside (IsVolumePlace host.geometry) old.medium new.medium
+      → length pages ≡ length h.volume → PagesStand (volume_of host.geometry new.medium) host.geometry.vpages pages
+      → Comes h action (Works answer (record h { volume = pages })) answer host old new
+  comes_of_work pages answer a b runs outside size stand =
+      let whole = is_whole host old h stands on in
+      let kept = blocks_elsewhere host old new h stands serves outside in
+      record {
+        said = answered answer;
+        next = record h { volume = pages };
+        answers = refl;
+        takes = (answer, refl, inl (refl, refl));
+        tells = tells_work a b went answer old.panel new.panel runs;
+        stands = record {
+          geometry = stands.geometry;
+          mode = stands.mode;
+          blocks = kept.1;
+          device = record {
+            blocks = kept.0;
+            volume = stands_whole host new h pages stands.geometry (size ∙ whole_length host old h stands whole) stand h.torn whole;
+            power = runs.cause.0 ∙ stands.device.power;
+            cut_armed = runs.cause.2 ∙ stands.device.cut_armed;
+            fail_armed = runs.cause.3 ∙ stands.device.fail_armed;
+            good_meta = stands.device.good_meta;
+            whole = stands.device.whole;
+          };
+        };
+      }
+
+  -- Work that was interrupted comes to what stopped it, in a state that knows it torn.
+  pub comes_of_interruption : (after : HostState) (good : Answer) (to : Machine) (by : Interruption) (a b : ℕ) → after.geometry ≡ host.geometry → after.mode ≡ interrupted_mode by
+      → Runs a b (ended {T = Unit {0}} (Err by)) old.panel new.panel → EachReads h.geometry new.medium (MayLeaveBlocks (Some action) h.blocks)
+      → VolumeStands h.geometry new.medium (Some action) h.volume → Comes h action (Works good to) (interrupted_answer by) after old new
+  comes_of_interruption after good to by a b same mode runs blocks volume = record {
+    said = answered (interrupted_answer by);
+    next = struck (while_torn h action) by new.panel;
+    answers = refl;
+    takes = (
+      interrupted_answer by,
+      refl,
+      inr (by, refl, interrupts by (while_torn h action) a b old.panel new.panel runs stands.device.cut_armed stands.device.fail_armed),
+    );
+    tells = tells_work a b (ended {T = Unit {0}} (Err by)) (interrupted_answer by) old.panel new.panel runs;
+    stands = record {
+      geometry = same ∙ stands.geometry;
+      mode = mode;
+      blocks = λ is_on. absurd (never_on by (sym mode ∙ is_on));
+      device = record {
+        blocks = blocks;
+        volume = volume;
+        power = power_struck by h a b old.panel new.panel runs (stands.device.power ∙ ap is_powered (sym stands.mode ∙ on));
+        cut_armed = refl;
+        fail_armed = refl;
+        good_meta = stands.device.good_meta;
+        whole = λ is_on. absurd (never_on by is_on);
+      };
+    };
+  }
+
+  -- work on the volume leaves the blocks
+  blocks_left : WandersOutside (IsVolumePlace host.geometry) old.medium new.medium → EachReads h.geometry new.medium (λ bs. (bs ≡ h.blocks) ⊎ (bs ≡ h.blocks))
+  blocks_left outside =
+      each_reads-then h.geometry new.medium (λ bs. bs ≡ h.blocks) (λ bs. (bs ≡ h.blocks) ⊎ (bs ≡ h.blocks)) (λ bs e. inl e)
+      (subst (λ torn. EachReads h.geometry new.medium (MayLeaveBlocks torn h.blocks)) (is_whole host old h stands on) (blocks_elsewhere host old new h stands serves outside).0)
+
+  -- pages that a torn action may have left
+  pub pages_left : (pages : List Page) (torn : Option Action) → MayLeaveVolume torn h.volume pages → length pages ≡ length h.volume
+      → PagesStand (volume_of host.geometry new.medium) host.geometry.vpages pages → VolumeStands h.geometry new.medium torn h.volume
+  pages_left pages torn may size stand = record {
+    pages = pages;
+    may = may;
+    length = size ∙ whole_length host old h stands (is_whole host old h stands on);
+    stand = subst (λ geo. PagesStand (volume_of geo new.medium) geo.vpages pages) stands.geometry stand;
+  }
+
+  -- the pages stand where all only wandered
+  pub pages_wandered : Wander old.medium new.medium → PagesStand (volume_of host.geometry new.medium) host.geometry.vpages h.volume
+  pages_wandered wander =
+      let geo = host.geometry in
+      stand-loaded (volume_of geo old.medium) (volume_of geo new.medium) geo.vpages h.volume (whole_pages host old h stands (is_whole host old h stands on))
+      (volume_intact geo old.medium serves.layout) (wander-volume geo old.medium new.medium wander)
+
+-- the same as a host answers it
+pub interrupted : (now after : HostState) (by : Interruption) (answer : Answer) (h : Machine) (action : Action) (fate : Fate) (old new : Device) → after ≡ record now { mode = interrupted_mode by }
+    → answer ≡ interrupted_answer by → Comes h action fate (interrupted_answer by) (record now { mode = interrupted_mode by }) old new → Comes h action fate answer after old new
+interrupted now after by answer h action fate old new state is comes =
+    subst (λ a. Comes h action fate a after old new) (sym is) (subst (λ k. Comes h action fate (interrupted_answer by) k old new) (sym state) comes)
+
+-- A load comes to the bytes that the machine sees, or to what stopped it.
+module _ (host : HostState) (old new : Device) (h : Machine) (offset len : ℕ) (stands : Stands host old h) (serves : Serves host old) (on : host.mode ≡ modes.On)
+    (wander : Wander old.medium new.medium) where
+  pub comes_of_load : (bytes : List ℕ) (a b : ℕ) → Runs a b went old.panel new.panel → offset + len ≤ 4096 * host.geometry.vpages
+      → bytes ≡ span_shown (volume_of host.geometry old.medium) offset len → Comes h (VLoad offset len) (Works (Bytes (look h.volume offset len)) h) (Bytes bytes) host old new
+  unfolding comes_of_work
+  comes_of_load bytes a b runs within shown =
+      let geo = host.geometry in
+      let intact = volume_intact geo old.medium serves.layout in
+      let seen = look-stand (volume_of geo old.medium) geo.vpages h.volume offset len (whole_pages host old h stands (is_whole host old h stands on)) intact within in
+      let comes = comes_of_work host old new h (VLoad offset len) stands serves on h.volume (Bytes bytes) a b runs (outside-wander (IsVolumePlace geo) old.medium new.medium wander) refl
+      (pages_wandered host old new h (VLoad offset len) stands serves on wander) in
+      record {
+        said = comes.said;
+        next = h;
+        answers = refl;
+        takes = (Bytes bytes, refl, inl (ap (λ xs. Bytes xs) (shown ∙ seen), refl));
+        tells = comes.tells;
+        stands = comes.stands;
+      }
+
+  pub comes_of_torn_load : (by : Interruption) (a b : ℕ) → Runs a b (ended {T = Unit {0}} (Err by)) old.panel new.panel
+      → Comes h (VLoad offset len) (Works (Bytes (look h.volume offset len)) h) (interrupted_answer by) (record host { mode = interrupted_mode by }) old new
+  comes_of_torn_load by a b runs =
+      let action = VLoad offset len in
+      comes_of_interruption host old new h action stands serves on (record host { mode = interrupted_mode by }) _ h by a b refl refl runs
+      (blocks_left host old new h action stands serves on (outside-wander (IsVolumePlace host.geometry) old.medium new.medium wander))
+      (pages_left host old new h action stands serves on h.volume (Some action) refl refl (pages_wandered host old new h action stands serves on wander))
+
+-- A store that was interrupted got to some line.
+pub comes_of_torn_store : (host : HostState) (old new : Device) (h : Machine) (offset : ℕ) (bytes : List ℕ) (good : Answer) (to : Machine) (by : Interruption) (a b line : ℕ)
+    → Stands host old h → Serves host old → host.mode ≡ modes.On → Runs a b (ended {T = Unit {0}} (Err by)) old.panel new.panel
+    → WandersOutside (IsVolumePlace host.geometry) old.medium new.medium
+    → Wander (each (volume_of host.geometry old.medium) (below line (word_stored offset bytes))) (volume_of host.geometry new.medium)
+    → Comes h (VStore offset bytes) (Works good to) (interrupted_answer by) (record host { mode = interrupted_mode by }) old new
+comes_of_torn_store host old new h offset bytes good to by a b line stands serves on runs outside wander =
+    let geo = host.geometry in
+    let action = VStore offset bytes in
+    comes_of_interruption host old new h action stands serves on (record host { mode = interrupted_mode by }) good to by a b refl refl runs
+    (blocks_left host old new h action stands serves on outside)
+    (pages_left host old new h action stands serves on (stored_below line offset bytes h.volume) (Some action) (may_store-below line offset bytes h.volume)
+    (length-stored_below line offset bytes h.volume)
+    (stand-stored_below (volume_of geo old.medium) (volume_of geo new.medium) line offset geo.vpages bytes h.volume (whole_pages host old h stands (is_whole host old h stands on))
+    (volume_intact geo old.medium serves.layout) wander))
+
+-- A sync that was interrupted leaves what was there: the lines that it got to only wandered.
+pub comes_of_torn_sync : (host : HostState) (old new : Device) (h : Machine) (offset len : ℕ) (good : Answer) (to : Machine) (by : Interruption) (a b : ℕ)
+    → Stands host old h → Serves host old → host.mode ≡ modes.On → Runs a b (ended {T = Unit {0}} (Err by)) old.panel new.panel → Wander old.medium new.medium
+    → Comes h (VSync offset len) (Works good to) (interrupted_answer by) (record host { mode = interrupted_mode by }) old new
+comes_of_torn_sync host old new h offset len good to by a b stands serves on runs wander =
+    let action = VSync offset len in
+    comes_of_interruption host old new h action stands serves on (record host { mode = interrupted_mode by }) good to by a b refl refl runs
+    (blocks_left host old new h action stands serves on (outside-wander (IsVolumePlace host.geometry) old.medium new.medium wander))
+    (pages_left host old new h action stands serves on h.volume (Some action) (may_sync-none offset len h.volume) refl (pages_wandered host old new h action stands serves on wander))
+
+-- what stands while all only wanders, in another mode and with other flags
+wandered : (host : HostState) (old new : Device) (h next : Machine) → Stands host old h → Serves host old → Wander old.medium new.medium → (next ≡ record h { mode = next.mode; cut_armed = next.cut_armed; fail_armed = next.fail_armed })
+    → new.panel.power ≡ is_powered next.mode → new.panel.cut_armed ≡ next.cut_armed → new.panel.fail_armed ≡ next.fail_armed → (next.mode ≡ modes.On → h.mode ≡ modes.On)
+    → Stands (record host { mode = next.mode }) new next
+wandered host old new h next stands serves wander is power cut fail mode =
+    let kept = blocks_elsewhere host old new h stands serves (outside-wander (IsVolumePlace host.geometry) old.medium new.medium wander) in
+    subst (λ n. Stands (record host { mode = next.mode }) new n) (sym is) (record {
       geometry = stands.geometry;
-      mode = stands.mode;
-      blocks = kept.1;
+      mode = refl;
+      blocks = λ on. kept.1 (stands.mode ∙ mode on);
       device = record {
         blocks = kept.0;
-        pages = size ∙ stands.device.pages;
-        volume = subst (λ geo. PagesStand (volume_of geo new.medium) geo.vpages pages) stands.geometry stand;
-        power = panel.power;
-        cut_armed = panel.cut_armed;
-        fail_armed = panel.fail_armed;
+        volume = volume_wandered host old new h stands serves wander;
+        power = power;
+        cut_armed = cut;
+        fail_armed = fail;
         good_meta = stands.device.good_meta;
-        whole = stands.device.whole;
+        whole = λ on. stands.device.whole (mode on);
       };
-    }
-
--- An action that was done on the volume comes to its answer and its state.
-pub comes_of_work : (host : HostState) (old new : Device) (h : Machine) (pages : List Page) (answer : Answer) (a b : ℕ) → Stands host old h → Serves host old → IsUnarmed old.panel
-    → Runs a b went old.panel new.panel → WandersOutside (IsVolumePlace host.geometry) old.medium new.medium → length pages ≡ length h.volume
-    → PagesStand (volume_of host.geometry new.medium) host.geometry.vpages pages → Comes h (Gives answer (record h { volume = pages })) answer host old new
-comes_of_work host old new h pages answer a b stands serves unarmed runs outside size stand = record {
-  starts = [];
-  next = record h { volume = pages };
-  takes = (refl, refl, refl);
-  told_starts = runs.orders.starts;
-  restarts = runs.orders.restarts;
-  stands = stands_after host old new h pages a b stands serves unarmed runs outside size stand;
-}
-
--- A load comes to the bytes that the machine sees.
-pub comes_of_load : (host : HostState) (old new : Device) (h : Machine) (offset len : ℕ) (bytes : List ℕ) (a b : ℕ) → Stands host old h → IsUnarmed old.panel
-    → Serves host old → Runs a b went old.panel new.panel → Wander old.medium new.medium → offset + len ≤ 4096 * host.geometry.vpages
-    → bytes ≡ span_shown (volume_of host.geometry old.medium) offset len → Comes h (Gives (Bytes (look h.volume offset len)) h) (Bytes bytes) host old new
-unfolding comes_of_work
-comes_of_load host old new h offset len bytes a b stands unarmed serves runs wander within shown =
-    let geo = host.geometry in
-    let stand = stands_volume host old h stands in
-    let intact = volume_intact geo old.medium serves.layout in
-    let seen = look-stand (volume_of geo old.medium) geo.vpages h.volume offset len stand intact within in
-    let kept = stand-loaded (volume_of geo old.medium) (volume_of geo new.medium) geo.vpages h.volume stand intact (wander-volume geo old.medium new.medium wander) in
-    let comes = comes_of_work host old new h h.volume (Bytes bytes) a b stands serves unarmed runs (outside-wander (IsVolumePlace geo) old.medium new.medium wander) refl kept in
-    record {
-      starts = [];
-      next = h;
-      takes = (refl, ap (λ xs. Bytes xs) (shown ∙ seen), refl);
-      told_starts = comes.told_starts;
-      restarts = comes.restarts;
-      stands = comes.stands;
-    }
+    })
 
 -- A cut comes to the state without power.
 pub comes_of_cut : (host : HostState) (old new : Device) (h : Machine) → Stands host old h → Serves host old → Wander old.medium new.medium
     → new.panel ≡ after_power_off old.panel
-    → Comes h (Gives Done (record h { mode = modes.Off; cut_armed = false; fail_armed = false })) Done (record host { mode = modes.Off }) old new
+    → Comes h Cut (Gives Done (record h { mode = modes.Off; cut_armed = false; fail_armed = false })) Done (record host { mode = modes.Off }) old new
 comes_of_cut host old new h stands serves wander panel =
-    let geo = host.geometry in
-    let blocks = blocks_elsewhere host old new h stands serves (outside-wander (IsVolumePlace geo) old.medium new.medium wander) in
+    let next = record h { mode = modes.Off; cut_armed = false; fail_armed = false } in
     record {
-      starts = [];
-      next = record h { mode = modes.Off; cut_armed = false; fail_armed = false };
-      takes = (refl, refl, refl);
-      told_starts = ap (λ p. p.starts) panel;
-      restarts = ap (λ p. p.counts.restarts) panel;
-      stands = record {
-        geometry = stands.geometry;
-        mode = refl;
-        blocks = λ on. cc;
-        device = record {
-          blocks = blocks.0;
-          pages = stands.device.pages;
-          volume =
-              subst (λ g. PagesStand (volume_of g new.medium) g.vpages h.volume) stands.geometry
-              (stand-loaded (volume_of geo old.medium) (volume_of geo new.medium) geo.vpages h.volume (stands_volume host old h stands)
-              (volume_intact geo old.medium serves.layout) (wander-volume geo old.medium new.medium wander));
-          power = ap (λ p. p.power) panel;
-          cut_armed = ap (λ p. p.cut_armed) panel;
-          fail_armed = ap (λ p. p.fail_armed) panel;
-          good_meta = stands.device.good_meta;
-          whole = stands.device.whole;
-        };
+      said = answered Done;
+      next = next;
+      answers = refl;
+      takes = (refl, refl);
+      tells = record {
+        starts = ap (λ p. p.starts) panel;
+        restarts = ap (λ p. p.counts.restarts) panel;
+        orders = ap (λ p. p.last_order) panel;
+        arms = ap (λ p. p.counts.arms) panel;
       };
+      stands = wandered host old new h next stands serves wander refl (ap (λ p. p.power) panel) (ap (λ p. p.cut_armed) panel) (ap (λ p. p.fail_armed) panel) (λ on. cc);
+    }
+
+-- An order to cut comes to the state where a cut is armed.
+pub comes_of_cut_in : (host : HostState) (old new : Device) (h : Machine) (calls : ℕ) → Stands host old h → Serves host old → Wander old.medium new.medium
+    → new.panel ≡ after_arm_cut old.panel calls → Comes h (CutIn calls) (Orders (ForCut calls) (record h { cut_armed = true })) Done host old new
+comes_of_cut_in host old new h calls stands serves wander panel =
+    let next = record h { cut_armed = true } in
+    record {
+      said = with_order (ForCut calls) Done;
+      next = next;
+      answers = refl;
+      takes = (refl, refl);
+      tells = record {
+        starts = ap (λ p. p.starts) panel;
+        restarts = ap (λ p. p.counts.restarts) panel;
+        orders = ap (λ p. p.last_order) panel;
+        arms = ap (λ p. p.counts.arms) panel;
+      };
+      stands = subst (λ (s : HostState). Stands s new next) (ap (λ m. record host { mode = m }) (sym stands.mode))
+          (wandered host old new h next stands serves wander refl (ap (λ p. p.power) panel ∙ stands.device.power) (ap (λ p. p.cut_armed) panel) (ap (λ p. p.fail_armed) panel ∙ stands.device.fail_armed) (λ on. on));
     }
 
 -- A refusal comes to itself.
 pub comes_of_refusal : (host : HostState) (d : Device) (h : Machine) (action : Action) (why : Why) → Stands host d h
-    → refusal host.mode host.geometry action ≡ Some why → Comes h (fate h action) (Refused why) host d d
-comes_of_refusal host d h action why stands is = subst (λ r. Comes h (fate_of h action r) (Refused why) host d d) there comes
+    → refusal host.mode host.geometry action ≡ Some why → Comes h action (fate h action) (Refused why) host d d
+comes_of_refusal host d h action why stands is = subst (λ r. Comes h action (fate_of h action r) (Refused why) host d d) there comes
   where
     there : Some why ≡ refusal h.mode h.geometry action
     there = sym is ∙ ap (λ m. refusal m host.geometry action) stands.mode ∙ ap (λ geo. refusal h.mode geo action) stands.geometry
 
-    comes : Comes h (Gives (Refused why) h) (Refused why) host d d
-    comes = record { starts = []; next = h; takes = (refl, refl, refl); told_starts = refl; restarts = refl; stands = stands }
+    comes : Comes h action (Gives (Refused why) h) (Refused why) host d d
+    comes = record { said = answered (Refused why); next = h; answers = refl; takes = (refl, refl); tells = tells_nothing (Refused why) d.panel; stands = stands }

@@ -2,7 +2,7 @@
 use Rattle.std.specs.Prelude.{◌==◌, ◌&&◌, ℕ, [], ◌∷◌, codes, nat_le, nat_lt, if◌then◌else◌}
 use Rattle.line_device.specs.Panel.{Start}
 use Rattle.line_device.specs.declared.line.Choice.TheVariants.{Firsts}
-use Rattle.machine_host.specs.Machine.{zero_image}
+use Rattle.machine_host.specs.Restarting.{zero_image}
 use Rattle.machine_host.specs.Rows.{text, Writes}
 
 -- A restart that left block 1 on the first unit, whose 64 words have this value: the map is on line 18 of 5056, the unit on

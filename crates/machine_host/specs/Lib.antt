@@ -1,6 +1,10 @@
-pub mod Machine
-pub mod Run
 pub mod Volume
+pub mod Machine
+pub mod Interrupted
+pub mod Restarting
+pub mod Run
+pub mod Performing
 pub mod Stands
 pub mod Rows
 pub mod BlockRows
+pub mod CutRows

@@ -6,8 +6,8 @@ use Rattle.line_device.specs.declared.line.Choice.TheVariants.{Firsts, Lasts}
 use Rattle.word_tables.specs.declared.geometry.Geometry.{Geometry}
 use Rattle.reply_text.specs.Answer.{reply_text}
 use Rattle.script_text.specs.Script.{inputs}
-use Rattle.machine_host.specs.Machine.{fresh, zero_image}
-use Rattle.machine_host.specs.Run.{perform}
+use Rattle.machine_host.specs.Restarting.{fresh, zero_image}
+use Rattle.machine_host.specs.Performing.{perform}
 
 -- two volume pages
 abbrev pub small : Geometry
@@ -23,9 +23,12 @@ abbrev pub text : List (List ℕ) → List ℕ
 text [] = []
 text (line ∷ lines) = line ++ 10 ∷ text lines
 
--- the machine writes these lines for a script
+-- the machine writes these lines for a script, on a medium of these sizes
+abbrev pub WritesOn : Geometry → List ℕ → List Start → List (List ℕ) → Type 0
+WritesOn geo script starts lines = reply_text (perform (fresh geo) (inputs script) starts).said.answers ≡ text lines
+
 abbrev pub Writes : List ℕ → List Start → List (List ℕ) → Type 0
-Writes script starts lines = reply_text (perform (fresh small) (inputs script) starts).answers ≡ text lines
+Writes = WritesOn small
 
 pub record Rows : Type 0 where
   pub unsynced_store_lost : Writes (text (codes "vstore 0 07*8" ∷ codes "cut" ∷ codes "restart none" ∷ codes "vload 0 8" ∷ []))

@@ -1,61 +1,68 @@
--- Whole runs: what the machine answers to a script, given what each restart left.
-use Rattle.std.specs.Prelude.{◌≡◌, List, [], ◌∷◌, ◌++◌}
+-- What comes of a command, and of a script.
+use Rattle.std.specs.Prelude.{◌≡◌, ◌⊎◌, List, [], ◌∷◌, ◌++◌}
 use Rattle.line_device.specs.Panel.{Start}
+use Rattle.line_device.specs.declared.order.Order.{Order}
+use Rattle.line_words.specs.declared.interruption.Interruption.{Interruption}
 use Rattle.reply_text.specs.declared.reply.Why.TheVariants.{Syntax}
 use Rattle.reply_text.specs.Answer.{Answer}
-use Rattle.reply_text.specs.Answer.Answer.{Refused}
+use Rattle.reply_text.specs.Answer.Answer.{Done, Refused}
+use Rattle.script_text.specs.Action.{Action}
 use Rattle.script_text.specs.Script.{Input}
 use Rattle.script_text.specs.Script.Input.{Skipped, Malformed, Asked}
-use Rattle.machine_host.specs.Machine.{Machine, Keeps, fate, restarted, restart_answer}
-use Rattle.machine_host.specs.Machine.Fate.{Gives, Restarts}
+use Rattle.machine_host.specs.Machine.{Machine, Fate, fate, while_torn}
+use Rattle.machine_host.specs.Machine.Fate.{Gives, Works, Orders, Restarts}
+use Rattle.machine_host.specs.Interrupted.{Interrupts, interrupted_answer}
+use Rattle.machine_host.specs.Restarting.{Keeps, restarted, restart_answer}
 
--- the answers to a script, and the state after it
+-- It came to this answer and this state, or was interrupted in that one.
+abbrev pub Ends : Answer → Machine → Machine → Answer → Machine → Type 0
+Ends good to torn answer next =
+    ((answer ≡ good) × (next ≡ to)) ⊎ ((by : Interruption) × (answer ≡ interrupted_answer by) × Interrupts by torn next)
+
+-- what was said between script and device: what each restart left, the orders that the device got, and the answers
 pub record Transcript : Type 0 where
+  pub starts : List Start
+  pub orders : List Order
   pub answers : List Answer
-  pub state : Machine
 
--- the same with an answer before
-abbrev pub said : Answer → Transcript → Transcript
-said answer rest = record { answers = answer ∷ rest.answers; state = rest.state }
+-- one after another
+abbrev pub followed_by : Transcript → Transcript → Transcript
+followed_by one other = record {
+  starts = one.starts ++ other.starts;
+  orders = one.orders ++ other.orders;
+  answers = one.answers ++ other.answers;
+}
 
--- What the machine makes of inputs. Each restart that is done takes the next start; with none left the machine stops there.
-abbrev pub perform : Machine → List Input → List Start → Transcript
-perform h [] starts = record { answers = []; state = h }
-perform h (Skipped ∷ inputs) starts = perform h inputs starts
-perform h (Malformed ∷ inputs) starts = said (Refused Syntax) (perform h inputs starts)
-perform h (Asked action ∷ inputs) starts = elim (fate h action) [
-  | Gives answer next ↦ said answer (perform next inputs starts)
-  | Restarts choice ↦ elim starts [
-    | [] ↦ record { answers = []; state = h }
-    | start ∷ others ↦ said (restart_answer h start.image) (perform (restarted h start.image) inputs others)
-  ]
-]
+-- nothing was said, or an answer alone, or besides an order or what a restart left
+abbrev pub silence : Transcript
+silence = record { starts = []; orders = []; answers = [] }
 
--- The starts are as many as the run needs, and each is what its command may leave: asked for as the command asks, and with
--- one of its values in each word.
-abbrev pub Allows : Machine → List Input → List Start → Type 0
-Allows h [] starts = starts ≡ []
-Allows h (Skipped ∷ inputs) starts = Allows h inputs starts
-Allows h (Malformed ∷ inputs) starts = Allows h inputs starts
-Allows h (Asked action ∷ inputs) starts = elim (fate h action) as (λ _. Type 0) [
-  | Gives answer next ↦ Allows next inputs starts
-  | Restarts choice ↦ elim starts as (λ _. Type 0) [
-    | [] ↦ ⊥
-    | start ∷ others ↦ (start.choice ≡ choice) × Keeps choice start.image h × Allows (restarted h start.image) inputs others
-  ]
-]
+abbrev pub answered : Answer → Transcript
+answered answer = record { starts = []; orders = []; answers = answer ∷ [] }
 
--- a run from h over these inputs and starts, with these answers, to `end`
-pub record Run (h : Machine) (inputs : List Input) (starts : List Start) (answers : List Answer) (end : Machine) : Type 0 where
-  pub allowed : Allows h inputs starts
-  pub answers_are : (perform h inputs starts).answers ≡ answers
-  pub state_is : (perform h inputs starts).state ≡ end
+abbrev pub with_order : Order → Answer → Transcript
+with_order order answer = record { starts = []; orders = order ∷ []; answers = answer ∷ [] }
 
--- a transcript with answers before
-abbrev pub after : List Answer → Transcript → Transcript
-after answers rest = record { answers = answers ++ rest.answers; state = rest.state }
+abbrev pub with_start : Start → Answer → Transcript
+with_start start answer = record { starts = start ∷ []; orders = []; answers = answer ∷ [] }
 
--- The inputs lead from one state to another: whatever is done from there on, the whole does from here.
-pub record Goes (from : Machine) (inputs : List Input) (starts : List Start) (answers : List Answer) (to : Machine) : Type 0 where
-  pub allows : (more : List Input) (others : List Start) → Allows to more others → Allows from (inputs ++ more) (starts ++ others)
-  pub performs : (more : List Input) (others : List Start) → perform from (inputs ++ more) (starts ++ others) ≡ after answers (perform to more others)
+-- what comes of a command in h
+abbrev pub Takes : Machine → Action → Fate → Transcript → Machine → Type 0
+Takes h action (Gives good to) said next = (said ≡ answered good) × (next ≡ to)
+Takes h action (Works good to) said next = (answer : Answer) × (said ≡ answered answer) × Ends good to (while_torn h action) answer next
+Takes h action (Orders order to) said next = (said ≡ with_order order Done) × (next ≡ to)
+Takes h action (Restarts choice) said next =
+    (start : Start) × (answer : Answer) × (said ≡ with_start start answer) × (start.choice ≡ choice) × Keeps choice start.image h
+    × Ends (restart_answer h start.image) (restarted h start.image) (restarted h start.image) answer next
+
+-- what comes of an input
+abbrev pub Hears : Machine → Input → Transcript → Machine → Type 0
+Hears h Skipped said next = (said ≡ silence) × (next ≡ h)
+Hears h Malformed said next = (said ≡ answered (Refused Syntax)) × (next ≡ h)
+Hears h (Asked action) said next = Takes h action (fate h action) said next
+
+-- A run over inputs, one after another.
+abbrev pub Run : Machine → List Input → Transcript → Machine → Type 0
+Run h [] said end = (said ≡ silence) × (end ≡ h)
+Run h (input ∷ inputs) said end =
+    (first : Transcript) × (rest : Transcript) × (next : Machine) × (said ≡ followed_by first rest) × Hears h input first next × Run next inputs rest end

@@ -1,5 +1,5 @@
 -- The volume on the lines of a device: its byte i lies in its line i / 64, and its lines lie in two ranges.
-use Rattle.std.specs.Prelude.{◌≡◌, ◌+◌, ◌-◌, ◌*◌, ◌/◌, ◌%◌, ◌<◌, ◌≤◌, ℕ, min, max, List, nat_lt, if◌then◌else◌}
+use Rattle.std.specs.Prelude.{◌≡◌, ◌+◌, ◌-◌, ◌*◌, ◌/◌, ◌%◌, ◌<◌, ◌≤◌, ℕ, min, max, List}
 use Rattle.std.specs.Int.{byte_at}
 use Rattle.line_device.specs.Word.{word_at}
 use Rattle.line_device.specs.Medium.{Medium}
@@ -45,10 +45,6 @@ pub record HasLayout (geo : Geometry) (m : Medium) : Type 0 where
 -- bytes of a line, word by word
 abbrev pub line_byte : List ℕ → ℕ → ℕ
 line_byte bytes i = byte_at (i % 8) (word_at bytes (i / 8))
-
--- what is done to the words of the lines below a limit
-abbrev pub below : ℕ → (ℕ → List ℕ → List ℕ) → ℕ → List ℕ → List ℕ
-below limit change p old = if nat_lt (p / 8) limit then change p old else old
 
 -- the bytes of a span that lie in a line
 abbrev pub part_in : Span → ℕ → Span

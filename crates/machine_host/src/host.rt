@@ -7,17 +7,18 @@ mod refusals;
 mod tests;
 
 use crate::Mode;
-use block_device::{Blocks, MountFault};
+use block_device::Blocks;
 use commands::longest_reply;
 use line_device::LineDevice;
 use nvm_base::Bytes;
+use recovery::MountFault;
 use reply_text::{Reply, print};
 use script_text::Command;
 use std::alloc::{AllocError, Global};
 use std::marker::Model;
 use word_tables::Geometry;
 
-/// The host of a volume. What the volume holds is kept by the device alone.
+/// The host of a device. What blocks and volume hold is kept by the device alone.
 #[derive(Drop)]
 pub struct Host {
     alloc: Global,
@@ -35,11 +36,11 @@ impl Model for Host {
 }
 
 impl Host {
-    ghost use Rattle.std.specs.Prelude.{◌≡◌, ◌≤◌, ◌+◌, ◌*◌, IsTrue, IfErr, IfOk, OnOk, OnErr};
+    ghost use Rattle.std.specs.Prelude.{◌≡◌, ◌≤◌, ◌+◌, ◌*◌, None, IsTrue, IfOk, OnOk, OnErr};
     ghost use Rattle.machine_host.specs.declared.mode.Mode.TheVariants as modes;
     ghost use Rattle.script_text.specs.Action.{action_of};
     ghost use Rattle.machine_host.specs.Machine.{Machine, refusal};
-    ghost use Rattle.machine_host.specs.Stands.{Serves, Stands, IsUnarmed, Steps, Costs, IsStop, Leaves, mount_calls, mount_persists};
+    ghost use Rattle.machine_host.specs.Stands.{Serves, Stands, Steps, Costs, Leaves, mount_calls, mount_persists};
     ghost use Rattle.script_text.specs.Parsing.{InBounds};
     ghost use Rattle.line_device.specs.Medium.{last_image};
     ghost use Rattle.line_device.specs.Panel.{Runs};
@@ -48,34 +49,34 @@ impl Host {
     ghost use Rattle.block_device.specs.Area.{block_area};
     ghost use Rattle.block_device.specs.Reading.{blocks_read};
     ghost use Rattle.block_device.specs.Object.{blocks_of};
-    ghost use Rattle.block_device.specs.Images.{AreReadable, KeepsReads};
-    ghost use Rattle.block_device.specs.Mounting.{mount_outcome};
-    ghost use Rattle.machine_host.specs.Volume.{HasLayout};
+    ghost use Rattle.block_device.specs.Images.{KeepsReads};
+    ghost use Rattle.nvm_model.specs.Lines.{IsIntact};
+    ghost use Rattle.recovery.specs.Findings.{geometry_told, early_finding, first_finding};
+    ghost use Rattle.recovery.specs.Mounting.{Finds, IsMountable, mount_outcome};
 
-    /// The host of a device that has all lines of a layout. It mounts the blocks.
-    pub fn start<D: LineDevice>(
-        alloc: Global,
-        device: &mut D,
-        geometry: Geometry,
-    ) -> Result<Self, MountFault>
-        requires layout { HasLayout geometry (D.state device.old).medium }
-        requires readable { AreReadable geometry (D.state device.old).medium }
+    /// The host of a device, of the sizes that its superblock tells. It mounts the device.
+    pub fn mount<D: LineDevice>(alloc: Global, device: &mut D) -> Result<Self, MountFault>
+        requires mountable { IsMountable (D.state device.old).medium }
+        requires intact { IsIntact (D.state device.old).medium }
         requires on { IsTrue (D.state device.old).panel.power }
-        ensures ok { IfOk result (λ host. (host.geometry ≡ geometry) × (host.mode ≡ modes.On)
+        ensures ok { IfOk result (λ host. (host.geometry ≡ geometry_told (D.state device.old).medium) × (host.mode ≡ modes.On)
             × (blocks_of host.blocks (D.state device.new).medium
-            ≡ blocks_read geometry (D.state device.old).medium.is_bad (last_image (D.state device.old).medium))) }
-        ensures stop { IfErr result IsStop }
-        ensures lines { WandersOutside (IsOf (block_area geometry)) (D.state device.old).medium (D.state device.new).medium }
-        ensures reads { KeepsReads geometry (D.state device.old).medium (D.state device.new).medium }
+            ≡ blocks_read (geometry_told (D.state device.old).medium) (D.state device.old).medium.is_bad
+            (last_image (D.state device.old).medium))) }
+        ensures finds { Finds (first_finding (D.state device.old).medium) result }
+        ensures lines { WandersOutside (IsOf (block_area (geometry_told (D.state device.old).medium)))
+            (D.state device.old).medium (D.state device.new).medium }
+        ensures reads { early_finding (D.state device.old).medium ≡ None
+            → KeepsReads (geometry_told (D.state device.old).medium) (D.state device.old).medium (D.state device.new).medium }
         ensures serves { IfOk result (λ host. Serves host (D.state device.new)) }
         ensures runs { Runs mount_calls mount_persists (mount_outcome result) (D.state device.old).panel (D.state device.new).panel }
     {
-        let blocks = Blocks::mount(alloc, device, geometry)?;
+        let mounted = recovery::mount(alloc, device)?;
         Ok(Host {
             alloc,
-            geometry,
+            geometry: mounted.geo,
             mode: Mode::On,
-            blocks,
+            blocks: mounted.blocks,
         })
     }
 
@@ -95,13 +96,11 @@ impl Host {
         requires serves { Serves self.old (D.state device.old) }
         requires bounded { InBounds (action_of command.now) }
 
-        // Where nothing is armed, it is one step of the machine, whichever state host and device stand for.
-        ensures step { OnOk result ((h : Machine) → Stands self.old (D.state device.old) h → IsUnarmed (D.state device.old).panel
+        // It is one step of the machine, whichever state host and device stand for and whatever is armed.
+        ensures step { OnOk result ((h : Machine) → Stands self.old (D.state device.old) h
             → Steps h (action_of command.now) out.old.items out.new.items self.new (D.state device.old) (D.state device.new)) }
         ensures memory { OnErr result ((out.new.items ≡ out.old.items)
             × Leaves (action_of command.now) self.old self.new (D.state device.old) (D.state device.new)) }
-
-        // Whatever is armed
         ensures serves { Serves self.new (D.state device.new) }
         ensures costs { Costs (action_of command.now) (D.state device.old).panel (D.state device.new).panel }
     {

@@ -8,4 +8,4 @@ mod volume;
 
 pub use host::Host;
 pub use mode::Mode;
-pub use rows::worked_scripts;
+pub use rows::{worked_cuts, worked_scripts};

@@ -1,12 +1,12 @@
 // The volume's bytes over the lines of a device. Each line that a span touches is one call.
-ghost use Rattle.std.specs.Prelude.{◌≡◌, ◌+◌, ◌-◌, ◌*◌, ◌/◌, ◌%◌, ◌<◌, ◌≤◌, ◌^◌, ◌++◌, ℕ, IsTrue, length, min, max, OnOk};
+ghost use Rattle.std.specs.Prelude.{◌≡◌, ◌+◌, ◌-◌, ◌*◌, ◌/◌, ◌%◌, ◌<◌, ◌≤◌, ◌^◌, ◌++◌, ℕ, IsTrue, length, min, max, OnErr, OnOk};
 ghost use Rattle.nvm_base.specs.Units.{units_of};
-ghost use Rattle.line_device.specs.Medium.{Wander, stored, settled};
+ghost use Rattle.line_device.specs.Medium.{Wander, stored, settled, word_stored};
 ghost use Rattle.line_device.specs.Panel.{Runs};
 ghost use Rattle.line_words.specs.Ending.{ended};
 ghost use Rattle.line_words.specs.Words.{WandersOutside};
 ghost use Rattle.nvm_model.specs.Numbered.{list_from};
-ghost use Rattle.nvm_model.specs.Lines.{span_stored, span_settled, span_shown};
+ghost use Rattle.nvm_model.specs.Lines.{below, each, span_stored, span_settled, span_shown};
 ghost use Rattle.machine_host.specs.Volume.{HasLayout, IsReachable, IsVolumePlace, line_byte, part_in as part_of, volume_of};
 
 use line_device::{DeviceFault, Lines};
@@ -106,6 +106,7 @@ fn store_part<L: Lines>(
     ensures ok { OnOk result (Wander
         (stored (volume_of geo (L.state device.old).medium) (offset / 64) (offset % 64) bytes.now)
         (volume_of geo (L.state device.new).medium)) }
+    ensures err { OnErr result (Wander (L.state device.old).medium (L.state device.new).medium) }
     ensures outside { WandersOutside (IsVolumePlace geo) (L.state device.old).medium (L.state device.new).medium }
     ensures runs { Runs 1 0 (ended result) (L.state device.old).panel (L.state device.new).panel }
 {
@@ -129,6 +130,9 @@ pub fn store_span<L: Lines>(
     requires within { offset + length bytes.now ≤ 4096 * geo.vpages }
     requires on { IsTrue (L.state device.old).panel.power }
     ensures ok { OnOk result (Wander (span_stored (volume_of geo (L.state device.old).medium) offset bytes.now)
+        (volume_of geo (L.state device.new).medium)) }
+    ensures err { OnErr result ((line : ℕ)
+        × Wander (each (volume_of geo (L.state device.old).medium) (below line (word_stored offset bytes.now)))
         (volume_of geo (L.state device.new).medium)) }
     ensures outside { WandersOutside (IsVolumePlace geo) (L.state device.old).medium (L.state device.new).medium }
     ensures runs { Runs (units_of LINE (record { start = offset; len = length bytes.now })).len 0 (ended result)
@@ -159,7 +163,7 @@ fn persist_line<L: Lines>(device: &mut L, geo: Geometry, line: u64) -> Result<()
     requires on { IsTrue (L.state device.old).panel.power }
     ensures ok { OnOk result (Wander (settled (volume_of geo (L.state device.old).medium) line)
         (volume_of geo (L.state device.new).medium)) }
-    ensures outside { WandersOutside (IsVolumePlace geo) (L.state device.old).medium (L.state device.new).medium }
+    ensures lines { Wander (L.state device.old).medium (L.state device.new).medium }
     ensures runs { Runs 1 1 (ended result) (L.state device.old).panel (L.state device.new).panel }
 {
     line_words::persist_line(device, geo.volume_line(line))
@@ -173,7 +177,7 @@ pub fn persist_span<L: Lines>(device: &mut L, geo: Geometry, span: Span) -> Resu
     requires on { IsTrue (L.state device.old).panel.power }
     ensures ok { OnOk result (Wander (span_settled (volume_of geo (L.state device.old).medium) span.start span.len)
         (volume_of geo (L.state device.new).medium)) }
-    ensures outside { WandersOutside (IsVolumePlace geo) (L.state device.old).medium (L.state device.new).medium }
+    ensures lines { Wander (L.state device.old).medium (L.state device.new).medium }
     ensures runs { Runs (units_of LINE span).len (units_of LINE span).len (ended result) (L.state device.old).panel
         (L.state device.new).panel }
 {

@@ -1,18 +1,16 @@
--- A device that was made one of zeros, and a host that was started on it.
-use Rattle.std.proofs.Common.{◌≡◌, ℕ, ◌*◌, ◌/◌, ◌<◌, true, false, cond, ltb, [], ◌∷◌, refl, ap, subst, ◌∙◌, arith}
+-- A device that was made a fresh one, and a host that mounted it.
+use Rattle.std.proofs.Common.{◌≡◌, ◌⊎◌, inl, inr, Err, ℕ, ◌*◌, ◌/◌, ◌<◌, false, None, cond, ltb, [], ◌∷◌, refl, ap, subst, ◌∙◌, arith}
 use Rattle.std.proofs.lemmas.Bool.Decides.{nat_tests}
-use Rattle.line_device.specs.History.{Fades}
-use Rattle.line_device.specs.Medium.{Medium, Wander, IsSound, zeros, last_image}
-use Rattle.line_device.specs.Panel.{ArmsNothing, Runs, SetsUp}
+use Rattle.line_device.specs.Medium.{Medium, IsSound, last_image}
+use Rattle.line_device.specs.Panel.{Panel, ArmsNothing, Runs, SetsUp}
 use Rattle.line_device.specs.Panel.Outcome.{went}
 use Rattle.line_device.specs.Device.{Device}
-use Rattle.line_device.proofs.HistoryLemmas.{fades-one}
 use Rattle.line_device.proofs.PanelLemmas.{arms_nothing-trans}
 use Rattle.line_words.specs.Words.{WandersOutside}
 use Rattle.line_words.proofs.BesideLemmas.{beside-outside}
 use Rattle.word_tables.specs.declared.geometry.Geometry.{Geometry}
-use Rattle.word_tables.specs.Bounds.{IsValid}
 use Rattle.word_tables.specs.Layout.{total_lines}
+use Rattle.word_tables.specs.Superblock.{superblock_word}
 use Rattle.word_tables.proofs.LayoutLemmas.{volume_line-within}
 use Rattle.word_log.specs.Area.{IsOf}
 use Rattle.nvm_model.specs.Page.{PagesStand, read_pages}
@@ -26,74 +24,110 @@ use Rattle.block_device.specs.Images.{EachReads, KeepsReads}
 use Rattle.block_device.proofs.PlaceLemmas.{area_is_block}
 use Rattle.block_device.proofs.ReachLemmas.{each_reads-kept}
 use Rattle.block_device.proofs.RestartLemmas.{blocks_read-last}
-use Rattle.block_device.proofs.ZerosLemmas.{zeros_read}
+use Rattle.recovery.specs.Findings.{geometry_told, early_finding}
+use Rattle.recovery.specs.Fresh.{IsFresh}
+use Rattle.recovery.proofs.FreshLemmas.{fresh_early, fresh_reads, fresh_told}
 use Rattle.machine_host.specs.declared.mode.Mode.TheVariants.{On}
-use Rattle.machine_host.specs.Machine.{reading, zero_image}
+use Rattle.machine_host.specs.Restarting.{fresh, reading, zero_image}
 use Rattle.machine_host.specs.Volume.{volume_place, volume_of, volume_image, HasLayout}
 use Rattle.machine_host.specs.Stands.{HostState, Serves, is_powered, mount_calls, mount_persists}
-use Rattle.machine_host.proofs.ElsewhereLemmas.{wander_volume-beside}
+use Rattle.machine_host.proofs.ElsewhereLemmas.{volume_line_some, wander_volume-beside}
 use Rattle.machine_host.proofs.VolumeLemmas.{volume_intact}
-use Rattle.nvmhost.specs.Whole.{IsReady}
-use Rattle.nvmhost.proofs.GoingLemmas.{still_unarmed}
+use Rattle.recovery.specs.Mounting.{Finds, mount_outcome}
+use Rattle.recovery.specs.declared.fault.MountFault.{MountFault}
+use Rattle.recovery.specs.declared.fault.MountFault.TheVariants as fault
+use Rattle.nvmhost.specs.declared.ending.Ending.TheVariants.{Memory}
+use Rattle.nvmhost.specs.declared.ending.Ending.TheVariants as endings
+use Rattle.nvmhost.specs.Ending.{of_mount}
+use Rattle.nvmhost.specs.Whole.{DeviceFailed, IsReady}
 
--- lines of zeros are those of the layout
-pub layout_of_zeros : (geo : Geometry) (m : Medium) → IsValid geo → Wander (zeros (total_lines geo)) m → HasLayout geo m
-layout_of_zeros geo m valid w = record { valid = valid; lines = w.count; intact = λ n lt. (w.bad n, w.weak n) }
+-- the lines of a fresh device are those of the layout
+pub layout_of_fresh : (geo : Geometry) (m : Medium) → IsFresh geo m → HasLayout geo m
+layout_of_fresh geo m is = record { valid = is.valid; lines = is.count; intact = λ n lt. (is.good n, is.strong n) }
 
--- the volume's pages in lines of zeros
-pub pages_of_zeros : (geo : Geometry) (m : Medium) → IsValid geo → Wander (zeros (total_lines geo)) m
+-- the volume lies behind the superblock
+volume_behind : (geo : Geometry) (p : ℕ) → ltb (volume_place geo p) 8 ≡ false
+volume_behind geo p = let some = volume_line_some geo (p / 8) in grind (arith, nat_tests)
+
+-- the volume's pages on a fresh device
+pub pages_of_fresh : (geo : Geometry) (m : Medium) → IsFresh geo m
     → PagesStand (volume_of geo m) geo.vpages (read_pages (volume_image geo (zero_image (total_lines geo))) geo.vpages)
-pages_of_zeros geo m valid w =
-    pages_stand-read (volume_of geo m) (volume_image geo (zero_image (total_lines geo))) geo.vpages (volume_intact geo m (layout_of_zeros geo m valid w)) (λ n lt. (refl, refl)) one
+pages_of_fresh geo m is =
+    pages_stand-read (volume_of geo m) (volume_image geo (zero_image (total_lines geo))) geo.vpages (volume_intact geo m (layout_of_fresh geo m is)) (λ n lt. (refl, refl)) one
   where
     one : (p : ℕ) → p < 512 * geo.vpages → m.history (volume_place geo p) ≡ 0 ∷ []
     one p lt =
-        let within : volume_place geo p / 8 < total_lines geo = omega (arith, volume_line-within geo (p / 8) (omega arith)) in
-        let there : ltb (volume_place geo p / 8) (total_lines geo) ≡ true = grind (arith, nat_tests) in
-        fades-one false 0 _ (subst (λ b. Fades false (cond b (0 ∷ []) []) (m.history (volume_place geo p))) there (w.fades (volume_place geo p)))
+        let within : volume_place geo p / 8 < m.count = omega (arith, volume_line-within geo (p / 8) (omega arith), is.count) in
+        is.words (volume_place geo p) within ∙ ap (λ b. cond b (superblock_word geo (volume_place geo p)) 0 ∷ []) (volume_behind geo p)
 
--- a host that was started on lines of zeros
-pub record IsStarted (geo : Geometry) (host : HostState) (mid new : Device) : Type 0 where
-  pub geometry : host.geometry ≡ geo
+-- a host that mounted a device
+pub record IsStarted (host : HostState) (mid new : Device) : Type 0 where
+  pub geometry : host.geometry ≡ geometry_told mid.medium
   pub mode : host.mode ≡ On
-  pub blocks : blocks_of host.blocks new.medium ≡ blocks_read geo mid.medium.is_bad (last_image mid.medium)
-  pub outside : WandersOutside (IsOf (block_area geo)) mid.medium new.medium
-  pub reads : KeepsReads geo mid.medium new.medium
+  pub blocks : blocks_of host.blocks new.medium ≡ blocks_read (geometry_told mid.medium) mid.medium.is_bad (last_image mid.medium)
+  pub outside : WandersOutside (IsOf (block_area (geometry_told mid.medium))) mid.medium new.medium
+  pub reads : early_finding mid.medium ≡ None → KeepsReads (geometry_told mid.medium) mid.medium new.medium
   pub serves : Serves host new
   pub runs : Runs mount_calls mount_persists went mid.panel new.panel
 
--- and stands for a fresh machine
-pub ready_of_start : (geo : Geometry) (host : HostState) (old mid new : Device) → IsValid geo → IsSound mid.medium → Wander (zeros (total_lines geo)) mid.medium
-    → SetsUp went old.panel mid.panel → IsStarted geo host mid new → IsReady geo host old new
+-- and stands for the machine as a run begins, where the device was a fresh one
+pub ready_of_mount : (geo : Geometry) (host : HostState) (old mid new : Device) → IsSound mid.medium → IsFresh geo mid.medium
+    → SetsUp went old.panel mid.panel → IsStarted host mid new → IsReady geo host old new
 unfolding reading
-ready_of_start geo host old mid new valid sound w sets started = record {
+ready_of_mount geo host old mid new sound is sets started = record {
   serves = started.serves;
-  starts = started.runs.orders.starts ∙ sets.orders.starts;
-  restarts = started.runs.orders.restarts ∙ sets.orders.restarts;
-  stands = λ unarmed. record {
-    geometry = started.geometry;
+  tells = record {
+    starts = started.runs.orders.starts ∙ sets.orders.starts;
+    restarts = started.runs.orders.restarts ∙ sets.orders.restarts;
+    orders = started.runs.orders.last_order ∙ sets.orders.last_order;
+    arms = started.runs.orders.arms ∙ sets.orders.arms;
+  };
+  begin = record (fresh geo) { cut_armed = new.panel.cut_armed; fail_armed = new.panel.fail_armed };
+  begins = record { state = refl; cut = armed.cut; fail = armed.fail };
+  stands = record {
+    geometry = started.geometry ∙ sizes;
     mode = started.mode;
-    blocks = λ _. started.blocks ∙ blocks_read-last geo valid mid.medium (blocks_read geo (λ _. false) (λ _. 0)) sound w.count reads;
+    blocks = λ _. started.blocks ∙ ap (λ g. blocks_read g mid.medium.is_bad (last_image mid.medium)) sizes
+        ∙ blocks_read-last geo is.valid mid.medium (blocks_read geo (λ _. false) (λ _. 0)) sound is.count reads;
     device = record {
-      blocks = each_reads-kept geo mid.medium new.medium (λ bs. bs ≡ blocks_read geo (λ _. false) (λ _. 0)) started.reads reads;
-      pages = length-read_pages (volume_image geo (zero_image (total_lines geo))) geo.vpages;
-      volume =
-          stand-loaded (volume_of geo mid.medium) (volume_of geo new.medium) geo.vpages _ (pages_of_zeros geo mid.medium valid w)
-          (volume_intact geo mid.medium (layout_of_zeros geo mid.medium valid w))
-          (wander_volume-beside geo (IsBlockLine geo) mid.medium new.medium valid (λ n at. at)
-          (beside-outside (IsOf (block_area geo)) (IsBlockLine geo) mid.medium new.medium (area_is_block geo valid) started.outside));
+      blocks = each_reads-kept geo mid.medium new.medium (λ bs. bs ≡ blocks_read geo (λ _. false) (λ _. 0)) keeps reads;
+      volume = record {
+        pages = read_pages (volume_image geo (zero_image (total_lines geo))) geo.vpages;
+        may = refl;
+        length = length-read_pages (volume_image geo (zero_image (total_lines geo))) geo.vpages;
+        stand =
+            stand-loaded (volume_of geo mid.medium) (volume_of geo new.medium) geo.vpages _ (pages_of_fresh geo mid.medium is)
+            (volume_intact geo mid.medium (layout_of_fresh geo mid.medium is))
+            (wander_volume-beside geo (IsBlockLine geo) mid.medium new.medium is.valid (λ n at. at)
+            (beside-outside (IsOf (block_area geo)) (IsBlockLine geo) mid.medium new.medium (area_is_block geo is.valid)
+            (subst (λ g. WandersOutside (IsOf (block_area g)) mid.medium new.medium) sizes started.outside)));
+      };
       power = started.serves.power ∙ ap is_powered started.mode;
-      cut_armed = (still_unarmed old.panel new.panel armed unarmed).cut;
-      fail_armed = (still_unarmed old.panel new.panel armed unarmed).fail;
+      cut_armed = refl;
+      fail_armed = refl;
       good_meta = refl;
-      whole = refl;
+      whole = λ _. refl;
     };
   };
-  unarmed = still_unarmed old.panel new.panel armed;
 }
   where
+    sizes : geometry_told mid.medium ≡ geo
+    sizes = fresh_told geo mid.medium is sound
+
+    keeps : KeepsReads geo mid.medium new.medium
+    keeps = subst (λ g. KeepsReads g mid.medium new.medium) sizes (started.reads (fresh_early geo mid.medium is sound))
+
     reads : EachReads geo mid.medium (λ bs. bs ≡ blocks_read geo (λ _. false) (λ _. 0))
-    reads = zeros_read geo valid (total_lines geo) mid.medium refl w
+    reads = fresh_reads geo mid.medium is
 
     armed : ArmsNothing old.panel new.panel
     armed = arms_nothing-trans old.panel mid.panel new.panel sets.armed started.runs.armed
+
+-- why a mount of a device of which nothing is found ends the call
+pub caused_by_mount : (T : Type 0) (f : MountFault) (a b : ℕ) (old mid new : Panel) → Finds {T = T} None (Err f) → SetsUp went old mid → Runs a b (mount_outcome {T = T} (Err f)) mid new
+    → (of_mount f ≡ Memory) ⊎ ((of_mount f ≡ endings.Device) × DeviceFailed old new)
+caused_by_mount T (fault.Meta line) a b old mid new finds sets runs = cc finds
+caused_by_mount T (fault.Layout at) a b old mid new finds sets runs = cc finds
+caused_by_mount T fault.Device a b old mid new finds sets runs = inr (refl, inr (inl (omega (arith, runs.cause.3, sets.faults))))
+caused_by_mount T fault.PowerLost a b old mid new finds sets runs = inr (refl, inr (inr (omega (arith, runs.cause.2, sets.cuts))))
+caused_by_mount T fault.Memory a b old mid new finds sets runs = inl refl

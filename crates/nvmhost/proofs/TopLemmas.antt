@@ -1,26 +1,26 @@
 -- A call as a whole.
-use Rattle.std.proofs.Common.{◌≡◌, ◌⊎◌, inl, inr, ℕ, ◌≤◌, List, [], ◌++◌, length, take, drop, Option, Some, None, Result, Ok, Err, refl, sym, ap, subst, ◌∙◌, append-nil, length-append, arith}
+use Rattle.std.proofs.Common.{◌≡◌, ◌⊎◌, ◌==◌, if◌then◌else◌, inl, inr, ℕ, ◌≤◌, List, [], ◌++◌, length, take, drop, Option, Some, None, Result, Ok, Err, refl, sym, ap, subst, ◌∙◌, append-nil, length-append, arith}
 use Rattle.std.proofs.lemmas.List.{take-append-drop}
 use Rattle.std.specs.Prelude.{IfSome, IfErr, MatchResult}
 use Rattle.std.specs.Io.KnownBytes.{Appends, Consumes}
-use Rattle.line_device.specs.Panel.{Panel, told}
+use Rattle.line_device.specs.Panel.{Panel}
 use Rattle.line_device.specs.Device.{Device}
 use Rattle.host_io.specs.Writing.{WritesAll}
 use Rattle.word_tables.specs.declared.geometry.Geometry.{Geometry}
 use Rattle.nvm_base.specs.Stock.{Stock}
 use Rattle.nvm_base.specs.Counts.{Rose}
 use Rattle.script_text.specs.Script.{inputs_of, lines_of}
-use Rattle.machine_host.specs.Machine.{reading, fresh}
-use Rattle.machine_host.specs.Run.{Run}
-use Rattle.machine_host.specs.Stands.{HostState, Stands, IsUnarmed, Opens, bumped_by}
-use Rattle.machine_host.proofs.RunLemmas.{goes-none, run_of_goes}
+use Rattle.machine_host.specs.Restarting.{reading, fresh}
+use Rattle.machine_host.specs.Run.{Run, silence}
+use Rattle.machine_host.specs.Stands.{HostState, Opens}
+use Rattle.machine_host.proofs.RunLemmas.{tells_then}
 use Rattle.machine_host.proofs.CostLemmas.{spends-idle, spends_nothing, spends_within}
 use Rattle.nvmhost.specs.declared.ending.Ending.{Ending}
 use Rattle.nvmhost.specs.declared.ending.Ending.TheVariants.{Usage, Read, Write, Memory, Script}
 use Rattle.nvmhost.specs.declared.ending.Ending.TheVariants as endings
 use Rattle.nvmhost.specs.Words.{IsForm}
 use Rattle.nvmhost.specs.Ending.{status}
-use Rattle.nvmhost.specs.Whole.{Completes, WritesFront, Halts, Costs, DeviceFailed, IsReady, IsCaused, Reads, Says, Performs}
+use Rattle.nvmhost.specs.Whole.{Completes, WritesFront, Halts, Costs, DeviceFailed, IsReady, IsCaused, Reads, Performs}
 use Rattle.nvmhost.proofs.BytesLemmas.{appends-none}
 
 -- what was written of some bytes is how they begin
@@ -30,79 +30,67 @@ writes_front bytes (Err e) old new some =
     record { part = take some.count bytes; front = record { rest = drop some.count bytes; joined = take-append-drop some.count bytes }; wrote = some.part }
 
 -- a call that said nothing of a run
-pub halts-silent : (geo : Geometry) (left_old left_new written : Option (List ℕ)) (script : List ℕ) → Consumes left_old left_new script → Halts geo left_old left_new written written
-halts-silent geo left_old left_new written script read = record {
+pub halts-silent : (geo : Geometry) (p : Panel) (left_old left_new written : Option (List ℕ)) (script : List ℕ) → Consumes left_old left_new script → Halts geo p left_old left_new written written
+unfolding reading
+halts-silent geo p left_old left_new written script read = record {
   script = script;
   lines = [];
   others = lines_of script;
-  starts = [];
-  answers = [];
+  said = silence;
   end = fresh geo;
   read = read;
   split = refl;
-  run = run_of_goes (fresh geo) (fresh geo) [] [] [] (goes-none (fresh geo));
+  run = record { begin = fresh geo; begins = record { state = refl; cut = λ t. cc; fail = λ t. cc }; run = (refl, refl) };
   wrote = record { part = []; front = record { rest = []; joined = refl }; wrote = appends-none written };
 }
 
 -- what was not done opens nothing
 pub opens-none : (p : Panel) → Opens p p
-opens-none p = spends_within 0 0 0 0 _ _ _ _ p p (omega arith) (omega arith) (omega arith) (omega arith) (spends_nothing p)
+opens-none p = spends_within 0 0 0 0 0 _ _ _ _ _ p p (omega arith) (omega arith) (omega arith) (omega arith) (omega arith) (spends_nothing p)
 
 -- a call that began no line
 pub costs-none : (left_old left_new : Option (List ℕ)) (script : List ℕ) (old new : Panel) → Consumes left_old left_new script → Opens old new → Costs left_old left_new old new
 costs-none left_old left_new script old new read opens =
     record { opened = new; script = script; begun = []; others = lines_of script; read = read; split = refl; opens = opens; spends = spends-idle [] new }
 
--- a host that stands for a fresh machine has its sizes
-same_sizes : (geo : Geometry) (host : HostState) (d : Device) → Stands host d (fresh geo) → host.geometry ≡ geo
-unfolding reading
-same_sizes geo host d stands = stands.geometry
-
--- and what was said of it
-says_ready : (geo : Geometry) (host : HostState) (written_old written_new : Option (List ℕ)) (script : List ℕ) (result : Result (Unit {0}) Ending) (old ready new : Device)
-    → IsReady geo host old ready → IsUnarmed old.panel → Performs host.geometry host script result written_old written_new ready new → Says geo script result written_old written_new ready new
-says_ready geo host written_old written_new script result old ready new is_ready unarmed performs =
-    let stands = is_ready.stands unarmed in
-    let same = subst (λ g. Performs g host script result written_old written_new ready new) (same_sizes geo host ready stands) performs in
-    same.says stands (is_ready.unarmed unarmed)
-
 pub ends_performed : (geo : Geometry) (host : HostState) (left_old left_new written_old written_new : Option (List ℕ)) (script : Stock ℕ) (result : Result (Unit {0}) Ending) (old ready new : Device)
-    → Reads left_old left_new (Ok script) → IsReady geo host old ready → IsUnarmed old.panel → Performs host.geometry host script.items result written_old written_new ready new
-    → MatchResult result (λ _. Completes geo left_old left_new written_old written_new old new) (λ _. Halts geo left_old left_new written_old written_new)
-ends_performed geo host left_old left_new written_old written_new script (Ok x) old ready new reads is_ready unarmed performs =
-    let says = says_ready geo host written_old written_new script.items (Ok x) old ready new is_ready unarmed performs in
+    → Reads left_old left_new (Ok script) → IsReady geo host old ready → Performs host script.items result written_old written_new ready new
+    → MatchResult result (λ _. Completes geo left_old left_new written_old written_new old new) (λ _. Halts geo old.panel left_old left_new written_old written_new)
+ends_performed geo host left_old left_new written_old written_new script (Ok x) old ready new reads is_ready performs =
+    let says = performs.says is_ready.begin is_ready.stands in
     let whole = says.whole in
     let same : script.items ≡ reads.script = reads.outcome.0 in
     let all : lines_of reads.script ≡ says.lines = sym (ap lines_of same) ∙ says.split ∙ ap (λ ls. says.lines ++ ls) whole.none_left ∙ append-nil says.lines in
     record {
       script = reads.script;
-      answers = says.answers;
+      said = says.said;
       read = reads.read;
       ended = reads.outcome.1;
       short = reads.outcome.2;
       ran = record {
-        starts = says.starts;
         end = says.end;
-        run = subst (λ ls. Run (fresh geo) (inputs_of ls) says.starts says.answers says.end) (sym all) says.run;
-        told_starts = whole.told_starts ∙ ap (λ t. told t says.starts) is_ready.starts;
-        restarts = whole.restarts ∙ ap (bumped_by says.starts) is_ready.restarts;
+        run = record {
+          begin = is_ready.begin;
+          begins = is_ready.begins;
+          run = subst (λ ls. Run is_ready.begin (inputs_of ls) says.said says.end) (sym all) says.run;
+        };
+        tells = tells_then silence says.said old.panel ready.panel new.panel is_ready.tells whole.tells;
         stands = whole.stands;
       };
       wrote = subst (λ t. Appends written_old written_new t) whole.all says.wrote;
     }
-ends_performed geo host left_old left_new written_old written_new script (Err e) old ready new reads is_ready unarmed performs =
-    let says = says_ready geo host written_old written_new script.items (Err e) old ready new is_ready unarmed performs in
+ends_performed geo host left_old left_new written_old written_new script (Err e) old ready new reads is_ready performs =
+    let says = performs.says is_ready.begin is_ready.stands in
     record {
       script = reads.script;
       lines = says.lines;
       others = says.others;
-      starts = says.starts;
-      answers = says.answers;
+      said = says.said;
       end = says.end;
       read = reads.read;
       split = ap lines_of (sym reads.outcome.0) ∙ says.split;
-      run = says.run;
-      wrote = record { part = says.said; front = says.front; wrote = says.wrote };
+      run = record { begin = is_ready.begin; begins = is_ready.begins; run = says.run };
+      wrote = record { part = says.part; front = says.front; wrote = says.wrote };
     }
 
 -- each ending has a status of its own
@@ -113,6 +101,27 @@ status-usage Write is = cc
 status-usage Memory is = cc
 status-usage Script is = cc
 status-usage endings.Device is = cc
+
+-- the ending of a status
+ending_of : ℕ → Ending
+ending_of n = if n == 2 then Usage else (if n == 4 then Read else (if n == 5 then Write else (if n == 6 then Memory else (if n == 7 then Script else endings.Device))))
+
+ending_of-status : (e : Ending) → ending_of (status e) ≡ e
+unfolding ending_of
+ending_of-status Usage = refl
+ending_of-status Read = refl
+ending_of-status Write = refl
+ending_of-status Memory = refl
+ending_of-status Script = refl
+ending_of-status endings.Device = refl
+
+-- what was caused as the call ended, still was once its line was written, whichever ending its status tells
+pub caused_later : (e f : Ending) (a b c d d' : ℕ) (p q : Panel) (left_old left_new : Option (List ℕ)) → status e ≡ status f → d ≤ d'
+    → IsCaused e a b c d p q left_old left_new → IsCaused f a b c d' p q left_old left_new
+caused_later e f a b c d d' p q left_old left_new same later caused =
+    let is : e ≡ f = sym (ending_of-status e) ∙ ap ending_of same ∙ ending_of-status f in
+    subst (λ e. IsCaused e a b c d' p q left_old left_new) is
+    (record { read = caused.read; write = λ w. let rose = caused.write w in omega (arith, rose, later); device = caused.device; script = caused.script })
 
 -- words are one form
 pub same_form : (words : List (List ℕ)) (a b : Geometry) → IsForm words a → IsForm words b → a ≡ b

@@ -4,8 +4,8 @@ use Rattle.host_io.specs.declared.sink.WriteFault.{WriteFault}
 use Rattle.host_io.specs.declared.sink.WriteFault.TheVariants as write
 use Rattle.line_device.specs.declared.fault.ResetFault.{ResetFault}
 use Rattle.line_device.specs.declared.fault.ResetFault.TheVariants as reset
-use Rattle.block_device.specs.declared.fault.MountFault.{MountFault}
-use Rattle.block_device.specs.declared.fault.MountFault.TheVariants as mount
+use Rattle.recovery.specs.declared.fault.MountFault.{MountFault}
+use Rattle.recovery.specs.declared.fault.MountFault.TheVariants as mount
 use Rattle.nvmhost.specs.declared.ending.Ending.{Ending}
 use Rattle.nvmhost.specs.declared.ending.Ending.TheVariants.{Usage, Read, Write, Memory, Script, Device}
 

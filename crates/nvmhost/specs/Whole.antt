@@ -1,15 +1,16 @@
 -- What a whole call did: over which lines of which script, with which answers, and what the device is left as.
-use Rattle.std.specs.Prelude.{◌≡◌, ◌⊎◌, ◌≤◌, ◌<◌, ℕ, List, [], ◌∷◌, ◌++◌, length, Option, IfSome, Result, Ok, Err, OnOk}
+use Rattle.std.specs.Prelude.{◌≡◌, ◌⊎◌, ◌≤◌, ◌<◌, ℕ, List, [], ◌++◌, length, IsTrue, Option, IfSome, Result, Ok, Err, OnOk}
 use Rattle.std.specs.Io.KnownBytes.{Appends, Consumes, IsAtEnd}
 use Rattle.nvm_base.specs.Counts.{Rose}
-use Rattle.line_device.specs.Panel.{Panel, Start, told}
+use Rattle.line_device.specs.Panel.{Panel}
 use Rattle.line_device.specs.Device.{Device}
 use Rattle.word_tables.specs.declared.geometry.Geometry.{Geometry}
-use Rattle.reply_text.specs.Answer.{Answer, reply_text}
+use Rattle.reply_text.specs.Answer.{reply_text}
 use Rattle.script_text.specs.Script.{Input, inputs_of, lines_of}
-use Rattle.machine_host.specs.Machine.{Machine, fresh}
-use Rattle.machine_host.specs.Run.{Run, Goes}
-use Rattle.machine_host.specs.Stands.{HostState, Serves, DeviceStands, Stands, IsUnarmed, Opens, Spends, bumped_by}
+use Rattle.machine_host.specs.Machine.{Machine}
+use Rattle.machine_host.specs.Restarting.{fresh}
+use Rattle.machine_host.specs.Run.{Transcript, Hears, Run, silence}
+use Rattle.machine_host.specs.Stands.{HostState, Serves, DeviceStands, Stands, Tells, Opens, Spends}
 use Rattle.nvm_base.specs.Stock.{Stock}
 use Rattle.nvmhost.specs.declared.ending.Ending.{Ending}
 use Rattle.nvmhost.specs.declared.ending.Ending.TheVariants.{Usage, Read, Write, Memory, Script}
@@ -21,24 +22,34 @@ pub record IsFront (part whole : List ℕ) : Type 0 where
   pub rest : List ℕ
   pub joined : part ++ rest ≡ whole
 
--- The machine's run over these lines: the device told its starts and counted them, and stands for the state after.
-pub record Ran (geo : Geometry) (lines : List (List ℕ)) (answers : List Answer) (old new : Device) : Type 0 where
-  pub starts : List Start
+-- The machine as a run begins: zeros, and what is armed then was armed before the call.
+pub record Begins (geo : Geometry) (p : Panel) (h : Machine) : Type 0 where
+  pub state : h ≡ record (fresh geo) { cut_armed = h.cut_armed; fail_armed = h.fail_armed }
+  pub cut : IsTrue h.cut_armed → IsTrue p.cut_armed
+  pub fail : IsTrue h.fail_armed → IsTrue p.fail_armed
+
+-- the machine's run over these lines
+pub record IsRun (geo : Geometry) (p : Panel) (lines : List (List ℕ)) (said : Transcript) (end : Machine) : Type 0 where
+  pub begin : Machine
+  pub begins : Begins geo p begin
+  pub run : Run begin (inputs_of lines) said end
+
+-- It is the run of a device: it told what was said to it, and stands for the state after.
+pub record Ran (geo : Geometry) (lines : List (List ℕ)) (said : Transcript) (old new : Device) : Type 0 where
   pub end : Machine
-  pub run : Run (fresh geo) (inputs_of lines) starts answers end
-  pub told_starts : new.panel.starts ≡ told old.panel.starts starts
-  pub restarts : new.panel.counts.restarts ≡ bumped_by starts old.panel.counts.restarts
+  pub run : IsRun geo old.panel lines said end
+  pub tells : Tells said old.panel new.panel
   pub stands : DeviceStands new end
 
 -- A call that went well: all of a script was read and performed, and its replies were written and nothing else.
 pub record Completes (geo : Geometry) (left_old left_new written_old written_new : Option (List ℕ)) (old new : Device) : Type 0 where
   pub script : List ℕ
-  pub answers : List Answer
+  pub said : Transcript
   pub read : Consumes left_old left_new script
   pub ended : IsAtEnd left_new
   pub short : length script < 1073741824
-  pub ran : Ran geo (lines_of script) answers old new
-  pub wrote : Appends written_old written_new (reply_text answers)
+  pub ran : Ran geo (lines_of script) said old new
+  pub wrote : Appends written_old written_new (reply_text said.answers)
 
 -- some of the text was written, from the front
 pub record WritesFront (text : List ℕ) (old new : Option (List ℕ)) : Type 0 where
@@ -47,22 +58,21 @@ pub record WritesFront (text : List ℕ) (old new : Option (List ℕ)) : Type 0 
   pub wrote : Appends old new part
 
 -- A call that came to no end: what was written is how the text of a run begins, over some first lines of what was read.
-pub record Halts (geo : Geometry) (left_old left_new written_old written_new : Option (List ℕ)) : Type 0 where
+pub record Halts (geo : Geometry) (p : Panel) (left_old left_new written_old written_new : Option (List ℕ)) : Type 0 where
   pub script : List ℕ
   pub lines : List (List ℕ)
   pub others : List (List ℕ)
-  pub starts : List Start
-  pub answers : List Answer
+  pub said : Transcript
   pub end : Machine
   pub read : Consumes left_old left_new script
   pub split : lines_of script ≡ lines ++ others
-  pub run : Run (fresh geo) (inputs_of lines) starts answers end
-  pub wrote : WritesFront (reply_text answers) written_old written_new
+  pub run : IsRun geo p lines said end
+  pub wrote : WritesFront (reply_text said.answers) written_old written_new
 
 -- A call that ended early: it came to no end, and then some of the ending's line was written.
-pub record BreaksOff (geo : Geometry) (ending : Ending) (left_old left_new written_old written_new : Option (List ℕ)) : Type 0 where
+pub record BreaksOff (geo : Geometry) (p : Panel) (ending : Ending) (left_old left_new written_old written_new : Option (List ℕ)) : Type 0 where
   pub between : Option (List ℕ)
-  pub halts : Halts geo left_old left_new written_old between
+  pub halts : Halts geo p left_old left_new written_old between
   pub line : WritesFront (ending_text ending) between written_new
 
 -- What the call did to the device's counts: no more than a mount and then the commands of the lines that it began.
@@ -76,13 +86,13 @@ pub record Costs (left_old left_new : Option (List ℕ)) (old new : Panel) : Typ
   pub opens : Opens old opened
   pub spends : Spends (inputs_of begun) opened new
 
--- The device was made one of zeros, and a host mounted it.
+-- The device was made one of zeros, and a host mounted it: they stand for the machine as a run begins.
 pub record IsReady (geo : Geometry) (host : HostState) (old new : Device) : Type 0 where
   pub serves : Serves host new
-  pub starts : new.panel.starts ≡ old.panel.starts
-  pub restarts : new.panel.counts.restarts ≡ old.panel.counts.restarts
-  pub stands : IsUnarmed old.panel → Stands host new (fresh geo)
-  pub unarmed : IsUnarmed old.panel → IsUnarmed new.panel
+  pub tells : Tells silence old.panel new.panel
+  pub begin : Machine
+  pub begins : Begins geo old.panel begin
+  pub stands : Stands host new begin
 
 -- the device could not be set up, or failed or lost power as it was mounted
 abbrev pub DeviceFailed : Panel → Panel → Type 0
@@ -127,13 +137,11 @@ pub record Takes (left_old left_new : Option (List ℕ)) (old new : List ℕ) (r
 
 -- One line: it led the machine on, and its answers are appended.
 pub record LineGoes (h : Machine) (input : Input) (out_old out_new : List ℕ) (host : HostState) (old new : Device) : Type 0 where
-  pub starts : List Start
-  pub answers : List Answer
+  pub said : Transcript
   pub next : Machine
-  pub goes : Goes h (input ∷ []) starts answers next
-  pub text : out_new ≡ out_old ++ reply_text answers
-  pub told_starts : new.panel.starts ≡ told old.panel.starts starts
-  pub restarts : new.panel.counts.restarts ≡ bumped_by starts old.panel.counts.restarts
+  pub hears : Hears h input said next
+  pub text : out_new ≡ out_old ++ reply_text said.answers
+  pub tells : Tells said old.panel new.panel
   pub stands : Stands host new next
 
 -- replies that wait are written from the front
@@ -143,31 +151,29 @@ pub record Flushes (out_old out_new : List ℕ) (written_old written_new : Optio
   pub kept : part ++ out_new ≡ out_old
 
 -- a run of which nothing is left to do or to write
-pub record IsWhole (starts : List Start) (answers : List Answer) (end : Machine) (said : List ℕ) (others : List (List ℕ)) (old new : Device) : Type 0 where
-  pub all : said ≡ reply_text answers
+pub record IsWhole (said : Transcript) (end : Machine) (part : List ℕ) (others : List (List ℕ)) (old new : Device) : Type 0 where
+  pub all : part ≡ reply_text said.answers
   pub none_left : others ≡ []
-  pub told_starts : new.panel.starts ≡ told old.panel.starts starts
-  pub restarts : new.panel.counts.restarts ≡ bumped_by starts old.panel.counts.restarts
+  pub tells : Tells said old.panel new.panel
   pub stands : DeviceStands new end
 
--- what was said over some first lines of a script, all of it at Ok
-pub record Says (geo : Geometry) (script : List ℕ) (result : Result (Unit {0}) Ending) (written_old written_new : Option (List ℕ)) (old new : Device) : Type 0 where
+-- what was said over some first lines of a script, from this state on; all of it at Ok
+pub record Says (first : Machine) (script : List ℕ) (result : Result (Unit {0}) Ending) (written_old written_new : Option (List ℕ)) (old new : Device) : Type 0 where
   pub lines : List (List ℕ)
   pub others : List (List ℕ)
-  pub starts : List Start
-  pub answers : List Answer
+  pub said : Transcript
   pub end : Machine
-  pub said : List ℕ
+  pub part : List ℕ
   pub split : lines_of script ≡ lines ++ others
-  pub run : Run (fresh geo) (inputs_of lines) starts answers end
-  pub front : IsFront said (reply_text answers)
-  pub wrote : Appends written_old written_new said
-  pub whole : OnOk result (IsWhole starts answers end said others old new)
+  pub run : Run first (inputs_of lines) said end
+  pub front : IsFront part (reply_text said.answers)
+  pub wrote : Appends written_old written_new part
+  pub whole : OnOk result (IsWhole said end part others old new)
 
--- A script was performed up to some line. Where host and device stood for zeros with nothing armed, it is a run.
-pub record Performs (geo : Geometry) (host : HostState) (script : List ℕ) (result : Result (Unit {0}) Ending) (written_old written_new : Option (List ℕ)) (old new : Device) : Type 0 where
+-- A script was performed up to some line. From each state that host and device stood for, it is a run.
+pub record Performs (host : HostState) (script : List ℕ) (result : Result (Unit {0}) Ending) (written_old written_new : Option (List ℕ)) (old new : Device) : Type 0 where
   pub begun : List (List ℕ)
   pub others : List (List ℕ)
   pub split : lines_of script ≡ begun ++ others
   pub spends : Spends (inputs_of begun) old.panel new.panel
-  pub says : Stands host old (fresh geo) → IsUnarmed old.panel → Says geo script result written_old written_new old new
+  pub says : (first : Machine) → Stands host old first → Says first script result written_old written_new old new

@@ -3,9 +3,9 @@ ghost use Rattle.std.specs.Prelude.{◌≡◌};
 ghost use Rattle.nvmhost.specs.Ending.{status, ending_text, of_mount, of_reset, of_write};
 ghost use Rattle.nvmhost.specs.declared.ending.Ending.TheVariants.{Memory, Read};
 
-use block_device::MountFault;
 use host_io::{ReadFailed, WriteFault};
 use line_device::ResetFault;
+use recovery::MountFault;
 use std::alloc::AllocError;
 
 /// Why a call ends before its end.

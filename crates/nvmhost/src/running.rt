@@ -5,7 +5,7 @@ ghost use Rattle.nvm_base.specs.Counts.{Rose};
 ghost use Rattle.host_io.specs.Writing.{AppendsSome};
 ghost use Rattle.script_text.specs.Script.{line_input};
 ghost use Rattle.machine_host.specs.Machine.{Machine};
-ghost use Rattle.machine_host.specs.Stands.{Serves, Stands, IsUnarmed, Spends};
+ghost use Rattle.machine_host.specs.Stands.{Serves, Stands, Spends};
 ghost use Rattle.nvmhost.specs.Whole.{Performs, LineGoes, Flushes};
 
 use crate::ending::Ending;
@@ -29,7 +29,7 @@ pub fn run_script<D: LineDevice, K: Sink>(
     replies: &mut K,
 ) -> Result<(), Ending>
     requires { Serves host.old (D.state device.old) }
-    ensures performs { Performs host.old.geometry host.old script.now result (K.written replies.old) (K.written replies.new)
+    ensures performs { Performs host.old script.now result (K.written replies.old) (K.written replies.new)
         (D.state device.old) (D.state device.new) }
     ensures cause { IfErr result (λ e. e ≡ Ending.Write → Rose (K.count replies.old) (K.count replies.new)) }
     ensures others { IfErr result (λ e. (e ≡ Ending.Write) ⊎ (e ≡ Ending.Memory)) }
@@ -54,7 +54,7 @@ fn perform_line<D: LineDevice>(
     out: &mut Bytes,
 ) -> Result<(), AllocError>
     requires { Serves host.old (D.state device.old) }
-    ensures goes { OnOk result ((h : Machine) → Stands host.old (D.state device.old) h → IsUnarmed (D.state device.old).panel
+    ensures goes { OnOk result ((h : Machine) → Stands host.old (D.state device.old) h
         → LineGoes h (line_input line.now) out.old.items out.new.items host.new (D.state device.old) (D.state device.new)) }
     ensures err { OnErr result (out.new.items ≡ out.old.items) }
     ensures serves { Serves host.new (D.state device.new) }

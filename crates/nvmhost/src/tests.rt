@@ -9,6 +9,7 @@ use std::alloc::{AllocError, Global};
 use std::test::Fail;
 use test_devices::Recorder;
 
+mod cuts;
 mod faulty;
 
 const WORDS: &str = "run 8 2 32";

@@ -4,7 +4,7 @@ ghost use Rattle.std.specs.String.{string_bytes};
 ghost use Rattle.line_device.specs.Panel.{Start};
 ghost use Rattle.word_tables.specs.declared.geometry.Geometry.{Geometry as Sizes};
 ghost use Rattle.word_tables.specs.Bounds.{IsValid};
-ghost use Rattle.machine_host.specs.Stands.{IsUnarmed, Opens};
+ghost use Rattle.machine_host.specs.Stands.{Opens};
 ghost use Rattle.nvmhost.specs.declared.ending.Ending.{Ending as Early};
 ghost use Rattle.nvmhost.specs.declared.ending.Ending.TheVariants.{Usage};
 ghost use Rattle.nvmhost.specs.Words.{IsForm};
@@ -30,16 +30,14 @@ pub fn nvmhost<D: LineDevice, F: Images, T: Source, K: Sink>(
     script: &mut T,
     replies: &mut K,
 ) -> u8
-    // The replies are the machine's and nothing else, and the device stands for its last state.
+    // The replies are the machine's and nothing else, wherever what is armed falls, and the device stands for its last state.
     ensures run { result ≡ 0 → (geo : Sizes) → IsForm (map (λ word. string_bytes word) words.now) geo
-        → IsUnarmed (D.state device.old).panel
         → Completes geo (T.left script.old) (T.left script.new) (K.written replies.old) (K.written replies.new)
         (D.state device.old) (D.state device.new) }
 
     // What was written begins as such a run, and then as the status's line.
     ensures early_end { result ≢ 0 → (geo : Sizes) → IsForm (map (λ word. string_bytes word) words.now) geo
-        → IsUnarmed (D.state device.old).panel
-        → (ending : Early) × (result ≡ status ending) × BreaksOff geo ending (T.left script.old) (T.left script.new)
+        → (ending : Early) × (result ≡ status ending) × BreaksOff geo (D.state device.old).panel ending (T.left script.old) (T.left script.new)
         (K.written replies.old) (K.written replies.new) }
     ensures usage_line { result ≡ 2 → WritesFront (ending_text Usage) (K.written replies.old) (K.written replies.new) }
 
@@ -50,7 +48,7 @@ pub fn nvmhost<D: LineDevice, F: Images, T: Source, K: Sink>(
         (T.left script.old) (T.left script.new) }
     ensures statuses { (result ≡ 0) ⊎ ((ending : Early) × (result ≡ status ending)) }
 
-    // Whatever is armed, the device is given no order but the script's.
+    // The device is given no order but the script's.
     ensures costs { Costs (T.left script.old) (T.left script.new) (D.state device.old).panel (D.state device.new).panel }
     ensures images { images.new ≡ images.old }
 {
@@ -71,11 +69,11 @@ fn perform<D: LineDevice, T: Source, K: Sink>(
     script: &mut T,
     replies: &mut K,
 ) -> Result<(), Ending>
-    ensures run { (geo : Sizes) → IsForm (map (λ word. string_bytes word) words.now) geo → IsUnarmed (D.state device.old).panel
+    ensures run { (geo : Sizes) → IsForm (map (λ word. string_bytes word) words.now) geo
         → MatchResult result
         (λ _. Completes geo (T.left script.old) (T.left script.new) (K.written replies.old) (K.written replies.new)
         (D.state device.old) (D.state device.new))
-        (λ _. Halts geo (T.left script.old) (T.left script.new) (K.written replies.old) (K.written replies.new)) }
+        (λ _. Halts geo (D.state device.old).panel (T.left script.old) (T.left script.new) (K.written replies.old) (K.written replies.new)) }
     ensures usage { (result ≡ Err Usage) ↔ ((geo : Sizes) → IsForm (map (λ word. string_bytes word) words.now) geo → ⊥) }
     ensures untouched { result ≡ Err Usage → K.written replies.new ≡ K.written replies.old }
     ensures causes { IfErr result (λ ending. IsCaused ending (T.count script.old) (T.count script.new)
@@ -91,7 +89,7 @@ fn perform<D: LineDevice, T: Source, K: Sink>(
     run_script(alloc, &mut host, device, text.as_slice(), replies)
 }
 
-// Makes the device one of zeros, with all lines of the layout, and mounts its blocks.
+// Makes the device a fresh one of these sizes, and mounts it.
 fn set_up<D: LineDevice>(alloc: Global, device: &mut D, geometry: Geometry) -> Result<Host, Ending>
     requires { IsValid geometry }
     ensures ready { IfOk result (λ host. IsReady geometry host (D.state device.old) (D.state device.new)) }
@@ -99,6 +97,6 @@ fn set_up<D: LineDevice>(alloc: Global, device: &mut D, geometry: Geometry) -> R
         × DeviceFailed (D.state device.old).panel (D.state device.new).panel)) }
     ensures opens { Opens (D.state device.old).panel (D.state device.new).panel }
 {
-    device.reset(geometry.total_lines(), 8)?;
-    Ok(Host::start(alloc, device, geometry)?)
+    recovery::format(device, geometry)?;
+    Ok(Host::mount(alloc, device)?)
 }

@@ -1,11 +1,12 @@
 // Commands on blocks.
-ghost use Rattle.std.specs.Prelude.{◌≡◌, ◌≤◌, ◌<◌, ◌*◌, ◌+◌, IfOk, OnErr, length};
+ghost use Rattle.std.specs.Prelude.{◌≡◌, ◌≤◌, ◌<◌, ◌*◌, ◌+◌, IfOk, OnErr, length, sum_by};
+ghost use Rattle.nvm_base.specs.declared.units.Span.{Span as Stretch};
 ghost use Rattle.machine_host.specs.declared.mode.Mode.TheVariants.{On};
-ghost use Rattle.script_text.specs.Action.Action.{BRead, BWrite, BDiscard, BDiscardIf, BExists, BScar};
+ghost use Rattle.script_text.specs.Action.Action.{BRead, BWrite, BAtomic, BMulti, BDiscard, BDiscardIf, BExists, BScar};
 ghost use Rattle.reply_text.specs.Answer.{answer_of, answer_line};
 ghost use Rattle.reply_text.specs.Answer.Answer.{Done, PoisonBlock, RefusedMeta, Scarred};
-ghost use Rattle.machine_host.specs.Machine.{Machine, effect};
-ghost use Rattle.machine_host.specs.Stands.{Serves, Stands, IsUnarmed, Comes, Costs, longest, answer_after, fault_answer, fault_mode, mode_after};
+ghost use Rattle.machine_host.specs.Machine.{Machine};
+ghost use Rattle.machine_host.specs.Stands.{Serves, Stands, Performed, Costs, longest, answer_after, fault_answer, fault_mode, mode_after};
 
 use super::Host;
 use block_device::BlockFault;
@@ -28,8 +29,7 @@ impl Host {
         requires few { count ≤ 128 }
         requires within { block + count ≤ self.old.geometry.blocks }
         ensures step { IfOk result (λ reply. (h : Machine) → Stands self.old (D.state device.old) h
-            → IsUnarmed (D.state device.old).panel
-            → Comes h (effect h (BRead block count)) (answer_of reply) self.new (D.state device.old) (D.state device.new)) }
+            → Performed h (BRead block count) (answer_of reply) self.new (D.state device.old) (D.state device.new)) }
         ensures short { IfOk result (λ reply. length (answer_line (answer_of reply)) ≤ longest (BRead block count)) }
         ensures memory { OnErr result ((self.new ≡ self.old) × (D.state device.new ≡ D.state device.old)) }
         ensures serves { Serves self.new (D.state device.new) }
@@ -51,13 +51,51 @@ impl Host {
     ) -> Reply
         requires serves { Serves self.old (D.state device.old) }
         requires on { self.old.mode ≡ On }
-        ensures step { (h : Machine) → Stands self.old (D.state device.old) h → IsUnarmed (D.state device.old).panel
-            → Comes h (effect h (BWrite block bytes.now)) (answer_of result) self.new (D.state device.old) (D.state device.new) }
+        ensures step { (h : Machine) → Stands self.old (D.state device.old) h
+            → Performed h (BWrite block bytes.now) (answer_of result) self.new (D.state device.old) (D.state device.new) }
         ensures short { length (answer_line (answer_of result)) ≤ 64 }
         ensures serves { Serves self.new (D.state device.new) }
         ensures costs { Costs (BWrite block bytes.now) (D.state device.old).panel (D.state device.new).panel }
     {
         let call = self.blocks.write(device, block, bytes);
+        self.answer(call)
+    }
+
+    pub(super) fn batomic<D: LineDevice>(
+        &mut self,
+        device: &mut D,
+        block: u64,
+        bytes: &[u8],
+    ) -> Reply
+        requires serves { Serves self.old (D.state device.old) }
+        requires on { self.old.mode ≡ On }
+        ensures step { (h : Machine) → Stands self.old (D.state device.old) h
+            → Performed h (BAtomic block bytes.now) (answer_of result) self.new (D.state device.old) (D.state device.new) }
+        ensures short { length (answer_line (answer_of result)) ≤ 64 }
+        ensures serves { Serves self.new (D.state device.new) }
+        ensures costs { Costs (BAtomic block bytes.now) (D.state device.old).panel (D.state device.new).panel }
+    {
+        let call = self.blocks.atomic_write(device, block, bytes);
+        self.answer(call)
+    }
+
+    pub(super) fn bmulti<D: LineDevice>(
+        &mut self,
+        device: &mut D,
+        ranges: &[Span],
+        bytes: &[u8],
+    ) -> Reply
+        requires serves { Serves self.old (D.state device.old) }
+        requires on { self.old.mode ≡ On }
+        requires some { 0 < length ranges.now }
+        requires bytes { length bytes.now ≡ sum_by (λ (r : Stretch). r.len) ranges.now }
+        ensures step { (h : Machine) → Stands self.old (D.state device.old) h
+            → Performed h (BMulti ranges.now bytes.now) (answer_of result) self.new (D.state device.old) (D.state device.new) }
+        ensures short { length (answer_line (answer_of result)) ≤ 64 }
+        ensures serves { Serves self.new (D.state device.new) }
+        ensures costs { Costs (BMulti ranges.now bytes.now) (D.state device.old).panel (D.state device.new).panel }
+    {
+        let call = self.blocks.atomic_multiwrite(device, ranges, bytes);
         self.answer(call)
     }
 
@@ -69,8 +107,8 @@ impl Host {
     ) -> Reply
         requires serves { Serves self.old (D.state device.old) }
         requires on { self.old.mode ≡ On }
-        ensures step { (h : Machine) → Stands self.old (D.state device.old) h → IsUnarmed (D.state device.old).panel
-            → Comes h (effect h (BDiscard block count)) (answer_of result) self.new (D.state device.old) (D.state device.new) }
+        ensures step { (h : Machine) → Stands self.old (D.state device.old) h
+            → Performed h (BDiscard block count) (answer_of result) self.new (D.state device.old) (D.state device.new) }
         ensures short { length (answer_line (answer_of result)) ≤ 64 }
         ensures serves { Serves self.new (D.state device.new) }
         ensures costs { Costs (BDiscard block count) (D.state device.old).panel (D.state device.new).panel }
@@ -91,8 +129,8 @@ impl Host {
     ) -> Reply
         requires serves { Serves self.old (D.state device.old) }
         requires on { self.old.mode ≡ On }
-        ensures step { (h : Machine) → Stands self.old (D.state device.old) h → IsUnarmed (D.state device.old).panel
-            → Comes h (effect h (BDiscardIf block count)) (answer_of result) self.new (D.state device.old) (D.state device.new) }
+        ensures step { (h : Machine) → Stands self.old (D.state device.old) h
+            → Performed h (BDiscardIf block count) (answer_of result) self.new (D.state device.old) (D.state device.new) }
         ensures short { length (answer_line (answer_of result)) ≤ 64 }
         ensures serves { Serves self.new (D.state device.new) }
         ensures costs { Costs (BDiscardIf block count) (D.state device.old).panel (D.state device.new).panel }
@@ -109,8 +147,8 @@ impl Host {
         requires serves { Serves self.old (D.state device.old) }
         requires on { self.old.mode ≡ On }
         requires some { 0 < length spans.now }
-        ensures step { (h : Machine) → Stands self.old (D.state device.old) h → IsUnarmed (D.state device.old).panel
-            → Comes h (effect h (BScar spans.now)) (answer_of result) self.new (D.state device.old) (D.state device.new) }
+        ensures step { (h : Machine) → Stands self.old (D.state device.old) h
+            → Performed h (BScar spans.now) (answer_of result) self.new (D.state device.old) (D.state device.new) }
         ensures short { length (answer_line (answer_of result)) ≤ 64 }
         ensures serves { Serves self.new (D.state device.new) }
         ensures costs { Costs (BScar spans.now) (D.state device.old).panel (D.state device.new).panel }
@@ -123,7 +161,7 @@ impl Host {
         requires serves { Serves self.now (D.state device.now) }
         requires on { self.now.mode ≡ On }
         ensures step { (h : Machine) → Stands self.now (D.state device.now) h
-            → Comes h (effect h (BExists block)) (answer_of result) self.now (D.state device.now) (D.state device.now) }
+            → Performed h (BExists block) (answer_of result) self.now (D.state device.now) (D.state device.now) }
         ensures short { length (answer_line (answer_of result)) ≤ 64 }
     {
         match self.blocks.exists(block) {

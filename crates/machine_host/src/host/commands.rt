@@ -5,9 +5,9 @@ ghost use Rattle.machine_host.specs.declared.mode.Mode.TheVariants.{On, Off};
 ghost use Rattle.script_text.specs.Action.{action_of};
 ghost use Rattle.script_text.specs.Action.Action.{VLoad, VStore, VSync, Cut, Restart};
 ghost use Rattle.reply_text.specs.Answer.{answer_of, answer_line};
-ghost use Rattle.machine_host.specs.Machine.{Machine, refusal, effect};
+ghost use Rattle.machine_host.specs.Machine.{Machine, refusal};
 ghost use Rattle.script_text.specs.Parsing.{InBounds};
-ghost use Rattle.machine_host.specs.Stands.{Serves, Stands, IsUnarmed, Comes, Costs, Leaves, longest, interrupted_mode, interrupted_answer};
+ghost use Rattle.machine_host.specs.Stands.{Serves, Stands, Performed, Costs, Leaves, longest};
 
 use super::Host;
 use crate::Mode;
@@ -41,8 +41,7 @@ impl Host {
         requires bounded { InBounds (action_of command.now) }
         requires allowed { refusal self.old.mode self.old.geometry (action_of command.now) ≡ None }
         ensures step { IfOk result (λ reply. (h : Machine) → Stands self.old (D.state device.old) h
-            → IsUnarmed (D.state device.old).panel
-            → Comes h (effect h (action_of command.now)) (answer_of reply) self.new (D.state device.old) (D.state device.new)) }
+            → Performed h (action_of command.now) (answer_of reply) self.new (D.state device.old) (D.state device.new)) }
         ensures short { IfOk result (λ reply. length (answer_line (answer_of reply)) ≤ longest (action_of command.now)) }
         ensures memory { OnErr result (Leaves (action_of command.now) self.old self.new (D.state device.old) (D.state device.new)) }
         ensures serves { Serves self.new (D.state device.new) }
@@ -51,6 +50,10 @@ impl Host {
         match command {
             Command::BRead { block, count } => self.bread(device, *block, *count),
             Command::BWrite { block, bytes } => Ok(self.bwrite(device, *block, bytes.as_slice())),
+            Command::BAtomic { block, bytes } => Ok(self.batomic(device, *block, bytes.as_slice())),
+            Command::BMulti { ranges, bytes } => {
+                Ok(self.bmulti(device, ranges.as_slice(), bytes.as_slice()))
+            }
             Command::BDiscard { block, count } => Ok(self.bdiscard(device, *block, *count)),
             Command::BDiscardIf { block, count } => Ok(self.bdiscardif(device, *block, *count)),
             Command::BExists { block } => Ok(self.bexists(device, *block)),
@@ -59,6 +62,7 @@ impl Host {
             Command::VStore { offset, bytes } => Ok(self.vstore(device, *offset, bytes.as_slice())),
             Command::VSync { offset, len } => Ok(self.vsync(device, *offset, *len)),
             Command::Cut => Ok(self.cut(device)),
+            Command::CutIn { calls } => Ok(self.cut_in(device, *calls)),
             Command::Restart { choice } => self.restart(device, *choice),
         }
     }
@@ -74,8 +78,7 @@ impl Host {
         requires some { 1 ≤ len }
         requires within { offset + len ≤ 4096 * self.old.geometry.vpages }
         ensures step { IfOk result (λ reply. (h : Machine) → Stands self.old (D.state device.old) h
-            → IsUnarmed (D.state device.old).panel
-            → Comes h (effect h (VLoad offset len)) (answer_of reply) self.new (D.state device.old) (D.state device.new)) }
+            → Performed h (VLoad offset len) (answer_of reply) self.new (D.state device.old) (D.state device.new)) }
         ensures short { IfOk result (λ reply. length (answer_line (answer_of reply)) ≤ longest (VLoad offset len)) }
         ensures memory { OnErr result ((self.new ≡ self.old) × (D.state device.new ≡ D.state device.old)) }
         ensures serves { Serves self.new (D.state device.new) }
@@ -95,8 +98,8 @@ impl Host {
         requires on { self.old.mode ≡ On }
         requires some { 1 ≤ length bytes.now }
         requires within { offset + length bytes.now ≤ 4096 * self.old.geometry.vpages }
-        ensures step { (h : Machine) → Stands self.old (D.state device.old) h → IsUnarmed (D.state device.old).panel
-            → Comes h (effect h (VStore offset bytes.now)) (answer_of result) self.new (D.state device.old) (D.state device.new) }
+        ensures step { (h : Machine) → Stands self.old (D.state device.old) h
+            → Performed h (VStore offset bytes.now) (answer_of result) self.new (D.state device.old) (D.state device.new) }
         ensures short { length (answer_line (answer_of result)) ≤ 64 }
         ensures serves { Serves self.new (D.state device.new) }
         ensures costs { Costs (VStore offset bytes.now) (D.state device.old).panel (D.state device.new).panel }
@@ -112,8 +115,8 @@ impl Host {
         requires on { self.old.mode ≡ On }
         requires some { 1 ≤ len }
         requires within { offset + len ≤ 4096 * self.old.geometry.vpages }
-        ensures step { (h : Machine) → Stands self.old (D.state device.old) h → IsUnarmed (D.state device.old).panel
-            → Comes h (effect h (VSync offset len)) (answer_of result) self.new (D.state device.old) (D.state device.new) }
+        ensures step { (h : Machine) → Stands self.old (D.state device.old) h
+            → Performed h (VSync offset len) (answer_of result) self.new (D.state device.old) (D.state device.new) }
         ensures short { length (answer_line (answer_of result)) ≤ 64 }
         ensures serves { Serves self.new (D.state device.new) }
         ensures costs { Costs (VSync offset len) (D.state device.old).panel (D.state device.new).panel }

@@ -34,8 +34,9 @@ fn mode_refusal(mode: Mode, command: &Command) -> Option<Why>
 {
     match (mode, command) {
         (Mode::On | Mode::Unsettled, Command::Restart { .. }) => Some(Why::On),
-        (Mode::On, _) | (Mode::Off, Command::Restart { .. }) | (Mode::Unsettled, Command::Cut) =>
-            None,
+        (Mode::On, _)
+        | (Mode::Off, Command::Restart { .. })
+        | (Mode::Unsettled, Command::Cut | Command::CutIn { .. }) => None,
         (Mode::Off, _) => Some(Why::Off),
         (Mode::Unsettled, _) => Some(Why::Recover),
     }
@@ -56,6 +57,7 @@ fn place_refusal(geo: Geometry, command: &Command) -> Option<Why>
         Command::VStore { offset, bytes } => {
             (*offset + bytes.len() > PAGE * geo.vpages).then_some(Why::Range)
         }
+        Command::CutIn { calls } => (*calls == 0).then_some(Why::Range),
         _ => None,
     }
 }

@@ -11,7 +11,7 @@ use std::alloc::{AllocError, Global};
 use std::test::Fail;
 use word_tables::Geometry;
 
-// A device of zeros, and its host.
+// A fresh device, and its host.
 fn set_up(alloc: Global) -> Result<(Host, Plain), Fail>
     ensures { IfOk result (λ both. Serves both.0 (device_of both.1)) }
 {
@@ -21,8 +21,8 @@ fn set_up(alloc: Global) -> Result<(Host, Plain), Fail>
         fpages: 32,
     };
     let mut device = Plain::new(alloc);
-    device.reset(geometry.total_lines(), 8)?;
-    let host = Host::start(alloc, &mut device, geometry)?;
+    recovery::format(&mut device, geometry)?;
+    let host = Host::mount(alloc, &mut device)?;
     Ok((host, device))
 }
 
@@ -94,7 +94,7 @@ fn an_armed_cut_takes_the_power_in_a_sync(rt: HostRuntime) -> Result<(), Fail> {
         "vstore 60 aa*8",
         &mut out,
     )?;
-    arm(&host, &mut device, Order::Cut(2));
+    tell(&mut host, &mut device, rt.alloc(), "cut in 2", &mut out)?;
     tell(&mut host, &mut device, rt.alloc(), "vsync 60 8", &mut out)?;
     assert_eq!(rt; host.mode(), Mode::Off);
     tell(&mut host, &mut device, rt.alloc(), "vload 60 8", &mut out)?;
@@ -102,7 +102,57 @@ fn an_armed_cut_takes_the_power_in_a_sync(rt: HostRuntime) -> Result<(), Fail> {
     tell(&mut host, &mut device, rt.alloc(), "vload 60 8", &mut out)?;
     assert_eq!(rt;
         out.as_slice(),
-        b"ok\npower lost\nrefused off\nok bad 0\ndata aa*4,00*4\n".as_slice()
+        b"ok\nok\npower lost\nrefused off\nok bad 0\ndata aa*4,00*4\n".as_slice()
+    );
+    Ok(())
+}
+
+#[test]
+fn a_cut_disarms_the_one_to_come(rt: HostRuntime) -> Result<(), Fail> {
+    let (mut host, mut device) = set_up(rt.alloc())?;
+    let mut out = Bytes::new(rt.alloc());
+    tell(&mut host, &mut device, rt.alloc(), "cut in 0", &mut out)?;
+    tell(&mut host, &mut device, rt.alloc(), "cut in 3", &mut out)?;
+    assert_eq!(rt; host.mode(), Mode::On);
+    tell(&mut host, &mut device, rt.alloc(), "cut", &mut out)?;
+    tell(&mut host, &mut device, rt.alloc(), "cut in 3", &mut out)?;
+    tell(&mut host, &mut device, rt.alloc(), "restart none", &mut out)?;
+    tell(
+        &mut host,
+        &mut device,
+        rt.alloc(),
+        "bwrite 7 aa*512",
+        &mut out,
+    )?;
+    tell(&mut host, &mut device, rt.alloc(), "bread 7 1", &mut out)?;
+    assert_eq!(rt;
+        out.as_slice(),
+        b"refused range\nok\nok\nrefused off\nok bad 0\nok\ndata aa*512\n".as_slice()
+    );
+    Ok(())
+}
+
+#[test]
+fn a_restart_that_is_cut_can_be_done_again(rt: HostRuntime) -> Result<(), Fail> {
+    let (mut host, mut device) = set_up(rt.alloc())?;
+    let mut out = Bytes::new(rt.alloc());
+    tell(
+        &mut host,
+        &mut device,
+        rt.alloc(),
+        "batomic 2 aa*1024",
+        &mut out,
+    )?;
+    tell(&mut host, &mut device, rt.alloc(), "cut", &mut out)?;
+    arm(&host, &mut device, Order::Cut(9));
+    tell(&mut host, &mut device, rt.alloc(), "restart none", &mut out)?;
+    assert_eq!(rt; host.mode(), Mode::Off);
+    tell(&mut host, &mut device, rt.alloc(), "bread 2 2", &mut out)?;
+    tell(&mut host, &mut device, rt.alloc(), "restart all", &mut out)?;
+    tell(&mut host, &mut device, rt.alloc(), "bread 2 2", &mut out)?;
+    assert_eq!(rt;
+        out.as_slice(),
+        b"ok\nok\npower lost\nrefused off\nok bad 0\ndata aa*1024\n".as_slice()
     );
     Ok(())
 }
@@ -122,12 +172,13 @@ fn after_a_failed_call_only_a_cut_is_done(rt: HostRuntime) -> Result<(), Fail> {
     assert_eq!(rt; host.mode(), Mode::Unsettled);
     tell(&mut host, &mut device, rt.alloc(), "vload 60 8", &mut out)?;
     tell(&mut host, &mut device, rt.alloc(), "restart all", &mut out)?;
+    tell(&mut host, &mut device, rt.alloc(), "cut in 1", &mut out)?;
     tell(&mut host, &mut device, rt.alloc(), "cut", &mut out)?;
     tell(&mut host, &mut device, rt.alloc(), "restart all", &mut out)?;
     tell(&mut host, &mut device, rt.alloc(), "vload 60 8", &mut out)?;
     assert_eq!(rt;
         out.as_slice(),
-        b"refused device\nrefused recover\nrefused on\nok\nok bad 0\ndata aa*4,00*4\n".as_slice()
+        b"refused device\nrefused recover\nrefused on\nok\nok\nok bad 0\ndata aa*4,00*4\n".as_slice()
     );
     Ok(())
 }

@@ -1,6 +1,5 @@
 use Rattle.std.proofs.Common.{arith}
-use Rattle.line_words.proofs.FrameLemmas.{wander-persist, outside-wander}
-use Rattle.machine_host.specs.Volume.{IsVolumePlace}
+use Rattle.line_words.proofs.FrameLemmas.{wander-persist}
 use Rattle.machine_host.proofs.VolumeLemmas.{volume-persist}
 use Rattle.machine_host.proofs.volume.persist_line.Goals as goal
 
@@ -9,8 +8,8 @@ returns-clause-ok g c =
     let old = (g.L.Lines.state c.args.device.now).medium in
     volume-persist c.args.geo c.persist_line.result c.volume_line.result c.args.line old _ c.volume_line.ensures.line c.persist_line.ensures.lines
 
-pub returns-clause-outside : goal.returns-clause-outside
-returns-clause-outside g c =
+pub returns-clause-lines : goal.returns-clause-lines
+returns-clause-lines g c =
     let old = (g.L.Lines.state c.args.device.now).medium in
     let strong = (c.requires.layout.intact c.volume_line.result (omega (arith, c.requires.layout.lines))).1 in
-    outside-wander (IsVolumePlace c.args.geo) _ _ (wander-persist c.persist_line.result old _ c.volume_line.result strong c.persist_line.ensures.lines)
+    wander-persist c.persist_line.result old _ c.volume_line.result strong c.persist_line.ensures.lines

@@ -1,11 +1,11 @@
 use Rattle.std.proofs.Common.{◌≡◌, ◌/◌, ◌≤◌, ap, inl, arith}
 use Rattle.line_device.specs.Panel.Outcome.{went}
 use Rattle.line_device.proofs.PanelLemmas.{runs-refl, runs_then, runs_within}
-use Rattle.line_words.proofs.FrameLemmas.{outside-refl, outside-trans}
+use Rattle.line_device.proofs.WanderLemmas.{wander-refl, wander-trans}
 use Rattle.nvm_model.specs.Lines.{settled_within}
-use Rattle.machine_host.specs.Volume.{volume_of, IsVolumePlace}
+use Rattle.machine_host.specs.Volume.{volume_of}
 use Rattle.machine_host.proofs.SpanLemmas.{below-first, settled-next, settled_within-in, settled_within-out}
-use Rattle.machine_host.proofs.VolumeLemmas.{has_layout-outside}
+use Rattle.machine_host.proofs.VolumeLemmas.{has_layout-wander}
 use Rattle.machine_host.proofs.volume.persist_span.Goals as goal
 
 pub loop-line-init : goal.loop-line-init
@@ -14,7 +14,7 @@ loop-line-init g c =
     let first : c.lines_of-lines.result.start ≡ c.args.span.start / 64 = ap (λ s. s.start) c.lines_of-lines.ensures.value in
     record {
       lines = below-first old _ _ (λ p h lt. settled_within-out c.args.span.start c.args.span.len p h (inl (omega arith)));
-      outside = outside-refl (IsVolumePlace c.args.geo) _;
+      wanders = wander-refl _;
       runs = runs_within 0 0 _ _ went _ _ (runs-refl _) (omega arith) (omega arith);
     }
 
@@ -27,12 +27,12 @@ loop-line-preserved g c =
     let from : c.args.span.start / 64 ≤ c.loop-line.line = omega arith in
     record {
       lines = settled-next old now _ c.loop-line.line (settled_within c.args.span.start c.args.span.len) (λ p h e. settled_within-in c.args.span.start c.args.span.len c.loop-line.line p h (omega arith) (omega arith) e) c.loop-line.invariant.lines c.in_ok-persist_line.ensures.ok;
-      outside = outside-trans (IsVolumePlace c.args.geo) _ _ _ c.loop-line.invariant.outside c.in_ok-persist_line.ensures.outside;
+      wanders = wander-trans _ _ _ c.loop-line.invariant.wanders c.in_ok-persist_line.ensures.lines;
       runs = runs_within _ _ _ _ went _ _ (runs_then _ _ 1 1 went _ _ _ c.loop-line.invariant.runs c.in_ok-persist_line.ensures.runs) (omega arith) (omega arith);
     }
 
 pub persist_line-requires-clause-layout : goal.persist_line-requires-clause-layout
-persist_line-requires-clause-layout g c = has_layout-outside c.args.geo (IsVolumePlace c.args.geo) _ _ c.requires.layout c.loop-line.invariant.outside
+persist_line-requires-clause-layout g c = has_layout-wander c.args.geo _ _ c.requires.layout c.loop-line.invariant.wanders
 
-pub returns-in_err-persist_line-clause-outside : goal.returns-in_err-persist_line-clause-outside
-returns-in_err-persist_line-clause-outside g c = outside-trans (IsVolumePlace c.args.geo) _ _ _ c.loop-line.invariant.outside c.in_err-persist_line.ensures.outside
+pub returns-in_err-persist_line-clause-lines : goal.returns-in_err-persist_line-clause-lines
+returns-in_err-persist_line-clause-lines g c = wander-trans _ _ _ c.loop-line.invariant.wanders c.in_err-persist_line.ensures.lines

@@ -2,9 +2,8 @@ use Rattle.std.proofs.Common.{◌-◌, ◌/◌}
 use Rattle.line_device.specs.Medium.{Wander}
 use Rattle.line_device.specs.Panel.{Runs}
 use Rattle.line_device.specs.Panel.Outcome.{went}
-use Rattle.nvm_model.specs.Lines.{each, settled_within}
-use Rattle.line_words.specs.Words.{WandersOutside}
-use Rattle.machine_host.specs.Volume.{below, volume_of, IsVolumePlace}
+use Rattle.nvm_model.specs.Lines.{below, each, settled_within}
+use Rattle.machine_host.specs.Volume.{volume_of}
 use Rattle.machine_host.proofs.volume.persist_span.Given as goal
 
 -- the lines below this one are durable
@@ -14,6 +13,6 @@ invariant-loop-line g l =
     let now = g.L.Lines.state l.device in
     record {
       lines : Wander (each (volume_of l.fn.geo old.medium) (below l.line (settled_within l.fn.span.start l.fn.span.len))) (volume_of l.fn.geo now.medium);
-      outside : WandersOutside (IsVolumePlace l.fn.geo) old.medium now.medium;
+      wanders : Wander old.medium now.medium;
       runs : Runs (l.line - l.fn.span.start / 64) (l.line - l.fn.span.start / 64) went old.panel now.panel;
     }

@@ -2,9 +2,9 @@ use Rattle.std.proofs.Common.{◌-◌, ◌/◌}
 use Rattle.line_device.specs.Medium.{Wander, word_stored}
 use Rattle.line_device.specs.Panel.{Runs}
 use Rattle.line_device.specs.Panel.Outcome.{went}
-use Rattle.nvm_model.specs.Lines.{each}
+use Rattle.nvm_model.specs.Lines.{below, each}
 use Rattle.line_words.specs.Words.{WandersOutside}
-use Rattle.machine_host.specs.Volume.{below, volume_of, IsVolumePlace}
+use Rattle.machine_host.specs.Volume.{volume_of, IsVolumePlace}
 use Rattle.machine_host.proofs.volume.store_span.Given as goal
 
 -- the lines below this one have their bytes

@@ -12,8 +12,8 @@ loop-rest-init g c =
     let device = g.D.Lines.state c.args.device.now in
     let host = c.args.host.now in
     record {
-      going = subst (λ out. Going host.geometry c.args.script.now c.args.script.now host host out written written device device) (sym c.new-out.ensures)
-          (going-start host.geometry c.args.script.now host written device);
+      going = subst (λ out. Going c.args.script.now c.args.script.now host host out written written device device) (sym c.new-out.ensures)
+          (going-start c.args.script.now host written device);
       serves = c.requires;
       later = omega arith;
     }
@@ -21,13 +21,13 @@ loop-rest-init g c =
 pub returns-in_err-perform_line-clause-performs : goal.returns-in_err-perform_line-clause-performs
 returns-in_err-perform_line-clause-performs g c =
     let p = err_from_is_err_and c.from_residual.result c.from_residual.ensures.1 in
-    rw p.1 (going-broken c.args.host.now.geometry c.args.script.now _ c.args.host.now _ _ _ _ _ _ _ _ p.0 (c.split_line.result.0.now ∷ []) _ c.loop-rest.invariant.going c.split_line.ensures.lines c.in_err-perform_line.ensures.spends (appends_some-none _ _))
+    rw p.1 (going-broken c.args.script.now _ c.args.host.now _ _ _ _ _ _ _ _ p.0 (c.split_line.result.0.now ∷ []) _ c.loop-rest.invariant.going c.split_line.ensures.lines c.in_err-perform_line.ensures.spends (appends_some-none _ _))
 
 pub loop-rest-preserved : goal.loop-rest-preserved
 loop-rest-preserved g c =
-    let next = going-line c.args.host.now.geometry c.args.script.now _ c.split_line.result.0.now c.split_line.result.1.now c.args.host.now _ _ _ _ _ _ _ _ _ c.loop-rest.invariant.going c.split_line.ensures.lines c.in_ok-perform_line.ensures.goes c.in_ok-perform_line.ensures.spends in
+    let next = going-line c.args.script.now _ c.split_line.result.0.now c.split_line.result.1.now c.args.host.now _ _ _ _ _ _ _ _ _ c.loop-rest.invariant.going c.split_line.ensures.lines c.in_ok-perform_line.ensures.goes c.in_ok-perform_line.ensures.spends in
     record {
-      going = going-flush _ _ _ _ _ _ _ _ _ _ _ _ next c.in_ok-flush_long.ensures.bytes;
+      going = going-flush _ _ _ _ _ _ _ _ _ _ _ next c.in_ok-flush_long.ensures.bytes;
       serves = c.in_ok-perform_line.ensures.serves;
       later = omega (arith, c.in_ok-flush_long.ensures.later);
     }
@@ -35,13 +35,13 @@ loop-rest-preserved g c =
 pub returns-in_err-flush_long-clause-performs : goal.returns-in_err-flush_long-clause-performs
 returns-in_err-flush_long-clause-performs g c =
     let p = err_from_is_err_and c.from_residual-in_err-flush_long.result c.from_residual-in_err-flush_long.ensures.1 in
-    let next = going-line c.args.host.now.geometry c.args.script.now _ c.split_line.result.0.now c.split_line.result.1.now c.args.host.now _ _ _ _ _ _ _ _ _ c.loop-rest.invariant.going c.split_line.ensures.lines c.in_ok-perform_line.ensures.goes c.in_ok-perform_line.ensures.spends in
-    rw p.1 (going-broken c.args.host.now.geometry c.args.script.now _ c.args.host.now _ _ _ _ _ _ _ _ p.0 [] _ next refl (spends-idle [] _) c.in_err-flush_long.ensures.bytes)
+    let next = going-line c.args.script.now _ c.split_line.result.0.now c.split_line.result.1.now c.args.host.now _ _ _ _ _ _ _ _ _ c.loop-rest.invariant.going c.split_line.ensures.lines c.in_ok-perform_line.ensures.goes c.in_ok-perform_line.ensures.spends in
+    rw p.1 (going-broken c.args.script.now _ c.args.host.now _ _ _ _ _ _ _ _ p.0 [] _ next refl (spends-idle [] _) c.in_err-flush_long.ensures.bytes)
 
 pub returns-in_err-flush-clause-performs : goal.returns-in_err-flush-clause-performs
 returns-in_err-flush-clause-performs g c =
     let p = err_from_is_err_and c.from_residual-in_err-flush.result c.from_residual-in_err-flush.ensures.1 in
-    rw p.1 (going-broken c.args.host.now.geometry c.args.script.now _ c.args.host.now _ _ _ _ _ _ _ _ p.0 [] _ c.loop-rest.invariant.going refl (spends-idle [] _) c.in_err-flush.ensures.bytes)
+    rw p.1 (going-broken c.args.script.now _ c.args.host.now _ _ _ _ _ _ _ _ p.0 [] _ c.loop-rest.invariant.going refl (spends-idle [] _) c.in_err-flush.ensures.bytes)
 
 pub returns-clause-performs : goal.returns-clause-performs
 returns-clause-performs g c =
@@ -50,9 +50,9 @@ returns-clause-performs g c =
     let done = g.K.Sink.written c.flush.new.replies in
     let old = g.D.Lines.state c.args.device.now in
     let now = g.D.Lines.state c.loop-rest.device in
-    let flushed = going-flush _ _ _ _ _ _ _ _ _ _ _ _ c.loop-rest.invariant.going c.in_ok-flush.ensures.bytes in
+    let flushed = going-flush _ _ _ _ _ _ _ _ _ _ _ c.loop-rest.invariant.going c.in_ok-flush.ensures.bytes in
     let first = c.args.host.now in
     let script = c.args.script.now in
-    going-end first.geometry script first c.loop-rest.host written done old now
-    (subst (λ rest. Going first.geometry script rest first c.loop-rest.host [] written done old now) none
-    (subst (λ out. Going first.geometry script c.loop-rest.rest.now first c.loop-rest.host out written done old now) c.in_ok-flush.ensures.none flushed))
+    going-end script first c.loop-rest.host written done old now
+    (subst (λ rest. Going script rest first c.loop-rest.host [] written done old now) none
+    (subst (λ out. Going script c.loop-rest.rest.now first c.loop-rest.host out written done old now) c.in_ok-flush.ensures.none flushed))

@@ -2,18 +2,18 @@ use Rattle.std.proofs.Common.{◌≡◌, Err, ap, sym, subst, ◌∙◌}
 use Rattle.nvmhost.specs.declared.ending.Ending.TheVariants.{Usage}
 use Rattle.nvmhost.specs.Ending.{ending_text}
 use Rattle.nvmhost.specs.Whole.{WritesFront}
-use Rattle.nvmhost.proofs.TopLemmas.{writes_front, status-usage}
+use Rattle.nvmhost.proofs.TopLemmas.{caused_later, writes_front, status-usage}
 use Rattle.nvmhost.proofs.top.nvmhost.Goals as goal
 
 pub returns-in-Err-clause-early_end : goal.returns-in-Err-clause-early_end
-returns-in-Err-clause-early_end g c not_zero geo form unarmed =
+returns-in-Err-clause-early_end g c not_zero geo form =
     let between = g.K.Sink.written c.perform.new.replies in
     let after = g.K.Sink.written c.write_all.new.sink in (
       c.in-Err.ending,
       c.status.ensures,
       record {
         between = between;
-        halts = c.in-Err.ensures.run geo form unarmed;
+        halts = c.in-Err.ensures.run geo form;
         line = subst (λ text. WritesFront text between after) c.line.ensures (writes_front c.line.result.now c.write_all.result between after c.write_all.ensures.bytes);
       },
     )
@@ -27,3 +27,6 @@ returns-in-Err-clause-usage_line g c is =
     let same : between ≡ before = c.in-Err.ensures.untouched (ap (λ e. Err e) usage) in
     subst (λ w. WritesFront (ending_text Usage) w after) same
     (subst (λ text. WritesFront text between after) (c.line.ensures ∙ ap ending_text usage) (writes_front c.line.result.now c.write_all.result between after c.write_all.ensures.bytes))
+
+pub returns-in-Err-clause-causes : goal.returns-in-Err-clause-causes
+returns-in-Err-clause-causes g c early is = caused_later c.in-Err.ending early _ _ _ _ _ _ _ _ _ (sym c.status.ensures ∙ is) c.write_all.ensures.later c.in-Err.ensures.causes

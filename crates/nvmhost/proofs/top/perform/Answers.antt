@@ -9,16 +9,16 @@ pub returns-in_default-clause-costs : goal.returns-in_default-clause-costs
 returns-in_default-clause-costs g c = costs-none _ _ [] _ _ (consumes-none _) (opens-none _)
 
 pub returns-in_err-host-clause-run : goal.returns-in_err-host-clause-run
-returns-in_err-host-clause-run g c geo form unarmed =
-    let p = err_from_is_err_and c.from_residual.result c.from_residual.ensures.1 in rw p.1 (halts-silent geo _ _ _ [] (consumes-none _))
+returns-in_err-host-clause-run g c geo form =
+    let p = err_from_is_err_and c.from_residual.result c.from_residual.ensures.1 in rw p.1 (halts-silent geo _ _ _ _ [] (consumes-none _))
 
 pub returns-in_err-host-clause-costs : goal.returns-in_err-host-clause-costs
 returns-in_err-host-clause-costs g c = costs-none _ _ [] _ _ (consumes-none _) c.in_err-host.ensures.opens
 
 pub returns-in_err-text-clause-run : goal.returns-in_err-text-clause-run
-returns-in_err-text-clause-run g c geo form unarmed =
+returns-in_err-text-clause-run g c geo form =
     let p = err_from_is_err_and c.from_residual-in_err-text.result c.from_residual-in_err-text.ensures.1 in
-    rw p.1 (halts-silent geo _ _ _ c.in_err-text.ensures.reads.script c.in_err-text.ensures.reads.read)
+    rw p.1 (halts-silent geo _ _ _ _ c.in_err-text.ensures.reads.script c.in_err-text.ensures.reads.read)
 
 pub returns-in_err-text-clause-causes : goal.returns-in_err-text-clause-causes
 returns-in_err-text-clause-causes g c =
@@ -29,7 +29,7 @@ pub returns-in_err-text-clause-costs : goal.returns-in_err-text-clause-costs
 returns-in_err-text-clause-costs g c = costs-none _ _ c.in_err-text.ensures.reads.script _ _ c.in_err-text.ensures.reads.read c.in_ok-host.ensures.opens
 
 pub returns-clause-run : goal.returns-clause-run
-returns-clause-run g c geo form unarmed =
+returns-clause-run g c geo form =
     let same = same_form _ geo c.in-Some.geometry form c.in-Some.ensures.form in
     let old = g.D.Lines.state c.args.device.now in
     let ready = g.D.Lines.state c.set_up.new.device in
@@ -38,8 +38,8 @@ returns-clause-run g c geo form unarmed =
     let written = g.K.Sink.written c.args.replies.now in
     let done = g.K.Sink.written c.run_script.new.replies in
     let new = g.D.Lines.state c.run_script.new.device in
-    let performs = subst (λ script. Performs host.geometry host script c.run_script.result written done ready new) c.as_slice.ensures c.run_script.ensures.performs in
-    ends_performed geo host _ _ written done _ c.run_script.result old ready new c.in_ok-text.ensures.reads is_ready unarmed performs
+    let performs = subst (λ script. Performs host script c.run_script.result written done ready new) c.as_slice.ensures c.run_script.ensures.performs in
+    ends_performed geo host _ _ written done _ c.run_script.result old ready new c.in_ok-text.ensures.reads is_ready performs
 
 pub returns-clause-usage : goal.returns-clause-usage
 returns-clause-usage g c = (λ is. absurd (never_usage _ c.run_script.ensures.others is), λ none. absurd (none c.in-Some.geometry c.in-Some.ensures.form))

@@ -9,7 +9,7 @@ use Rattle.machine_host.proofs.StepLemmas.{comes_of_cut}
 use Rattle.machine_host.proofs.host.Host.cut.Goals as goal
 
 pub returns-clause-step : goal.returns-clause-step
-returns-clause-step g c h stands unarmed =
+returns-clause-step g c h stands =
     let host : HostState = record { geometry = c.self.inside.geometry; mode = c.self.inside.mode; blocks = c.self.inside.blocks } in
     comes_of_cut host _ _ h (subst (λ host. Stands host (g.D.Lines.state c.args.device.now) h) (sym c.self.view_is) stands)
     (subst (λ host. Serves host (g.D.Lines.state c.args.device.now)) (sym c.self.view_is) c.requires.serves) c.power_off.ensures.lines c.power_off.ensures.panel

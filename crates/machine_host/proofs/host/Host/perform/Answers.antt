@@ -1,7 +1,7 @@
 use Rattle.std.proofs.Common.{◌≡◌, ◌+◌, ◌*◌, ◌≤◌, None, length, subst, sym}
 use Rattle.script_text.specs.Action.{action_of}
 use Rattle.machine_host.specs.Machine.{refusal}
-use Rattle.machine_host.proofs.RefusalLemmas.{read_allowed, write_allowed, discard_allowed, hint_allowed, exists_allowed, scar_allowed, load_allowed, store_allowed, sync_allowed, cut_allowed, restart_allowed}
+use Rattle.machine_host.proofs.RefusalLemmas.{read_allowed, write_allowed, atomic_allowed, multi_allowed, discard_allowed, hint_allowed, exists_allowed, scar_allowed, load_allowed, store_allowed, sync_allowed, cut_allowed, cut_in_allowed, restart_allowed}
 use Rattle.machine_host.proofs.host.Host.perform.Goals as goal
 
 pub vload-requires-clause-on : goal.vload-requires-clause-on
@@ -61,3 +61,15 @@ bexists-requires-clause-on g c = (exists_allowed _ _ _ (subst (λ k. refusal c.a
 
 pub bscar-requires-clause-on : goal.bscar-requires-clause-on
 bscar-requires-clause-on g c = (scar_allowed _ _ _ (subst (λ k. refusal c.args.self.now.mode c.args.self.now.geometry (action_of k) ≡ None) c.in-BScar.is c.requires.allowed))
+
+pub batomic-requires-clause-on : goal.batomic-requires-clause-on
+batomic-requires-clause-on g c = (atomic_allowed _ _ _ _ (subst (λ k. refusal c.args.self.now.mode c.args.self.now.geometry (action_of k) ≡ None) c.in-BAtomic.is c.requires.allowed))
+
+pub bmulti-requires-clause-on : goal.bmulti-requires-clause-on
+bmulti-requires-clause-on g c = (multi_allowed _ _ _ _ (subst (λ k. refusal c.args.self.now.mode c.args.self.now.geometry (action_of k) ≡ None) c.in-BMulti.is c.requires.allowed))
+
+pub cut_in-requires-clause-powered : goal.cut_in-requires-clause-powered
+cut_in-requires-clause-powered g c = (cut_in_allowed _ _ _ (subst (λ k. refusal c.args.self.now.mode c.args.self.now.geometry (action_of k) ≡ None) c.in-CutIn.is c.requires.allowed)).0
+
+pub cut_in-requires-clause-some : goal.cut_in-requires-clause-some
+cut_in-requires-clause-some g c = (cut_in_allowed _ _ _ (subst (λ k. refusal c.args.self.now.mode c.args.self.now.geometry (action_of k) ≡ None) c.in-CutIn.is c.requires.allowed)).1

@@ -1,7 +1,8 @@
 use Rattle.std.proofs.Common.{refl, lit≤}
 use Rattle.word_tables.specs.declared.geometry.Geometry.{Geometry}
 use Rattle.word_tables.specs.Bounds.{IsValid}
-use Rattle.block_device.proofs.ZerosLemmas.{zeros_readable}
+use Rattle.recovery.proofs.FreshLemmas.{fresh_mountable}
+use Rattle.line_device.specs.PlainSound.{is_sound-plain}
 use Rattle.machine_host.proofs.host.tests.set_up.Goals as goal
 
 abbrev sizes : Geometry
@@ -18,5 +19,8 @@ sizes_are_valid = record {
   most_fpages = lit≤ tt;
 }
 
-pub start-requires-clause-readable : goal.start-requires-clause-readable
-start-requires-clause-readable c = zeros_readable sizes sizes_are_valid _ _ c.total_lines.ensures.lines c.in_ok-reset.ensures.lines
+pub mount-requires-clause-mountable : goal.mount-requires-clause-mountable
+mount-requires-clause-mountable c = fresh_mountable sizes _ c.in_ok-format.ensures.ok (is_sound-plain c.format.new.device)
+
+pub mount-requires-clause-intact : goal.mount-requires-clause-intact
+mount-requires-clause-intact c n below = (c.in_ok-format.ensures.ok.good n, c.in_ok-format.ensures.ok.strong n)

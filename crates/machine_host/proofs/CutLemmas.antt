@@ -1,0 +1,221 @@
+-- Runs through a cut.
+use Rattle.std.proofs.Common.{◌≡◌, ℕ, true, false, inl, inr, List, [], ◌∷◌, ◌++◌, replicate, refl}
+use Rattle.std.specs.Prelude.{codes}
+use Rattle.std.proofs.lemmas.Bool.{false≢true}
+use Rattle.std.specs.Fmt.{digits}
+use Rattle.line_device.specs.Panel.{Start}
+use Rattle.line_device.specs.declared.line.Choice.TheVariants.{Firsts, Lasts}
+use Rattle.line_device.specs.declared.order.Order.TheVariants.{Cut as ForCut}
+use Rattle.line_words.specs.declared.interruption.Interruption.TheVariants.{PowerLost as Lost}
+use Rattle.nvm_base.specs.Numbers.{number_of}
+use Rattle.nvm_base.specs.Data.{data_of, runs_of, data_within, data_text}
+use Rattle.word_tables.specs.Layout.{size, first_line, total_lines, volume_line}
+use Rattle.line_device.specs.Word.{word_from, byte_over, word_over, reaches}
+use Rattle.nvm_model.specs.Page.{fill, put, persist, look, read_pages}
+use Rattle.nvm_model.specs.Blocks.{write, look as look_blocks}
+use Rattle.word_log.specs.Replay.{listed}
+use Rattle.block_device.specs.Reading.{states_read, blocks_read}
+use Rattle.reply_text.specs.Answer.{Answer, answer_line}
+use Rattle.reply_text.specs.Answer.Answer.{Done, Bytes, PowerLost, Refused}
+use Rattle.reply_text.specs.declared.reply.Why.TheVariants.{Off}
+use Rattle.script_text.specs.Action.{Action}
+use Rattle.script_text.specs.Action.Action.{BRead, BAtomic, CutIn, Restart, VStore}
+use Rattle.script_text.specs.Script.{inputs, lines_of, words_of, command_action, line_input}
+use Rattle.script_text.specs.Script.Input.{Asked}
+use Rattle.machine_host.specs.declared.mode.Mode.TheVariants as modes
+use Rattle.machine_host.specs.Machine.{Machine, refusal, while_torn}
+use Rattle.machine_host.specs.Restarting.{Keeps, reading, fresh, restarted, restart_answer}
+use Rattle.machine_host.specs.Run.{Transcript, Hears, Run, answered, silence, with_order, with_start}
+use Rattle.machine_host.specs.Rows.{small, leaving}
+use Rattle.machine_host.specs.Volume.{volume_image}
+use Rattle.machine_host.specs.Performing.{perform}
+use Rattle.machine_host.proofs.RunLemmas.{run_performed}
+use Rattle.nvm_model.proofs.InterruptedLemmas.{stored_below, may_store-below}
+use Rattle.machine_host.specs.CutRows.{MayWrite, leaving_first, with_cut_write, cut_write_lines, with_late_cut, late_cut_lines, with_cut_store, cut_store_lines}
+use Rattle.machine_host.proofs.LastLemmas.{keeps-last}
+
+-- what was said from some point on, with no more orders
+abbrev saying : List Start → List Answer → Transcript
+saying starts answers = record { starts = starts; orders = []; answers = answers }
+
+-- the write of two blocks, and the machine as the cut is armed and once it came
+abbrev pub two_blocks : List ℕ
+two_blocks = replicate 1024 17
+
+abbrev pub the_write : Action
+the_write = BAtomic 0 two_blocks
+
+abbrev pub armed : Machine
+armed = record (fresh small) { cut_armed = true }
+
+abbrev struck : Machine
+struck = record (while_torn armed the_write) { mode = modes.Off; cut_armed = false }
+
+abbrev back : Start → Machine
+back start = restarted struck start.image
+
+-- it may come back with what its start keeps, and reads it
+abbrev told_of_write : Start → List ℕ → Transcript
+told_of_write start read = record {
+  starts = start ∷ [];
+  orders = ForCut 1 ∷ [];
+  answers = Done ∷ PowerLost ∷ Refused Off ∷ restart_answer struck start.image ∷ Bytes read ∷ [];
+}
+
+run_of_write : (start : Start) (read : List ℕ) → start.choice ≡ Firsts → Keeps Firsts start.image struck
+    → Hears (back start) (Asked (BRead 0 2)) (answered (Bytes read)) (back start)
+    → Run (fresh small) (Asked (CutIn 1) ∷ Asked the_write ∷ Asked (BRead 0 1) ∷ Asked (Restart Firsts) ∷ Asked (BRead 0 2) ∷ []) (told_of_write start read) (back start)
+unfolding refusal reading
+run_of_write start read chosen keeps reads =
+    let all = restart_answer struck start.image in (
+      with_order (ForCut 1) Done,
+      saying (start ∷ []) (PowerLost ∷ Refused Off ∷ all ∷ Bytes read ∷ []),
+      armed,
+      refl,
+      (refl, refl),
+      (
+        answered PowerLost,
+        saying (start ∷ []) (Refused Off ∷ all ∷ Bytes read ∷ []),
+        struck,
+        refl,
+        (PowerLost, refl, inr (Lost, refl, record { armed = refl; state = refl; cut = λ c. absurd (false≢true c); fail = λ f. f })),
+        (
+          answered (Refused Off),
+          saying (start ∷ []) (all ∷ Bytes read ∷ []),
+          struck,
+          refl,
+          (refl, refl),
+          (
+            with_start start all,
+            saying [] (Bytes read ∷ []),
+            back start,
+            refl,
+            (start, all, refl, chosen, keeps, inl (refl, refl)),
+            (answered (Bytes read), silence, back start, refl, reads, (refl, refl)),
+          ),
+        ),
+      ),
+    )
+
+pub write_lost : MayWrite with_cut_write (leaving_first Firsts 0 0 ∷ []) (cut_write_lines (codes "data 00*1024"))
+unfolding digits number_of data_of runs_of data_within data_text read_pages answer_line lines_of words_of command_action line_input refusal size first_line total_lines volume_line reading write look_blocks states_read blocks_read listed
+write_lost = record {
+  said = told_of_write (leaving_first Firsts 0 0) (replicate 1024 0);
+  end = back (leaving_first Firsts 0 0);
+  run = run_of_write (leaving_first Firsts 0 0) (replicate 1024 0) refl
+      (record { blocks = inl refl; left = struck.volume; may = refl; volume = keeps-last Firsts (volume_image small (leaving_first Firsts 0 0).image) struck.volume refl })
+      (Bytes (replicate 1024 0), refl, inl (refl, refl));
+  left = refl;
+  written = refl;
+}
+
+pub write_kept : MayWrite with_cut_write (leaving_first Firsts 2 1229782938247303441 ∷ []) (cut_write_lines (codes "data 11*1024"))
+unfolding digits number_of data_of runs_of data_within data_text read_pages answer_line lines_of words_of command_action line_input refusal size first_line total_lines volume_line reading write look_blocks states_read blocks_read listed
+write_kept =
+    let start = leaving_first Firsts 2 1229782938247303441 in
+    record {
+      said = told_of_write start two_blocks;
+      end = back start;
+      run = run_of_write start two_blocks refl
+          (record { blocks = inr refl; left = struck.volume; may = refl; volume = keeps-last Firsts (volume_image small start.image) struck.volume refl })
+          (Bytes two_blocks, refl, inl (refl, refl));
+      left = refl;
+      written = refl;
+    }
+
+-- a cut that never comes: nothing is interrupted
+pub cut_that_never_came : MayWrite with_late_cut (leaving_first Lasts 1 72340172838076673 ∷ []) late_cut_lines
+unfolding digits number_of data_of runs_of data_within data_text read_pages answer_line lines_of words_of command_action line_input refusal size first_line total_lines volume_line reading write look_blocks states_read blocks_read listed
+cut_that_never_came =
+    let start = leaving_first Lasts 1 72340172838076673 in
+    let all = perform (fresh small) (inputs with_late_cut) (start ∷ []) in
+    record {
+      said = all.said;
+      end = all.state;
+      run = run_performed (fresh small) (inputs with_late_cut) (start ∷ []) (
+        refl,
+        record { blocks = refl; left = (fresh small).volume; may = refl; volume = keeps-last Lasts (volume_image small start.image) (fresh small).volume refl },
+        refl,
+      );
+      left = refl;
+      written = refl;
+    }
+
+-- the store over two lines, the volume before it, and the machine as the cut is armed and once it came
+abbrev zeros : Machine
+zeros = record (fresh small) { volume = put 0 (replicate 64 0) (fill 0 64 (fresh small).volume) }
+
+abbrev durable : Machine
+durable = record zeros { volume = persist 0 64 zeros.volume }
+
+abbrev ready : Machine
+ready = record durable { cut_armed = true }
+
+abbrev the_store : Action
+the_store = VStore 60 (replicate 8 255)
+
+abbrev halted : Machine
+halted = record (while_torn ready the_store) { mode = modes.Off; cut_armed = false }
+
+-- the first line is stored, the second one is not
+pub store_in_part : MayWrite with_cut_store (leaving Lasts 7 18446744069414584320 ∷ []) (cut_store_lines (codes "data ff*4,00*4"))
+unfolding digits word_from byte_over word_over reaches number_of runs_of data_within data_text fill put persist look read_pages answer_line lines_of words_of command_action line_input refusal size first_line total_lines volume_line reading states_read blocks_read listed stored_below
+store_in_part =
+    let start = leaving Lasts 7 18446744069414584320 in
+    let read = replicate 4 255 ++ replicate 4 0 in
+    let all = restart_answer halted start.image in
+    let left = stored_below 1 60 (replicate 8 255) durable.volume in
+    record {
+      said = record { starts = start ∷ []; orders = ForCut 2 ∷ []; answers = Done ∷ Done ∷ Done ∷ PowerLost ∷ all ∷ Bytes read ∷ [] };
+      end = restarted halted start.image;
+      run = (
+        answered Done,
+        record { starts = start ∷ []; orders = ForCut 2 ∷ []; answers = Done ∷ Done ∷ PowerLost ∷ all ∷ Bytes read ∷ [] },
+        zeros,
+        refl,
+        (Done, refl, inl (refl, refl)),
+        (
+          answered Done,
+          record { starts = start ∷ []; orders = ForCut 2 ∷ []; answers = Done ∷ PowerLost ∷ all ∷ Bytes read ∷ [] },
+          durable,
+          refl,
+          (Done, refl, inl (refl, refl)),
+          (
+            with_order (ForCut 2) Done,
+            saying (start ∷ []) (PowerLost ∷ all ∷ Bytes read ∷ []),
+            ready,
+            refl,
+            (refl, refl),
+            (
+              answered PowerLost,
+              saying (start ∷ []) (all ∷ Bytes read ∷ []),
+              halted,
+              refl,
+              (PowerLost, refl, inr (Lost, refl, record { armed = refl; state = refl; cut = λ c. absurd (false≢true c); fail = λ f. f })),
+              (
+                with_start start all,
+                saying [] (Bytes read ∷ []),
+                restarted halted start.image,
+                refl,
+                (
+                  start,
+                  all,
+                  refl,
+                  refl,
+                  record {
+                    blocks = inl refl;
+                    left = left;
+                    may = may_store-below 1 60 (replicate 8 255) durable.volume;
+                    volume = keeps-last Lasts (volume_image small start.image) left refl;
+                  },
+                  inl (refl, refl),
+                ),
+                (answered (Bytes read), silence, restarted halted start.image, refl, (Bytes read, refl, inl (refl, refl)), (refl, refl)),
+              ),
+            ),
+          ),
+        ),
+      );
+      left = refl;
+      written = refl;
+    }

@@ -1,0 +1,233 @@
+-- No run through a cut reads a part of blocks that were written together.
+use Rattle.std.proofs.Common.{◌≡◌, ◌⊎◌, ℕ, ◌+◌, ◌<◌, Bool, inl, inr, None, option_map, List, [], ◌∷◌, ◌++◌, drop, slice_index, append-nil, refl, sym, ap, subst, ◌∙◌, arith}
+use Rattle.std.specs.Prelude.{codes}
+use Rattle.std.proofs.lemmas.List.{append_cancel_right}
+use Rattle.std.specs.Fmt.{digits}
+use Rattle.line_device.specs.Panel.{Image, Start}
+use Rattle.line_device.specs.declared.line.Choice.{Choice}
+use Rattle.line_device.specs.declared.line.Choice.TheVariants.{Firsts}
+use Rattle.line_device.specs.declared.order.Order.{Order}
+use Rattle.line_device.specs.declared.order.Order.TheVariants.{Cut as ForCut}
+use Rattle.line_words.specs.declared.interruption.Interruption.{Interruption}
+use Rattle.line_words.specs.declared.interruption.Interruption.TheVariants.{Failed, PowerLost as Lost}
+use Rattle.nvm_base.specs.Numbers.{number_of}
+use Rattle.nvm_base.specs.Data.{runs_of, data_within, data_text}
+use Rattle.word_tables.specs.Layout.{size, first_line, total_lines}
+use Rattle.nvm_model.specs.Storage.{Block}
+use Rattle.nvm_model.specs.Page.{read_pages, bad_lines, KeepsPages}
+use Rattle.nvm_model.specs.Blocks.{first_obstacle, bad_block_lines, write, look}
+use Rattle.nvm_model.proofs.PageLemmas.{bad_lines-none, cell_of-read_pages}
+use Rattle.word_log.specs.Replay.{listed}
+use Rattle.block_device.specs.Images.{IsEither}
+use Rattle.block_device.specs.Reading.{states_read, blocks_read}
+use Rattle.block_device.specs.Refusals.Refusal.{Unreadable}
+use Rattle.reply_text.specs.Answer.{Answer, answer_line, reply_text}
+use Rattle.reply_text.specs.Answer.Answer.{Done, DoneBad, Bytes, Refused}
+use Rattle.reply_text.specs.declared.reply.Why.TheVariants.{Off}
+use Rattle.script_text.specs.Action.{Action}
+use Rattle.script_text.specs.Action.Action.{BRead, CutIn, Restart}
+use Rattle.script_text.specs.Script.{Input, lines_of, words_of, command_action, line_input}
+use Rattle.script_text.specs.Script.Input.{Asked}
+use Rattle.machine_host.specs.declared.mode.Mode.TheVariants as modes
+use Rattle.machine_host.specs.Volume.{volume_image}
+use Rattle.machine_host.specs.Machine.{Machine, fate, unless, refusal, while_torn, after_work}
+use Rattle.machine_host.specs.Machine.Fate.{Gives, Works, Orders, Restarts}
+use Rattle.machine_host.specs.Interrupted.{interrupted_answer}
+use Rattle.machine_host.specs.Restarting.{Keeps, reading, fresh, restarted, restart_answer, zero_image}
+use Rattle.machine_host.specs.Run.{Transcript, Run, Takes, Ends}
+use Rattle.machine_host.specs.Rows.{small, text}
+use Rattle.machine_host.specs.CutRows.{MayWrite, with_cut_write, cut_write_lines}
+use Rattle.machine_host.proofs.CutLemmas.{armed, the_write}
+
+-- a run that gives these answers
+abbrev Later : Machine → List Input → List Answer → Type 0
+Later h inputs answers = (said : Transcript) × (end : Machine) × (said.answers ≡ answers) × Run h inputs said end
+
+-- what a run begins with, by what comes of its first command
+module _ (h : Machine) (action : Action) (inputs : List Input) (answers : List Answer) (later : Later h (Asked action ∷ inputs) answers) where
+  answers_of : (first rest : Transcript) (answer : Answer) → later.0 ≡ record { starts = first.starts ++ rest.starts; orders = first.orders ++ rest.orders; answers = first.answers ++ rest.answers }
+      → first.answers ≡ answer ∷ [] → answers ≡ answer ∷ rest.answers
+  answers_of first rest answer is one = sym later.2 ∙ ap (λ (t : Transcript). t.answers) is ∙ ap (λ xs. xs ++ rest.answers) one
+
+  began_giving : (good : Answer) (to : Machine) → fate h action ≡ Gives good to → (rest : List Answer) × (answers ≡ good ∷ rest) × Later to inputs rest
+  began_giving good to is =
+      let run = later.3 in
+      let took = subst (λ f. Takes h action f run.0 run.2) is run.4 in (
+        run.1.answers,
+        answers_of run.0 run.1 good run.3 (ap (λ (t : Transcript). t.answers) took.0),
+        (run.1, later.1, refl, subst (λ k. Run k inputs run.1 later.1) took.1 run.5),
+      )
+
+  began_ordering : (order : Order) (to : Machine) → fate h action ≡ Orders order to → (rest : List Answer) × (answers ≡ Done ∷ rest) × Later to inputs rest
+  began_ordering order to is =
+      let run = later.3 in
+      let took = subst (λ f. Takes h action f run.0 run.2) is run.4 in (
+        run.1.answers,
+        answers_of run.0 run.1 Done run.3 (ap (λ (t : Transcript). t.answers) took.0),
+        (run.1, later.1, refl, subst (λ k. Run k inputs run.1 later.1) took.1 run.5),
+      )
+
+  began_working : (good : Answer) (to : Machine) → fate h action ≡ Works good to
+      → (answer : Answer) × (next : Machine) × (rest : List Answer) × (answers ≡ answer ∷ rest) × Ends good to (while_torn h action) answer next × Later next inputs rest
+  began_working good to is =
+      let run = later.3 in
+      let took = subst (λ f. Takes h action f run.0 run.2) is run.4 in (
+        took.0,
+        run.2,
+        run.1.answers,
+        answers_of run.0 run.1 took.0 run.3 (ap (λ (t : Transcript). t.answers) took.1),
+        took.2,
+        (run.1, later.1, refl, run.5),
+      )
+
+  began_restarting : (choice : Choice) → fate h action ≡ Restarts choice
+      → (image : Image) × (answer : Answer) × (next : Machine) × (rest : List Answer) × (answers ≡ answer ∷ rest) × Keeps choice image h
+      × Ends (restart_answer h image) (restarted h image) (restarted h image) answer next × Later next inputs rest
+  began_restarting choice is =
+      let run = later.3 in
+      let took = subst (λ f. Takes h action f run.0 run.2) is run.4 in (
+        took.0.image,
+        took.1,
+        run.2,
+        run.1.answers,
+        answers_of run.0 run.1 took.1 run.3 (ap (λ (t : Transcript). t.answers) took.2),
+        took.4,
+        took.5,
+        (run.1, later.1, refl, run.5),
+      )
+
+-- an interruption is not answered by a line that begins like `ok` or `data`
+never_stopped : (by : Interruption) (rest : List Answer) (c : ℕ) (t : List ℕ) → c < 112 → reply_text (interrupted_answer by ∷ rest) ≡ c ∷ t → ⊥
+unfolding answer_line
+never_stopped Failed rest c t below e = let first : 114 ≡ c = ap (λ (s : List ℕ). slice_index s 0) e in omega arith
+never_stopped Lost rest c t below e = let first : 112 ≡ c = ap (λ (s : List ℕ). slice_index s 0) e in omega arith
+
+-- a line of data
+abbrev line : List ℕ → List ℕ
+line shown = codes "data " ++ shown
+
+-- the machine once the cut came, with what is armed still
+abbrev struck : Bool → Bool → Machine
+struck cut fail = record (while_torn armed the_write) { mode = modes.Off; cut_armed = cut; fail_armed = fail }
+
+-- none of the volume's lines is bad after it
+no_bad_line : (choice : Choice) (image : Image) → KeepsPages choice (volume_image small image) (fresh small).volume → bad_lines (read_pages (volume_image small image) 2) ≡ 0
+unfolding reading
+no_bad_line choice image keeps =
+    bad_lines-none (volume_image small image) 2 (λ k lt. (keeps k _ (cell_of-read_pages (volume_image small (zero_image (total_lines small))) 2 k lt)).0)
+
+-- blocks all of which can be read, and what their first two show
+record Shows (blocks : List Block) (seen : List ℕ) : Type 0 where
+  free : first_obstacle blocks 0 2 ≡ None
+  whole : bad_block_lines blocks ≡ 0
+  shows : answer_line (Bytes (look blocks 0 2)) ≡ codes "data " ++ (seen ++ 10 ∷ [])
+
+old_shows : Shows (fresh small).blocks (codes "00*1024")
+unfolding digits data_text answer_line size first_line reading states_read blocks_read listed look
+old_shows = record { free = refl; whole = refl; shows = refl }
+
+new_shows : Shows (after_work (fresh small) the_write).blocks (codes "11*1024")
+unfolding digits data_text answer_line size first_line reading states_read blocks_read listed write look
+new_shows = record { free = refl; whole = refl; shows = refl }
+
+nothing_more : (h : Machine) (rest : List Answer) → Later h [] rest → rest ≡ []
+nothing_more h rest later = sym later.2 ∙ ap (λ (t : Transcript). t.answers) later.3.0
+
+-- the restart left such blocks
+module _ (shown : List ℕ) (image : Image) (cut fail : Bool) (blocks : List Block) (is : blocks_read small image.is_bad image.word ≡ blocks)
+    (seen : List ℕ) (good_blocks : Shows blocks seen) where
+  abbrev back : Machine
+  back = restarted (struck cut fail) image
+
+  read_shows : (answers : List Answer) → Later back (Asked (BRead 0 2) ∷ []) answers → reply_text answers ≡ text (line shown ∷ []) → shown ≡ seen
+  unfolding refusal reading
+  read_shows answers later wrote =
+      let one = began_working back (BRead 0 2) [] answers later (Bytes (look blocks 0 2)) back came in
+      by_end one.0 one.1 one.2 one.4 (nothing_more one.1 one.2 one.5) (sym (ap reply_text one.3) ∙ wrote)
+    where
+      came : fate back (BRead 0 2) ≡ Works (Bytes (look blocks 0 2)) back
+      came = ap (λ b. unless back (option_map Unreadable (first_obstacle b 0 2)) (Works (Bytes (look b 0 2)) back)) is
+          ∙ ap (λ o. unless back (option_map Unreadable o) (Works (Bytes (look blocks 0 2)) back)) good_blocks.free
+
+      by_end : (answer : Answer) (next : Machine) (rest : List Answer) → Ends (Bytes (look blocks 0 2)) back (while_torn back (BRead 0 2)) answer next
+          → rest ≡ [] → reply_text (answer ∷ rest) ≡ text (line shown ∷ []) → shown ≡ seen
+      by_end answer next rest (inl good) last e =
+          let same : codes "data " ++ (seen ++ 10 ∷ []) ≡ text (line shown ∷ []) =
+          sym (append-nil _ ∙ good_blocks.shows) ∙ sym (ap (λ a. reply_text (a ∷ [])) good.0) ∙ sym (ap (λ r. reply_text (answer ∷ r)) last) ∙ e in
+          sym (append_cancel_right seen shown (10 ∷ []) (ap (drop 5) same))
+      by_end answer next rest (inr stop) last e = absurd (never_stopped stop.0 rest 100 _ (omega arith) (sym (ap (λ a. reply_text (a ∷ rest)) stop.1) ∙ e))
+
+  restart_shows : (answer : Answer) (next : Machine) (rest : List Answer) → bad_lines (read_pages (volume_image small image) 2) ≡ 0
+      → Ends (restart_answer (struck cut fail) image) back back answer next → Later next (Asked (BRead 0 2) ∷ []) rest
+      → reply_text (answer ∷ rest) ≡ text (codes "ok bad 0" ∷ line shown ∷ []) → shown ≡ seen
+  unfolding answer_line digits reading
+  restart_shows answer next rest healthy (inl good) later e =
+      let none : restart_answer (struck cut fail) image ≡ DoneBad 0 =
+      ap (λ n. DoneBad (n + bad_lines (read_pages (volume_image small image) 2))) (ap bad_block_lines is ∙ good_blocks.whole) ∙ ap (λ n. DoneBad (0 + n)) healthy in
+      let wrote : reply_text (DoneBad 0 ∷ rest) ≡ text (codes "ok bad 0" ∷ line shown ∷ []) = sym (ap (λ a. reply_text (a ∷ rest)) (good.0 ∙ none)) ∙ e in
+      read_shows rest (subst (λ k. Later k (Asked (BRead 0 2) ∷ []) rest) good.1 later) (ap (drop 9) wrote)
+  restart_shows answer next rest healthy (inr stop) later e =
+      absurd (never_stopped stop.0 rest 111 _ (omega arith) (sym (ap (λ a. reply_text (a ∷ rest)) stop.1) ∙ e))
+
+-- all or nothing of the write is shown
+abbrev Whole : List ℕ → Type 0
+Whole shown = (shown ≡ codes "00*1024") ⊎ (shown ≡ codes "11*1024")
+
+back_shows : (shown : List ℕ) (cut fail : Bool) (answers : List Answer) → Later (struck cut fail) (Asked (Restart Firsts) ∷ Asked (BRead 0 2) ∷ []) answers
+    → reply_text answers ≡ text (codes "ok bad 0" ∷ line shown ∷ []) → Whole shown
+unfolding refusal reading
+back_shows shown cut fail answers later wrote =
+    let one = began_restarting (struck cut fail) (Restart Firsts) (Asked (BRead 0 2) ∷ []) answers later Firsts refl in
+    by_blocks one.0 one.1 one.2 one.3 one.5 one.6 one.7 one.5.blocks (sym (ap reply_text one.4) ∙ wrote)
+  where
+    by_blocks : (image : Image) (answer : Answer) (next : Machine) (rest : List Answer) → Keeps Firsts image (struck cut fail)
+        → Ends (restart_answer (struck cut fail) image) (restarted (struck cut fail) image) (restarted (struck cut fail) image) answer next
+        → Later next (Asked (BRead 0 2) ∷ []) rest
+        → IsEither (fresh small).blocks (after_work (fresh small) the_write).blocks (blocks_read small image.is_bad image.word)
+        → reply_text (answer ∷ rest) ≡ text (codes "ok bad 0" ∷ line shown ∷ []) → Whole shown
+    by_blocks image answer next rest keeps ends later (inl old) e =
+        inl (restart_shows shown image cut fail (fresh small).blocks old (codes "00*1024") old_shows answer next rest
+        (no_bad_line Firsts image (subst (KeepsPages Firsts (volume_image small image)) keeps.may keeps.volume)) ends later e)
+    by_blocks image answer next rest keeps ends later (inr new) e =
+        inr (restart_shows shown image cut fail (after_work (fresh small) the_write).blocks new (codes "11*1024") new_shows answer next rest
+        (no_bad_line Firsts image (subst (KeepsPages Firsts (volume_image small image)) keeps.may keeps.volume)) ends later e)
+
+struck_shows : (shown : List ℕ) (answers : List Answer) → Later armed (Asked the_write ∷ Asked (BRead 0 1) ∷ Asked (Restart Firsts) ∷ Asked (BRead 0 2) ∷ []) answers
+    → reply_text answers ≡ text (codes "power lost" ∷ codes "refused off" ∷ codes "ok bad 0" ∷ line shown ∷ []) → Whole shown
+unfolding refusal reading answer_line
+struck_shows shown answers later wrote =
+    let one = began_working armed the_write (Asked (BRead 0 1) ∷ Asked (Restart Firsts) ∷ Asked (BRead 0 2) ∷ []) answers later Done (after_work armed the_write) refl in
+    by_end one.0 one.1 one.2 one.4 one.5 (sym (ap reply_text one.3) ∙ wrote)
+  where
+    by_rest : (cut fail : Bool) (rest : List Answer) → Later (struck cut fail) (Asked (BRead 0 1) ∷ Asked (Restart Firsts) ∷ Asked (BRead 0 2) ∷ []) rest
+        → reply_text rest ≡ text (codes "refused off" ∷ codes "ok bad 0" ∷ line shown ∷ []) → Whole shown
+    by_rest cut fail rest later e =
+        let one = began_giving (struck cut fail) (BRead 0 1) (Asked (Restart Firsts) ∷ Asked (BRead 0 2) ∷ []) rest later (Refused Off) (struck cut fail) refl in
+        back_shows shown cut fail one.0 one.2 (ap (drop 12) (sym (ap reply_text one.1) ∙ e))
+
+    by_end : (answer : Answer) (next : Machine) (rest : List Answer) → Ends Done (after_work armed the_write) (while_torn armed the_write) answer next
+        → Later next (Asked (BRead 0 1) ∷ Asked (Restart Firsts) ∷ Asked (BRead 0 2) ∷ []) rest
+        → reply_text (answer ∷ rest) ≡ text (codes "power lost" ∷ codes "refused off" ∷ codes "ok bad 0" ∷ line shown ∷ []) → Whole shown
+    by_end answer next rest (inl good) later e =
+        let first : 111 ≡ 112 = ap (λ (s : List ℕ). slice_index s 0) (sym (ap (λ a. reply_text (a ∷ rest)) good.0) ∙ e) in absurd (omega (arith, first))
+    by_end answer next rest (inr (Failed, is, stop)) later e =
+        let first : 114 ≡ 112 = ap (λ (s : List ℕ). slice_index s 0) (sym (ap (λ a. reply_text (a ∷ rest)) is) ∙ e) in absurd (omega (arith, first))
+    by_end answer next rest (inr (Lost, is, stop)) later e =
+        by_rest next.cut_armed next.fail_armed rest
+        (subst (λ k. Later k (Asked (BRead 0 1) ∷ Asked (Restart Firsts) ∷ Asked (BRead 0 2) ∷ []) rest) stop.state later)
+        (ap (drop 11) (sym (ap (λ a. reply_text (a ∷ rest)) is) ∙ e))
+
+pub write_all_or_nothing : (starts : List Start) (shown : List ℕ) → MayWrite with_cut_write starts (cut_write_lines (line shown)) → Whole shown
+unfolding digits number_of runs_of data_within answer_line lines_of words_of command_action line_input refusal reading
+write_all_or_nothing starts shown may =
+    let one = began_ordering (fresh small) (CutIn 1) (Asked the_write ∷ Asked (BRead 0 1) ∷ Asked (Restart Firsts) ∷ Asked (BRead 0 2) ∷ []) may.said.answers
+    (may.said, may.end, refl, may.run) (ForCut 1) armed refl in
+    struck_shows shown one.0 one.2 (ap (drop 3) (sym (ap reply_text one.1) ∙ may.written))
+
+-- so no part of it is
+pub write_never_in_part : (starts : List Start) → ¬ MayWrite with_cut_write starts (cut_write_lines (codes "data 11*512,00*512"))
+write_never_in_part starts may = by_case (write_all_or_nothing starts (codes "11*512,00*512") may)
+  where
+    by_case : Whole (codes "11*512,00*512") → ⊥
+    by_case (inl old) = let byte : 49 ≡ 48 = ap (λ (s : List ℕ). slice_index s 0) old in omega (arith, byte)
+    by_case (inr new) = let byte : 53 ≡ 49 = ap (λ (s : List ℕ). slice_index s 3) new in omega (arith, byte)
