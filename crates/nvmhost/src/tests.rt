@@ -220,6 +220,10 @@ fn a_device_is_restarted_as_the_script_says(rt: HostRuntime) -> Result<(), Fail>
     assert_eq!(rt; starts[0].choice, Choice::Firsts);
     let lines = starts[0].lines.as_slice();
     assert_eq!(rt; lines.len(), 5056);
-    assert_eq!(rt; lines[0], LineState::Healthy([0; 64]));
+    let LineState::Healthy(first) = &lines[0] else {
+        return Err(Fail::from("the first line"));
+    };
+    assert_eq!(rt; &first[..8], b"NVMPMH01".as_slice());
+    assert_eq!(rt; lines[2304], LineState::Healthy([0; 64]));
     Ok(())
 }
