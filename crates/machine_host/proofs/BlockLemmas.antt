@@ -37,7 +37,8 @@ use Rattle.machine_host.specs.Machine.Fate.{Gives, Works}
 use Rattle.machine_host.specs.Interrupted.{MayLeaveBlocks, MayLeaveVolume, interrupted_answer, interrupted_mode}
 use Rattle.machine_host.specs.Run.{answered}
 use Rattle.machine_host.specs.Volume.{HasLayout, volume_of}
-use Rattle.machine_host.specs.Stands.{HostState, Serves, AreMounted, Stands, Comes, answer_after, fault_answer, fault_mode, is_powered, mode_after}
+use Rattle.machine_host.specs.Stands.{HostState, Serves, AreMounted, Stands, Comes, is_powered}
+use Rattle.machine_host.specs.Faults.{answer_after, fault_answer, fault_mode, mode_after}
 use Rattle.machine_host.proofs.ElsewhereLemmas.{first_not_blocks, layout-beside, wander_volume-beside}
 use Rattle.recovery.specs.Fresh.{HasSuperblock}
 use Rattle.recovery.proofs.SuperblockLemmas.{superblock-beside}

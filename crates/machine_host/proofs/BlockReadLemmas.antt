@@ -27,7 +27,8 @@ use Rattle.machine_host.specs.declared.mode.Mode.TheVariants.{On}
 use Rattle.machine_host.specs.Machine.{Machine, block_refusal}
 use Rattle.machine_host.specs.Interrupted.{MayLeaveBlocks}
 use Rattle.machine_host.specs.Volume.{HasLayout}
-use Rattle.machine_host.specs.Stands.{HostState, Serves, Stands, Performed, answer_after}
+use Rattle.machine_host.specs.Stands.{HostState, Serves, Stands, Performed}
+use Rattle.machine_host.specs.Faults.{answer_after}
 use Rattle.machine_host.proofs.BlockLemmas.{Called, host_after, good_metadata, change_serves, change_comes}
 
 -- a buffer that a call filled

@@ -5,7 +5,7 @@ use Rattle.line_device.proofs.PanelLemmas.{arms_nothing-refl, arms_nothing-trans
 use Rattle.script_text.specs.Action.{Action}
 use Rattle.script_text.specs.Script.{Input}
 use Rattle.script_text.specs.Script.Input.{Skipped, Malformed, Asked}
-use Rattle.machine_host.specs.Stands.{SpendsAtMost, Costs, Spends, total, most_calls, most_persists, most_arms, most_offs, most_restarts}
+use Rattle.machine_host.specs.Costs.{SpendsAtMost, Costs, Spends, total, most_calls, most_persists, most_arms, most_offs, most_restarts}
 
 -- what was not done costs nothing
 pub spends_nothing : (p : Panel) → SpendsAtMost 0 0 0 0 0 p p

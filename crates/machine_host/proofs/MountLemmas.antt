@@ -32,7 +32,9 @@ use Rattle.block_device.proofs.RestartLemmas.{block_image-last}
 use Rattle.block_device.proofs.ReachLemmas.{reads_right, each_reads-kept}
 use Rattle.machine_host.specs.declared.mode.Mode.TheVariants as modes
 use Rattle.machine_host.specs.Volume.{HasLayout}
-use Rattle.machine_host.specs.Stands.{HostState, Serves, AreMounted, IsStop, is_powered, mount_calls, mount_persists}
+use Rattle.machine_host.specs.Stands.{HostState, Serves, AreMounted, is_powered}
+use Rattle.machine_host.specs.Costs.{mount_calls, mount_persists}
+use Rattle.machine_host.specs.Faults.{IsStop}
 use Rattle.machine_host.proofs.VolumeLemmas.{has_layout-outside}
 use Rattle.machine_host.proofs.ElsewhereLemmas.{first_not_blocks}
 

@@ -41,7 +41,8 @@ use Rattle.machine_host.specs.Restarting.{Keeps, reading, restarted}
 use Rattle.machine_host.specs.Run.{with_start}
 use Rattle.machine_host.specs.Machine.Fate.{Restarts}
 use Rattle.machine_host.specs.Volume.{volume_of, volume_image, HasLayout}
-use Rattle.machine_host.specs.Stands.{HostState, Serves, DeviceStands, Stands, Tells, IsStop, LeftUnmounted, AreMounted, Comes, is_powered, unmounted_answer, unmounted_mode}
+use Rattle.machine_host.specs.Stands.{HostState, Serves, DeviceStands, Stands, Tells, AreMounted, Comes, is_powered}
+use Rattle.machine_host.specs.Faults.{IsStop, LeftUnmounted, unmounted_answer, unmounted_mode}
 use Rattle.machine_host.proofs.VolumeLemmas.{volume_intact, survivors-volume, depicts-volume}
 use Rattle.machine_host.proofs.ElsewhereLemmas.{wander_volume-beside}
 use Rattle.machine_host.proofs.StepLemmas.{interrupts, never_on, power_struck, struck}

@@ -5,6 +5,8 @@ pub mod Restarting
 pub mod Run
 pub mod Performing
 pub mod Stands
+pub mod Costs
+pub mod Faults
 pub mod Rows
 pub mod BlockRows
 pub mod CutRows

@@ -40,7 +40,9 @@ impl Host {
     ghost use Rattle.machine_host.specs.declared.mode.Mode.TheVariants as modes;
     ghost use Rattle.script_text.specs.Action.{action_of};
     ghost use Rattle.machine_host.specs.Machine.{Machine, refusal};
-    ghost use Rattle.machine_host.specs.Stands.{Serves, Stands, Steps, Costs, Leaves, mount_calls, mount_persists};
+    ghost use Rattle.machine_host.specs.Stands.{Serves, Stands, Steps};
+    ghost use Rattle.machine_host.specs.Costs.{Costs, mount_calls, mount_persists};
+    ghost use Rattle.machine_host.specs.Faults.{Leaves};
     ghost use Rattle.script_text.specs.Parsing.{InBounds};
     ghost use Rattle.line_device.specs.Medium.{last_image};
     ghost use Rattle.line_device.specs.Panel.{Runs};

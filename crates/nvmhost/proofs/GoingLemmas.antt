@@ -8,7 +8,8 @@ use Rattle.reply_text.specs.Answer.{reply_text}
 use Rattle.script_text.specs.Script.{line_input, inputs_of, lines_of}
 use Rattle.machine_host.specs.Machine.{Machine}
 use Rattle.machine_host.specs.Run.{Transcript, Run, followed_by, silence}
-use Rattle.machine_host.specs.Stands.{HostState, Stands, Tells, Spends}
+use Rattle.machine_host.specs.Stands.{HostState, Stands, Tells}
+use Rattle.machine_host.specs.Costs.{Spends}
 use Rattle.machine_host.proofs.RunLemmas.{run_of_one, run_then, reply_text-append, tells_silence, tells_then}
 use Rattle.machine_host.proofs.CostLemmas.{spends-idle, spends_then}
 use Rattle.nvmhost.specs.declared.ending.Ending.{Ending}

@@ -30,7 +30,8 @@ use Rattle.recovery.proofs.FreshLemmas.{fresh_early, fresh_reads, fresh_told}
 use Rattle.machine_host.specs.declared.mode.Mode.TheVariants.{On}
 use Rattle.machine_host.specs.Restarting.{fresh, reading, zero_image}
 use Rattle.machine_host.specs.Volume.{volume_place, volume_of, volume_image, HasLayout}
-use Rattle.machine_host.specs.Stands.{HostState, Serves, is_powered, mount_calls, mount_persists}
+use Rattle.machine_host.specs.Stands.{HostState, Serves, is_powered}
+use Rattle.machine_host.specs.Costs.{mount_calls, mount_persists}
 use Rattle.machine_host.proofs.ElsewhereLemmas.{volume_line_some, wander_volume-beside}
 use Rattle.machine_host.proofs.VolumeLemmas.{volume_intact}
 use Rattle.recovery.specs.Mounting.{Finds, mount_outcome}

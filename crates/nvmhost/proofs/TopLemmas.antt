@@ -12,7 +12,8 @@ use Rattle.nvm_base.specs.Counts.{Rose}
 use Rattle.script_text.specs.Script.{inputs_of, lines_of}
 use Rattle.machine_host.specs.Restarting.{reading, fresh}
 use Rattle.machine_host.specs.Run.{Run, silence}
-use Rattle.machine_host.specs.Stands.{HostState, Opens}
+use Rattle.machine_host.specs.Stands.{HostState}
+use Rattle.machine_host.specs.Costs.{Opens}
 use Rattle.machine_host.proofs.RunLemmas.{tells_then}
 use Rattle.machine_host.proofs.CostLemmas.{spends-idle, spends_nothing, spends_within}
 use Rattle.nvmhost.specs.declared.ending.Ending.{Ending}

@@ -10,7 +10,8 @@ use Rattle.script_text.specs.Script.{Input, inputs_of, lines_of}
 use Rattle.machine_host.specs.Machine.{Machine}
 use Rattle.machine_host.specs.Restarting.{fresh}
 use Rattle.machine_host.specs.Run.{Transcript, Hears, Run, silence}
-use Rattle.machine_host.specs.Stands.{HostState, Serves, DeviceStands, Stands, Tells, Opens, Spends}
+use Rattle.machine_host.specs.Stands.{HostState, Serves, DeviceStands, Stands, Tells}
+use Rattle.machine_host.specs.Costs.{Opens, Spends}
 use Rattle.nvm_base.specs.Stock.{Stock}
 use Rattle.nvmhost.specs.declared.ending.Ending.{Ending}
 use Rattle.nvmhost.specs.declared.ending.Ending.TheVariants.{Usage, Read, Write, Memory, Script}

@@ -5,7 +5,8 @@ ghost use Rattle.nvm_base.specs.Counts.{Rose};
 ghost use Rattle.host_io.specs.Writing.{AppendsSome};
 ghost use Rattle.script_text.specs.Script.{line_input};
 ghost use Rattle.machine_host.specs.Machine.{Machine};
-ghost use Rattle.machine_host.specs.Stands.{Serves, Stands, Spends};
+ghost use Rattle.machine_host.specs.Stands.{Serves, Stands};
+ghost use Rattle.machine_host.specs.Costs.{Spends};
 ghost use Rattle.nvmhost.specs.Whole.{Performs, LineGoes, Flushes};
 
 use crate::ending::Ending;

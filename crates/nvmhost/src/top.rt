@@ -4,7 +4,7 @@ ghost use Rattle.std.specs.String.{string_bytes};
 ghost use Rattle.line_device.specs.Panel.{Start};
 ghost use Rattle.word_tables.specs.declared.geometry.Geometry.{Geometry as Sizes};
 ghost use Rattle.word_tables.specs.Bounds.{IsValid};
-ghost use Rattle.machine_host.specs.Stands.{Opens};
+ghost use Rattle.machine_host.specs.Costs.{Opens};
 ghost use Rattle.nvmhost.specs.declared.ending.Ending.{Ending as Early};
 ghost use Rattle.nvmhost.specs.declared.ending.Ending.TheVariants.{Usage};
 ghost use Rattle.nvmhost.specs.Words.{IsForm};

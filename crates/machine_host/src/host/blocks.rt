@@ -6,7 +6,9 @@ ghost use Rattle.script_text.specs.Action.Action.{BRead, BWrite, BAtomic, BMulti
 ghost use Rattle.reply_text.specs.Answer.{answer_of, answer_line};
 ghost use Rattle.reply_text.specs.Answer.Answer.{Done, PoisonBlock, RefusedMeta, Scarred};
 ghost use Rattle.machine_host.specs.Machine.{Machine};
-ghost use Rattle.machine_host.specs.Stands.{Serves, Stands, Performed, Costs, longest, answer_after, fault_answer, fault_mode, mode_after};
+ghost use Rattle.machine_host.specs.Stands.{Serves, Stands, Performed};
+ghost use Rattle.machine_host.specs.Costs.{Costs};
+ghost use Rattle.machine_host.specs.Faults.{longest, answer_after, fault_answer, fault_mode, mode_after};
 
 use super::Host;
 use block_device::BlockFault;

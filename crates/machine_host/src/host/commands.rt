@@ -7,7 +7,9 @@ ghost use Rattle.script_text.specs.Action.Action.{VLoad, VStore, VSync, Cut, Res
 ghost use Rattle.reply_text.specs.Answer.{answer_of, answer_line};
 ghost use Rattle.machine_host.specs.Machine.{Machine, refusal};
 ghost use Rattle.script_text.specs.Parsing.{InBounds};
-ghost use Rattle.machine_host.specs.Stands.{Serves, Stands, Performed, Costs, Leaves, longest};
+ghost use Rattle.machine_host.specs.Stands.{Serves, Stands, Performed};
+ghost use Rattle.machine_host.specs.Costs.{Costs};
+ghost use Rattle.machine_host.specs.Faults.{Leaves, longest};
 
 use super::Host;
 use crate::Mode;

@@ -4,7 +4,9 @@ ghost use Rattle.machine_host.specs.declared.mode.Mode.TheVariants.{Off};
 ghost use Rattle.script_text.specs.Action.Action.{Cut, CutIn, Restart};
 ghost use Rattle.reply_text.specs.Answer.{answer_of, answer_line};
 ghost use Rattle.machine_host.specs.Machine.{Machine};
-ghost use Rattle.machine_host.specs.Stands.{Serves, Stands, Performed, Costs, IsStop, Leaves, unmounted_answer, unmounted_mode};
+ghost use Rattle.machine_host.specs.Stands.{Serves, Stands, Performed};
+ghost use Rattle.machine_host.specs.Costs.{Costs};
+ghost use Rattle.machine_host.specs.Faults.{IsStop, Leaves, unmounted_answer, unmounted_mode};
 ghost use Rattle.machine_host.specs.Interrupted.{interrupted_answer, interrupted_mode};
 ghost use Rattle.recovery.specs.declared.fault.MountFault.TheVariants.{Memory};
 

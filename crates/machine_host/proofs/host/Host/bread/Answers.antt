@@ -4,7 +4,7 @@ use Rattle.nvm_model.specs.Blocks.{look}
 use Rattle.reply_text.specs.Answer.{answer_line}
 use Rattle.reply_text.specs.Answer.Answer.{Bytes}
 use Rattle.reply_text.proofs.ShortLemmas.{short-bytes}
-use Rattle.machine_host.specs.Stands.{fault_mode}
+use Rattle.machine_host.specs.Faults.{fault_mode}
 use Rattle.machine_host.proofs.BlockReadLemmas.{buffer_size, read_bytes, length-look, read_serves, read_comes}
 use Rattle.machine_host.proofs.host.Host.bread.Goals as goal
 

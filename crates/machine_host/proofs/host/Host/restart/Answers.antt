@@ -5,7 +5,8 @@ use Rattle.block_device.specs.Area.{block_area}
 use Rattle.block_device.specs.Images.{KeepsReads}
 use Rattle.block_device.specs.Object.{blocks_of}
 use Rattle.machine_host.specs.declared.mode.Mode.TheVariants.{On}
-use Rattle.machine_host.specs.Stands.{HostState, Performed, Serves, Stands, unmounted_mode}
+use Rattle.machine_host.specs.Stands.{HostState, Performed, Serves, Stands}
+use Rattle.machine_host.specs.Faults.{unmounted_mode}
 use Rattle.script_text.specs.Action.Action.{Restart}
 use Rattle.line_device.specs.Medium.{last_image}
 use Rattle.block_device.specs.Reading.{blocks_read}
