@@ -21,7 +21,7 @@ use Rattle.nvm_model.specs.Blocks.Obstacle.{bad_line}
 use Rattle.nvm_model.proofs.NumberedLemmas.{list_from-is, list_from-append, length-list_from}
 use Rattle.block_device.specs.declared.fault.BlockFault.{BlockFault}
 use Rattle.block_device.specs.Reading.{byte_of, bytes_read, line_read, block_read, map_read}
-use Rattle.block_device.specs.Object.{BlocksState, Serves, IsKept, blocks_of}
+use Rattle.block_device.specs.Object.{BlocksState, BlocksServe, IsKept, blocks_of}
 use Rattle.block_device.specs.Refusals.{Obstructs}
 use Rattle.block_device.specs.Refusals.Refusal.{Unreadable}
 use Rattle.block_device.proofs.AreaLemmas.{unit_within}
@@ -39,7 +39,7 @@ nth-map_read geo bad word states block st found =
 pub unit_of_block : (s : BlocksState) (log : LogArea) (block unit : ℕ) → IsKept s log → IsAt s.map block unit → unit < s.geo.blocks + 64
 unit_of_block s log block unit kept at = omega (arith, kept.is_map.within block unit at, kept.all)
 
-pub unit_lines : (s : BlocksState) (log : LogArea) (m : Medium) (block unit first : ℕ) → IsKept s log → Serves s m → IsAt s.map block unit
+pub unit_lines : (s : BlocksState) (log : LogArea) (m : Medium) (block unit first : ℕ) → IsKept s log → BlocksServe s m → IsAt s.map block unit
     → first ≡ block_line s.geo unit → first + 8 ≤ m.count
 unit_lines s log m block unit first kept serves at is = omega (arith, unit_within s.geo unit (unit_of_block s log block unit kept at), serves.count)
 

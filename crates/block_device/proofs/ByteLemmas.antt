@@ -29,7 +29,7 @@ is_only-newest v (y ∷ ys) only x at = only x at ∙ sym (only (newest (y ∷ y
 pub holds-newest : (m : Medium) (line w : ℕ) (bytes : List ℕ) → IsSound m → HoldsLine m line bytes → w < 8 → last_image m (8 * line + w) ≡ word_at bytes w
 holds-newest m line w bytes sound holds less =
     let on : (8 * line + w) / 8 ≡ line = omega arith in
-    holds.words w less (last_image m (8 * line + w)) (sound.last (8 * line + w) (subst (λ n. IsHealthy m n) (sym on) holds.steadfast.healthy))
+    holds.words w less (last_image m (8 * line + w)) (sound.last (8 * line + w) (subst (λ n. IsHealthy m n) (sym on) holds.good_line.healthy))
 
 -- byte i of a line that holds bytes
 byte_of-holds : (m : Medium) (line i : ℕ) (bytes : List ℕ) → IsSound m → HoldsLine m line bytes → ((k : ℕ) → k < 64 → get_or bytes k 0 < 256) → i < 64 → byte_of (last_image m) (64 * line + i) ≡ get_or bytes i 0
@@ -47,7 +47,7 @@ byte_of-holds m line i bytes sound holds small less =
 pub line_read-holds : (m : Medium) (line n : ℕ) (bytes : List ℕ) → IsSound m → HoldsLine m line (take 64 (drop (64 * n) bytes)) → ((k : ℕ) → get_or bytes k 0 < 256) → line_read m.is_bad (last_image m) line ≡ Some (list_from (λ i. get_or bytes i 0) (64 * n) 64)
 line_read-holds m line n bytes sound holds small =
     let piece : List ℕ = take 64 (drop (64 * n) bytes) in
-    ap (λ b. if b then None else Some (list_from (byte_of (last_image m)) (64 * line) 64)) holds.steadfast.healthy.1
+    ap (λ b. if b then None else Some (list_from (byte_of (last_image m)) (64 * line) 64)) holds.good_line.healthy.1
     ∙ ap Some
     (list_from-shift (byte_of (last_image m)) (λ i. get_or bytes i 0) (64 * line) (64 * n) 64
     (λ k less. byte_of-holds m line k piece sound holds (λ j lt. subst (λ v. v < 256) (sym (inside j lt)) (small (64 * n + j))) less ∙ inside k less))

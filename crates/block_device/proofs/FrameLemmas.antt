@@ -1,10 +1,10 @@
 -- What images read as where the lines of log, map and units keep what they have.
 use Rattle.std.proofs.Common.{◌≡◌, inr, ℕ, Bool, false, ◌/◌, List, length, refl, sym, ◌∙◌, subst}
 use Rattle.line_device.specs.History.{IsIn}
-use Rattle.line_device.specs.Medium.{Medium, Wander, last_image}
-use Rattle.line_device.proofs.HistoryLemmas.{is_in-fades}
-use Rattle.line_words.specs.Words.{IsOnly, WandersOutside, WandersBeside}
-use Rattle.line_words.proofs.FrameLemmas.{outside-wander}
+use Rattle.line_device.specs.Medium.{Medium, WritesBack, last_image}
+use Rattle.line_device.proofs.HistoryLemmas.{is_in-word_write_back}
+use Rattle.line_words.specs.Words.{IsOnly, WritesBackOutside, WritesBackBeside}
+use Rattle.line_words.proofs.FrameLemmas.{outside-write_back}
 use Rattle.word_tables.specs.declared.geometry.Geometry.{Geometry}
 use Rattle.word_tables.specs.Bounds.{IsValid}
 use Rattle.word_tables.specs.Layout.{blocks, HasLine}
@@ -54,24 +54,24 @@ each_reads-kept geo old new P valid keeps each image is =
 keeps-stays : (geo : Geometry) (old new : Medium) → ((n : ℕ) → IsBlockLine geo n → Stays old new n) → Keeps geo old new
 keeps-stays geo old new stays = record {
   bad = λ n of. (stays n of).bad;
-  was = λ p v of _ at. is_in-fades (old.is_weak (p / 8)) v (old.history p) (new.history p) ((stays (p / 8) of).fades p refl) at;
+  was = λ p v of _ at. is_in-word_write_back (old.is_weak (p / 8)) v (old.history p) (new.history p) ((stays (p / 8) of).word_write_back p refl) at;
   durable = λ p has only.
       let x = stays (p / 8) (inr (inr has)) in
       subst (λ v. IsOnly v (new.history p)) (sym (newest-stays old new p x)) (is_only-stays old new p (last_image old p) x only);
 }
 
 -- work on other words
-pub each_reads-outside : (geo : Geometry) (inside : ℕ → Type 0) (old new : Medium) (P : List Block → Type 0) → IsValid geo → ((p : ℕ) → IsBlockPlace geo p → inside p → ⊥) → WandersOutside inside old new → EachReads geo old P → EachReads geo new P
+pub each_reads-outside : (geo : Geometry) (inside : ℕ → Type 0) (old new : Medium) (P : List Block → Type 0) → IsValid geo → ((p : ℕ) → IsBlockPlace geo p → inside p → ⊥) → WritesBackOutside inside old new → EachReads geo old P → EachReads geo new P
 each_reads-outside geo inside old new P valid apart x =
     each_reads-kept geo old new P valid
     (keeps-stays geo old new (λ n of. stays-outside inside old new n x (λ p is. apart p (subst (IsBlockLine geo) (sym is) of))))
 
 -- work on other lines
-pub each_reads-beside : (geo : Geometry) (lines : ℕ → Type 0) (old new : Medium) (P : List Block → Type 0) → IsValid geo → ((n : ℕ) → IsBlockLine geo n → lines n → ⊥) → WandersBeside lines old new → EachReads geo old P → EachReads geo new P
+pub each_reads-beside : (geo : Geometry) (lines : ℕ → Type 0) (old new : Medium) (P : List Block → Type 0) → IsValid geo → ((n : ℕ) → IsBlockLine geo n → lines n → ⊥) → WritesBackBeside lines old new → EachReads geo old P → EachReads geo new P
 each_reads-beside geo lines old new P valid apart x =
     each_reads-kept geo old new P valid (keeps-stays geo old new (λ n of. stays-beside lines old new n x (apart n of)))
 
--- lines that only wander
-pub each_reads-wander : (geo : Geometry) (old new : Medium) (P : List Block → Type 0) → IsValid geo → Wander old new → EachReads geo old P → EachReads geo new P
-each_reads-wander geo old new P valid x =
-    each_reads-outside geo (λ _. ⊥) old new P valid (λ _ _ none. none) (outside-wander (λ _. ⊥) old new x)
+-- lines that are only written back
+pub each_reads-write_back : (geo : Geometry) (old new : Medium) (P : List Block → Type 0) → IsValid geo → WritesBack old new → EachReads geo old P → EachReads geo new P
+each_reads-write_back geo old new P valid x =
+    each_reads-outside geo (λ _. ⊥) old new P valid (λ _ _ none. none) (outside-write_back (λ _. ⊥) old new x)

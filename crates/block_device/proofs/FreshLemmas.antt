@@ -2,7 +2,7 @@
 use Rattle.std.proofs.Common.{Result, Ok, Err, OnOk, ◌≡◌, inl, inr, ℕ, false, IsTrue, ◌+◌, ◌*◌, ◌/◌, ◌<◌, ◌≤◌, List, length, get_or, set, map, take, drop, sym, ◌∙◌, ap, subst, arith, length-set}
 use Rattle.std.proofs.lemmas.List.{map-set, length-map}
 use Rattle.line_device.specs.Medium.{Medium, IsSound, last_image}
-use Rattle.line_words.specs.Words.{HoldsLine, WandersBeside, WandersOutside}
+use Rattle.line_words.specs.Words.{HoldsLine, WritesBackBeside, WritesBackOutside}
 use Rattle.line_words.proofs.BesideLemmas.{beside-trans, beside-wider, beside-outside}
 use Rattle.word_tables.specs.declared.geometry.Geometry.{Geometry}
 use Rattle.word_tables.specs.Bounds.{IsValid}
@@ -17,7 +17,7 @@ use Rattle.free_pool.specs.Units.{IsFree}
 use Rattle.nvm_model.specs.Storage.{Block}
 use Rattle.nvm_model.specs.Blocks.{data_from, write}
 use Rattle.block_device.specs.Area.{block_area, IsBlockLine}
-use Rattle.block_device.specs.Object.{BlocksState, IsKept, IsInStep, Serves, AreDurable, HasGoodMetadata, HasStrongMetadata, blocks_of, map_words}
+use Rattle.block_device.specs.Object.{BlocksState, IsKept, IsInStep, BlocksServe, AreDurable, HasGoodMetadata, HasStrongMetadata, blocks_of, map_words}
 use Rattle.block_device.specs.Reading.{block_read, map_read}
 use Rattle.block_device.specs.Images.{EachReads, IsEither}
 use Rattle.block_device.proofs.ReadLemmas.{map_read-beside, map_read-outside}
@@ -63,11 +63,11 @@ first_of v s t w unit first at same x = at ∙ ap (λ (z : BlocksState). block_l
 -- the unit's lines, made new
 pub record HasRenewed (s t : BlocksState) (unit : ℕ) (m n : Medium) : Type 0 where
   pub taken : HasTaken s t unit
-  pub serves : Serves s m
+  pub serves : BlocksServe s m
   pub good : HasGoodMetadata s.geo m
-  pub lines : WandersBeside (IsUnitLine s.geo unit) m n
+  pub lines : WritesBackBeside (IsUnitLine s.geo unit) m n
 
-pub has_renewed : (s t w : BlocksState) (unit first len : ℕ) (m n : Medium) → HasTaken s t unit → w ≡ t → first ≡ block_line w.geo unit → len ≡ 512 → Serves s m → HasGoodMetadata s.geo m → WandersBeside (λ k. (first ≤ k) × (k < first + len / 64)) m n → HasRenewed s t unit m n
+pub has_renewed : (s t w : BlocksState) (unit first len : ℕ) (m n : Medium) → HasTaken s t unit → w ≡ t → first ≡ block_line w.geo unit → len ≡ 512 → BlocksServe s m → HasGoodMetadata s.geo m → WritesBackBeside (λ k. (first ≤ k) × (k < first + len / 64)) m n → HasRenewed s t unit m n
 has_renewed s t w unit first len m n x same at whole serves good y = record {
   taken = x;
   serves = serves;
@@ -96,12 +96,12 @@ module _ (s t : BlocksState) (unit : ℕ) (x : HasTaken s t unit) where
 
 -- before the map names the unit
 module _ (s t : BlocksState) (unit : ℕ) (m n : Medium) (r : HasRenewed s t unit m n) where
-  serves_new : Serves s n
+  serves_new : BlocksServe s n
   serves_new =
       let x = r.taken in
       serves-beside s (IsUnitLine s.geo unit) m n x.valid (unit_off_area s.geo x.valid unit x.within) (unit_off_named s.geo s.map unit (vacant s t unit x)) r.lines r.serves
 
-  pub serves_taken : Serves t n
+  pub serves_taken : BlocksServe t n
   serves_taken =
       let old = serves_new in
       record {
@@ -128,7 +128,7 @@ module _ (s t : BlocksState) (unit : ℕ) (m n : Medium) (r : HasRenewed s t uni
       each_reads-then s.geo n _ _ (λ bs is. inl (is ∙ old_reads))
       (each_reads-rest s.geo n s.map x.valid old.count (area_whole s.geo x.valid n good_new) x.all x.is_map old.durable old.rest)
 
-  pub outside_stopped : WandersBeside (IsBlockLine s.geo) m n
+  pub outside_stopped : WritesBackBeside (IsBlockLine s.geo) m n
   outside_stopped = beside-wider (IsUnitLine s.geo unit) (IsBlockLine s.geo) m n (unit_is_block s.geo r.taken.valid unit r.taken.within) r.lines
 
 -- the unit has the block's bytes
@@ -164,9 +164,9 @@ module _ (s t : BlocksState) (unit : ℕ) (m n : Medium) (r : HasRenewed s t uni
       ∙ sym (write_one bytes block (blocks_of s m) b.whole (omega (arith, r.taken.all, b.there, length-map s.map (block_read s.geo m.is_bad (last_image m)))))
 
   -- and the log gave it its word
-  module _ (o : Medium) (z : WandersOutside (IsOf (block_area t.geo)) n o) where
-    outside_area : WandersOutside (IsOf (block_area s.geo)) n o
-    outside_area = back s t unit r.taken (λ geo _. WandersOutside (IsOf (block_area geo)) n o) z
+  module _ (o : Medium) (z : WritesBackOutside (IsOf (block_area t.geo)) n o) where
+    outside_area : WritesBackOutside (IsOf (block_area s.geo)) n o
+    outside_area = back s t unit r.taken (λ geo _. WritesBackOutside (IsOf (block_area geo)) n o) z
 
     final_reads : map_read s.geo o.is_bad (last_image o) (set s.map block (At unit)) ≡ write block bytes (blocks_of s m)
     final_reads =
@@ -189,7 +189,7 @@ module _ (s t : BlocksState) (unit : ℕ) (m n : Medium) (r : HasRenewed s t uni
         (λ bs either. elim either as (λ _. IsEither (blocks_of s m) (write block bytes (blocks_of s m)) bs) [ inl old ↦ inl (old ∙ old_reads s t unit m n r) | inr new ↦ inr (new ∙ new_reads) ])
         (back s t unit r.taken (λ geo states. EachReads geo o (IsEither (map_read geo n.is_bad (last_image n) states) (map_read geo n.is_bad (last_image n) (set states block (At unit))))) h)
 
-    pub final_outside : WandersBeside (IsBlockLine s.geo) m o
+    pub final_outside : WritesBackBeside (IsBlockLine s.geo) m o
     final_outside =
         beside-trans (IsBlockLine s.geo) m n o (outside_stopped s t unit m n r)
         (beside-outside (IsOf (block_area s.geo)) (IsBlockLine s.geo) n o (area_is_block s.geo r.taken.valid) outside_area)

@@ -5,7 +5,7 @@ use Rattle.std.proofs.lemmas.Bool.{cases_Bool, le-ltb, ltb-false, or_parts, or_f
 use Rattle.std.proofs.lemmas.Bool.Decides.{nat_tests}
 use Rattle.nvm_base.specs.declared.units.Span.{Span}
 use Rattle.line_device.specs.Medium.{Medium, last_image}
-use Rattle.line_words.specs.Words.{WandersOutside}
+use Rattle.line_words.specs.Words.{WritesBackOutside}
 use Rattle.line_words.proofs.FrameLemmas.{outside-refl, outside-trans}
 use Rattle.word_tables.specs.declared.geometry.Geometry.{Geometry}
 use Rattle.word_tables.specs.Bounds.{IsValid}
@@ -20,7 +20,7 @@ use Rattle.block_map.specs.declared.state.BlockState.TheVariants.{Absent}
 use Rattle.block_map.specs.States.{IsMap}
 use Rattle.block_device.specs.Area.{block_area}
 use Rattle.block_device.specs.Reading.{map_read}
-use Rattle.block_device.specs.Object.{BlocksState, IsKept, Serves, AreDurable, HasGoodMetadata, IsInStep, blocks_of}
+use Rattle.block_device.specs.Object.{BlocksState, IsKept, BlocksServe, AreDurable, HasGoodMetadata, IsInStep, blocks_of}
 use Rattle.block_device.specs.Changes.{changed_map, MayChange}
 use Rattle.block_device.specs.Refusals.{Checks, spans_refusal, meta_refusal}
 use Rattle.block_device.specs.Images.{EachReads, IsEither}
@@ -74,12 +74,12 @@ mixed_part span k blocks few = record {
 pub record IsStarted (s : BlocksState) (m : Medium) (span : Span) : Type 0 where
   pub area : LogArea
   pub kept : IsKept s area
-  pub serves : Serves s m
+  pub serves : BlocksServe s m
   pub settled : IsTrue s.settled
   pub good : HasGoodMetadata s.geo m
   pub within : span.start + span.len ≤ s.geo.blocks
 
-pub started : {T U : Type 0} (view s : BlocksState) (area : LogArea) (m : Medium) (span : Span) (x : T) (y : U) → view ≡ s → IsKept view area → Serves s m → IsTrue s.settled → Checks (spans_refusal view.geo.blocks (span ∷ [])) (Ok x) → Checks (meta_refusal view.geo m) (Ok y) → IsStarted s m span
+pub started : {T U : Type 0} (view s : BlocksState) (area : LogArea) (m : Medium) (span : Span) (x : T) (y : U) → view ≡ s → IsKept view area → BlocksServe s m → IsTrue s.settled → Checks (spans_refusal view.geo.blocks (span ∷ [])) (Ok x) → Checks (meta_refusal view.geo m) (Ok y) → IsStarted s m span
 started view s area m span x y is kept serves settled there meta = record {
   area = area;
   kept = subst (λ t. IsKept t area) is kept;
@@ -98,8 +98,8 @@ pub record IsHinted (s now : BlocksState) (m m' : Medium) (start k : ℕ) : Type
   pub quiet : IsTrue now.quiet
   pub settled : IsTrue now.settled
   pub in_step : IsInStep now.map now.free 0
-  pub serves : Serves now m'
-  pub outside : WandersOutside (IsOf (block_area s.geo)) m m'
+  pub serves : BlocksServe now m'
+  pub outside : WritesBackOutside (IsOf (block_area s.geo)) m m'
 
 module _ (s : BlocksState) (m : Medium) (span : Span) (x : IsStarted s m span) where
   pub hinted_first : (k : ℕ) → k ≡ 0 → IsHinted s s m m span.start k
@@ -151,7 +151,7 @@ module _ (s : BlocksState) (m : Medium) (span : Span) (x : IsStarted s m span) w
         ∙ ap (λ n. changed_map (list_from (change_to Absent) span.start k ++ change_to Absent n ∷ []) s.map) is
         ∙ ap (λ cs. changed_map cs s.map) (sym (list_from-push (change_to Absent) span.start k))
 
-    pub hinted_next : (then_ : BlocksState) (m'' : Medium) (block j : ℕ) → block ≡ span.start + k → j ≡ k + 1 → then_.geo ≡ now.geo → then_.map ≡ changed_map (change_to Absent block ∷ []) now.map → IsTrue then_.quiet → IsTrue then_.settled → IsInStep then_.map then_.free 0 → Serves then_ m'' → WandersOutside (IsOf (block_area now.geo)) m' m'' → IsHinted s then_ m m'' span.start j
+    pub hinted_next : (then_ : BlocksState) (m'' : Medium) (block j : ℕ) → block ≡ span.start + k → j ≡ k + 1 → then_.geo ≡ now.geo → then_.map ≡ changed_map (change_to Absent block ∷ []) now.map → IsTrue then_.quiet → IsTrue then_.settled → IsInStep then_.map then_.free 0 → BlocksServe then_ m'' → WritesBackOutside (IsOf (block_area now.geo)) m' m'' → IsHinted s then_ m m'' span.start j
     hinted_next then_ m'' block j is one geo map quiet settled in_step serves outside = record {
       geo = geo ∙ h.geo;
       map = map ∙ next_map block is ∙ ap (λ n. changed_map (list_from (change_to Absent) span.start n) s.map) (sym one);
@@ -159,12 +159,12 @@ module _ (s : BlocksState) (m : Medium) (span : Span) (x : IsStarted s m span) w
       settled = settled;
       in_step = in_step;
       serves = serves;
-      outside = outside-trans (IsOf (block_area s.geo)) m m' m'' h.outside (subst (λ g. WandersOutside (IsOf (block_area g)) m' m'') h.geo outside);
+      outside = outside-trans (IsOf (block_area s.geo)) m m' m'' h.outside (subst (λ g. WritesBackOutside (IsOf (block_area g)) m' m'') h.geo outside);
     }
 
-    pub hint_outside : (m'' : Medium) → WandersOutside (IsOf (block_area now.geo)) m' m'' → WandersOutside (IsOf (block_area s.geo)) m m''
+    pub hint_outside : (m'' : Medium) → WritesBackOutside (IsOf (block_area now.geo)) m' m'' → WritesBackOutside (IsOf (block_area s.geo)) m m''
     hint_outside m'' outside =
-        outside-trans (IsOf (block_area s.geo)) m m' m'' h.outside (subst (λ g. WandersOutside (IsOf (block_area g)) m' m'') h.geo outside)
+        outside-trans (IsOf (block_area s.geo)) m m' m'' h.outside (subst (λ g. WritesBackOutside (IsOf (block_area g)) m' m'') h.geo outside)
 
     -- wherever the power goes meanwhile, each block is as before or absent
     pub hint_images : (m'' : Medium) (block : ℕ) → block ≡ span.start + k → k < span.len → EachReads now.geo m'' (IsEither (blocks_of now m') (map_read now.geo m'.is_bad (last_image m') (changed_map (change_to Absent block ∷ []) now.map))) → EachReads s.geo m'' (IsMixed (blocks_of s m) (change (span ∷ []) Gone (blocks_of s m)))

@@ -15,7 +15,7 @@ use Rattle.block_map.specs.States.{IsMap, state_of, word_of}
 use Rattle.nvm_model.specs.Numbered.{list_from}
 use Rattle.nvm_model.specs.Storage.{Block}
 use Rattle.block_device.specs.Area.{block_area}
-use Rattle.block_device.specs.Object.{BlocksState, Serves, AreDurable, HasGoodMetadata, blocks_of, map_words}
+use Rattle.block_device.specs.Object.{BlocksState, BlocksServe, AreDurable, HasGoodMetadata, blocks_of, map_words}
 use Rattle.block_device.specs.Reading.{map_read, states_read, blocks_read}
 use Rattle.block_device.specs.Images.{IsBlockImage, Reads, EachReads}
 use Rattle.block_device.proofs.ReadLemmas.{map_read-same}
@@ -80,6 +80,6 @@ each_reads-rest geo m states valid count whole all is_map durable rest image is 
     (images_rest (block_area geo) (map_words geo states) m (area_fits geo valid m count) rest image (image_on_area geo valid m image whole is))
 
 -- so does each image of blocks that are served
-pub served_reads : (s : BlocksState) (m : Medium) → HasGoodMetadata s.geo m → Serves s m → EachReads s.geo m (λ bs. bs ≡ blocks_of s m)
+pub served_reads : (s : BlocksState) (m : Medium) → HasGoodMetadata s.geo m → BlocksServe s m → EachReads s.geo m (λ bs. bs ≡ blocks_of s m)
 served_reads s m good serves =
     each_reads-rest s.geo m s.map serves.valid serves.count (area_whole s.geo serves.valid m good) serves.all serves.is_map serves.durable serves.rest

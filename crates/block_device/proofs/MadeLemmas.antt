@@ -5,7 +5,7 @@ use Rattle.std.proofs.lemmas.Bool.{ne_eqb, or_from}
 use Rattle.std.proofs.lemmas.List.{length-map}
 use Rattle.std.proofs.lemmas.List.Folds.{list_any-append}
 use Rattle.line_device.specs.Medium.{Medium, last_image}
-use Rattle.line_words.specs.Words.{WandersBeside, WandersOutside}
+use Rattle.line_words.specs.Words.{WritesBackBeside, WritesBackOutside}
 use Rattle.line_words.proofs.BesideLemmas.{beside-refl, beside-trans, beside-outside}
 use Rattle.word_log.specs.declared.area.LogArea.{LogArea}
 use Rattle.word_log.specs.Area.{IsOf}
@@ -14,7 +14,7 @@ use Rattle.nvm_model.specs.Storage.{Block}
 use Rattle.nvm_model.proofs.NumberedLemmas.{length-list_from}
 use Rattle.block_device.specs.declared.change.Change.{Change}
 use Rattle.block_device.specs.Area.{block_area, IsBlockLine}
-use Rattle.block_device.specs.Object.{BlocksState, IsKept, Serves, HasGoodMetadata, blocks_of}
+use Rattle.block_device.specs.Object.{BlocksState, IsKept, BlocksServe, HasGoodMetadata, blocks_of}
 use Rattle.block_device.specs.Reading.{map_read}
 use Rattle.block_device.specs.Images.{EachReads, IsEither}
 use Rattle.block_device.specs.Changes.{changed_map, names}
@@ -25,7 +25,7 @@ use Rattle.block_device.proofs.ImageLemmas.{each_reads-then, served_reads}
 use Rattle.block_device.proofs.ChangeLemmas.{is_map-changed, length-changed_map}
 use Rattle.block_device.proofs.SpanLemmas.{list_from-push}
 
-pub before-refl : (s : BlocksState) (m : Medium) → Serves s m → HasGoodMetadata s.geo m → s.settled ≡ false → AreAsBefore s s m m
+pub before-refl : (s : BlocksState) (m : Medium) → BlocksServe s m → HasGoodMetadata s.geo m → s.settled ≡ false → AreAsBefore s s m m
 before-refl s m serves good unsettled = record {
   geo = refl;
   map = refl;
@@ -46,7 +46,7 @@ before-trans s t u l m n x y = record {
   blocks = y.blocks ∙ x.blocks;
   serves = y.serves;
   good = y.good;
-  outside = beside-trans (IsBlockLine s.geo) l m n x.outside (subst (λ g. WandersBeside (IsBlockLine g) m n) x.geo y.outside);
+  outside = beside-trans (IsBlockLine s.geo) l m n x.outside (subst (λ g. WritesBackBeside (IsBlockLine g) m n) x.geo y.outside);
 }
 
 -- a stop leaves the old blocks
@@ -90,7 +90,7 @@ module _ (cs before : List Change) (block k : ℕ) (is : numbers_of cs ≡ numbe
       ∙ ap (λ xs. numbers_of before ++ xs) (sym (list_from-push (λ b. b) block k))
 
 -- prepared changes, made together
-module _ (s t : BlocksState) (m n : Medium) (cs : List Change) (x : AreAsBefore s t m n) (p : ArePrepared t n cs) (new : List Block) (is : blocks_with cs t n ≡ new) (o : Medium) (z : WandersOutside (IsOf (block_area t.geo)) n o) where
+module _ (s t : BlocksState) (m n : Medium) (cs : List Change) (x : AreAsBefore s t m n) (p : ArePrepared t n cs) (new : List Block) (is : blocks_with cs t n ≡ new) (o : Medium) (z : WritesBackOutside (IsOf (block_area t.geo)) n o) where
   pub made_ok : {E : Type 0} (result : Result (Unit {0}) E) (u : BlocksState) → u.geo ≡ t.geo → OnOk result (u.map ≡ changed_map cs t.map) → OnOk result (blocks_of u o ≡ new)
   made_ok (Ok done) u geo map =
       let states = changed_map cs t.map in
@@ -106,19 +106,19 @@ module _ (s t : BlocksState) (m n : Medium) (cs : List Change) (x : AreAsBefore 
       subst (λ g. EachReads g o (IsEither (blocks_of s m) new)) x.geo
       (subst (λ bs. EachReads t.geo o (IsEither bs new)) x.blocks (subst (λ bs. EachReads t.geo o (IsEither (blocks_of t n) bs)) is each))
 
-  pub made_outside : WandersBeside (IsBlockLine s.geo) m o
+  pub made_outside : WritesBackBeside (IsBlockLine s.geo) m o
   made_outside =
       beside-trans (IsBlockLine s.geo) m n o x.outside
-      (subst (λ g. WandersBeside (IsBlockLine g) n o) x.geo (beside-outside (IsOf (block_area t.geo)) (IsBlockLine t.geo) n o (area_is_block t.geo x.serves.valid) z))
+      (subst (λ g. WritesBackBeside (IsBlockLine g) n o) x.geo (beside-outside (IsOf (block_area t.geo)) (IsBlockLine t.geo) n o (area_is_block t.geo x.serves.valid) z))
 
 -- blocks that are settled, before the first change is prepared
-pub none_prepared : (v s : BlocksState) (area : LogArea) (m : Medium) (cs : List Change) → v ≡ s → IsKept v area → Serves s m → IsTrue s.settled → cs ≡ [] → ArePrepared (record v { settled = false }) m cs
+pub none_prepared : (v s : BlocksState) (area : LogArea) (m : Medium) (cs : List Change) → v ≡ s → IsKept v area → BlocksServe s m → IsTrue s.settled → cs ≡ [] → ArePrepared (record v { settled = false }) m cs
 none_prepared v s area m cs same kept serves settled none =
     subst (ArePrepared (record v { settled = false }) m) (sym none) (record {
       may = tt;
       taken = tt;
       in_step = kept.in_step (subst (λ (z : BlocksState). IsTrue z.settled) (sym same) settled);
-      durable = (subst (λ z. Serves z m) (sym same) serves).durable;
+      durable = (subst (λ z. BlocksServe z m) (sym same) serves).durable;
     })
 
 pub none_with : (v s : BlocksState) (m : Medium) (cs : List Change) → v ≡ s → cs ≡ [] → blocks_with cs (record v { settled = false }) m ≡ blocks_of s m

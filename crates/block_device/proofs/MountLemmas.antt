@@ -1,10 +1,10 @@
 -- What a mount finds of the map, and keeps.
 use Rattle.std.proofs.Common.{◌≡◌, ◌+◌, ◌/◌, ℕ, zero, suc, List, [], ◌∷◌, ◌*◌, ◌≤◌, subst, map, refl, sym, ap, ap₂, ◌∙◌, arith}
-use Rattle.line_device.specs.Medium.{Medium, Wander, IsSound, last_image}
+use Rattle.line_device.specs.Medium.{Medium, WritesBack, IsSound, last_image}
 use Rattle.line_device.specs.Panel.{Panel, Outcome, Runs}
 use Rattle.line_device.specs.Panel.Outcome.{went}
 use Rattle.line_device.proofs.PanelLemmas.{runs_then, runs_within}
-use Rattle.line_device.proofs.HistoryLemmas.{is_in-fades}
+use Rattle.line_device.proofs.HistoryLemmas.{is_in-word_write_back}
 use Rattle.word_tables.specs.declared.geometry.Geometry.{Geometry}
 use Rattle.word_tables.specs.Layout.{size}
 use Rattle.word_tables.specs.Words.{place, of_block}
@@ -21,10 +21,10 @@ use Rattle.nvm_model.proofs.NumberedLemmas.{list_from-same}
 use Rattle.block_device.specs.Area.{block_area}
 use Rattle.block_device.specs.Reading.{states_read}
 
--- images of lines that wandered since were images before
-pub reached-wander : (a : LogArea) (old now new : Medium) → EachImage a now (IsReached a old) → Wander now new → EachImage a new (IsReached a old)
-reached-wander a old now new reached x image is =
-    reached image (λ p of. is_in-fades (now.is_weak (p / 8)) (image p) (now.history p) (new.history p) (x.fades p) (is p of))
+-- images of lines that were written back since were images before
+pub reached-write_back : (a : LogArea) (old now new : Medium) → EachImage a now (IsReached a old) → WritesBack now new → EachImage a new (IsReached a old)
+reached-write_back a old now new reached x image is =
+    reached image (λ p of. is_in-word_write_back (now.is_weak (p / 8)) (image p) (now.history p) (new.history p) (x.word_write_back p) (is p of))
 
 -- states and their words
 word_back : (word : ℕ) → word_of (state_of word) ≡ word

@@ -2,10 +2,10 @@
 use Rattle.std.proofs.Common.{◌≡◌, ℕ, zero, suc, ◌+◌, ◌-◌, ◌*◌, ◌/◌, ◌<◌, List, [], ◌∷◌, length, get_or, map, Some, None, Result, Ok, Err, refl, sym, ◌∙◌, ap, ap₂, subst, arith}
 use Rattle.std.specs.Option.{option_map}
 use Rattle.std.specs.Result.{IsErrAnd}
-use Rattle.line_device.specs.Medium.{Medium, Wander, IsSound, last_image}
-use Rattle.line_device.proofs.HistoryLemmas.{is_in-fades}
-use Rattle.line_words.specs.Words.{IsOnly, WandersOutside}
-use Rattle.line_words.proofs.FrameLemmas.{outside-trans, outside-wander}
+use Rattle.line_device.specs.Medium.{Medium, WritesBack, IsSound, last_image}
+use Rattle.line_device.proofs.HistoryLemmas.{is_in-word_write_back}
+use Rattle.line_words.specs.Words.{IsOnly, WritesBackOutside}
+use Rattle.line_words.proofs.FrameLemmas.{outside-trans, outside-write_back}
 use Rattle.word_tables.specs.declared.geometry.Geometry.{Geometry}
 use Rattle.word_tables.specs.Bounds.{IsValid}
 use Rattle.std.proofs.lemmas.List.{length-map}
@@ -16,7 +16,7 @@ use Rattle.word_log.specs.Area.{IsOf, IsHome, IsWhole, Fits}
 use Rattle.word_log.specs.Replay.{first_wrong, replayed}
 use Rattle.word_log.specs.Rest.{IsAtRest, EachImage}
 use Rattle.word_log.proofs.FrameLemmas.{whole-outside}
-use Rattle.word_log.proofs.PhaseLemmas.{rest-wander}
+use Rattle.word_log.proofs.PhaseLemmas.{rest-write_back}
 use Rattle.word_log.proofs.RestLemmas.{rest-last_image}
 use Rattle.block_map.specs.declared.state.BlockState.{BlockState}
 use Rattle.block_map.specs.declared.state.BlockState.TheVariants.{Absent}
@@ -26,7 +26,7 @@ use Rattle.block_map.proofs.MapLemmas.{word_of-state_of, is_map as map_right_wor
 use Rattle.nvm_model.specs.Numbered.{list_from}
 use Rattle.nvm_model.specs.Blocks.{first_there}
 use Rattle.block_device.specs.Area.{block_area}
-use Rattle.block_device.specs.Object.{BlocksState, Serves, AreDurable, HasStrongMetadata, map_words}
+use Rattle.block_device.specs.Object.{BlocksState, BlocksServe, AreDurable, HasStrongMetadata, map_words}
 use Rattle.block_device.specs.Reading.{map_read, states_read, blocks_read}
 use Rattle.block_device.specs.Mounting.{wrong_place, Finds, IsStop, IsTableCause, mount_outcome}
 use Rattle.block_device.specs.declared.fault.MountFault.{MountFault}
@@ -46,9 +46,9 @@ use Rattle.block_device.proofs.PositionLemmas.{get_or-list_from}
 use Rattle.block_device.proofs.ImageLemmas.{state_of-word_of, map_words-at}
 use Rattle.block_device.proofs.FrameLemmas.{length-states_read}
 
--- lines that wander have fewer images
-pub each_image-wander : (a : LogArea) (old new : Medium) (P : (ℕ → ℕ) → Type 0) → Wander old new → EachImage a old P → EachImage a new P
-each_image-wander a old new P x each image is = each image (λ p of. is_in-fades (old.is_weak (p / 8)) (image p) (old.history p) (new.history p) (x.fades p) (is p of))
+-- lines that are written back have fewer images
+pub each_image-write_back : (a : LogArea) (old new : Medium) (P : (ℕ → ℕ) → Type 0) → WritesBack old new → EachImage a old P → EachImage a new P
+each_image-write_back a old new P x each image is = each image (λ p of. is_in-word_write_back (old.is_weak (p / 8)) (image p) (old.history p) (new.history p) (x.word_write_back p) (is p of))
 
 -- a map is known by its words
 map_back : (states : List BlockState) → map state_of (map word_of states) ≡ states
@@ -77,7 +77,7 @@ state_at geo old b below =
     let at : 0 + b ≡ b = omega arith in
     ap word_of (get_or-list_from (λ k. state_of (after geo old k)) 0 geo.blocks b Absent below) ∙ word_of-state_of (after geo old (0 + b)) ∙ ap (after geo old) at
 
-module _ (geo : Geometry) (valid : IsValid geo) (old mid : Medium) (count : old.count ≡ total_lines geo) (whole : IsWhole (block_area geo) old) (x : WandersOutside (IsOf (block_area geo)) old mid) (rest : IsAtRest (block_area geo) mid (replayed (block_area geo) (last_image old))) where
+module _ (geo : Geometry) (valid : IsValid geo) (old mid : Medium) (count : old.count ≡ total_lines geo) (whole : IsWhole (block_area geo) old) (x : WritesBackOutside (IsOf (block_area geo)) old mid) (rest : IsAtRest (block_area geo) mid (replayed (block_area geo) (last_image old))) where
   -- the words of the map after the log's mount
   pub mounted_words : (words : List ℕ) → IsSound mid → words ≡ list_from (λ b. last_image mid (place geo (of_block b))) 0 geo.blocks → words ≡ map word_of (states_read geo (last_image old))
   unfolding after
@@ -103,9 +103,9 @@ module _ (geo : Geometry) (valid : IsValid geo) (old mid : Medium) (count : old.
       ∙ ap (replayed (block_area geo) (last_image old)) at)
 
   -- and the loads of its words
-  module _ (new : Medium) (y : Wander mid new) (states : List BlockState) (is : states ≡ states_read geo (last_image old)) (is_map : IsMap states) where
-    pub mounted_outside : WandersOutside (IsOf (block_area geo)) old new
-    mounted_outside = outside-trans (IsOf (block_area geo)) old mid new x (outside-wander (IsOf (block_area geo)) mid new y)
+  module _ (new : Medium) (y : WritesBack mid new) (states : List BlockState) (is : states ≡ states_read geo (last_image old)) (is_map : IsMap states) where
+    pub mounted_outside : WritesBackOutside (IsOf (block_area geo)) old new
+    mounted_outside = outside-trans (IsOf (block_area geo)) old mid new x (outside-write_back (IsOf (block_area geo)) mid new y)
 
     all : length states ≡ geo.blocks
     all = ap length is ∙ length-states_read geo (last_image old)
@@ -119,11 +119,11 @@ module _ (geo : Geometry) (valid : IsValid geo) (old mid : Medium) (count : old.
     mounted_reads = map_read-outside geo states old new (IsOf (block_area geo)) mounted_outside apart ∙ ap (map_read geo old.is_bad (last_image old)) is
 
     -- what the map names is durable, if it was before
-    pub mounted_serves : (s : BlocksState) → s.geo ≡ geo → s.map ≡ states → HasStrongMetadata geo old → AreDurable geo old (states_read geo (last_image old)) → Serves s new
+    pub mounted_serves : (s : BlocksState) → s.geo ≡ geo → s.map ≡ states → HasStrongMetadata geo old → AreDurable geo old (states_read geo (last_image old)) → BlocksServe s new
     mounted_serves s geo_is map_is strong durable =
         let z = mounted_outside in
-        let at = rest-wander (block_area geo) (replayed (block_area geo) (last_image old)) mid new rest y in
-        let serves : Serves (record s { geo = geo; map = states }) new =
+        let at = rest-write_back (block_area geo) (replayed (block_area geo) (last_image old)) mid new rest y in
+        let serves : BlocksServe (record s { geo = geo; map = states }) new =
         record {
           valid = valid;
           all = all;
@@ -133,7 +133,7 @@ module _ (geo : Geometry) (valid : IsValid geo) (old mid : Medium) (count : old.
           rest = record { gate = at.gate; home = λ p in_home. subst (λ v. IsOnly v (new.history p)) (home_word states is p in_home) (at.home p in_home) };
           durable = durable-outside geo states old new (IsOf (block_area geo)) z apart (subst (AreDurable geo old) (sym is) durable);
         } in
-        subst (λ g. Serves (record s { geo = g }) new) (sym geo_is) (subst (λ ss. Serves (record s { geo = geo; map = ss }) new) (sym map_is)
+        subst (λ g. BlocksServe (record s { geo = g }) new) (sym geo_is) (subst (λ ss. BlocksServe (record s { geo = geo; map = ss }) new) (sym map_is)
         (record { valid = serves.valid; all = serves.all; is_map = serves.is_map; count = serves.count; strong = serves.strong; rest = serves.rest; durable = serves.durable }))
 
 -- what is wrong with the map

@@ -7,10 +7,10 @@ use Rattle.line_device.specs.Cells.{first_and_last, has_words}
 use Rattle.line_device.specs.Plain.{device_of}
 use Rattle.line_device.specs.declared.plain.cells.Mark.{Mark}
 use Rattle.line_device.specs.declared.plain.Plain.{Plain}
-use Rattle.line_device.specs.History.{IsIn, Fades}
-use Rattle.line_device.specs.Medium.{Medium, IsSound, Survivors, Wander, last_image}
+use Rattle.line_device.specs.History.{IsIn, WordWritesBack}
+use Rattle.line_device.specs.Medium.{Medium, IsSound, Survivors, WritesBack, last_image}
 use Rattle.line_device.specs.declared.line.Choice.{Choice}
-use Rattle.line_device.proofs.HistoryLemmas.{fades-none, is_in-one}
+use Rattle.line_device.proofs.HistoryLemmas.{word_write_back-none, is_in-one}
 use Rattle.line_words.specs.Words.{IsOnly}
 use Rattle.word_tables.specs.declared.geometry.Geometry.{Geometry}
 use Rattle.block_map.specs.declared.state.BlockState.{BlockState}
@@ -22,7 +22,7 @@ one_is_only : (h : List ℕ) (v : ℕ) → h ≡ v ∷ [] → IsOnly v h
 one_is_only h v one x at = is_in-one x v (subst (IsIn x) one at)
 
 -- each word has one value, or none
-one_value : (choice : Choice) (old off new : Medium) → IsSound new → Wander old off → ((p : ℕ) → old.count ≤ p / 8 → old.history p ≡ []) → Survivors choice off new → (p : ℕ) → IsOnly (last_image new p) (new.history p)
+one_value : (choice : Choice) (old off new : Medium) → IsSound new → WritesBack old off → ((p : ℕ) → old.count ≤ p / 8 → old.history p ≡ []) → Survivors choice off new → (p : ℕ) → IsOnly (last_image new p) (new.history p)
 one_value choice old off new sound before end x p =
     elim (cases_lt (p / 8) new.count) as (λ _. IsOnly (last_image new p) (new.history p)) [
       | inl on ↦
@@ -33,11 +33,11 @@ one_value choice old off new sound before end x p =
                 is_only-newest word.0 (new.history p) (one_is_only (new.history p) word.0 word.1.one)
           ]
       | inr past ↦
-          let none : off.history p ≡ [] = fades-none (old.is_weak (p / 8)) (off.history p) (subst (λ h. Fades (old.is_weak (p / 8)) h (off.history p)) (end p (omega (arith, x.count, before.count, past))) (before.fades p)) in
+          let none : off.history p ≡ [] = word_write_back-none (old.is_weak (p / 8)) (off.history p) (subst (λ h. WordWritesBack (old.is_weak (p / 8)) h (off.history p)) (end p (omega (arith, x.count, before.count, past))) (before.word_write_back p)) in
           is_only-none (last_image new p) (new.history p) (x.lost p none)
     ]
 
-pub names_durable : (geo : Geometry) (choice : Choice) (old off new : Medium) → IsSound new → Wander old off → ((p : ℕ) → old.count ≤ p / 8 → old.history p ≡ []) → Survivors choice off new → (states : List BlockState) → AreDurable geo new states
+pub names_durable : (geo : Geometry) (choice : Choice) (old off new : Medium) → IsSound new → WritesBack old off → ((p : ℕ) → old.count ≤ p / 8 → old.history p ≡ []) → Survivors choice off new → (states : List BlockState) → AreDurable geo new states
 names_durable geo choice old off new sound before end x states block unit at p from to = one_value choice old off new sound before end x p
 
 -- a plain device has no words past its end

@@ -4,7 +4,7 @@ use Rattle.std.proofs.lemmas.Bool.{ne_eqb, or_from}
 use Rattle.std.proofs.lemmas.List.{map-set, length-map}
 use Rattle.std.proofs.lemmas.List.Sums.{sum_by-append}
 use Rattle.line_device.specs.Medium.{Medium, IsSound, last_image}
-use Rattle.line_words.specs.Words.{HoldsLine, WandersBeside}
+use Rattle.line_words.specs.Words.{HoldsLine, WritesBackBeside}
 use Rattle.line_words.proofs.BesideLemmas.{beside-wider}
 use Rattle.word_tables.specs.Layout.{block_line}
 use Rattle.block_map.specs.declared.state.BlockState.{BlockState}
@@ -15,7 +15,7 @@ use Rattle.nvm_model.specs.Storage.{Block}
 use Rattle.nvm_model.specs.Blocks.{data_from, write}
 use Rattle.block_device.specs.declared.change.Change.{Change}
 use Rattle.block_device.specs.Area.{IsBlockLine}
-use Rattle.block_device.specs.Object.{BlocksState, IsInStep, Serves, AreDurable, HasGoodMetadata, is_at}
+use Rattle.block_device.specs.Object.{BlocksState, IsInStep, BlocksServe, AreDurable, HasGoodMetadata, is_at}
 use Rattle.block_device.specs.Reading.{block_read, map_read}
 use Rattle.block_device.specs.Changes.{MayChange, AreTaken, changed_map, is_on, names, takes, units_named}
 use Rattle.block_device.specs.Prepared.{ArePrepared, AreAsBefore, blocks_with}
@@ -72,13 +72,13 @@ changed_taken free (c ∷ cs) states may taken named =
 
 -- a free unit beside prepared changes, its lines made new
 pub record HasSpare (s : BlocksState) (m n : Medium) (cs : List Change) (unit : ℕ) : Type 0 where
-  pub serves : Serves s m
+  pub serves : BlocksServe s m
   pub good : HasGoodMetadata s.geo m
   pub unsettled : s.settled ≡ false
   pub prepared : ArePrepared s m cs
   pub within : unit < s.geo.blocks + 64
   pub was_free : IsFree s.free unit
-  pub lines : WandersBeside (IsUnitLine s.geo unit) m n
+  pub lines : WritesBackBeside (IsUnitLine s.geo unit) m n
 
 -- the object once the unit is taken
 abbrev pub without : BlocksState → ℕ → BlocksState
@@ -92,7 +92,7 @@ module _ (s : BlocksState) (m n : Medium) (cs : List Change) (unit : ℕ) (x : H
   vacant_then block at =
       free_not_taken s.free unit unit x.was_free (changed_taken s.free cs s.map x.prepared.may x.prepared.taken x.prepared.in_step.taken block unit at) refl
 
-  serves_then : Serves s n
+  serves_then : BlocksServe s n
   serves_then =
       serves-beside s (IsUnitLine s.geo unit) m n x.serves.valid (unit_off_area s.geo x.serves.valid unit x.within) (unit_off_named s.geo s.map unit vacant) x.lines x.serves
 
@@ -143,7 +143,7 @@ module _ (s : BlocksState) (m n : Medium) (cs : List Change) (unit : ℕ) (x : H
 pub unit_at : (v s : BlocksState) (unit first : ℕ) → v ≡ s → first ≡ block_line v.geo unit → first ≡ block_line s.geo unit
 unit_at v s unit first same at = at ∙ ap (λ (z : BlocksState). block_line z.geo unit) same
 
-pub has_spare : (v s : BlocksState) (m n : Medium) (cs : List Change) (unit first len : ℕ) → v ≡ s → Serves s m → HasGoodMetadata s.geo m → s.settled ≡ false → ArePrepared s m cs → unit < s.geo.blocks + 64 → IsFree s.free unit → first ≡ block_line v.geo unit → len ≡ 512 → WandersBeside (λ k. (first ≤ k) × (k < first + len / 64)) m n → HasSpare s m n cs unit
+pub has_spare : (v s : BlocksState) (m n : Medium) (cs : List Change) (unit first len : ℕ) → v ≡ s → BlocksServe s m → HasGoodMetadata s.geo m → s.settled ≡ false → ArePrepared s m cs → unit < s.geo.blocks + 64 → IsFree s.free unit → first ≡ block_line v.geo unit → len ≡ 512 → WritesBackBeside (λ k. (first ≤ k) × (k < first + len / 64)) m n → HasSpare s m n cs unit
 has_spare v s m n cs unit first len same serves good unsettled prepared within was_free at whole lines = record {
   serves = serves;
   good = good;

@@ -1,11 +1,11 @@
--- What images of the blocks read as stays, where lines wander and where a mount replays the log.
+-- What images of the blocks read as stays, where lines write_back and where a mount replays the log.
 use Rattle.std.proofs.Common.{◌≡◌, ◌⊎◌, inl, inr, ℕ, Bool, ◌/◌, ◌<◌, ◌≤◌, List, None, map, if◌then◌else◌, nat_lt, refl, sym, ◌∙◌, ap, subst, arith}
 use Rattle.std.specs.Option.{option_map}
 use Rattle.std.proofs.lemmas.Bool.{lt-ltb, le-ltb}
 use Rattle.line_device.specs.History.{IsIn}
-use Rattle.line_device.specs.Medium.{Medium, Wander}
-use Rattle.line_device.proofs.HistoryLemmas.{is_in-fades}
-use Rattle.line_words.specs.Words.{WandersOutside}
+use Rattle.line_device.specs.Medium.{Medium, WritesBack}
+use Rattle.line_device.proofs.HistoryLemmas.{is_in-word_write_back}
+use Rattle.line_words.specs.Words.{WritesBackOutside}
 use Rattle.line_words.proofs.FrameLemmas.{is_in-outside}
 use Rattle.word_tables.specs.declared.geometry.Geometry.{Geometry}
 use Rattle.word_tables.specs.Bounds.{IsValid}
@@ -27,7 +27,7 @@ use Rattle.block_device.specs.Object.{AreDurable}
 use Rattle.block_device.specs.Reading.{map_read, states_read, blocks_read}
 use Rattle.block_device.specs.Images.{IsBlockImage, Reads, EachReads, KeepsReads}
 use Rattle.block_device.specs.Mounting.{wrong_place}
-use Rattle.block_device.proofs.ReadLemmas.{IsNamed, list_from-cong, map_read-same, durable-outside, durable-wander}
+use Rattle.block_device.proofs.ReadLemmas.{IsNamed, list_from-cong, map_read-same, durable-outside, durable-write_back}
 use Rattle.block_device.proofs.PlaceLemmas.{area_in_metadata, block_is_home, data_behind_metadata, image_on_area, named_apart, named_is_data}
 use Rattle.block_device.proofs.AreaLemmas.{area_shaped}
 use Rattle.block_device.proofs.FrameLemmas.{length-states_read}
@@ -60,24 +60,24 @@ keeps_reads-trans geo a b c x y image is =
           (second.reads (reads-then geo b (λ bs. bs ≡ blocks_read geo a.is_bad first.before) (λ _. Unit {0}) second.before (λ _ _. tt) now));
     }
 
--- lines that only wander have fewer images
-pub keeps_reads-wander : (geo : Geometry) (old new : Medium) → Wander old new → KeepsReads geo old new
-keeps_reads-wander geo old new x image is =
+-- lines that are only written back have fewer images
+pub keeps_reads-write_back : (geo : Geometry) (old new : Medium) → WritesBack old new → KeepsReads geo old new
+keeps_reads-write_back geo old new x image is =
     let marks : new.is_bad ≡ old.is_bad = λ i n. x.bad n i in
     record {
       before = image;
-      was = λ p place good. is_in-fades (old.is_weak (p / 8)) (image p) (old.history p) (new.history p) (x.fades p) (is p place (x.bad (p / 8) ∙ good));
+      was = λ p place good. is_in-word_write_back (old.is_weak (p / 8)) (image p) (old.history p) (new.history p) (x.word_write_back p) (is p place (x.bad (p / 8) ∙ good));
       reads = λ r.
           record {
             log = r.log;
             map = r.map;
-            durable = durable-wander geo (states_read geo image) old new x r.durable;
+            durable = durable-write_back geo (states_read geo image) old new x r.durable;
             blocks = ap (λ (bad : ℕ → Bool). blocks_read geo bad image) marks;
           };
     }
 
-pub each_reads-wander : (geo : Geometry) (old new : Medium) (P : List Block → Type 0) → Wander old new → EachReads geo old P → EachReads geo new P
-each_reads-wander geo old new P x = each_reads-kept geo old new P (keeps_reads-wander geo old new x)
+pub each_reads-write_back : (geo : Geometry) (old new : Medium) (P : List Block → Type 0) → WritesBack old new → EachReads geo old P → EachReads geo new P
+each_reads-write_back geo old new P x = each_reads-kept geo old new P (keeps_reads-write_back geo old new x)
 
 -- the map goes by what the log replays to
 pub states_read-replays : (geo : Geometry) (image other : ℕ → ℕ) → IsValid geo → Replays (block_area geo) image (replayed (block_area geo) other) → states_read geo image ≡ states_read geo other
@@ -110,7 +110,7 @@ block_place geo p valid is =
       ]
     ]
 
-module _ (geo : Geometry) (old new : Medium) (valid : IsValid geo) (x : WandersOutside (IsOf (block_area geo)) old new) (image before : ℕ → ℕ) where
+module _ (geo : Geometry) (old new : Medium) (valid : IsValid geo) (x : WritesBackOutside (IsOf (block_area geo)) old new) (image before : ℕ → ℕ) where
   -- an image before the mount, of what one after it came from
   joined_image : ((p : ℕ) → IsOf (block_area geo) p → IsIn (before p) (old.history p)) → IsBlockImage geo new image → IsBlockImage geo old (joined geo before image)
   joined_image was is p place good =
@@ -141,7 +141,7 @@ module _ (geo : Geometry) (old new : Medium) (valid : IsValid geo) (x : WandersO
       }
 
 -- A mount keeps what images read as.
-pub keeps_reads-reached : (geo : Geometry) (old new : Medium) → IsValid geo → WandersOutside (IsOf (block_area geo)) old new → EachImage (block_area geo) new (IsReached (block_area geo) old) → IsWhole (block_area geo) old → KeepsReads geo old new
+pub keeps_reads-reached : (geo : Geometry) (old new : Medium) → IsValid geo → WritesBackOutside (IsOf (block_area geo)) old new → EachImage (block_area geo) new (IsReached (block_area geo) old) → IsWhole (block_area geo) old → KeepsReads geo old new
 keeps_reads-reached geo old new valid x images whole image is =
     let area = block_area geo in
     let reached = images image (image_on_area geo valid new image (whole-outside area (IsOf area) old new whole x) is) in
@@ -156,5 +156,5 @@ keeps_reads-reached geo old new valid x images whole image is =
           joined_reads geo old new valid x image reached.before (replays-reached area old image (replayed area j) (area_shaped geo valid) reached was) r;
     }
 
-pub reads_reached : (geo : Geometry) (old new : Medium) → IsValid geo → WandersOutside (IsOf (block_area geo)) old new → IsWhole (block_area geo) old → EachImage (block_area geo) new (IsReached (block_area geo) old) → (P : List Block → Type 0) → EachReads geo old P → EachReads geo new P
+pub reads_reached : (geo : Geometry) (old new : Medium) → IsValid geo → WritesBackOutside (IsOf (block_area geo)) old new → IsWhole (block_area geo) old → EachImage (block_area geo) new (IsReached (block_area geo) old) → (P : List Block → Type 0) → EachReads geo old P → EachReads geo new P
 reads_reached geo old new valid x whole images P = each_reads-kept geo old new P (keeps_reads-reached geo old new valid x images whole)

@@ -1,10 +1,10 @@
--- What a map reads as, on lines that stay or only fade.
+-- What a map reads as, on lines that stay or are only written back.
 use Rattle.std.proofs.Common.{◌≡◌, ℕ, zero, suc, Bool, true, false, ◌+◌, ◌*◌, ◌/◌, ◌%◌, ◌<◌, ◌≤◌, List, [], ◌∷◌, Some, None, if◌then◌else◌, refl, sym, ◌∙◌, ap, ap₂, subst, arith}
 use Rattle.std.specs.Int.{byte_at}
-use Rattle.line_device.specs.History.{Fades}
-use Rattle.line_device.specs.Medium.{Medium, Wander, last_image}
-use Rattle.line_device.proofs.HistoryLemmas.{newest-fades, is_in-fades}
-use Rattle.line_words.specs.Words.{IsOnly, WandersOutside, WandersBeside}
+use Rattle.line_device.specs.History.{WordWritesBack}
+use Rattle.line_device.specs.Medium.{Medium, WritesBack, last_image}
+use Rattle.line_device.proofs.HistoryLemmas.{newest-word_write_back, is_in-word_write_back}
+use Rattle.line_words.specs.Words.{IsOnly, WritesBackOutside, WritesBackBeside}
 use Rattle.word_tables.specs.declared.geometry.Geometry.{Geometry}
 use Rattle.word_tables.specs.Layout.{block_line}
 use Rattle.block_map.specs.declared.state.BlockState.{BlockState}
@@ -59,28 +59,28 @@ map_read-same geo bad bad' word word' (s ∷ ss) marks same =
     later : (n : ℕ) → IsNamed geo ss n → IsNamed geo (s ∷ ss) n
     later n named = record { block = suc named.block; unit = named.unit; at = named.at; from = named.from; to = named.to }
 
--- the mark of a line stays, and its words only fade
+-- the mark of a line stays, and its words are only written back
 pub record Stays (old new : Medium) (n : ℕ) : Type 0 where
   pub bad : new.is_bad n ≡ old.is_bad n
-  pub fades : (p : ℕ) → p / 8 ≡ n → Fades (old.is_weak n) (old.history p) (new.history p)
+  pub word_write_back : (p : ℕ) → p / 8 ≡ n → WordWritesBack (old.is_weak n) (old.history p) (new.history p)
 
-pub stays-beside : (inside : ℕ → Type 0) (old new : Medium) (n : ℕ) → WandersBeside inside old new → (inside n → ⊥) → Stays old new n
+pub stays-beside : (inside : ℕ → Type 0) (old new : Medium) (n : ℕ) → WritesBackBeside inside old new → (inside n → ⊥) → Stays old new n
 stays-beside inside old new n x out = record {
   bad = x.bad n out;
-  fades = λ p is. subst (λ k. Fades (old.is_weak k) (old.history p) (new.history p)) is (x.fades p (λ h. out (subst inside is h)));
+  word_write_back = λ p is. subst (λ k. WordWritesBack (old.is_weak k) (old.history p) (new.history p)) is (x.word_write_back p (λ h. out (subst inside is h)));
 }
 
-pub stays-outside : (inside : ℕ → Type 0) (old new : Medium) (n : ℕ) → WandersOutside inside old new → ((p : ℕ) → p / 8 ≡ n → inside p → ⊥) → Stays old new n
+pub stays-outside : (inside : ℕ → Type 0) (old new : Medium) (n : ℕ) → WritesBackOutside inside old new → ((p : ℕ) → p / 8 ≡ n → inside p → ⊥) → Stays old new n
 stays-outside inside old new n x out = record {
   bad = x.bad n;
-  fades = λ p is. subst (λ k. Fades (old.is_weak k) (old.history p) (new.history p)) is (x.fades p (out p is));
+  word_write_back = λ p is. subst (λ k. WordWritesBack (old.is_weak k) (old.history p) (new.history p)) is (x.word_write_back p (out p is));
 }
 
 pub newest-stays : (old new : Medium) (p : ℕ) → Stays old new (p / 8) → last_image new p ≡ last_image old p
-newest-stays old new p x = newest-fades (old.is_weak (p / 8)) (old.history p) (new.history p) (x.fades p refl)
+newest-stays old new p x = newest-word_write_back (old.is_weak (p / 8)) (old.history p) (new.history p) (x.word_write_back p refl)
 
 pub is_only-stays : (old new : Medium) (p v : ℕ) → Stays old new (p / 8) → IsOnly v (old.history p) → IsOnly v (new.history p)
-is_only-stays old new p v x only w at = only w (is_in-fades (old.is_weak (p / 8)) w (old.history p) (new.history p) (x.fades p refl) at)
+is_only-stays old new p v x only w at = only w (is_in-word_write_back (old.is_weak (p / 8)) w (old.history p) (new.history p) (x.word_write_back p refl) at)
 
 module _ (geo : Geometry) (states : List BlockState) (old new : Medium) where
   -- where the lines of the units that a map names stay, so do its blocks
@@ -97,25 +97,25 @@ module _ (geo : Geometry) (states : List BlockState) (old new : Medium) where
       subst (λ v. IsOnly v (new.history p)) (sym (newest-stays old new p x)) (is_only-stays old new p (last_image old p) x (durable block unit at p from to))
 
   -- work on other lines
-  pub map_read-beside : (inside : ℕ → Type 0) → WandersBeside inside old new → ((n : ℕ) → IsNamed geo states n → inside n → ⊥) → map_read geo new.is_bad (last_image new) states ≡ map_read geo old.is_bad (last_image old) states
+  pub map_read-beside : (inside : ℕ → Type 0) → WritesBackBeside inside old new → ((n : ℕ) → IsNamed geo states n → inside n → ⊥) → map_read geo new.is_bad (last_image new) states ≡ map_read geo old.is_bad (last_image old) states
   map_read-beside inside x apart = map_read-stays (λ n named. stays-beside inside old new n x (apart n named))
 
-  pub durable-beside : (inside : ℕ → Type 0) → WandersBeside inside old new → ((n : ℕ) → IsNamed geo states n → inside n → ⊥) → AreDurable geo old states → AreDurable geo new states
+  pub durable-beside : (inside : ℕ → Type 0) → WritesBackBeside inside old new → ((n : ℕ) → IsNamed geo states n → inside n → ⊥) → AreDurable geo old states → AreDurable geo new states
   durable-beside inside x apart = durable-stays (λ n named. stays-beside inside old new n x (apart n named))
 
   -- work on other words
-  pub map_read-outside : (inside : ℕ → Type 0) → WandersOutside inside old new → ((p : ℕ) → IsNamed geo states (p / 8) → inside p → ⊥) → map_read geo new.is_bad (last_image new) states ≡ map_read geo old.is_bad (last_image old) states
+  pub map_read-outside : (inside : ℕ → Type 0) → WritesBackOutside inside old new → ((p : ℕ) → IsNamed geo states (p / 8) → inside p → ⊥) → map_read geo new.is_bad (last_image new) states ≡ map_read geo old.is_bad (last_image old) states
   map_read-outside inside x apart = map_read-stays (λ n named. stays-outside inside old new n x (λ p is. apart p (subst (IsNamed geo states) (sym is) named)))
 
-  pub durable-outside : (inside : ℕ → Type 0) → WandersOutside inside old new → ((p : ℕ) → IsNamed geo states (p / 8) → inside p → ⊥) → AreDurable geo old states → AreDurable geo new states
+  pub durable-outside : (inside : ℕ → Type 0) → WritesBackOutside inside old new → ((p : ℕ) → IsNamed geo states (p / 8) → inside p → ⊥) → AreDurable geo old states → AreDurable geo new states
   durable-outside inside x apart = durable-stays (λ n named. stays-outside inside old new n x (λ p is. apart p (subst (IsNamed geo states) (sym is) named)))
 
-  -- lines that only wander
-  pub map_read-wander : Wander old new → map_read geo new.is_bad (last_image new) states ≡ map_read geo old.is_bad (last_image old) states
-  map_read-wander x = map_read-stays (λ n named. stays-wander n x)
+  -- lines that are only written back
+  pub map_read-write_back : WritesBack old new → map_read geo new.is_bad (last_image new) states ≡ map_read geo old.is_bad (last_image old) states
+  map_read-write_back x = map_read-stays (λ n named. stays-write_back n x)
     where
-      stays-wander : (n : ℕ) → Wander old new → Stays old new n
-      stays-wander n x = record { bad = x.bad n; fades = λ p is. subst (λ k. Fades (old.is_weak k) (old.history p) (new.history p)) is (x.fades p) }
+      stays-write_back : (n : ℕ) → WritesBack old new → Stays old new n
+      stays-write_back n x = record { bad = x.bad n; word_write_back = λ p is. subst (λ k. WordWritesBack (old.is_weak k) (old.history p) (new.history p)) is (x.word_write_back p) }
 
-  pub durable-wander : Wander old new → AreDurable geo old states → AreDurable geo new states
-  durable-wander x = durable-stays (λ n named. record { bad = x.bad n; fades = λ p is. subst (λ k. Fades (old.is_weak k) (old.history p) (new.history p)) is (x.fades p) })
+  pub durable-write_back : WritesBack old new → AreDurable geo old states → AreDurable geo new states
+  durable-write_back x = durable-stays (λ n named. record { bad = x.bad n; word_write_back = λ p is. subst (λ k. WordWritesBack (old.is_weak k) (old.history p) (new.history p)) is (x.word_write_back p) })

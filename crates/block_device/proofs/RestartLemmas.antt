@@ -5,7 +5,7 @@ use Rattle.line_device.specs.Medium.{Medium, IsHealthy, IsSound, Survivors, Wait
 use Rattle.line_device.specs.Panel.{Image}
 use Rattle.line_device.specs.Device.{Depicts}
 use Rattle.line_device.specs.declared.line.Choice.{Choice}
-use Rattle.line_device.proofs.HistoryLemmas.{is_in-one, is_in-fades, newest-fades}
+use Rattle.line_device.proofs.HistoryLemmas.{is_in-one, is_in-word_write_back, newest-word_write_back}
 use Rattle.line_words.specs.Words.{IsOnly}
 use Rattle.word_tables.specs.declared.geometry.Geometry.{Geometry}
 use Rattle.word_tables.specs.Bounds.{IsValid}
@@ -91,14 +91,14 @@ module _ (geo : Geometry) (valid : IsValid geo) where
         bad = λ n _. x.bad n;
         was = λ p v _ _ at.
             elim (x.words p) as (λ _. IsIn v (old.history p)) [
-              | inl fades ↦ is_in-fades (old.is_weak (p / 8)) v (old.history p) (new.history p) fades at
+              | inl word_write_back ↦ is_in-word_write_back (old.is_weak (p / 8)) v (old.history p) (new.history p) word_write_back at
               | inr one ↦ subst (λ w. IsIn w (old.history p)) (sym (is_in-one v one.0 (subst (IsIn v) one.2 at))) one.1
             ];
         durable = λ p _ only.
             elim (x.words p) as (λ _. IsOnly (last_image new p) (new.history p)) [
-              | inl fades ↦ λ v at.
-                  only v (is_in-fades (old.is_weak (p / 8)) v (old.history p) (new.history p) fades at)
-                  ∙ sym (newest-fades (old.is_weak (p / 8)) (old.history p) (new.history p) fades)
+              | inl word_write_back ↦ λ v at.
+                  only v (is_in-word_write_back (old.is_weak (p / 8)) v (old.history p) (new.history p) word_write_back at)
+                  ∙ sym (newest-word_write_back (old.is_weak (p / 8)) (old.history p) (new.history p) word_write_back)
               | inr one ↦ is_only-one one.0 (new.history p) one.2
             ];
       })

@@ -1,18 +1,18 @@
 -- Blocks are served while others work elsewhere.
 use Rattle.std.proofs.Common.{◌≡◌, inr, ℕ, Bool, ◌/◌, ◌∙◌}
-use Rattle.line_device.specs.Medium.{Medium, Wander}
-use Rattle.line_words.specs.Words.{WandersOutside, WandersBeside}
+use Rattle.line_device.specs.Medium.{Medium, WritesBack}
+use Rattle.line_words.specs.Words.{WritesBackOutside, WritesBackBeside}
 use Rattle.word_tables.specs.Bounds.{IsValid}
 use Rattle.word_log.specs.Area.{IsOf, gate_place}
-use Rattle.word_log.proofs.PhaseLemmas.{gate_of, rest-wander}
+use Rattle.word_log.proofs.PhaseLemmas.{gate_of, rest-write_back}
 use Rattle.word_log.proofs.RestLemmas.{rest-elsewhere}
 use Rattle.block_device.specs.Area.{block_area}
-use Rattle.block_device.specs.Object.{BlocksState, Serves, blocks_of, map_words}
-use Rattle.block_device.proofs.ReadLemmas.{IsNamed, Stays, stays-beside, is_only-stays, durable-beside, durable-outside, durable-wander, map_read-wander}
+use Rattle.block_device.specs.Object.{BlocksState, BlocksServe, blocks_of, map_words}
+use Rattle.block_device.proofs.ReadLemmas.{IsNamed, Stays, stays-beside, is_only-stays, durable-beside, durable-outside, durable-write_back, map_read-write_back}
 use Rattle.block_device.proofs.PlaceLemmas.{area_fits}
 
 -- work on lines apart from those of the log, the map and the named units
-pub serves-beside : (s : BlocksState) (inside : ℕ → Type 0) (old new : Medium) → IsValid s.geo → ((p : ℕ) → IsOf (block_area s.geo) p → inside (p / 8) → ⊥) → ((n : ℕ) → IsNamed s.geo s.map n → inside n → ⊥) → WandersBeside inside old new → Serves s old → Serves s new
+pub serves-beside : (s : BlocksState) (inside : ℕ → Type 0) (old new : Medium) → IsValid s.geo → ((p : ℕ) → IsOf (block_area s.geo) p → inside (p / 8) → ⊥) → ((n : ℕ) → IsNamed s.geo s.map n → inside n → ⊥) → WritesBackBeside inside old new → BlocksServe s old → BlocksServe s new
 serves-beside s inside old new valid apart named x serves =
     let area = block_area s.geo in
     let stays : (p : ℕ) → IsOf area p → Stays old new (p / 8) = λ p of. stays-beside inside old new (p / 8) x (apart p of) in
@@ -31,7 +31,7 @@ serves-beside s inside old new valid apart named x serves =
     }
 
 -- work on words apart from the log, the map and the named units
-pub serves-outside : (s : BlocksState) (inside : ℕ → Type 0) (old new : Medium) → IsValid s.geo → ((p : ℕ) → IsOf (block_area s.geo) p → inside p → ⊥) → ((p : ℕ) → IsNamed s.geo s.map (p / 8) → inside p → ⊥) → WandersOutside inside old new → Serves s old → Serves s new
+pub serves-outside : (s : BlocksState) (inside : ℕ → Type 0) (old new : Medium) → IsValid s.geo → ((p : ℕ) → IsOf (block_area s.geo) p → inside p → ⊥) → ((p : ℕ) → IsNamed s.geo s.map (p / 8) → inside p → ⊥) → WritesBackOutside inside old new → BlocksServe s old → BlocksServe s new
 serves-outside s inside old new valid apart named x serves = record {
   valid = serves.valid;
   all = serves.all;
@@ -42,21 +42,21 @@ serves-outside s inside old new valid apart named x serves = record {
   durable = durable-outside s.geo s.map old new inside x named serves.durable;
 }
 
--- lines that only wander
-pub serves-wander : (s : BlocksState) (old new : Medium) → Wander old new → Serves s old → Serves s new
-serves-wander s old new x serves = record {
+-- lines that are only written back
+pub serves-write_back : (s : BlocksState) (old new : Medium) → WritesBack old new → BlocksServe s old → BlocksServe s new
+serves-write_back s old new x serves = record {
   valid = serves.valid;
   all = serves.all;
   is_map = serves.is_map;
   count = x.count ∙ serves.count;
   strong = λ n below. x.weak n ∙ serves.strong n below;
-  rest = rest-wander (block_area s.geo) (map_words s.geo s.map) old new serves.rest x;
-  durable = durable-wander s.geo s.map old new x serves.durable;
+  rest = rest-write_back (block_area s.geo) (map_words s.geo s.map) old new serves.rest x;
+  durable = durable-write_back s.geo s.map old new x serves.durable;
 }
 
-pub blocks_of-wander : (s : BlocksState) (old new : Medium) → Wander old new → blocks_of s new ≡ blocks_of s old
-blocks_of-wander s old new x = map_read-wander s.geo s.map old new x
+pub blocks_of-write_back : (s : BlocksState) (old new : Medium) → WritesBack old new → blocks_of s new ≡ blocks_of s old
+blocks_of-write_back s old new x = map_read-write_back s.geo s.map old new x
 
 -- whether the object is settled is not the device's
-pub serves_settled : (s : BlocksState) (m : Medium) (settled : Bool) → Serves s m → Serves (record s { settled = settled }) m
+pub serves_settled : (s : BlocksState) (m : Medium) (settled : Bool) → BlocksServe s m → BlocksServe (record s { settled = settled }) m
 serves_settled s m settled serves = record { valid = serves.valid; all = serves.all; is_map = serves.is_map; count = serves.count; strong = serves.strong; rest = serves.rest; durable = serves.durable }

@@ -4,7 +4,7 @@ use Rattle.std.proofs.lemmas.Bool.{cases_eq, eq-eqb, ne_eqb, both_ways}
 use Rattle.std.proofs.lemmas.List.{length-map}
 use Rattle.line_device.specs.History.{IsIn}
 use Rattle.line_device.specs.Medium.{Medium, last_image}
-use Rattle.line_words.specs.Words.{IsOnly, WandersOutside}
+use Rattle.line_words.specs.Words.{IsOnly, WritesBackOutside}
 use Rattle.word_tables.specs.declared.geometry.Geometry.{Geometry}
 use Rattle.word_tables.specs.Bounds.{IsValid}
 use Rattle.word_tables.specs.Layout.{block_map, first_line}
@@ -23,7 +23,7 @@ use Rattle.block_map.specs.States.{IsMap, word_of}
 use Rattle.block_device.specs.declared.change.Change.{Change}
 use Rattle.block_device.specs.Area.{block_area}
 use Rattle.block_device.specs.Reading.{map_read}
-use Rattle.block_device.specs.Object.{BlocksState, IsKept, Serves, AreDurable, HasGoodMetadata, map_words}
+use Rattle.block_device.specs.Object.{BlocksState, IsKept, BlocksServe, AreDurable, HasGoodMetadata, map_words}
 use Rattle.block_device.specs.Changes.{changed_map, names, MayChange, word_changes}
 use Rattle.block_device.specs.Images.{IsBlockImage, Reads, EachReads, IsEither}
 use Rattle.block_device.proofs.ReadLemmas.{IsNamed, map_read-outside, durable-outside}
@@ -96,12 +96,12 @@ words-changed geo states (c ∷ cs) p may from =
 -- blocks that are served, on good metadata, and changes that they may take
 pub record IsReady (s : BlocksState) (area : LogArea) (m : Medium) (cs : List Change) : Type 0 where
   pub kept : IsKept s area
-  pub serves : Serves s m
+  pub serves : BlocksServe s m
   pub good : HasGoodMetadata s.geo m
   pub may : MayChange s.map cs
   pub durable : AreDurable s.geo m (changed_map cs s.map)
 
-pub ready_from : (view s : BlocksState) (area : LogArea) (m : Medium) (cs : List Change) → view ≡ s → IsKept view area → Serves s m → HasGoodMetadata s.geo m → MayChange s.map cs → AreDurable s.geo m (changed_map cs s.map) → IsReady s area m cs
+pub ready_from : (view s : BlocksState) (area : LogArea) (m : Medium) (cs : List Change) → view ≡ s → IsKept view area → BlocksServe s m → HasGoodMetadata s.geo m → MayChange s.map cs → AreDurable s.geo m (changed_map cs s.map) → IsReady s area m cs
 ready_from view s area m cs is kept serves good may durable = record {
   kept = subst (λ t. IsKept t area) is kept;
   serves = serves;
@@ -136,7 +136,7 @@ module _ (s : BlocksState) (area : LogArea) (old : Medium) (cs : List Change) (r
   apart_of states all is_map p named of =
       named_apart s.geo ready.kept.valid states p all is_map named (subst (λ a. IsOf a p) ready.kept.area of)
 
-  module _ (new : Medium) (x : WandersOutside (IsOf area) old new) where
+  module _ (new : Medium) (x : WritesBackOutside (IsOf area) old new) where
     -- an image that replays to the words of one of the two maps
     image_reads : (states : List BlockState) (words image : ℕ → ℕ) → length states ≡ s.geo.blocks → IsMap states → AreDurable s.geo old states → ((p : ℕ) → IsHome (block_area s.geo) p → words p ≡ map_words s.geo states p) → IsBlockImage s.geo new image → Replays area image words → Reads s.geo new (λ bs. bs ≡ map_read s.geo old.is_bad (last_image old) states) image
     image_reads states words image all is_map durable same is replays =
@@ -167,12 +167,12 @@ module _ (s : BlocksState) (area : LogArea) (old : Medium) (cs : List Change) (r
         ]
 
     -- after it the device is the one of the new map
-    pub switch-serves : (words : List (ℕ × ℕ)) (t : BlocksState) → words ≡ word_changes s.geo cs → t.geo ≡ s.geo → t.map ≡ changed_map cs s.map → ((before : ℕ → ℕ) → IsAtRest area old before → IsAtRest area new (changed words before)) → Serves t new
+    pub switch-serves : (words : List (ℕ × ℕ)) (t : BlocksState) → words ≡ word_changes s.geo cs → t.geo ≡ s.geo → t.map ≡ changed_map cs s.map → ((before : ℕ → ℕ) → IsAtRest area old before → IsAtRest area new (changed words before)) → BlocksServe t new
     switch-serves words t named geo map rests =
         let after = changed_map cs s.map in
         let rest = subst (λ ws. IsAtRest area new (changed ws (map_words s.geo s.map))) named (rests (map_words s.geo s.map) ready_rest) in
         let at = subst (λ a. IsAtRest a new (changed (word_changes s.geo cs) (map_words s.geo s.map))) ready.kept.area rest in
-        let serves : Serves (record s { map = after }) new =
+        let serves : BlocksServe (record s { map = after }) new =
         record {
           valid = ready.kept.valid;
           all = changed_all;
@@ -182,5 +182,5 @@ module _ (s : BlocksState) (area : LogArea) (old : Medium) (cs : List Change) (r
           rest = record { gate = at.gate; home = λ p in_home. subst (λ v. IsOnly v (new.history p)) (home_from p in_home) (at.home p in_home) };
           durable = durable-outside s.geo after old new (IsOf area) x (apart_of after changed_all (is_map-changed cs s.map ready.may ready.kept.is_map)) ready.durable;
         } in
-        subst (λ g. Serves (record t { geo = g }) new) (sym geo) (subst (λ ss. Serves (record t { geo = s.geo; map = ss }) new) (sym map)
+        subst (λ g. BlocksServe (record t { geo = g }) new) (sym geo) (subst (λ ss. BlocksServe (record t { geo = s.geo; map = ss }) new) (sym map)
         (record { valid = serves.valid; all = serves.all; is_map = serves.is_map; count = serves.count; strong = serves.strong; rest = serves.rest; durable = serves.durable }))

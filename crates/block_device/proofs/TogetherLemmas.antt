@@ -3,7 +3,7 @@ use Rattle.std.proofs.Common.{◌≡◌, false, ◌<◌, ◌+◌, List, length, 
 use Rattle.std.specs.List.{list_any}
 use Rattle.nvm_base.specs.declared.units.Span.{Span}
 use Rattle.line_device.specs.Medium.{Medium, last_image}
-use Rattle.line_words.specs.Words.{WandersOutside, WandersBeside}
+use Rattle.line_words.specs.Words.{WritesBackOutside, WritesBackBeside}
 use Rattle.line_words.proofs.BesideLemmas.{beside-outside}
 use Rattle.word_tables.specs.Bounds.{IsValid}
 use Rattle.word_tables.specs.declared.geometry.Geometry.{Geometry}
@@ -15,7 +15,7 @@ use Rattle.block_device.specs.declared.change.Change.{Change}
 use Rattle.block_device.specs.declared.fault.BlockFault.{BlockFault}
 use Rattle.block_device.specs.Area.{block_area, IsBlockLine}
 use Rattle.block_device.specs.Reading.{map_read}
-use Rattle.block_device.specs.Object.{BlocksState, IsKept, Serves, AreDurable, HasGoodMetadata, IsInStep, blocks_of, is_at}
+use Rattle.block_device.specs.Object.{BlocksState, IsKept, BlocksServe, AreDurable, HasGoodMetadata, IsInStep, blocks_of, is_at}
 use Rattle.block_device.specs.Changes.{bare_block, changed_map, changes_in, units_named, MayChange, AreTaken}
 use Rattle.block_device.specs.Refusals.{Checks, OnWorked, together_refusal, meta_refusal}
 use Rattle.block_device.specs.Images.{EachReads, IsEither}
@@ -34,14 +34,14 @@ on_worked (Err f) P p = λ _. p
 pub record IsAsked (s : BlocksState) (m : Medium) (spans : List Span) (state : BlockState) (cs : List Change) : Type 0 where
   pub area : LogArea
   pub kept : IsKept s area
-  pub serves : Serves s m
+  pub serves : BlocksServe s m
   pub settled : IsTrue s.settled
   pub good : HasGoodMetadata s.geo m
   pub together : AreTogether s.geo.blocks spans
   pub bare : is_at state ≡ false
   pub named : cs ≡ changes_in spans state
 
-pub asked : {T U : Type 0} (view s : BlocksState) (area : LogArea) (m : Medium) (spans : List Span) (state : BlockState) (cs : List Change) (x : T) (y : U) → view ≡ s → IsKept view area → Serves s m → IsTrue s.settled → Checks (meta_refusal view.geo m) (Ok y) → Checks (together_refusal view.geo.blocks spans) (Ok x) → is_at state ≡ false → cs ≡ changes_in spans state → IsAsked s m spans state cs
+pub asked : {T U : Type 0} (view s : BlocksState) (area : LogArea) (m : Medium) (spans : List Span) (state : BlockState) (cs : List Change) (x : T) (y : U) → view ≡ s → IsKept view area → BlocksServe s m → IsTrue s.settled → Checks (meta_refusal view.geo m) (Ok y) → Checks (together_refusal view.geo.blocks spans) (Ok x) → is_at state ≡ false → cs ≡ changes_in spans state → IsAsked s m spans state cs
 asked view s area m spans state cs x y is kept serves settled meta together bare named = record {
   area = area;
   kept = subst (λ t. IsKept t area) is kept;
@@ -53,11 +53,11 @@ asked view s area m spans state cs x y is kept serves settled meta together bare
   named = named;
 }
 
-pub beside_of_area : (geo : Geometry) (old new : Medium) → IsValid geo → WandersOutside (IsOf (block_area geo)) old new → WandersBeside (IsBlockLine geo) old new
+pub beside_of_area : (geo : Geometry) (old new : Medium) → IsValid geo → WritesBackOutside (IsOf (block_area geo)) old new → WritesBackBeside (IsBlockLine geo) old new
 beside_of_area geo old new valid x = beside-outside (IsOf (block_area geo)) (IsBlockLine geo) old new (area_is_block geo valid) x
 
 -- the blocks after a switch
-pub blocks_switched : (s t : BlocksState) (area : LogArea) (old new : Medium) (cs : List Change) → IsKept s area → MayChange s.map cs → t.geo ≡ s.geo → t.map ≡ changed_map cs s.map → WandersOutside (IsOf (block_area s.geo)) old new → blocks_of t new ≡ map_read s.geo old.is_bad (last_image old) (changed_map cs s.map)
+pub blocks_switched : (s t : BlocksState) (area : LogArea) (old new : Medium) (cs : List Change) → IsKept s area → MayChange s.map cs → t.geo ≡ s.geo → t.map ≡ changed_map cs s.map → WritesBackOutside (IsOf (block_area s.geo)) old new → blocks_of t new ≡ map_read s.geo old.is_bad (last_image old) (changed_map cs s.map)
 blocks_switched s t area old new cs kept may geo map x =
     ap (λ g. map_read g new.is_bad (last_image new) t.map) geo
     ∙ ap (map_read s.geo new.is_bad (last_image new)) map
@@ -92,5 +92,5 @@ module _ (s : BlocksState) (m : Medium) (spans : List Span) (state : BlockState)
   pub asked_images : (new : Medium) → EachReads s.geo new (IsEither (blocks_of s m) (map_read s.geo m.is_bad (last_image m) (changed_map cs s.map))) → EachReads s.geo new (IsEither (blocks_of s m) (change spans (bare_block state) (blocks_of s m)))
   asked_images new each = subst (λ bs. EachReads s.geo new (IsEither (blocks_of s m) bs)) asked_blocks each
 
-  pub asked_ok : (t : BlocksState) (new : Medium) → t.geo ≡ s.geo → t.map ≡ changed_map cs s.map → WandersOutside (IsOf (block_area s.geo)) m new → blocks_of t new ≡ change spans (bare_block state) (blocks_of s m)
+  pub asked_ok : (t : BlocksState) (new : Medium) → t.geo ≡ s.geo → t.map ≡ changed_map cs s.map → WritesBackOutside (IsOf (block_area s.geo)) m new → blocks_of t new ≡ change spans (bare_block state) (blocks_of s m)
   asked_ok t new geo map outside = blocks_switched s t x.area m new cs x.kept asked_may geo map outside ∙ asked_blocks

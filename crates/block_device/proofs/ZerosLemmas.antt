@@ -1,8 +1,8 @@
 -- What the blocks of a new device read as.
 use Rattle.std.proofs.Common.{◌≡◌, inr, ℕ, zero, suc, Bool, true, false, ◌/◌, List, [], ◌∷◌, nat_lt, if◌then◌else◌, refl, sym, ◌∙◌, ap, subst, arith}
 use Rattle.line_device.specs.History.{IsIn}
-use Rattle.line_device.specs.Medium.{Medium, Wander, zeros}
-use Rattle.line_device.proofs.HistoryLemmas.{is_in-one, is_in-fades}
+use Rattle.line_device.specs.Medium.{Medium, WritesBack, zeros}
+use Rattle.line_device.proofs.HistoryLemmas.{is_in-one, is_in-word_write_back}
 use Rattle.word_tables.specs.declared.geometry.Geometry.{Geometry}
 use Rattle.word_tables.specs.Bounds.{IsValid}
 use Rattle.word_tables.specs.Layout.{total_lines}
@@ -66,10 +66,10 @@ module _ (geo : Geometry) (valid : IsValid geo) where
       all n zero = refl
       all n (suc count) = ap (λ bs. Absent ∷ bs) (all (suc n) count)
 
-  module _ (count : ℕ) (m : Medium) (total : count ≡ total_lines geo) (x : Wander (zeros count) m) where
+  module _ (count : ℕ) (m : Medium) (total : count ≡ total_lines geo) (x : WritesBack (zeros count) m) where
     -- each word of a new device is 0
     zero_word : (p v : ℕ) → IsIn v (m.history p) → v ≡ 0
-    zero_word p v at = zero_in (nat_lt (p / 8) count) (is_in-fades false v ((zeros count).history p) (m.history p) (x.fades p) at)
+    zero_word p v at = zero_in (nat_lt (p / 8) count) (is_in-word_write_back false v ((zeros count).history p) (m.history p) (x.word_write_back p) at)
       where
         zero_in : (b : Bool) → IsIn v (if b then 0 ∷ [] else []) → v ≡ 0
         zero_in true at = is_in-one v 0 at

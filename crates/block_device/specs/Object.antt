@@ -43,7 +43,7 @@ HasGoodMetadata geo m = (n : ℕ) → n < meta_lines geo → m.is_bad n ≡ fals
 
 -- The device is the one whose blocks these are: its log is at rest with the words of the map, and what the map names is
 -- durable. The sizes are valid, and the map is one of all blocks. Lines that became bad are no bar.
-pub record Serves (s : BlocksState) (m : Medium) : Type 0 where
+pub record BlocksServe (s : BlocksState) (m : Medium) : Type 0 where
   pub valid : IsValid s.geo
   pub all : length s.map ≡ s.geo.blocks
   pub is_map : IsMap s.map

@@ -6,12 +6,12 @@ use Rattle.range_sets.specs.Ranges.{is_disjoint}
 use Rattle.nvm_model.specs.Numbered.{list_from}
 use Rattle.block_device.specs.Refusals.{block_spans}
 use Rattle.line_device.specs.Medium.{Medium, last_image}
-use Rattle.line_words.specs.Words.{WandersBeside}
+use Rattle.line_words.specs.Words.{WritesBackBeside}
 use Rattle.nvm_model.specs.Storage.{Block}
 use Rattle.block_device.specs.declared.change.Change.{Change}
 use Rattle.block_device.specs.Area.{IsBlockLine}
 use Rattle.block_device.specs.Reading.{map_read}
-use Rattle.block_device.specs.Object.{BlocksState, Serves, AreDurable, HasGoodMetadata, IsInStep, blocks_of}
+use Rattle.block_device.specs.Object.{BlocksState, BlocksServe, AreDurable, HasGoodMetadata, IsInStep, blocks_of}
 use Rattle.block_device.specs.Changes.{changed_map, units_named, MayChange, AreTaken}
 
 -- a map may take the changes together, and the units of these are taken and durable
@@ -36,9 +36,9 @@ pub record AreAsBefore (s t : BlocksState) (m n : Medium) : Type 0 where
   pub quiet : t.quiet ≡ s.quiet
   pub unsettled : t.settled ≡ false
   pub blocks : blocks_of t n ≡ blocks_of s m
-  pub serves : Serves t n
+  pub serves : BlocksServe t n
   pub good : HasGoodMetadata t.geo n
-  pub outside : WandersBeside (IsBlockLine s.geo) m n
+  pub outside : WritesBackBeside (IsBlockLine s.geo) m n
 
 -- ranges of whole blocks that are there, few and apart
 pub record AreApart (count : ℕ) (ranges : List Span) : Type 0 where

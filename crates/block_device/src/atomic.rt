@@ -2,11 +2,11 @@
 ghost use Rattle.std.specs.Prelude.{◌≡◌, ◌+◌, ◌*◌, ◌/◌, ◌<◌, ◌≤◌, IsTrue, OnOk, length};
 ghost use Rattle.std.specs.Result.{is_ok};
 ghost use Rattle.line_device.specs.Panel.{Runs};
-ghost use Rattle.line_words.specs.Words.{WandersBeside};
+ghost use Rattle.line_words.specs.Words.{WritesBackBeside};
 ghost use Rattle.line_words.specs.Ending.{ended};
 ghost use Rattle.nvm_model.specs.Blocks.{write};
 ghost use Rattle.block_device.specs.Area.{IsBlockLine};
-ghost use Rattle.block_device.specs.Object.{Serves, HasGoodMetadata, blocks_of};
+ghost use Rattle.block_device.specs.Object.{BlocksServe, HasGoodMetadata, blocks_of};
 ghost use Rattle.block_device.specs.Refusals.{Answers, OnRefused, OnWorked, atomic_refusal, block_outcome, is_done};
 ghost use Rattle.block_device.specs.Images.{EachReads, IsEither};
 
@@ -26,7 +26,7 @@ impl Blocks {
         block: u64,
         bytes: &[u8],
     ) -> Result<(), BlockFault>
-        requires serves { Serves self.old (L.state dev.old).medium }
+        requires serves { BlocksServe self.old (L.state dev.old).medium }
         requires settled { IsTrue self.old.settled }
         requires on { IsTrue (L.state dev.old).panel.power }
         ensures refused { Answers (atomic_refusal self.old (L.state dev.old).medium block (length bytes.now)) result }
@@ -36,8 +36,8 @@ impl Blocks {
         ensures images { OnWorked result (EachReads self.old.geo (L.state dev.new).medium
             (IsEither (blocks_of self.old (L.state dev.old).medium)
             (write block bytes.now (blocks_of self.old (L.state dev.old).medium)))) }
-        ensures outside { WandersBeside (IsBlockLine self.old.geo) (L.state dev.old).medium (L.state dev.new).medium }
-        ensures serves { IsTrue self.new.settled → Serves self.new (L.state dev.new).medium }
+        ensures outside { WritesBackBeside (IsBlockLine self.old.geo) (L.state dev.old).medium (L.state dev.new).medium }
+        ensures serves { IsTrue self.new.settled → BlocksServe self.new (L.state dev.new).medium }
         ensures object { (self.new.geo ≡ self.old.geo) × (self.new.settled ≡ is_done (block_outcome result)) }
         ensures runs { Runs (29 * (length bytes.now / 512) + 6) (10 * (length bytes.now / 512) + 3) (block_outcome result)
             (L.state dev.old).panel (L.state dev.new).panel }
@@ -58,7 +58,7 @@ impl Blocks {
         block: u64,
         bytes: &[u8],
     ) -> Result<(), Interruption>
-        requires serves { Serves self.old (L.state dev.old).medium }
+        requires serves { BlocksServe self.old (L.state dev.old).medium }
         requires settled { IsTrue self.old.settled }
         requires on { IsTrue (L.state dev.old).panel.power }
         requires good { HasGoodMetadata self.old.geo (L.state dev.old).medium }
@@ -70,8 +70,8 @@ impl Blocks {
         ensures images { EachReads self.old.geo (L.state dev.new).medium
             (IsEither (blocks_of self.old (L.state dev.old).medium)
             (write block bytes.now (blocks_of self.old (L.state dev.old).medium))) }
-        ensures outside { WandersBeside (IsBlockLine self.old.geo) (L.state dev.old).medium (L.state dev.new).medium }
-        ensures serves { OnOk result (Serves self.new (L.state dev.new).medium) }
+        ensures outside { WritesBackBeside (IsBlockLine self.old.geo) (L.state dev.old).medium (L.state dev.new).medium }
+        ensures serves { OnOk result (BlocksServe self.new (L.state dev.new).medium) }
         ensures object { (self.new.geo ≡ self.old.geo) × (self.new.settled ≡ is_ok result) }
         ensures runs { Runs (29 * (length bytes.now / 512) + 6) (10 * (length bytes.now / 512) + 3) (ended result)
             (L.state dev.old).panel (L.state dev.new).panel }

@@ -3,11 +3,11 @@ ghost use Rattle.std.specs.Prelude.{◌≡◌, ◌+◌, ◌*◌, ◌<◌, ◌≤
 ghost use Rattle.arrayvec.specs.ArrayVec.{array_vec_len};
 ghost use Rattle.nvm_base.specs.declared.units.Span.{Span as Stretch};
 ghost use Rattle.line_device.specs.Panel.{Runs};
-ghost use Rattle.line_words.specs.Words.{WandersBeside};
+ghost use Rattle.line_words.specs.Words.{WritesBackBeside};
 ghost use Rattle.nvm_model.specs.Storage.Block.{Absent, Scarred};
 ghost use Rattle.nvm_model.specs.Blocks.{IsMixed, change};
 ghost use Rattle.block_device.specs.Area.{IsBlockLine};
-ghost use Rattle.block_device.specs.Object.{Serves, blocks_of, is_at};
+ghost use Rattle.block_device.specs.Object.{BlocksServe, blocks_of, is_at};
 ghost use Rattle.block_device.specs.Changes.{bare_block, changes_in};
 ghost use Rattle.block_device.specs.Refusals.{Answers, OnRefused, OnWorked, block_outcome, is_done, change_refusal, hint_refusal};
 ghost use Rattle.block_device.specs.Images.{EachReads, IsEither};
@@ -23,7 +23,7 @@ use nvm_base::Span;
 impl Blocks {
     /// Makes blocks absent, all of them or none.
     pub fn discard_now<L: Lines>(&mut self, dev: &mut L, blocks: Span) -> Result<(), BlockFault>
-        requires serves { Serves self.old (L.state dev.old).medium }
+        requires serves { BlocksServe self.old (L.state dev.old).medium }
         requires settled { IsTrue self.old.settled }
         requires on { IsTrue (L.state dev.old).panel.power }
         ensures refused { Answers (change_refusal self.old (L.state dev.old).medium (blocks ∷ [])) result }
@@ -33,8 +33,8 @@ impl Blocks {
         ensures images { OnWorked result (EachReads self.old.geo (L.state dev.new).medium
             (IsEither (blocks_of self.old (L.state dev.old).medium)
             (change (blocks ∷ []) Absent (blocks_of self.old (L.state dev.old).medium)))) }
-        ensures outside { WandersBeside (IsBlockLine self.old.geo) (L.state dev.old).medium (L.state dev.new).medium }
-        ensures serves { IsTrue self.new.settled → Serves self.new (L.state dev.new).medium }
+        ensures outside { WritesBackBeside (IsBlockLine self.old.geo) (L.state dev.old).medium (L.state dev.new).medium }
+        ensures serves { IsTrue self.new.settled → BlocksServe self.new (L.state dev.new).medium }
         ensures object { (self.new.geo ≡ self.old.geo) × (self.new.settled ≡ is_done (block_outcome result)) }
         ensures runs { Runs 326 131 (block_outcome result) (L.state dev.old).panel (L.state dev.new).panel }
     {
@@ -43,7 +43,7 @@ impl Blocks {
 
     /// Makes the blocks of spans unreadable, all of them or none.
     pub fn scar<L: Lines>(&mut self, dev: &mut L, spans: &[Span]) -> Result<(), BlockFault>
-        requires serves { Serves self.old (L.state dev.old).medium }
+        requires serves { BlocksServe self.old (L.state dev.old).medium }
         requires settled { IsTrue self.old.settled }
         requires on { IsTrue (L.state dev.old).panel.power }
         requires some { 0 < length spans.now }
@@ -54,8 +54,8 @@ impl Blocks {
         ensures images { OnWorked result (EachReads self.old.geo (L.state dev.new).medium
             (IsEither (blocks_of self.old (L.state dev.old).medium)
             (change spans.now Scarred (blocks_of self.old (L.state dev.old).medium)))) }
-        ensures outside { WandersBeside (IsBlockLine self.old.geo) (L.state dev.old).medium (L.state dev.new).medium }
-        ensures serves { IsTrue self.new.settled → Serves self.new (L.state dev.new).medium }
+        ensures outside { WritesBackBeside (IsBlockLine self.old.geo) (L.state dev.old).medium (L.state dev.new).medium }
+        ensures serves { IsTrue self.new.settled → BlocksServe self.new (L.state dev.new).medium }
         ensures object { (self.new.geo ≡ self.old.geo) × (self.new.settled ≡ is_done (block_outcome result)) }
         ensures runs { Runs 326 131 (block_outcome result) (L.state dev.old).panel (L.state dev.new).panel }
     {
@@ -64,7 +64,7 @@ impl Blocks {
 
     /// Makes blocks absent, one after the other: wherever the power goes, each is as it was or absent.
     pub fn discard_hint<L: Lines>(&mut self, dev: &mut L, blocks: Span) -> Result<(), BlockFault>
-        requires serves { Serves self.old (L.state dev.old).medium }
+        requires serves { BlocksServe self.old (L.state dev.old).medium }
         requires settled { IsTrue self.old.settled }
         requires on { IsTrue (L.state dev.old).panel.power }
         ensures refused { Answers (hint_refusal self.old (L.state dev.old).medium blocks) result }
@@ -74,8 +74,8 @@ impl Blocks {
         ensures images { OnWorked result (EachReads self.old.geo (L.state dev.new).medium
             (IsMixed (blocks_of self.old (L.state dev.old).medium)
             (change (blocks ∷ []) Absent (blocks_of self.old (L.state dev.old).medium)))) }
-        ensures outside { WandersBeside (IsBlockLine self.old.geo) (L.state dev.old).medium (L.state dev.new).medium }
-        ensures serves { IsTrue self.new.settled → Serves self.new (L.state dev.new).medium }
+        ensures outside { WritesBackBeside (IsBlockLine self.old.geo) (L.state dev.old).medium (L.state dev.new).medium }
+        ensures serves { IsTrue self.new.settled → BlocksServe self.new (L.state dev.new).medium }
         ensures object { (self.new.geo ≡ self.old.geo) × (self.new.settled ≡ is_done (block_outcome result)) }
         ensures runs { Runs (11 * blocks.len) (5 * blocks.len) (block_outcome result)
             (L.state dev.old).panel (L.state dev.new).panel }
@@ -99,7 +99,7 @@ impl Blocks {
         spans: &[Span],
         state: BlockState,
     ) -> Result<(), BlockFault>
-        requires serves { Serves self.old (L.state dev.old).medium }
+        requires serves { BlocksServe self.old (L.state dev.old).medium }
         requires settled { IsTrue self.old.settled }
         requires on { IsTrue (L.state dev.old).panel.power }
         requires some { 0 < length spans.now }
@@ -111,8 +111,8 @@ impl Blocks {
         ensures images { OnWorked result (EachReads self.old.geo (L.state dev.new).medium
             (IsEither (blocks_of self.old (L.state dev.old).medium)
             (change spans.now (bare_block state) (blocks_of self.old (L.state dev.old).medium)))) }
-        ensures outside { WandersBeside (IsBlockLine self.old.geo) (L.state dev.old).medium (L.state dev.new).medium }
-        ensures serves { IsTrue self.new.settled → Serves self.new (L.state dev.new).medium }
+        ensures outside { WritesBackBeside (IsBlockLine self.old.geo) (L.state dev.old).medium (L.state dev.new).medium }
+        ensures serves { IsTrue self.new.settled → BlocksServe self.new (L.state dev.new).medium }
         ensures object { (self.new.geo ≡ self.old.geo) × (self.new.settled ≡ is_done (block_outcome result)) }
         ensures runs { Runs 326 131 (block_outcome result) (L.state dev.old).panel (L.state dev.new).panel }
     {

@@ -1,11 +1,11 @@
 // Mounting: the log first, then the map and the units that it leaves free.
 ghost use Rattle.std.specs.Prelude.{◌≡◌, ◌+◌, ◌*◌, ◌/◌, ◌<◌, ◌≤◌, None, IfOk, IfErr, IsTrue, OnOk, length, map};
-ghost use Rattle.line_device.specs.Medium.{Wander, last_image};
+ghost use Rattle.line_device.specs.Medium.{WritesBack, last_image};
 ghost use Rattle.line_device.specs.Panel.{Runs};
 ghost use Rattle.word_tables.specs.Bounds.{IsValid};
 ghost use Rattle.word_tables.specs.Layout.{total_lines};
 ghost use Rattle.word_tables.specs.Words.{place, of_block};
-ghost use Rattle.line_words.specs.Words.{WandersOutside};
+ghost use Rattle.line_words.specs.Words.{WritesBackOutside};
 ghost use Rattle.line_words.specs.Ending.{ended};
 ghost use Rattle.word_log.specs.Area.{IsOf, IsWhole, gate_place};
 ghost use Rattle.word_log.specs.Rest.{EachImage, IsReached};
@@ -14,7 +14,7 @@ ghost use Rattle.block_map.specs.Wrong.{first_wrong};
 ghost use Rattle.nvm_model.specs.Numbered.{list_from};
 ghost use Rattle.block_device.specs.Area.{block_area};
 ghost use Rattle.block_device.specs.Reading.{states_read, blocks_read};
-ghost use Rattle.block_device.specs.Object.{Serves, IsInStep, AreDurable, HasStrongMetadata, blocks_of};
+ghost use Rattle.block_device.specs.Object.{BlocksServe, IsInStep, AreDurable, HasStrongMetadata, blocks_of};
 ghost use Rattle.block_device.specs.Mounting.{Finds, IsStop, IsTableCause, mount_outcome};
 ghost use Rattle.block_device.specs.Images.{KeepsReads};
 
@@ -46,9 +46,9 @@ impl Blocks {
         ensures reads { IsWhole (block_area geo) (L.state dev.old).medium
             → KeepsReads geo (L.state dev.old).medium (L.state dev.new).medium }
         ensures closed { last_image (L.state dev.old).medium (gate_place (block_area geo)) ≡ 0
-            → Wander (L.state dev.old).medium (L.state dev.new).medium }
-        ensures outside { WandersOutside (IsOf (block_area geo)) (L.state dev.old).medium (L.state dev.new).medium }
-        ensures serves { IfOk result (λ blocks. Serves blocks (L.state dev.new).medium) }
+            → WritesBack (L.state dev.old).medium (L.state dev.new).medium }
+        ensures outside { WritesBackOutside (IsOf (block_area geo)) (L.state dev.old).medium (L.state dev.new).medium }
+        ensures serves { IfOk result (λ blocks. BlocksServe blocks (L.state dev.new).medium) }
         ensures settled { IfOk result (λ blocks. IsTrue blocks.settled) }
         ensures runs { Runs (2 * geo.blocks + 279) (geo.blocks / 8 + 84) (mount_outcome result)
             (L.state dev.old).panel (L.state dev.new).panel }
@@ -76,7 +76,7 @@ fn load_map<L: Lines>(alloc: Global, dev: &mut L, geo: Geometry) -> Result<Words
     ensures words { IfOk result (λ words. words.items
         ≡ list_from (λ b. last_image (L.state dev.old).medium (place geo (of_block b))) 0 geo.blocks) }
     ensures stop { IfErr result IsStop }
-    ensures lines { Wander (L.state dev.old).medium (L.state dev.new).medium }
+    ensures lines { WritesBack (L.state dev.old).medium (L.state dev.new).medium }
     ensures runs { Runs geo.blocks 0 (mount_outcome result) (L.state dev.old).panel (L.state dev.new).panel }
 {
     let mut words = Words::new(alloc);

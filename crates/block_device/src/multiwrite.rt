@@ -3,11 +3,11 @@ ghost use Rattle.std.specs.Prelude.{◌≡◌, ◌+◌, ◌*◌, ◌/◌, ◌<�
 ghost use Rattle.std.specs.Result.{is_ok};
 ghost use Rattle.nvm_base.specs.declared.units.Span.{Span as Stretch};
 ghost use Rattle.line_device.specs.Panel.{Runs};
-ghost use Rattle.line_words.specs.Words.{WandersBeside};
+ghost use Rattle.line_words.specs.Words.{WritesBackBeside};
 ghost use Rattle.line_words.specs.Ending.{ended};
 ghost use Rattle.nvm_model.specs.Blocks.{write_ranges};
 ghost use Rattle.block_device.specs.Area.{IsBlockLine};
-ghost use Rattle.block_device.specs.Object.{Serves, HasGoodMetadata, blocks_of};
+ghost use Rattle.block_device.specs.Object.{BlocksServe, HasGoodMetadata, blocks_of};
 ghost use Rattle.block_device.specs.Refusals.{Answers, OnRefused, OnWorked, block_outcome, block_spans, is_done, multiwrite_refusal};
 ghost use Rattle.block_device.specs.Images.{EachReads, IsEither};
 ghost use Rattle.block_device.specs.Prepared.{ArePrepared, AreApart, AreAsBefore, blocks_with, numbers_in, numbers_of};
@@ -28,7 +28,7 @@ impl Blocks {
         ranges: &[Span],
         bytes: &[u8],
     ) -> Result<(), BlockFault>
-        requires serves { Serves self.old (L.state dev.old).medium }
+        requires serves { BlocksServe self.old (L.state dev.old).medium }
         requires settled { IsTrue self.old.settled }
         requires on { IsTrue (L.state dev.old).panel.power }
         requires some { 0 < length ranges.now }
@@ -40,8 +40,8 @@ impl Blocks {
         ensures images { OnWorked result (EachReads self.old.geo (L.state dev.new).medium
             (IsEither (blocks_of self.old (L.state dev.old).medium)
             (write_ranges ranges.now bytes.now (blocks_of self.old (L.state dev.old).medium)))) }
-        ensures outside { WandersBeside (IsBlockLine self.old.geo) (L.state dev.old).medium (L.state dev.new).medium }
-        ensures serves { IsTrue self.new.settled → Serves self.new (L.state dev.new).medium }
+        ensures outside { WritesBackBeside (IsBlockLine self.old.geo) (L.state dev.old).medium (L.state dev.new).medium }
+        ensures serves { IsTrue self.new.settled → BlocksServe self.new (L.state dev.new).medium }
         ensures object { (self.new.geo ≡ self.old.geo) × (self.new.settled ≡ is_done (block_outcome result)) }
         ensures runs { Runs (29 * (length bytes.now / 512) + 6) (10 * (length bytes.now / 512) + 3) (block_outcome result)
             (L.state dev.old).panel (L.state dev.new).panel }
@@ -59,7 +59,7 @@ impl Blocks {
         ranges: &[Span],
         bytes: &[u8],
     ) -> Result<(), Interruption>
-        requires serves { Serves self.old (L.state dev.old).medium }
+        requires serves { BlocksServe self.old (L.state dev.old).medium }
         requires settled { IsTrue self.old.settled }
         requires on { IsTrue (L.state dev.old).panel.power }
         requires good { HasGoodMetadata self.old.geo (L.state dev.old).medium }
@@ -71,8 +71,8 @@ impl Blocks {
         ensures images { EachReads self.old.geo (L.state dev.new).medium
             (IsEither (blocks_of self.old (L.state dev.old).medium)
             (write_ranges ranges.now bytes.now (blocks_of self.old (L.state dev.old).medium))) }
-        ensures outside { WandersBeside (IsBlockLine self.old.geo) (L.state dev.old).medium (L.state dev.new).medium }
-        ensures serves { OnOk result (Serves self.new (L.state dev.new).medium) }
+        ensures outside { WritesBackBeside (IsBlockLine self.old.geo) (L.state dev.old).medium (L.state dev.new).medium }
+        ensures serves { OnOk result (BlocksServe self.new (L.state dev.new).medium) }
         ensures object { (self.new.geo ≡ self.old.geo) × (self.new.settled ≡ is_ok result) }
         ensures runs { Runs (29 * (length bytes.now / 512) + 6) (10 * (length bytes.now / 512) + 3) (ended result)
             (L.state dev.old).panel (L.state dev.new).panel }
@@ -91,7 +91,7 @@ impl Blocks {
         ranges: &[Span],
         bytes: &[u8],
     ) -> Result<(), Interruption>
-        requires serves { Serves self.old (L.state dev.old).medium }
+        requires serves { BlocksServe self.old (L.state dev.old).medium }
         requires unsettled { self.old.settled ≡ false }
         requires on { IsTrue (L.state dev.old).panel.power }
         requires good { HasGoodMetadata self.old.geo (L.state dev.old).medium }

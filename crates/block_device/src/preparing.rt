@@ -5,7 +5,7 @@ ghost use Rattle.line_device.specs.Panel.{Runs};
 ghost use Rattle.line_words.specs.Ending.{ended};
 ghost use Rattle.nvm_model.specs.Numbered.{list_from};
 ghost use Rattle.nvm_model.specs.Blocks.{write};
-ghost use Rattle.block_device.specs.Object.{Serves, HasGoodMetadata};
+ghost use Rattle.block_device.specs.Object.{BlocksServe, HasGoodMetadata};
 ghost use Rattle.block_device.specs.Changes.{names};
 ghost use Rattle.block_device.specs.Prepared.{ArePrepared, AreAsBefore, blocks_with, numbers_of};
 
@@ -29,7 +29,7 @@ impl Blocks {
         block: u64,
         bytes: &[u8],
     ) -> Result<(), Interruption>
-        requires serves { Serves self.old (L.state dev.old).medium }
+        requires serves { BlocksServe self.old (L.state dev.old).medium }
         requires unsettled { self.old.settled ≡ false }
         requires on { IsTrue (L.state dev.old).panel.power }
         requires good { HasGoodMetadata self.old.geo (L.state dev.old).medium }
@@ -62,7 +62,7 @@ impl Blocks {
         block: u64,
         bytes: &[u8],
     ) -> Result<(), Interruption>
-        requires serves { Serves self.old (L.state dev.old).medium }
+        requires serves { BlocksServe self.old (L.state dev.old).medium }
         requires unsettled { self.old.settled ≡ false }
         requires on { IsTrue (L.state dev.old).panel.power }
         requires good { HasGoodMetadata self.old.geo (L.state dev.old).medium }

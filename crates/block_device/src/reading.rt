@@ -1,12 +1,12 @@
 // Reading blocks.
 ghost use Rattle.std.specs.Prelude.{◌≡◌, ◌+◌, ◌*◌, ◌/◌, ◌%◌, ◌<◌, ◌≤◌, ◌++◌, ℕ, None, EachIndex, IsTrue, OnOk, drop, is_none, length, option_map, position, slice_index, take};
-ghost use Rattle.line_device.specs.Medium.{IsHealthy, Wander, last_image};
+ghost use Rattle.line_device.specs.Medium.{IsHealthy, WritesBack, last_image};
 ghost use Rattle.line_device.specs.Panel.{Runs};
 ghost use Rattle.line_words.specs.Ending.{ended};
 ghost use Rattle.nvm_model.specs.Numbered.{list_from};
 ghost use Rattle.nvm_model.specs.Blocks.{first_obstacle, look, nth, obstacle_in};
 ghost use Rattle.block_device.specs.Reading.{bytes_read, line_read};
-ghost use Rattle.block_device.specs.Object.{Serves, blocks_of};
+ghost use Rattle.block_device.specs.Object.{BlocksServe, blocks_of};
 ghost use Rattle.block_device.specs.Refusals.{Answers, Checks, Obstructs, OnRefused, block_outcome, is_done, read_refusal};
 ghost use Rattle.block_device.specs.Refusals.Refusal.{Unreadable};
 
@@ -29,14 +29,14 @@ impl Blocks {
         block: u64,
         out: &mut [u8],
     ) -> Result<(), BlockFault>
-        requires serves { Serves self.old (L.state dev.old).medium }
+        requires serves { BlocksServe self.old (L.state dev.old).medium }
         requires settled { IsTrue self.old.settled }
         requires on { IsTrue (L.state dev.old).panel.power }
         ensures refused { Answers (read_refusal self.old (L.state dev.old).medium block (length out.old)) result }
         ensures untouched { OnRefused result ((out.new ≡ out.old) × (dev.new ≡ dev.old)) }
         ensures ok { OnOk result (out.new ≡ look (blocks_of self.old (L.state dev.old).medium) block (length out.old / 512)) }
-        ensures lines { Wander (L.state dev.old).medium (L.state dev.new).medium }
-        ensures serves { Serves self.new (L.state dev.new).medium }
+        ensures lines { WritesBack (L.state dev.old).medium (L.state dev.new).medium }
+        ensures serves { BlocksServe self.new (L.state dev.new).medium }
         ensures object { self.new ≡ record self.old { settled = is_done (block_outcome result) } }
         ensures runs { Runs (length out.old / 64) 0 (block_outcome result) (L.state dev.old).panel (L.state dev.new).panel }
     {
@@ -50,7 +50,7 @@ impl Blocks {
 
     // Whether blocks can be read. It makes no counted call.
     fn check_readable<L: Lines>(&self, dev: &L, block: u64, count: u64) -> Result<(), BlockFault>
-        requires serves { Serves self.now (L.state dev.now).medium }
+        requires serves { BlocksServe self.now (L.state dev.now).medium }
         requires few { self.now.geo.blocks ≤ 4096 }
         requires within { block + count ≤ self.now.geo.blocks }
         ensures { Checks (option_map Unreadable (first_obstacle (blocks_of self.now (L.state dev.now).medium) block count)) result }
@@ -65,7 +65,7 @@ impl Blocks {
 
     // What keeps a block from being read.
     fn obstacle<L: Lines>(&self, dev: &L, block: u64) -> Option<BlockFault>
-        requires serves { Serves self.now (L.state dev.now).medium }
+        requires serves { BlocksServe self.now (L.state dev.now).medium }
         requires block { block < self.now.geo.blocks }
         ensures { Obstructs (option_map Unreadable (obstacle_in block (nth (blocks_of self.now (L.state dev.now).medium) block))) result }
     {
@@ -86,14 +86,14 @@ impl Blocks {
         block: u64,
         out: &mut [u8],
     ) -> Result<(), Interruption>
-        requires serves { Serves self.now (L.state dev.old).medium }
+        requires serves { BlocksServe self.now (L.state dev.old).medium }
         requires on { IsTrue (L.state dev.old).panel.power }
         requires whole { length out.old % 512 ≡ 0 }
         requires few { self.now.geo.blocks ≤ 4096 }
         requires within { block + length out.old / 512 ≤ self.now.geo.blocks }
         requires readable { first_obstacle (blocks_of self.now (L.state dev.old).medium) block (length out.old / 512) ≡ None }
         ensures ok { OnOk result (out.new ≡ look (blocks_of self.now (L.state dev.old).medium) block (length out.old / 512)) }
-        ensures lines { Wander (L.state dev.old).medium (L.state dev.new).medium }
+        ensures lines { WritesBack (L.state dev.old).medium (L.state dev.new).medium }
         ensures runs { Runs (length out.old / 64) 0 (ended result) (L.state dev.old).panel (L.state dev.new).panel }
     {
         let size = BLOCK as usize;
@@ -111,14 +111,14 @@ impl Blocks {
         out: &mut [u8],
         at: usize,
     ) -> Result<(), Interruption>
-        requires serves { Serves self.now (L.state dev.old).medium }
+        requires serves { BlocksServe self.now (L.state dev.old).medium }
         requires on { IsTrue (L.state dev.old).panel.power }
         requires block { block < self.now.geo.blocks }
         requires within { at + 512 ≤ length out.old }
         requires readable { obstacle_in block (nth (blocks_of self.now (L.state dev.old).medium) block) ≡ None }
         ensures ok { OnOk result (out.new ≡ take at out.old
             ++ look (blocks_of self.now (L.state dev.old).medium) block 1 ++ drop (at + 512) out.old) }
-        ensures lines { Wander (L.state dev.old).medium (L.state dev.new).medium }
+        ensures lines { WritesBack (L.state dev.old).medium (L.state dev.new).medium }
         ensures runs { Runs 8 0 (ended result) (L.state dev.old).panel (L.state dev.new).panel }
     {
         match self.map.get(block) {
@@ -156,7 +156,7 @@ fn load_unit<L: Lines>(dev: &mut L, first: u64, out: &mut [u8]) -> Result<(), In
     requires on { IsTrue (L.state dev.old).panel.power }
     requires length { length out.old ≡ 512 }
     ensures ok { OnOk result (out.new ≡ bytes_read (last_image (L.state dev.old).medium) (64 * first) 512) }
-    ensures lines { Wander (L.state dev.old).medium (L.state dev.new).medium }
+    ensures lines { WritesBack (L.state dev.old).medium (L.state dev.new).medium }
     ensures runs { Runs 8 0 (ended result) (L.state dev.old).panel (L.state dev.new).panel }
 {
     for k in 0..UNIT_LINES {
@@ -172,7 +172,7 @@ fn load_at<L: Lines>(dev: &mut L, line: u64, out: &mut [u8], at: usize) -> Resul
     requires within { at + 64 ≤ length out.old }
     ensures ok { OnOk result (out.new ≡ take at out.old
         ++ bytes_read (last_image (L.state dev.old).medium) (64 * line) 64 ++ drop (at + 64) out.old) }
-    ensures lines { Wander (L.state dev.old).medium (L.state dev.new).medium }
+    ensures lines { WritesBack (L.state dev.old).medium (L.state dev.new).medium }
     ensures runs { Runs 1 0 (ended result) (L.state dev.old).panel (L.state dev.new).panel }
 {
     load_line(dev, line, &mut out[at..at + LINE as usize])

@@ -3,13 +3,13 @@ ghost use Rattle.std.specs.Prelude.{◌≡◌, ◌+◌, ◌*◌, ◌<◌, ◌≤
 ghost use Rattle.std.specs.Result.{is_ok};
 ghost use Rattle.line_device.specs.Medium.{last_image};
 ghost use Rattle.line_device.specs.Panel.{Runs};
-ghost use Rattle.line_words.specs.Words.{WandersOutside};
+ghost use Rattle.line_words.specs.Words.{WritesBackOutside};
 ghost use Rattle.line_words.specs.Ending.{ended};
 ghost use Rattle.word_log.specs.Area.{IsOf};
 ghost use Rattle.word_tables.specs.Bounds.{IsValid};
 ghost use Rattle.block_device.specs.Area.{block_area};
 ghost use Rattle.block_device.specs.Reading.{map_read};
-ghost use Rattle.block_device.specs.Object.{Serves, AreDurable, HasGoodMetadata, IsInStep};
+ghost use Rattle.block_device.specs.Object.{BlocksServe, AreDurable, HasGoodMetadata, IsInStep};
 ghost use Rattle.block_device.specs.Changes.{MayChange, AreTaken, AreWithin, changed_map, units_named, word_changes};
 ghost use Rattle.block_device.specs.Images.{EachReads, IsEither};
 
@@ -31,7 +31,7 @@ impl Blocks {
         dev: &mut L,
         changes: &[Change],
     ) -> Result<(), Interruption>
-        requires serves { Serves self.old (L.state dev.old).medium }
+        requires serves { BlocksServe self.old (L.state dev.old).medium }
         requires quiet { IsTrue self.old.quiet }
         requires on { IsTrue (L.state dev.old).panel.power }
         requires good { HasGoodMetadata self.old.geo (L.state dev.old).medium }
@@ -46,8 +46,8 @@ impl Blocks {
             (map_read self.old.geo (L.state dev.old).medium.is_bad (last_image (L.state dev.old).medium) self.old.map)
             (map_read self.old.geo (L.state dev.old).medium.is_bad (last_image (L.state dev.old).medium)
             (changed_map changes.now self.old.map))) }
-        ensures outside { WandersOutside (IsOf (block_area self.old.geo)) (L.state dev.old).medium (L.state dev.new).medium }
-        ensures serves { OnOk result (Serves self.new (L.state dev.new).medium) }
+        ensures outside { WritesBackOutside (IsOf (block_area self.old.geo)) (L.state dev.old).medium (L.state dev.new).medium }
+        ensures serves { OnOk result (BlocksServe self.new (L.state dev.new).medium) }
         ensures in_step { OnOk result (IsTrue self.new.quiet × IsInStep self.new.map self.new.free 0) }
         ensures object { (self.new.geo ≡ self.old.geo) × (self.new.settled ≡ is_ok result) }
         ensures runs { Runs (5 * length changes.now + 6) (2 * length changes.now + 3) (ended result)

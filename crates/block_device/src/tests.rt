@@ -1,10 +1,10 @@
 // Stories of blocks on a plain device, told by what a caller sees.
 ghost use Rattle.std.specs.Prelude.{◌≡◌, ◌/◌, ◌<◌, ◌≤◌, ℕ, [], false, IfOk, IsTrue, OnOk};
-ghost use Rattle.line_device.specs.Medium.{Wander};
+ghost use Rattle.line_device.specs.Medium.{WritesBack};
 ghost use Rattle.line_device.specs.Plain.{device_of};
 ghost use Rattle.word_tables.specs.Bounds.{IsValid};
 ghost use Rattle.word_tables.specs.Layout.{total_lines};
-ghost use Rattle.block_device.specs.Object.{Serves, HasStrongMetadata};
+ghost use Rattle.block_device.specs.Object.{BlocksServe, HasStrongMetadata};
 
 use crate::{BlockFault, Blocks, MountFault};
 use line_device::{Choice, LineDevice, Lines, Plain, ResetFault};
@@ -45,7 +45,7 @@ fn fresh(alloc: Global, lines: u64) -> Result<Plain, ResetFault>
 }
 
 fn switch_off<D: LineDevice>(dev: &mut D)
-    ensures lines { Wander (D.state dev.old).medium (D.state dev.new).medium }
+    ensures lines { WritesBack (D.state dev.old).medium (D.state dev.new).medium }
     ensures off { (D.state dev.new).panel.power ≡ false }
 {
     if dev.power() {
@@ -79,7 +79,7 @@ fn open<D: LineDevice>(
 ) -> Result<Blocks, MountFault>
     requires valid { IsValid geo }
     requires end { (p : ℕ) → (D.state dev.old).medium.count ≤ p / 8 → (D.state dev.old).medium.history p ≡ [] }
-    ensures serves { IfOk result (λ blocks. IsTrue blocks.settled → Serves blocks (D.state dev.new).medium) }
+    ensures serves { IfOk result (λ blocks. IsTrue blocks.settled → BlocksServe blocks (D.state dev.new).medium) }
     ensures geo { IfOk result (λ blocks. blocks.geo ≡ geo) }
 {
     switch_off(dev);
@@ -98,7 +98,7 @@ fn start(
     geo: Geometry,
 ) -> Result<Blocks, MountFault>
     requires { IsValid geo }
-    ensures serves { IfOk result (λ blocks. IsTrue blocks.settled → Serves blocks (device_of dev.new).medium) }
+    ensures serves { IfOk result (λ blocks. IsTrue blocks.settled → BlocksServe blocks (device_of dev.new).medium) }
     ensures geo { IfOk result (λ blocks. blocks.geo ≡ geo) }
 {
     open(alloc, dev, choice, geo)
@@ -106,8 +106,8 @@ fn start(
 
 // A media error takes a line, if there is one, while the blocks are in use.
 fn spoil<L: Lines>(blocks: &Blocks, dev: &mut L, line: u64)
-    requires { IsTrue blocks.now.settled → Serves blocks.now (L.state dev.old).medium }
-    ensures { IsTrue blocks.now.settled → Serves blocks.now (L.state dev.new).medium }
+    requires { IsTrue blocks.now.settled → BlocksServe blocks.now (L.state dev.old).medium }
+    ensures { IsTrue blocks.now.settled → BlocksServe blocks.now (L.state dev.new).medium }
 {
     if blocks.settled() && line < dev.lines() {
         dev.poison(LineNo(line));
@@ -116,8 +116,8 @@ fn spoil<L: Lines>(blocks: &Blocks, dev: &mut L, line: u64)
 
 // The first byte of a block whose bytes are all the same.
 fn byte_of<L: Lines>(blocks: &mut Blocks, dev: &mut L, block: u64) -> Result<u8, BlockFault>
-    requires { IsTrue blocks.old.settled → Serves blocks.old (L.state dev.old).medium }
-    ensures { IsTrue blocks.new.settled → Serves blocks.new (L.state dev.new).medium }
+    requires { IsTrue blocks.old.settled → BlocksServe blocks.old (L.state dev.old).medium }
+    ensures { IsTrue blocks.new.settled → BlocksServe blocks.new (L.state dev.new).medium }
 {
     if !blocks.settled() || !dev.power() {
         return Err(BlockFault::Device);
@@ -143,8 +143,8 @@ fn write<L: Lines>(
     block: u64,
     bytes: &[u8],
 ) -> Result<(), BlockFault>
-    requires { IsTrue blocks.old.settled → Serves blocks.old (L.state dev.old).medium }
-    ensures { IsTrue blocks.new.settled → Serves blocks.new (L.state dev.new).medium }
+    requires { IsTrue blocks.old.settled → BlocksServe blocks.old (L.state dev.old).medium }
+    ensures { IsTrue blocks.new.settled → BlocksServe blocks.new (L.state dev.new).medium }
 {
     if !blocks.settled() || !dev.power() {
         return Err(BlockFault::Device);
@@ -153,8 +153,8 @@ fn write<L: Lines>(
 }
 
 fn discard<L: Lines>(blocks: &mut Blocks, dev: &mut L, span: Span) -> Result<(), BlockFault>
-    requires { IsTrue blocks.old.settled → Serves blocks.old (L.state dev.old).medium }
-    ensures { IsTrue blocks.new.settled → Serves blocks.new (L.state dev.new).medium }
+    requires { IsTrue blocks.old.settled → BlocksServe blocks.old (L.state dev.old).medium }
+    ensures { IsTrue blocks.new.settled → BlocksServe blocks.new (L.state dev.new).medium }
 {
     if !blocks.settled() || !dev.power() {
         return Err(BlockFault::Device);
@@ -164,8 +164,8 @@ fn discard<L: Lines>(blocks: &mut Blocks, dev: &mut L, span: Span) -> Result<(),
 
 // Absent one after the other.
 fn hint<L: Lines>(blocks: &mut Blocks, dev: &mut L, span: Span) -> Result<(), BlockFault>
-    requires { IsTrue blocks.old.settled → Serves blocks.old (L.state dev.old).medium }
-    ensures { IsTrue blocks.new.settled → Serves blocks.new (L.state dev.new).medium }
+    requires { IsTrue blocks.old.settled → BlocksServe blocks.old (L.state dev.old).medium }
+    ensures { IsTrue blocks.new.settled → BlocksServe blocks.new (L.state dev.new).medium }
 {
     if !blocks.settled() || !dev.power() {
         return Err(BlockFault::Device);
@@ -174,8 +174,8 @@ fn hint<L: Lines>(blocks: &mut Blocks, dev: &mut L, span: Span) -> Result<(), Bl
 }
 
 fn scar<L: Lines>(blocks: &mut Blocks, dev: &mut L, spans: &[Span]) -> Result<(), BlockFault>
-    requires { IsTrue blocks.old.settled → Serves blocks.old (L.state dev.old).medium }
-    ensures { IsTrue blocks.new.settled → Serves blocks.new (L.state dev.new).medium }
+    requires { IsTrue blocks.old.settled → BlocksServe blocks.old (L.state dev.old).medium }
+    ensures { IsTrue blocks.new.settled → BlocksServe blocks.new (L.state dev.new).medium }
 {
     if !blocks.settled() || !dev.power() || spans.is_empty() {
         return Err(BlockFault::Device);
@@ -225,8 +225,8 @@ fn a_bad_line_of_a_block_is_told_and_written_over(rt: HostRuntime) -> Result<(),
 
 // Writes a block, or takes it away: call k of many. Gives the byte that it has then.
 fn change_one<L: Lines>(blocks: &mut Blocks, dev: &mut L, k: u8) -> Result<u8, BlockFault>
-    requires { IsTrue blocks.old.settled → Serves blocks.old (L.state dev.old).medium }
-    ensures { IsTrue blocks.new.settled → Serves blocks.new (L.state dev.new).medium }
+    requires { IsTrue blocks.old.settled → BlocksServe blocks.old (L.state dev.old).medium }
+    ensures { IsTrue blocks.new.settled → BlocksServe blocks.new (L.state dev.new).medium }
 {
     let start = block_of(k) as u64;
     if k % 3 == 0 {

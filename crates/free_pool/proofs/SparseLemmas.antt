@@ -7,7 +7,7 @@ use Rattle.std.specs.List.{range_with_len}
 use Rattle.std.proofs.lemmas.Option.{slice_get-get_or, slice_get_within, get_or_from_slice_get}
 use Rattle.std.proofs.lemmas.Bool.{cases_eq, cases_lt, lt-ltb, le-ltb, ltb-true, ltb-false}
 use Rattle.free_pool.specs.Units.{IsFree, IsTaken, free_count}
-use Rattle.free_pool.specs.Sparse.{pool_of, IsIndex, IsKept}
+use Rattle.free_pool.specs.Sparse.{pool_of, IsIndex, IsPool}
 use Rattle.free_pool.proofs.CountLemmas.{free_count-taken, free_count-given, free_count-le}
 
 -- a unit is free exactly where its place is before the first taken one
@@ -60,17 +60,17 @@ module _ (old new : List ℕ) (n m unit : ℕ) (b : Bool) (lengths : length new 
       same_lists (pool_of new m) (set (pool_of old n) unit b) (omega arith) (λ k d within. item_changed k d (omega arith))
 
 -- what is true of a pool after one unit changes
-pub kept_taken : (order places : List ℕ) (old : List Bool) (free unit : ℕ) → IsIndex order places → free_count old ≡ free → IsFree old unit → pool_of places (free - 1) ≡ set old unit false → IsKept order places (free - 1)
+pub kept_taken : (order places : List ℕ) (old : List Bool) (free unit : ℕ) → IsIndex order places → free_count old ≡ free → IsFree old unit → pool_of places (free - 1) ≡ set old unit false → IsPool order places (free - 1)
 kept_taken order places old free unit index count is_free after =
     let change = free_count-taken old unit is_free in
     record { index = index; count = ap free_count after ∙ omega arith }
 
-pub kept_given : (order places : List ℕ) (old : List Bool) (free unit : ℕ) → IsIndex order places → free_count old ≡ free → IsTaken old unit → pool_of places (free + 1) ≡ set old unit true → IsKept order places (free + 1)
+pub kept_given : (order places : List ℕ) (old : List Bool) (free unit : ℕ) → IsIndex order places → free_count old ≡ free → IsTaken old unit → pool_of places (free + 1) ≡ set old unit true → IsPool order places (free + 1)
 kept_given order places old free unit index count is_taken after =
     let change = free_count-given old unit is_taken in
     record { index = index; count = ap free_count after ∙ omega arith }
 
-module _ (order places : List ℕ) (free : ℕ) (kept : IsKept order places free) where
+module _ (order places : List ℕ) (free : ℕ) (kept : IsPool order places free) where
   pub free_within : free ≤ length order
   free_within = omega (arith, free_count-le (pool_of places free), length-map places (λ place. ltb place free), kept.count, kept.index.lengths)
 
@@ -163,7 +163,7 @@ module _ (n : ℕ) where
       let below : k < n = omega (arith, length-map-range_with_len (λ place. ltb place n) 0 n) in
       get_or-map-range_with_len (λ place. ltb place n) 0 n k k d below (omega arith) ∙ lt-ltb k n below ∙ sym (get_or-replicate n k true d below))
 
-  pub range_kept : IsKept (range_with_len 0 n) (range_with_len 0 n) n
+  pub range_kept : IsPool (range_with_len 0 n) (range_with_len 0 n) n
   range_kept = record {
     index = range_index;
     count = ap free_count all_free ∙ sum_by-replicate (λ (b : Bool). cond b 1 0) n true ∙ omega arith;

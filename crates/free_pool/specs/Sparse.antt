@@ -13,6 +13,6 @@ pub record IsIndex (order places : List ℕ) : Type 0 where
   pub ordered : (place : ℕ) → place < length order → (slice_index order place < length places) × (slice_index places (slice_index order place) ≡ place)
 
 -- what is true of every pool
-pub record IsKept (order places : List ℕ) (free : ℕ) : Type 0 where
+pub record IsPool (order places : List ℕ) (free : ℕ) : Type 0 where
   pub index : IsIndex order places
   pub count : free_count (pool_of places free) ≡ free

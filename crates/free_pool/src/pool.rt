@@ -18,13 +18,13 @@ pub struct Pool {
 
 impl Model for Pool {
     ghost use Rattle.std.specs.Prelude.{List, Bool};
-    ghost use Rattle.free_pool.specs.Sparse.{IsKept, pool_of};
+    ghost use Rattle.free_pool.specs.Sparse.{IsPool, pool_of};
 
     ghost Value = { List Bool };
 
     ghost view = { λ p. pool_of p.places.items p.free };
 
-    ghost invariant = { λ p. IsKept p.order.items p.places.items p.free };
+    ghost invariant = { λ p. IsPool p.order.items p.places.items p.free };
 }
 
 impl Pool {

@@ -5,13 +5,13 @@ use Rattle.std.proofs.lemmas.Bool.{cases_eq, cases_lt, eq-eqb, ne_eqb, lt-ltb, l
 use Rattle.std.proofs.lemmas.List.{length-replicate, length-take, length-drop, get_or-replicate, get_or_past, get_or-take, get_or-drop}
 use Rattle.std.proofs.lemmas.Option.{slice_get-get_or, slice_get_past}
 use Rattle.line_device.specs.Word.{word_from, word_at, byte_over, word_over, reaches, IsPut}
-use Rattle.line_device.specs.History.{latest, newest, IsPart, Fades}
-use Rattle.line_device.specs.Medium.{Medium, Wander, Weakens, zeros, with_at, on_line, word_stored, stored, renewed, settled, IsLine}
+use Rattle.line_device.specs.History.{latest, newest, IsPart, WordWritesBack}
+use Rattle.line_device.specs.Medium.{Medium, WritesBack, Weakens, zeros, with_at, on_line, word_stored, stored, renewed, flushed, IsLine}
 use Rattle.line_device.specs.Cells.{first_and_last, ends, ends_of, is_bad_mark, is_weak_mark, has_words, good_mark, memory, weakened}
 use Rattle.line_device.specs.declared.plain.cells.Mark.{Mark}
 use Rattle.line_device.specs.declared.plain.cells.Mark.TheVariants.{Healthy, Weak, Bad}
-use Rattle.line_device.proofs.HistoryLemmas.{latest-cons, fades-refl}
-use Rattle.line_device.proofs.WanderLemmas.{wander-refl, on_line-in, on_line-out}
+use Rattle.line_device.proofs.HistoryLemmas.{latest-cons, word_write_back-refl}
+use Rattle.line_device.proofs.WriteBackLemmas.{write_back-refl, on_line-in, on_line-out}
 use Rattle.line_device.proofs.WordLemmas.{word_from-cong, word_at-cong, word_at-put_in, word_at-put_out, word_at-put_past, word_at-put_line}
 
 -- one value or two
@@ -139,11 +139,11 @@ words-last : (mark : Option Mark) (x y : ℕ) → words mark y y ≡ latest (wor
 words-last mark x y = elim (has_words mark) as (λ b. (if b then first_and_last y y else []) ≡ latest (if b then first_and_last x y else [])) [ true ↦ one_value y ∙ sym (latest-first_and_last x y) | false ↦ refl ]
 
 -- a line's last bytes become the durable ones
-pub memory-settled : (count line : ℕ) (marks : List Mark) (bytes durable durable' last : List ℕ) → length bytes ≡ 64 → ((k : ℕ) → k < 64 → get_or bytes k 0 ≡ get_or last (64 * line + k) 0) → IsPut (64 * line) bytes durable durable' → memory count marks durable' last ≡ settled (memory count marks durable last) line
-memory-settled count line marks bytes durable durable' last whole piece put =
+pub memory-flushed : (count line : ℕ) (marks : List Mark) (bytes durable durable' last : List ℕ) → length bytes ≡ 64 → ((k : ℕ) → k < 64 → get_or bytes k 0 ≡ get_or last (64 * line + k) 0) → IsPut (64 * line) bytes durable durable' → memory count marks durable' last ≡ flushed (memory count marks durable last) line
+memory-flushed count line marks bytes durable durable' last whole piece put =
     let old = memory count marks durable last in
     let new = memory count marks durable' last in
-    same_medium new (settled old line) refl (λ n. refl) (λ n. refl)
+    same_medium new (flushed old line) refl (λ n. refl) (λ n. refl)
     (λ p. elim (cases_eq (p / 8) line) as (λ _. new.history p ≡ on_line line (λ _ h. latest h) old.history p) [
       | inl is ↦
           let last_bytes : word_at bytes (p % 8) ≡ word_at last p =
@@ -257,20 +257,20 @@ part_newest : (x : ℕ) (xs : List ℕ) → IsPart (newest (x ∷ xs) ∷ []) (x
 part_newest x [] = inl (refl, tt)
 part_newest x (y ∷ ys) = inr (part_newest y ys)
 
-fades-ends : (weak : Bool) (h : List ℕ) → Fades weak h (ends h)
-fades-ends weak [] = record { part = tt; last = refl; first = λ _. refl }
-fades-ends weak (x ∷ []) = subst (Fades weak (x ∷ [])) (sym (one_value x)) (fades-refl weak (x ∷ []))
-fades-ends weak (x ∷ y ∷ ys) = record {
+word_write_back-ends : (weak : Bool) (h : List ℕ) → WordWritesBack weak h (ends h)
+word_write_back-ends weak [] = record { part = tt; last = refl; first = λ _. refl }
+word_write_back-ends weak (x ∷ []) = subst (WordWritesBack weak (x ∷ [])) (sym (one_value x)) (word_write_back-refl weak (x ∷ []))
+word_write_back-ends weak (x ∷ y ∷ ys) = record {
   part = first_and_last-cases (λ l. IsPart l (x ∷ y ∷ ys)) x (newest (y ∷ ys)) (λ _. inr (part_newest y ys)) (inl (refl, part_newest y ys));
   last = latest-first_and_last x (newest (y ∷ ys)) ∙ sym (latest-cons y ys);
   first = λ _. first-first_and_last x (newest (y ∷ ys));
 }
 
-pub wander-ends_of : (m : Medium) → Wander m (ends_of m)
-wander-ends_of m = record { count = refl; bad = λ n. refl; weak = λ n. refl; fades = λ p. fades-ends (m.is_weak (p / 8)) (m.history p) }
+pub write_back-ends_of : (m : Medium) → WritesBack m (ends_of m)
+write_back-ends_of m = record { count = refl; bad = λ n. refl; weak = λ n. refl; word_write_back = λ p. word_write_back-ends (m.is_weak (p / 8)) (m.history p) }
 
-pub wander_from-ends_of : (a b : Medium) → b ≡ ends_of a → Wander a b
-wander_from-ends_of a b is = subst (Wander a) (sym is) (wander-ends_of a)
+pub write_back_from-ends_of : (a b : Medium) → b ≡ ends_of a → WritesBack a b
+write_back_from-ends_of a b is = subst (WritesBack a) (sym is) (write_back-ends_of a)
 
 pub weakens_from-weakened : (a b : Medium) (line : ℕ) → b ≡ weakened a line → Weakens line a b
-weakens_from-weakened a b line is = subst (Weakens line a) (sym is) (record { marks = λ n. refl; wander = wander-refl a })
+weakens_from-weakened a b line is = subst (Weakens line a) (sym is) (record { marks = λ n. refl; write_back = write_back-refl a })

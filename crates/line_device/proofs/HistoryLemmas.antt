@@ -1,6 +1,6 @@
 -- What stays of a word's values when some are forgotten, and when one comes to them.
 use Rattle.std.proofs.Common.{◌≡◌, ◌⊎◌, inl, inr, ℕ, Bool, true, false, List, [], ◌∷◌, ◌++◌, take, refl, sym, ◌∙◌, ap, subst}
-use Rattle.line_device.specs.History.{latest, newest, IsIn, IsPart, Fades}
+use Rattle.line_device.specs.History.{latest, newest, IsIn, IsPart, WordWritesBack}
 
 pub is_part-refl : (xs : List ℕ) → IsPart xs xs
 is_part-refl [] = tt
@@ -81,44 +81,44 @@ is_part-latest [] = tt
 is_part-latest (x ∷ []) = inl (refl, tt)
 is_part-latest (x ∷ y ∷ ys) = subst (λ l. IsPart l (x ∷ y ∷ ys)) (sym (latest-cons y ys)) (inr (subst (λ l. IsPart l (y ∷ ys)) (latest-cons y ys) (is_part-latest (y ∷ ys))))
 
-pub fades-refl : (weak : Bool) (xs : List ℕ) → Fades weak xs xs
-fades-refl weak xs = record { part = is_part-refl xs; last = refl; first = λ _. refl }
+pub word_write_back-refl : (weak : Bool) (xs : List ℕ) → WordWritesBack weak xs xs
+word_write_back-refl weak xs = record { part = is_part-refl xs; last = refl; first = λ _. refl }
 
-pub fades-trans : (weak : Bool) (a b c : List ℕ) → Fades weak a b → Fades weak b c → Fades weak a c
-fades-trans weak a b c p q = record {
+pub word_write_back-trans : (weak : Bool) (a b c : List ℕ) → WordWritesBack weak a b → WordWritesBack weak b c → WordWritesBack weak a c
+word_write_back-trans weak a b c p q = record {
   part = is_part-trans c b a q.part p.part;
   last = q.last ∙ p.last;
   first = λ w. q.first w ∙ p.first w;
 }
 
--- what may fade from a weak word may from any
-pub fades-any : (weak : Bool) (a b : List ℕ) → Fades true a b → Fades weak a b
-fades-any weak a b p = record { part = p.part; last = p.last; first = λ _. p.first refl }
+-- what may be written back of a weak word may of any
+pub word_write_back-any : (weak : Bool) (a b : List ℕ) → WordWritesBack true a b → WordWritesBack weak a b
+word_write_back-any weak a b p = record { part = p.part; last = p.last; first = λ _. p.first refl }
 
 -- write-back of all
-pub fades-latest : (weak : Bool) (xs : List ℕ) → weak ≡ false → Fades weak xs (latest xs)
-fades-latest weak xs strong = record {
+pub word_write_back-latest : (weak : Bool) (xs : List ℕ) → weak ≡ false → WordWritesBack weak xs (latest xs)
+word_write_back-latest weak xs strong = record {
   part = is_part-latest xs;
   last = latest-latest xs;
   first = λ w. cc;
 }
 
 -- a word of one value keeps it
-pub fades-one : (weak : Bool) (x : ℕ) (new : List ℕ) → Fades weak (x ∷ []) new → new ≡ x ∷ []
-fades-one weak x [] p = p.last
-fades-one weak x (y ∷ []) p = p.last
-fades-one weak x (y ∷ z ∷ zs) p =
+pub word_write_back-one : (weak : Bool) (x : ℕ) (new : List ℕ) → WordWritesBack weak (x ∷ []) new → new ≡ x ∷ []
+word_write_back-one weak x [] p = p.last
+word_write_back-one weak x (y ∷ []) p = p.last
+word_write_back-one weak x (y ∷ z ∷ zs) p =
     absurd (elim p.part as (λ _. ⊥) [ inl q ↦ q.1 | inr none ↦ none ])
 
-pub fades-none : (weak : Bool) (new : List ℕ) → Fades weak [] new → new ≡ []
-fades-none weak [] p = refl
-fades-none weak (y ∷ ys) p = absurd p.part
+pub word_write_back-none : (weak : Bool) (new : List ℕ) → WordWritesBack weak [] new → new ≡ []
+word_write_back-none weak [] p = refl
+word_write_back-none weak (y ∷ ys) p = absurd p.part
 
-pub newest-fades : (weak : Bool) (a b : List ℕ) → Fades weak a b → newest b ≡ newest a
-newest-fades weak a b p = newest_same b a p.last
+pub newest-word_write_back : (weak : Bool) (a b : List ℕ) → WordWritesBack weak a b → newest b ≡ newest a
+newest-word_write_back weak a b p = newest_same b a p.last
 
-pub is_in-fades : (weak : Bool) (v : ℕ) (a b : List ℕ) → Fades weak a b → IsIn v b → IsIn v a
-is_in-fades weak v a b p at = is_in-part v b a p.part at
+pub is_in-word_write_back : (weak : Bool) (v : ℕ) (a b : List ℕ) → WordWritesBack weak a b → IsIn v b → IsIn v a
+is_in-word_write_back weak v a b p at = is_in-part v b a p.part at
 
 -- two words that end alike are both empty or neither
 take_first-push : (v : ℕ) (a b : List ℕ) → latest b ≡ latest a → take 1 b ≡ take 1 a → take 1 (b ++ v ∷ []) ≡ take 1 (a ++ v ∷ [])
@@ -128,15 +128,15 @@ take_first-push v (x ∷ xs) [] last first = cc
 take_first-push v (x ∷ xs) (y ∷ ys) last first = first
 
 -- one value more at the end of both
-pub fades-push : (weak : Bool) (a b : List ℕ) (v : ℕ) → Fades weak a b → Fades weak (a ++ v ∷ []) (b ++ v ∷ [])
-fades-push weak a b v p = record {
+pub word_write_back-push : (weak : Bool) (a b : List ℕ) (v : ℕ) → WordWritesBack weak a b → WordWritesBack weak (a ++ v ∷ []) (b ++ v ∷ [])
+word_write_back-push weak a b v p = record {
   part = is_part-append b a (v ∷ []) p.part;
   last = latest-push b v ∙ sym (latest-push a v);
   first = λ w. take_first-push v a b p.last (p.first w);
 }
 
-pub fades-latest_both : (weak : Bool) (a b : List ℕ) → Fades weak a b → Fades weak (latest a) (latest b)
-fades-latest_both weak a b p = subst (Fades weak (latest a)) (sym p.last) (fades-refl weak (latest a))
+pub word_write_back-latest_both : (weak : Bool) (a b : List ℕ) → WordWritesBack weak a b → WordWritesBack weak (latest a) (latest b)
+word_write_back-latest_both weak a b p = subst (WordWritesBack weak (latest a)) (sym p.last) (word_write_back-refl weak (latest a))
 
 pub is_in-latest : (v : ℕ) (xs : List ℕ) → IsIn v (latest xs) → v ≡ newest xs
 is_in-latest v [] at = absurd at

@@ -1,6 +1,6 @@
 pub mod HistoryLemmas
 pub mod WordLemmas
 pub mod PanelLemmas
-pub mod WanderLemmas
+pub mod WriteBackLemmas
 pub mod CellsLemmas
 pub mod RestartLemmas

@@ -7,7 +7,7 @@ use Rattle.line_device.specs.Device.{Device, Depicts, Waited}
 use Rattle.line_device.specs.Cells.{kept}
 use Rattle.line_device.specs.declared.line.Choice.{Choice}
 use Rattle.line_device.specs.declared.line.Choice.TheVariants.{Firsts, Lasts, Seed}
-use Rattle.line_device.proofs.HistoryLemmas.{latest-cons, is_in-newest, fades-refl}
+use Rattle.line_device.proofs.HistoryLemmas.{latest-cons, is_in-newest, word_write_back-refl}
 use Rattle.line_device.proofs.PanelLemmas.{arms_nothing-refl}
 
 survives-first : (choice : Choice) (weak : Bool) (h : List ℕ) → IsIn (newest h) h → (choice ≡ Lasts → ⊥) → (value : ℕ) × Survives choice weak h (take 1 h) value
@@ -59,7 +59,7 @@ depicts-survivors choice old new x = record {
 -- a restart that was refused at once
 pub waited-refl : (d : Device) → Waited d d
 waited-refl d = record {
-  lines = record { count = refl; bad = λ n. refl; weak = λ n. refl; words = λ p. inl (fades-refl (d.medium.is_weak (p / 8)) (d.medium.history p)) };
+  lines = record { count = refl; bad = λ n. refl; weak = λ n. refl; words = λ p. inl (word_write_back-refl (d.medium.is_weak (p / 8)) (d.medium.history p)) };
   panel = record { power = refl; armed = arms_nothing-refl d.panel; restarts = omega arith; once = omega arith; counts = refl; starts = refl; last_order = refl };
 }
 

@@ -25,7 +25,7 @@ IsPart (x ∷ xs) [] = ⊥
 IsPart (x ∷ xs) (y ∷ ys) = ((x ≡ y) × IsPart xs ys) ⊎ IsPart (x ∷ xs) ys
 
 -- Write-back and forgetting, of one word: values may be gone, but not the last one, nor the first in a weak line.
-pub record Fades (weak : Bool) (old new : List ℕ) : Type 0 where
+pub record WordWritesBack (weak : Bool) (old new : List ℕ) : Type 0 where
   pub part : IsPart new old
   pub last : latest new ≡ latest old
   pub first : IsTrue weak → take 1 new ≡ take 1 old

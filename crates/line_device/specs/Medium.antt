@@ -1,7 +1,7 @@
 -- The lines of a device, and what calls do to them. A word's place is 8 * line + word.
 use Rattle.std.specs.Prelude.{◌≡◌, ◌↔◌, ◌+◌, ◌*◌, ◌/◌, ◌%◌, ◌<◌, ◌≤◌, ◌^◌, ◌==◌, not, ℕ, Bool, true, false, List, [], ◌∷◌, ◌++◌, ◌⊎◌, length, if◌then◌else◌, nat_lt, IsTrue, take}
 use Rattle.line_device.specs.Word.{word_at, word_over, reaches}
-use Rattle.line_device.specs.History.{latest, newest, IsIn, Fades}
+use Rattle.line_device.specs.History.{latest, newest, IsIn, WordWritesBack}
 use Rattle.line_device.specs.declared.line.LineState.{LineState}
 use Rattle.line_device.specs.declared.line.LineState.TheVariants.{Healthy, Weak, Bad}
 use Rattle.line_device.specs.declared.line.Choice.{Choice}
@@ -43,11 +43,11 @@ abbrev pub on_line : ℕ → (ℕ → List ℕ → List ℕ) → (ℕ → List �
 on_line line change history p = if p / 8 == line then change (p % 8) (history p) else history p
 
 -- What a call leaves of the lines beside its effect: the cache may write back, and values between may be forgotten.
-pub record Wander (old new : Medium) : Type 0 where
+pub record WritesBack (old new : Medium) : Type 0 where
   pub count : new.count ≡ old.count
   pub bad : (n : ℕ) → new.is_bad n ≡ old.is_bad n
   pub weak : (n : ℕ) → new.is_weak n ≡ old.is_weak n
-  pub fades : (p : ℕ) → Fades (old.is_weak (p / 8)) (old.history p) (new.history p)
+  pub word_write_back : (p : ℕ) → WordWritesBack (old.is_weak (p / 8)) (old.history p) (new.history p)
 
 -- a word that the stored bytes reach has one value more
 abbrev pub word_stored : ℕ → List ℕ → ℕ → List ℕ → List ℕ
@@ -67,21 +67,21 @@ abbrev pub poisoned : Medium → ℕ → Medium
 poisoned m line = renewed m line true false (λ _. [])
 
 -- what the line's words have is durable
-abbrev pub settled : Medium → ℕ → Medium
-settled m line = record m { history = on_line line (λ _ old. latest old) m.history }
+abbrev pub flushed : Medium → ℕ → Medium
+flushed m line = record m { history = on_line line (λ _ old. latest old) m.history }
 
 -- a persist: a weak line does not survive it
 abbrev pub persisted : Medium → ℕ → Medium
-persisted m line = if m.is_weak line then poisoned m line else settled m line
+persisted m line = if m.is_weak line then poisoned m line else flushed m line
 
 -- a line of zeros, healthy and durable
 abbrev pub cleared : Medium → ℕ → Medium
 cleared m line = renewed m line false false (λ _. 0 ∷ [])
 
--- A line is weak from now on, if it is healthy. Before it is, it may be written back, so but for the mark the lines wander.
+-- A line is weak from now on, if it is healthy. Before it is, it may be written back, so but for the mark the lines are only written back.
 pub record Weakens (line : ℕ) (old new : Medium) : Type 0 where
   pub marks : (n : ℕ) → new.is_weak n ≡ with_at old.is_weak line (not (old.is_bad line)) n
-  pub wander : Wander old (record new { is_weak = old.is_weak })
+  pub write_back : WritesBack old (record new { is_weak = old.is_weak })
 
 -- so many lines of zeros
 abbrev pub zeros : ℕ → Medium
@@ -129,9 +129,9 @@ pub record Waits (old new : Medium) : Type 0 where
   pub count : new.count ≡ old.count
   pub bad : (n : ℕ) → new.is_bad n ≡ old.is_bad n
   pub weak : (n : ℕ) → new.is_weak n ≡ old.is_weak n
-  pub words : (p : ℕ) → Fades (old.is_weak (p / 8)) (old.history p) (new.history p)
+  pub words : (p : ℕ) → WordWritesBack (old.is_weak (p / 8)) (old.history p) (new.history p)
       ⊎ ((value : ℕ) × IsIn value (old.history p) × (new.history p ≡ value ∷ []))
 
--- what an effect may leave of the lines, is also what it may leave of lines that wandered before it
-abbrev pub IsBetweenWanders : (Medium → Medium) → Type 0
-IsBetweenWanders effect = (old new : Medium) → Wander (effect old) new ↔ ((between : Medium) × Wander old between × Wander (effect between) new)
+-- what an effect may leave of the lines, is also what it may leave of lines that were written back before it
+abbrev pub IsBetweenWriteBacks : (Medium → Medium) → Type 0
+IsBetweenWriteBacks effect = (old new : Medium) → WritesBack (effect old) new ↔ ((between : Medium) × WritesBack old between × WritesBack (effect between) new)

@@ -16,9 +16,9 @@ abbrev pub device_of : Plain → Device
 device_of p = record { medium = medium_of p.cells; panel = panel_of p.switches }
 
 -- its lines
-abbrev pub lines_of : Plain → Medium
-lines_of p = medium_of p.cells
+abbrev pub plain_medium : Plain → Medium
+plain_medium p = medium_of p.cells
 
 -- a counted call that leaves the lines
 abbrev pub OnlyCounts : Plain → Plain → Type 0
-OnlyCounts old new = (lines_of new ≡ lines_of old) × (switches_of new ≡ after_call (switches_of old))
+OnlyCounts old new = (plain_medium new ≡ plain_medium old) × (switches_of new ≡ after_call (switches_of old))

@@ -33,8 +33,8 @@ abbrev pub end_of : Switches → Outcome
 end_of s = next_end s.cut s.fail
 
 -- whether the next counted call is done, or why not
-abbrev pub answer_of : Switches → Result (Unit {0}) DeviceFault
-answer_of s = if is_due s.cut then Err PowerLost else (if is_due s.fail then Err Failed else Ok tt)
+abbrev pub call_answer : Switches → Result (Unit {0}) DeviceFault
+call_answer s = if is_due s.cut then Err PowerLost else (if is_due s.fail then Err Failed else Ok tt)
 
 -- the counts after a counted call that ended so
 abbrev pub counts_after : Outcome → Counts → Counts

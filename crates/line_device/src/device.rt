@@ -1,6 +1,6 @@
 // The calls that set a device up and take it through power cuts.
 ghost use Rattle.std.specs.Prelude.{◌≡◌, ◌<◌, ◌≤◌, ℕ, true, false, IsTrue, IsErr, IfOk, OnOk, MatchResult};
-ghost use Rattle.line_device.specs.Medium.{Wander, Shows, installed, zeros};
+ghost use Rattle.line_device.specs.Medium.{WritesBack, Shows, installed, zeros};
 ghost use Rattle.line_device.specs.Panel.{Start, SetsUp, outcome, after_arm_cut, after_arm_fail, after_evict, after_disarm, after_power_off};
 ghost use Rattle.line_device.specs.Device.{Restarted, Waited, setup_outcome};
 ghost use Rattle.line_device.specs.declared.fault.DeviceFault.TheVariants.{Poisoned};
@@ -16,14 +16,14 @@ pub trait LineDevice: Lines {
         requires some { 1 ≤ lines }
         requires few { lines ≤ 118016 }
         requires words { unit ≡ 8 }
-        ensures lines { OnOk result (Wander (zeros lines) (Self.state self.new).medium) }
+        ensures lines { OnOk result (WritesBack (zeros lines) (Self.state self.new).medium) }
         ensures on { OnOk result (IsTrue (Self.state self.new).panel.power) }
         ensures sets_up { SetsUp (setup_outcome result) (Self.state self.old).panel (Self.state self.new).panel };
 
     /// Makes a line what is told, durably. After a refusal nothing is known of the lines.
     fn install(&mut self, line: LineNo, told: &LineState) -> Result<(), ResetFault>
         requires { line.0 < (Self.state self.old).medium.count }
-        ensures lines { OnOk result (Wander (installed (Self.state self.old).medium line.0 told.now) (Self.state self.new).medium) }
+        ensures lines { OnOk result (WritesBack (installed (Self.state self.old).medium line.0 told.now) (Self.state self.new).medium) }
         ensures sets_up { SetsUp (setup_outcome result) (Self.state self.old).panel (Self.state self.new).panel };
 
     /// Reads a line out as last stored, bad or not.
@@ -31,18 +31,18 @@ pub trait LineDevice: Lines {
         requires { line.0 < (Self.state self.old).medium.count }
         ensures told { IfOk result (λ told. Shows (Self.state self.old).medium line.0 told) }
         ensures never_poisoned { (n : _) → result ≡ Err (Poisoned n) → ⊥ }
-        ensures lines { Wander (Self.state self.old).medium (Self.state self.new).medium }
+        ensures lines { WritesBack (Self.state self.old).medium (Self.state self.new).medium }
         ensures sets_up { SetsUp (outcome result) (Self.state self.old).panel (Self.state self.new).panel };
 
     /// Asks for the write-back of so many lines.
     fn evict(&mut self, lines: u64)
-        ensures lines { Wander (Self.state self.old).medium (Self.state self.new).medium }
+        ensures lines { WritesBack (Self.state self.old).medium (Self.state self.new).medium }
         ensures panel { (Self.state self.new).panel ≡ after_evict (Self.state self.old).panel lines };
 
     /// Cuts the power. What each word keeps shows at the restart.
     fn power_off(&mut self)
         requires { IsTrue (Self.state self.old).panel.power }
-        ensures lines { Wander (Self.state self.old).medium (Self.state self.new).medium }
+        ensures lines { WritesBack (Self.state self.old).medium (Self.state self.new).medium }
         ensures panel { (Self.state self.new).panel ≡ after_power_off (Self.state self.old).panel };
 
     /// Brings the power back. Each word keeps one of its values.
@@ -56,19 +56,19 @@ pub trait LineDevice: Lines {
     /// is replaced.
     fn arm_cut(&mut self, calls: u64)
         requires { 1 ≤ calls }
-        ensures lines { Wander (Self.state self.old).medium (Self.state self.new).medium }
+        ensures lines { WritesBack (Self.state self.old).medium (Self.state self.new).medium }
         ensures panel { (Self.state self.new).panel ≡ after_arm_cut (Self.state self.old).panel calls };
 
     /// The counted call of that number from now on fails in place of being done. Where a cut falls on the same call, the
     /// cut comes first.
     fn arm_fail(&mut self, calls: u64)
         requires { 1 ≤ calls }
-        ensures lines { Wander (Self.state self.old).medium (Self.state self.new).medium }
+        ensures lines { WritesBack (Self.state self.old).medium (Self.state self.new).medium }
         ensures panel { (Self.state self.new).panel ≡ after_arm_fail (Self.state self.old).panel calls };
 
     /// Ends what is armed.
     fn disarm(&mut self)
-        ensures lines { Wander (Self.state self.old).medium (Self.state self.new).medium }
+        ensures lines { WritesBack (Self.state self.old).medium (Self.state self.new).medium }
         ensures panel { (Self.state self.new).panel ≡ after_disarm (Self.state self.old).panel };
 
     fn cut_armed(&self) -> bool

@@ -16,7 +16,7 @@ mod tests;
 pub use counts::Counts;
 pub use device::{LineDevice, Peek};
 pub use fault::{DeviceFault, ResetFault};
-pub use laws::{effect_stands_between_wanders, wander_leaves_fewer_images};
+pub use laws::{effects_stand_between_write_backs, write_back_leaves_fewer_images};
 pub use line::{Choice, LineList, LineState};
 pub use lines::Lines;
 pub use order::Order;

@@ -2,7 +2,7 @@
 ghost use Rattle.std.specs.Prelude.{false, ◌≡◌, ◌+◌, ◌<◌, ◌≤◌, length, IsTrue, IfOk, MatchResult, OnOk, OnErr};
 ghost use Rattle.std.specs.Borrow.{sem};
 ghost use Rattle.std.specs.Io.BufRead.{Rests};
-ghost use Rattle.line_device.specs.Medium.{Wander, IsSound, IsLine, Weakens, stored, persisted, cleared, poisoned};
+ghost use Rattle.line_device.specs.Medium.{WritesBack, IsSound, IsLine, Weakens, stored, persisted, cleared, poisoned};
 ghost use Rattle.line_device.specs.Panel.{Runs, outcome};
 ghost use Rattle.line_device.specs.Panel.Outcome.{went};
 ghost use Rattle.line_device.specs.Device.{Device, Poisons};
@@ -42,7 +42,7 @@ pub trait Lines {
         ensures bytes { IfOk result (λ bytes. IsLine (state self.old).medium line.0 bytes.now) }
         ensures poison { Poisons line.0 ((state self.old).medium.is_bad line.0) result }
         ensures* after { sem 𝓛 (Rests Self.row self.entry (λ new.
-            Wander (state self.old).medium (state new).medium
+            WritesBack (state self.old).medium (state new).medium
             × Runs 1 0 (outcome result) (state self.old).panel (state new).panel
             × load_leaves self.old new)) };
 
@@ -53,8 +53,8 @@ pub trait Lines {
         requires some { 0 < length bytes.now }
         requires fits { at + length bytes.now ≤ 64 }
         ensures lines { MatchResult result
-            (λ _. Wander (stored (state self.old).medium line.0 at bytes.now) (state self.new).medium)
-            (λ _. Wander (state self.old).medium (state self.new).medium) }
+            (λ _. WritesBack (stored (state self.old).medium line.0 at bytes.now) (state self.new).medium)
+            (λ _. WritesBack (state self.old).medium (state self.new).medium) }
         ensures poison { Poisons line.0 ((state self.old).medium.is_bad line.0) result }
         ensures runs { Runs 1 0 (outcome result) (state self.old).panel (state self.new).panel };
 
@@ -63,8 +63,8 @@ pub trait Lines {
         requires within { line.0 < (state self.old).medium.count }
         requires on { IsTrue (state self.old).panel.power }
         ensures lines { MatchResult result
-            (λ _. Wander (persisted (state self.old).medium line.0) (state self.new).medium)
-            (λ _. Wander (state self.old).medium (state self.new).medium) }
+            (λ _. WritesBack (persisted (state self.old).medium line.0) (state self.new).medium)
+            (λ _. WritesBack (state self.old).medium (state self.new).medium) }
         ensures poison { Poisons line.0 ((state self.old).medium.is_bad line.0) result }
         ensures runs { Runs 1 1 (outcome result) (state self.old).panel (state self.new).panel };
 
@@ -73,15 +73,15 @@ pub trait Lines {
         requires within { line.0 < (state self.old).medium.count }
         requires on { IsTrue (state self.old).panel.power }
         ensures lines { MatchResult result
-            (λ _. Wander (cleared (state self.old).medium line.0) (state self.new).medium)
-            (λ _. Wander (state self.old).medium (state self.new).medium) }
+            (λ _. WritesBack (cleared (state self.old).medium line.0) (state self.new).medium)
+            (λ _. WritesBack (state self.old).medium (state self.new).medium) }
         ensures poison { Poisons line.0 false result }
         ensures runs { Runs 1 0 (outcome result) (state self.old).panel (state self.new).panel };
 
     /// A media error takes the line, with the power on or off.
     fn poison(&mut self, line: LineNo)
         requires { line.0 < (state self.old).medium.count }
-        ensures lines { Wander (poisoned (state self.old).medium line.0) (state self.new).medium }
+        ensures lines { WritesBack (poisoned (state self.old).medium line.0) (state self.new).medium }
         ensures panel { (state self.new).panel ≡ (state self.old).panel };
 
     /// Marks a healthy line as weak: it works until its next persist, which makes it bad.
@@ -89,7 +89,7 @@ pub trait Lines {
         requires { line.0 < (state self.old).medium.count }
         ensures lines { MatchResult result
             (λ _. Weakens line.0 (state self.old).medium (state self.new).medium)
-            (λ _. Wander (state self.old).medium (state self.new).medium) }
+            (λ _. WritesBack (state self.old).medium (state self.new).medium) }
         ensures panel { (state self.new).panel ≡ (state self.old).panel };
 
     /// Every device is sound.

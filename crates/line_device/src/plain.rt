@@ -3,7 +3,7 @@ ghost use Rattle.std.specs.Prelude.{◌≡◌, ◌<◌, false, None};
 ghost use Rattle.line_device.specs.Panel.{Runs, outcome};
 ghost use Rattle.line_device.specs.Device.{Poisons};
 ghost use Rattle.line_device.specs.Switches.{cut_left, fail_left, end_of, after_call};
-ghost use Rattle.line_device.specs.Plain.{device_of, lines_of, switches_of};
+ghost use Rattle.line_device.specs.Plain.{device_of, plain_medium, switches_of};
 
 use crate::{DeviceFault, Switches};
 use cells::Cells;
@@ -38,8 +38,8 @@ impl Plain {
 
     // Counts a call on a line, and says why it is not done.
     fn reach(&mut self, line: LineNo) -> Result<(), DeviceFault>
-        requires { line.0 < (lines_of self.old).count }
-        ensures poison { Poisons line.0 ((lines_of self.old).is_bad line.0) result }
+        requires { line.0 < (plain_medium self.old).count }
+        ensures poison { Poisons line.0 ((plain_medium self.old).is_bad line.0) result }
         ensures runs { Runs 1 0 (outcome result) (device_of self.old).panel (device_of self.new).panel }
         ensures fires { outcome result ≡ end_of (switches_of self.old) }
         ensures switches { switches_of self.new ≡ after_call (switches_of self.old) }

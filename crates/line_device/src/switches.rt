@@ -3,7 +3,7 @@ ghost use Rattle.std.specs.Prelude.{◌≡◌, ◌+◌, ◌≤◌, true, false, 
 ghost use Rattle.line_device.specs.Arming.{is_due, counted_down, fail_after};
 ghost use Rattle.line_device.specs.Panel.{Runs, outcome, after_arm_cut, after_arm_fail, after_disarm, after_power_off};
 ghost use Rattle.line_device.specs.Panel.Outcome.{went};
-ghost use Rattle.line_device.specs.Switches.{panel_of, cut_left, fail_left, answer_of, after_call, after_persist, after_evict, after_restart, powered};
+ghost use Rattle.line_device.specs.Switches.{panel_of, cut_left, fail_left, call_answer, after_call, after_persist, after_evict, after_restart, powered};
 
 use crate::{Counts, DeviceFault};
 use nvm_base::raise;
@@ -44,7 +44,7 @@ impl Switches {
 
     /// Counts a call of `load`, `store`, `persist` or `clear`, and says whether it is done.
     pub fn count_call(&mut self) -> Result<(), DeviceFault>
-        ensures answer { result ≡ answer_of self.old }
+        ensures answer { result ≡ call_answer self.old }
         ensures after { self.new ≡ after_call self.old }
         ensures runs { Runs 1 0 (outcome result) (panel_of self.old) (panel_of self.new) }
     {

@@ -3,9 +3,9 @@ use Rattle.std.proofs.Common.{◌≡◌, ℕ, ◌*◌, ◌/◌, ◌%◌, ◌^◌
 use Rattle.std.proofs.lemmas.Bool.{cases_eq}
 use Rattle.std.specs.Int.{w64, to_le_bytes}
 use Rattle.line_device.specs.Word.{word_over}
-use Rattle.line_device.specs.History.{newest, Fades}
-use Rattle.line_device.specs.Medium.{Medium, Wander, stored, on_line, word_stored}
-use Rattle.line_device.proofs.WanderLemmas.{on_line-in, on_line-out}
+use Rattle.line_device.specs.History.{newest, WordWritesBack}
+use Rattle.line_device.specs.Medium.{Medium, WritesBack, stored, on_line, word_stored}
+use Rattle.line_device.proofs.WriteBackLemmas.{on_line-in, on_line-out}
 use Rattle.line_device.proofs.WordLemmas.{word_over-word, reaches-word, reaches-other_word}
 use Rattle.line_words.specs.Words.{with_word}
 use Rattle.line_words.proofs.FrameLemmas.{with_word-in, with_word-out}
@@ -36,13 +36,13 @@ stored-word m place value p small =
           on_line-out (place / 8) change m.history p off ∙ sym (with_word-out m place value p out)
     ]
 
-pub wander-stored_word : (m new : Medium) (place value : ℕ) (bytes : List ℕ) → value < 2 ^ 64 → bytes ≡ to_le_bytes w64 value → Wander (stored m (place / 8) (8 * (place % 8)) bytes) new → Wander (with_word m place value) new
-wander-stored_word m new place value bytes small is x = record {
+pub write_back-stored_word : (m new : Medium) (place value : ℕ) (bytes : List ℕ) → value < 2 ^ 64 → bytes ≡ to_le_bytes w64 value → WritesBack (stored m (place / 8) (8 * (place % 8)) bytes) new → WritesBack (with_word m place value) new
+write_back-stored_word m new place value bytes small is x = record {
   count = x.count;
   bad = x.bad;
   weak = x.weak;
-  fades = λ p.
-      subst (λ h. Fades (m.is_weak (p / 8)) h (new.history p))
+  word_write_back = λ p.
+      subst (λ h. WordWritesBack (m.is_weak (p / 8)) h (new.history p))
       (ap (λ b. (stored m (place / 8) (8 * (place % 8)) b).history p) is ∙ stored-word m place value p small)
-      (x.fades p);
+      (x.word_write_back p);
 }

@@ -1,8 +1,8 @@
 // Whole lines that are neither bad nor weak.
 ghost use Rattle.std.specs.Prelude.{◌≡◌, ◌+◌, ◌/◌, ◌<◌, ◌≤◌, ℕ, IsTrue, MatchResult, OnErr, OnOk, length};
-ghost use Rattle.line_device.specs.Medium.{Wander, IsHealthy, IsLine, cleared, last_image, settled, stored};
+ghost use Rattle.line_device.specs.Medium.{WritesBack, IsHealthy, IsLine, cleared, last_image, flushed, stored};
 ghost use Rattle.line_device.specs.Panel.{Runs};
-ghost use Rattle.line_words.specs.Words.{IsOnly, IsSteadfast};
+ghost use Rattle.line_words.specs.Words.{IsOnly, IsGoodLine};
 ghost use Rattle.line_words.specs.Ending.{ended};
 
 use crate::Interruption;
@@ -11,11 +11,11 @@ use nvm_base::LineNo;
 
 /// Makes a line durable.
 pub fn persist_line<L: Lines>(dev: &mut L, line: u64) -> Result<(), Interruption>
-    requires steadfast { IsSteadfast (L.state dev.old).medium line }
+    requires good_line { IsGoodLine (L.state dev.old).medium line }
     requires on { IsTrue (L.state dev.old).panel.power }
     ensures lines { MatchResult result
-        (λ _. Wander (settled (L.state dev.old).medium line) (L.state dev.new).medium)
-        (λ _. Wander (L.state dev.old).medium (L.state dev.new).medium) }
+        (λ _. WritesBack (flushed (L.state dev.old).medium line) (L.state dev.new).medium)
+        (λ _. WritesBack (L.state dev.old).medium (L.state dev.new).medium) }
     ensures runs { Runs 1 1 (ended result) (L.state dev.old).panel (L.state dev.new).panel }
 {
     match dev.persist(LineNo(line)) {
@@ -29,9 +29,9 @@ pub fn persist_line<L: Lines>(dev: &mut L, line: u64) -> Result<(), Interruption
 /// Makes so many lines durable.
 pub fn persist_lines<L: Lines>(dev: &mut L, first: u64, count: u64) -> Result<(), Interruption>
     requires end { first + count ≤ (L.state dev.old).medium.count }
-    requires steadfast { (line : ℕ) → first ≤ line → line < first + count → IsSteadfast (L.state dev.old).medium line }
+    requires good_line { (line : ℕ) → first ≤ line → line < first + count → IsGoodLine (L.state dev.old).medium line }
     requires on { IsTrue (L.state dev.old).panel.power }
-    ensures lines { Wander (L.state dev.old).medium (L.state dev.new).medium }
+    ensures lines { WritesBack (L.state dev.old).medium (L.state dev.new).medium }
     ensures ok { OnOk result ((p : ℕ) → first ≤ p / 8 → p / 8 < first + count
         → IsOnly (last_image (L.state dev.old).medium p) ((L.state dev.new).medium.history p)) }
     ensures runs { Runs count count (ended result) (L.state dev.old).panel (L.state dev.new).panel }
@@ -47,8 +47,8 @@ pub fn clear_line<L: Lines>(dev: &mut L, line: u64) -> Result<(), Interruption>
     requires there { line < (L.state dev.old).medium.count }
     requires on { IsTrue (L.state dev.old).panel.power }
     ensures lines { MatchResult result
-        (λ _. Wander (cleared (L.state dev.old).medium line) (L.state dev.new).medium)
-        (λ _. Wander (L.state dev.old).medium (L.state dev.new).medium) }
+        (λ _. WritesBack (cleared (L.state dev.old).medium line) (L.state dev.new).medium)
+        (λ _. WritesBack (L.state dev.old).medium (L.state dev.new).medium) }
     ensures runs { Runs 1 0 (ended result) (L.state dev.old).panel (L.state dev.new).panel }
 {
     match dev.clear(LineNo(line)) {
@@ -65,8 +65,8 @@ pub fn store_line<L: Lines>(dev: &mut L, line: u64, bytes: &[u8]) -> Result<(), 
     requires on { IsTrue (L.state dev.old).panel.power }
     requires length { length bytes.now ≡ 64 }
     ensures lines { MatchResult result
-        (λ _. Wander (stored (L.state dev.old).medium line 0 bytes.now) (L.state dev.new).medium)
-        (λ _. Wander (L.state dev.old).medium (L.state dev.new).medium) }
+        (λ _. WritesBack (stored (L.state dev.old).medium line 0 bytes.now) (L.state dev.new).medium)
+        (λ _. WritesBack (L.state dev.old).medium (L.state dev.new).medium) }
     ensures runs { Runs 1 0 (ended result) (L.state dev.old).panel (L.state dev.new).panel }
 {
     match dev.store(LineNo(line), 0, bytes) {
@@ -84,7 +84,7 @@ pub fn load_line<L: Lines>(dev: &mut L, line: u64, out: &mut [u8]) -> Result<(),
     requires length { length out.old ≡ 64 }
     ensures ok { OnOk result (IsLine (L.state dev.old).medium line out.new) }
     ensures err { OnErr result (out.new ≡ out.old) }
-    ensures lines { Wander (L.state dev.old).medium (L.state dev.new).medium }
+    ensures lines { WritesBack (L.state dev.old).medium (L.state dev.new).medium }
     ensures runs { Runs 1 0 (ended result) (L.state dev.old).panel (L.state dev.new).panel }
 {
     match dev.load(LineNo(line)) {

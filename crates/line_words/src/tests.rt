@@ -1,6 +1,6 @@
 // Words and lines of a plain device of three lines, through cuts that keep durable values alone.
 ghost use Rattle.std.specs.Prelude.{◌≡◌, ◌<◌, IsTrue};
-ghost use Rattle.line_words.specs.Words.{IsSteadfast};
+ghost use Rattle.line_words.specs.Words.{IsGoodLine};
 
 use crate::{
     Interruption, load_line, load_word, persist_line, persist_lines, renew_lines, store_word,
@@ -14,7 +14,7 @@ const STOPPED: Interruption = Interruption::PowerLost;
 
 // The line can be used, and the power is on.
 fn is_good<L: Lines>(dev: &L, line: u64) -> bool
-    ensures steadfast { IsTrue result → IsSteadfast (L.state dev.now).medium line }
+    ensures good_line { IsTrue result → IsGoodLine (L.state dev.now).medium line }
     ensures on { IsTrue result → IsTrue (L.state dev.now).panel.power }
 {
     line < dev.lines() && dev.power() && !dev.is_bad(LineNo(line)) && !dev.is_weak(LineNo(line))

@@ -1,7 +1,7 @@
 // Single words of lines that are neither bad nor weak. Each call here is one call of the device.
 ghost use Rattle.std.specs.Prelude.{◌≡◌, ◌+◌, ◌*◌, ◌/◌, ◌≤◌, IsTrue, IfOk, MatchResult, length};
 ghost use Rattle.line_device.specs.Word.{word_at};
-ghost use Rattle.line_device.specs.Medium.{Wander, IsHealthy, last_image};
+ghost use Rattle.line_device.specs.Medium.{WritesBack, IsHealthy, last_image};
 ghost use Rattle.line_device.specs.Panel.{Runs};
 ghost use Rattle.line_words.specs.Words.{with_word};
 ghost use Rattle.line_words.specs.Ending.{ended};
@@ -33,7 +33,7 @@ pub fn load_word<L: Lines>(dev: &mut L, place: u64) -> Result<u64, Interruption>
     requires healthy { IsHealthy (L.state dev.old).medium (place / 8) }
     requires on { IsTrue (L.state dev.old).panel.power }
     ensures value { IfOk result (λ value. value ≡ last_image (L.state dev.old).medium place) }
-    ensures lines { Wander (L.state dev.old).medium (L.state dev.new).medium }
+    ensures lines { WritesBack (L.state dev.old).medium (L.state dev.new).medium }
     ensures runs { Runs 1 0 (ended result) (L.state dev.old).panel (L.state dev.new).panel }
 {
     match dev.load(LineNo(place / 8)) {
@@ -49,8 +49,8 @@ pub fn store_word<L: Lines>(dev: &mut L, place: u64, value: u64) -> Result<(), I
     requires healthy { IsHealthy (L.state dev.old).medium (place / 8) }
     requires on { IsTrue (L.state dev.old).panel.power }
     ensures lines { MatchResult result
-        (λ _. Wander (with_word (L.state dev.old).medium place value) (L.state dev.new).medium)
-        (λ _. Wander (L.state dev.old).medium (L.state dev.new).medium) }
+        (λ _. WritesBack (with_word (L.state dev.old).medium place value) (L.state dev.new).medium)
+        (λ _. WritesBack (L.state dev.old).medium (L.state dev.new).medium) }
     ensures runs { Runs 1 0 (ended result) (L.state dev.old).panel (L.state dev.new).panel }
 {
     match dev.store(LineNo(place / 8), 8 * (place % 8), &value.to_le_bytes()) {

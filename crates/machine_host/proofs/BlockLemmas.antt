@@ -4,7 +4,7 @@ use Rattle.line_device.specs.Medium.{Medium}
 use Rattle.line_device.specs.Panel.{Runs}
 use Rattle.line_device.specs.Panel.Outcome.{went}
 use Rattle.line_device.specs.Device.{Device}
-use Rattle.line_words.specs.Words.{WandersBeside}
+use Rattle.line_words.specs.Words.{WritesBackBeside}
 use Rattle.line_words.specs.Ending.{ended}
 use Rattle.line_words.specs.declared.interruption.Interruption.{Interruption}
 use Rattle.line_words.specs.declared.interruption.Interruption.TheVariants.{Failed, PowerLost}
@@ -39,7 +39,7 @@ use Rattle.machine_host.specs.Run.{answered}
 use Rattle.machine_host.specs.Volume.{HasLayout, volume_of}
 use Rattle.machine_host.specs.Stands.{HostState, Serves, AreMounted, Stands, Comes, is_powered}
 use Rattle.machine_host.specs.Faults.{answer_after, fault_answer, fault_mode, mode_after}
-use Rattle.machine_host.proofs.ElsewhereLemmas.{first_not_blocks, layout-beside, wander_volume-beside}
+use Rattle.machine_host.proofs.ElsewhereLemmas.{first_not_blocks, layout-beside, write_back_volume-beside}
 use Rattle.recovery.specs.Fresh.{HasSuperblock}
 use Rattle.recovery.proofs.SuperblockLemmas.{superblock-beside}
 use Rattle.machine_host.proofs.VolumeLemmas.{volume_intact}
@@ -49,8 +49,8 @@ use Rattle.machine_host.proofs.StepLemmas.{comes_of_interruption, is_whole, page
 pub record Called {T : Type 0} (host : HostState) (s : BlocksState) (r : Result T BlockFault) (P : List Block → Type 0) (calls persists : ℕ) (old new : Device) : Type 0 where
   pub untouched : OnRefused r ((s ≡ host.blocks) × (new ≡ old))
   pub images : OnWorked r (EachReads host.blocks.geo new.medium P)
-  pub outside : WandersBeside (IsBlockLine host.blocks.geo) old.medium new.medium
-  pub serves : IsTrue s.settled → object.Serves s new.medium
+  pub outside : WritesBackBeside (IsBlockLine host.blocks.geo) old.medium new.medium
+  pub serves : IsTrue s.settled → object.BlocksServe s new.medium
   pub object : (s.geo ≡ host.blocks.geo) × (s.settled ≡ is_done (block_outcome r))
   pub runs : Runs calls persists (block_outcome r) old.panel new.panel
 
@@ -114,16 +114,16 @@ module _ (host : HostState) (s : BlocksState) (P : List Block → Type 0) (calls
       subst (λ geo. AreReadable geo new.medium) mounted.geometry
       (each_reads-then host.blocks.geo new.medium P (λ bs. Unit {0}) (λ bs x. tt) each)
 
-  pub layout_after : WandersBeside (IsBlockLine host.blocks.geo) old.medium new.medium → HasLayout host.geometry new.medium
+  pub layout_after : WritesBackBeside (IsBlockLine host.blocks.geo) old.medium new.medium → HasLayout host.geometry new.medium
   layout_after x = layout-beside host.geometry (IsBlockLine host.blocks.geo) old.medium new.medium serves.layout x
 
-  superblock_after : WandersBeside (IsBlockLine host.blocks.geo) old.medium new.medium → HasSuperblock host.geometry new.medium
+  superblock_after : WritesBackBeside (IsBlockLine host.blocks.geo) old.medium new.medium → HasSuperblock host.geometry new.medium
   superblock_after x = superblock-beside host.geometry (IsBlockLine host.blocks.geo) old.medium new.medium x (first_not_blocks host.blocks.geo) serves.superblock
 
-  mounted_after : s.geo ≡ host.blocks.geo → IsTrue s.settled → object.Serves s new.medium → AreMounted host.geometry s new.medium
+  mounted_after : s.geo ≡ host.blocks.geo → IsTrue s.settled → object.BlocksServe s new.medium → AreMounted host.geometry s new.medium
   mounted_after geo settled served = record { geometry = geo ∙ mounted.geometry; settled = settled; serves = served }
 
-  pub served_after : (served : object.Serves s new.medium) → s.geo ≡ host.blocks.geo → HasLayout host.geometry new.medium → EachReads host.geometry new.medium (λ bs. bs ≡ blocks_of s new.medium)
+  pub served_after : (served : object.BlocksServe s new.medium) → s.geo ≡ host.blocks.geo → HasLayout host.geometry new.medium → EachReads host.geometry new.medium (λ bs. bs ≡ blocks_of s new.medium)
   served_after served geo layout =
       let same = geo ∙ mounted.geometry in
       subst (λ g. EachReads g new.medium (λ bs. bs ≡ blocks_of s new.medium)) same
@@ -172,12 +172,12 @@ module _ (host : HostState) (s : BlocksState) (action : Action) (calls persists 
   may = MayLeaveBlocks (Some action) (blocks_of host.blocks old.medium)
 
   -- the volume's pages, which such a call leaves
-  pages_beside : WandersBeside (IsBlockLine host.blocks.geo) old.medium new.medium → PagesStand (volume_of host.geometry new.medium) host.geometry.vpages h.volume
+  pages_beside : WritesBackBeside (IsBlockLine host.blocks.geo) old.medium new.medium → PagesStand (volume_of host.geometry new.medium) host.geometry.vpages h.volume
   pages_beside outside =
       let geo_is = (serves.mounted on).geometry in
       stand-loaded (volume_of host.geometry old.medium) (volume_of host.geometry new.medium) host.geometry.vpages h.volume
       (whole_pages host old h stands (is_whole host old h stands on)) (volume_intact host.geometry old.medium serves.layout)
-      (wander_volume-beside host.geometry (IsBlockLine host.blocks.geo) old.medium new.medium serves.layout.valid (λ n at. subst (λ g. IsBlockLine g n) geo_is at) outside)
+      (write_back_volume-beside host.geometry (IsBlockLine host.blocks.geo) old.medium new.medium serves.layout.valid (λ n at. subst (λ g. IsBlockLine g n) geo_is at) outside)
 
   -- the state after a call that went well
   stands_called : Called {T = Unit {0}} host s (Ok tt) may calls persists old new → blocks_of s new.medium ≡ f (blocks_of host.blocks old.medium)
@@ -195,8 +195,8 @@ module _ (host : HostState) (s : BlocksState) (action : Action) (calls persists 
         mode = sym on ∙ stands.mode;
         blocks = λ _. now;
         device = record {
-          blocks = subst (λ torn. EachReads h.geometry new.medium (MayLeaveBlocks torn (f h.blocks))) (sym whole) reads;
-          volume = stands_whole host new h h.volume stands.geometry (whole_length host old h stands whole) (pages_beside c.outside) h.torn whole;
+          blocks = subst (λ interrupted. EachReads h.geometry new.medium (MayLeaveBlocks interrupted (f h.blocks))) (sym whole) reads;
+          volume = stands_whole host new h h.volume stands.geometry (whole_length host old h stands whole) (pages_beside c.outside) h.interrupted whole;
           power = c.runs.cause.0 ∙ stands.device.power;
           cut_armed = c.runs.cause.2 ∙ stands.device.cut_armed;
           fail_armed = c.runs.cause.3 ∙ stands.device.fail_armed;
@@ -206,8 +206,8 @@ module _ (host : HostState) (s : BlocksState) (action : Action) (calls persists 
       }
 
   -- what each image reads as after an interruption
-  blocks_torn : EachReads host.blocks.geo new.medium may → EachReads h.geometry new.medium (MayLeaveBlocks (Some action) h.blocks)
-  blocks_torn each =
+  blocks_interrupted : EachReads host.blocks.geo new.medium may → EachReads h.geometry new.medium (MayLeaveBlocks (Some action) h.blocks)
+  blocks_interrupted each =
       subst (λ bs. EachReads h.geometry new.medium (MayLeaveBlocks (Some action) bs)) (stands.blocks on)
       (subst (λ g. EachReads g new.medium may) ((serves.mounted on).geometry ∙ stands.geometry) each)
 
@@ -216,11 +216,11 @@ module _ (host : HostState) (s : BlocksState) (action : Action) (calls persists 
   Stopped good g = Comes h action (Works good (record h { blocks = f h.blocks })) (fault_answer g) (record { geometry = host.geometry; mode = fault_mode On g; blocks = s }) old new
 
   comes_of_stop : (by : Interruption) (good : Answer) → MayLeaveVolume (Some action) h.volume h.volume → Runs calls persists (ended {T = Unit {0}} (Err by)) old.panel new.panel
-      → EachReads host.blocks.geo new.medium may → WandersBeside (IsBlockLine host.blocks.geo) old.medium new.medium
+      → EachReads host.blocks.geo new.medium may → WritesBackBeside (IsBlockLine host.blocks.geo) old.medium new.medium
       → Comes h action (Works good (record h { blocks = f h.blocks })) (interrupted_answer by) (record { geometry = host.geometry; mode = interrupted_mode by; blocks = s }) old new
   comes_of_stop by good left runs each outside =
       comes_of_interruption host old new h action stands serves on (record { geometry = host.geometry; mode = interrupted_mode by; blocks = s }) good (record h { blocks = f h.blocks })
-      by calls persists refl refl runs (blocks_torn each)
+      by calls persists refl refl runs (blocks_interrupted each)
       (pages_left host old new h action stands serves on h.volume (Some action) left refl (pages_beside outside))
 
   pub comes_of_change : (good : Answer) (r : Result (Unit {0}) BlockFault) (why : Option Refusal) → MayLeaveVolume (Some action) h.volume h.volume → block_refusal h action ≡ why
@@ -275,7 +275,7 @@ on_refused-then (Err f) then_ p = λ told. then_ (p told)
 -- a call that changes blocks, whichever, by its clauses
 pub called : {D : Type 0} (state : D → Device) (host : HostState) (s : BlocksState) (r : Result (Unit {0}) BlockFault) (P : List Block → Type 0) (calls persists : ℕ) (before after : D)
     → OnRefused r ((s ≡ host.blocks) × (after ≡ before)) → OnWorked r (EachReads host.blocks.geo (state after).medium P)
-    → WandersBeside (IsBlockLine host.blocks.geo) (state before).medium (state after).medium → (IsTrue s.settled → object.Serves s (state after).medium)
+    → WritesBackBeside (IsBlockLine host.blocks.geo) (state before).medium (state after).medium → (IsTrue s.settled → object.BlocksServe s (state after).medium)
     → (s.geo ≡ host.blocks.geo) × (s.settled ≡ is_done (block_outcome r)) → Runs calls persists (block_outcome r) (state before).panel (state after).panel
     → Called host s r P calls persists (state before) (state after)
 called state host s r P calls persists before after untouched images outside serves object runs = record {

@@ -2,10 +2,10 @@
 use Rattle.std.proofs.Common.{◌≡◌, ◌≢◌, ℕ, ◌+◌, ◌*◌, ◌/◌, ◌%◌, ◌==◌, ◌||◌, ◌≤◌, true, false, not, Some, None, inl, option_map, Result, Ok, Err, OnOk, List, [], ◌++◌, length, replicate, take, drop, nat_lt, refl, sym, ap, subst, ◌∙◌, arith, append-nil}
 use Rattle.std.proofs.lemmas.Bool.{le-ltb, ne_eqb}
 use Rattle.std.proofs.lemmas.List.{take_all, drop_all, length-replicate}
-use Rattle.line_device.specs.Medium.{Wander}
+use Rattle.line_device.specs.Medium.{WritesBack}
 use Rattle.line_device.specs.Panel.{Runs}
 use Rattle.line_device.specs.Device.{Device}
-use Rattle.line_words.proofs.BesideLemmas.{beside-wander}
+use Rattle.line_words.proofs.BesideLemmas.{beside-write_back}
 use Rattle.nvm_model.specs.Storage.{Block}
 use Rattle.nvm_model.specs.Blocks.{first_there, first_obstacle, look}
 use Rattle.nvm_model.proofs.NumberedLemmas.{length-list_from}
@@ -17,8 +17,8 @@ use Rattle.block_device.specs.Refusals.{told, Answers, OnRefused, OnWorked, bloc
 use Rattle.block_device.specs.Refusals.Refusal.{Range, Length, Unreadable}
 use Rattle.block_device.specs.declared.fault.BlockFault.{BlockFault}
 use Rattle.block_device.specs.declared.fault.BlockFault.TheVariants as fault
-use Rattle.block_device.proofs.ReadLemmas.{map_read-wander}
-use Rattle.block_device.proofs.FrameLemmas.{each_reads-wander}
+use Rattle.block_device.proofs.ReadLemmas.{map_read-write_back}
+use Rattle.block_device.proofs.FrameLemmas.{each_reads-write_back}
 use Rattle.block_device.proofs.ImageLemmas.{each_reads-then, served_reads}
 use Rattle.script_text.specs.Action.Action.{BRead}
 use Rattle.reply_text.specs.Answer.{Answer}
@@ -83,7 +83,7 @@ whole_blocks blocks block count some within =
 
 module _ (now host after : HostState) (s : BlocksState) (r : Result (Unit {0}) BlockFault) (block count len calls : ℕ) (Q : Type 0) (old new : Device)
     (inside : host ≡ now) (state : after ≡ host_after host s r) (on : now.mode ≡ On) (serves : Serves now old) (size : len ≡ 512 * count)
-    (untouched : OnRefused r (Q × (new ≡ old))) (lines : Wander old.medium new.medium) (served : ServesBlocks s new.medium)
+    (untouched : OnRefused r (Q × (new ≡ old))) (lines : WritesBack old.medium new.medium) (served : ServesBlocks s new.medium)
     (object : s ≡ record host.blocks { settled = is_done (block_outcome r) }) (runs : Runs calls 0 (block_outcome r) old.panel new.panel) where
   settled_was : host.blocks.settled ≡ true
   settled_was = ap (λ k. k.blocks.settled) inside ∙ (serves.mounted on).settled
@@ -107,7 +107,7 @@ module _ (now host after : HostState) (s : BlocksState) (r : Result (Unit {0}) B
   reads =
       let layout = subst (λ g. HasLayout g old.medium) geo_was serves.layout in
       let served_was = subst (λ k. ServesBlocks k.blocks old.medium) (sym inside) (serves.mounted on).serves in
-      each_reads-wander host.blocks.geo old.medium new.medium may layout.valid lines
+      each_reads-write_back host.blocks.geo old.medium new.medium may layout.valid lines
       (each_reads-then host.blocks.geo old.medium (λ bs. bs ≡ blocks_of host.blocks old.medium) may (λ bs e. inl e)
       (served_reads host.blocks old.medium (good_metadata host.blocks.geo old.medium layout) served_was))
 
@@ -115,7 +115,7 @@ module _ (now host after : HostState) (s : BlocksState) (r : Result (Unit {0}) B
   call = record {
     untouched = same_object r untouched object;
     images = on_worked r reads;
-    outside = beside-wander (IsBlockLine host.blocks.geo) old.medium new.medium lines;
+    outside = beside-write_back (IsBlockLine host.blocks.geo) old.medium new.medium lines;
     serves = λ _. served;
     object = (ap (λ k. k.geo) object, ap (λ k. k.settled) object);
     runs = runs;
@@ -125,7 +125,7 @@ module _ (now host after : HostState) (s : BlocksState) (r : Result (Unit {0}) B
   read_serves = change_serves now host after s r calls 0 old new inside state on serves (BRead block count) call
 
   blocks_stay : blocks_of s new.medium ≡ blocks_of host.blocks old.medium
-  blocks_stay = ap (λ k. blocks_of k new.medium) object ∙ map_read-wander host.blocks.geo host.blocks.map old.medium new.medium lines
+  blocks_stay = ap (λ k. blocks_of k new.medium) object ∙ map_read-write_back host.blocks.geo host.blocks.map old.medium new.medium lines
 
   on_ok : {P : Type 0} (q : Result (Unit {0}) BlockFault) → P → OnOk q P
   on_ok (Ok x) p = p

@@ -23,7 +23,7 @@ use Rattle.script_text.specs.Action.Action.{BRead, BAtomic, CutIn, Restart, VSto
 use Rattle.script_text.specs.Script.{inputs, lines_of, words_of, command_action, line_input}
 use Rattle.script_text.specs.Script.Input.{Asked}
 use Rattle.machine_host.specs.declared.mode.Mode.TheVariants as modes
-use Rattle.machine_host.specs.Machine.{Machine, refusal, while_torn}
+use Rattle.machine_host.specs.Machine.{Machine, refusal, while_interrupted}
 use Rattle.machine_host.specs.Restarting.{Keeps, reading, fresh, restarted, restart_answer}
 use Rattle.machine_host.specs.Run.{Transcript, Hears, Run, answered, silence, with_order, with_start}
 use Rattle.machine_host.specs.Rows.{small, leaving}
@@ -49,7 +49,7 @@ abbrev pub armed : Machine
 armed = record (fresh small) { cut_armed = true }
 
 abbrev struck : Machine
-struck = record (while_torn armed the_write) { mode = modes.Off; cut_armed = false }
+struck = record (while_interrupted armed the_write) { mode = modes.Off; cut_armed = false }
 
 abbrev back : Start → Machine
 back start = restarted struck start.image
@@ -155,7 +155,7 @@ abbrev the_store : Action
 the_store = VStore 60 (replicate 8 255)
 
 abbrev halted : Machine
-halted = record (while_torn ready the_store) { mode = modes.Off; cut_armed = false }
+halted = record (while_interrupted ready the_store) { mode = modes.Off; cut_armed = false }
 
 -- the first line is stored, the second one is not
 pub store_in_part : MayWrite with_cut_store (leaving Lasts 7 18446744069414584320 ∷ []) (cut_store_lines (codes "data ff*4,00*4"))

@@ -1,10 +1,10 @@
 -- Volume and blocks lie apart: work on the one leaves the other.
 use Rattle.std.proofs.Common.{◌≡◌, ◌⊎◌, ℕ, ◌+◌, ◌-◌, ◌/◌, ◌<◌, ◌≤◌, Bool, nat_lt, Err, if◌then◌else◌, inl, inr, refl, sym, ◌∙◌, ap, subst, arith}
 use Rattle.std.proofs.lemmas.Bool.{cases_lt, lt-ltb, le-ltb}
-use Rattle.line_device.specs.History.{Fades}
-use Rattle.line_device.specs.Medium.{Medium, Wander}
-use Rattle.line_words.proofs.FrameLemmas.{outside-wander}
-use Rattle.line_words.specs.Words.{WandersOutside, WandersBeside}
+use Rattle.line_device.specs.History.{WordWritesBack}
+use Rattle.line_device.specs.Medium.{Medium, WritesBack}
+use Rattle.line_words.proofs.FrameLemmas.{outside-write_back}
+use Rattle.line_words.specs.Words.{WritesBackOutside, WritesBackBeside}
 use Rattle.word_tables.specs.declared.geometry.Geometry.{Geometry}
 use Rattle.word_tables.specs.Bounds.{IsValid}
 use Rattle.word_tables.specs.Layout.{first_range, second_range, first_line, size, volume_line, HasLine, IsVolumeLine}
@@ -54,7 +54,7 @@ unfolding first_line
 first_not_blocks geo of = elim of as (λ _. ⊥) [ inl log ↦ omega (arith, log) | inr more ↦ elim more as (λ _. ⊥) [ inl map ↦ omega (arith, map) | inr data_ ↦ omega (arith, data_) ] ]
 
 -- the layout stays
-pub layout-beside : (geo : Geometry) (lines : ℕ → Type 0) (old new : Medium) → HasLayout geo old → WandersBeside lines old new → HasLayout geo new
+pub layout-beside : (geo : Geometry) (lines : ℕ → Type 0) (old new : Medium) → HasLayout geo old → WritesBackBeside lines old new → HasLayout geo new
 layout-beside geo lines old new layout x = record {
   valid = layout.valid;
   lines = x.count ∙ layout.lines;
@@ -63,7 +63,7 @@ layout-beside geo lines old new layout x = record {
 
 -- mounted blocks stay so, and stand for the same
 pub mounted-outside : (geo : Geometry) (s : BlocksState) (inside : ℕ → Type 0) (old new : Medium) → ((p : ℕ) → IsBlockPlace geo p → inside p → ⊥)
-    → WandersOutside inside old new → AreMounted geo s old → AreMounted geo s new
+    → WritesBackOutside inside old new → AreMounted geo s old → AreMounted geo s new
 mounted-outside geo s inside old new apart x mounted = record {
   geometry = mounted.geometry;
   settled = mounted.settled;
@@ -74,13 +74,13 @@ mounted-outside geo s inside old new apart x mounted = record {
 }
 
 pub blocks_of-outside : (geo : Geometry) (s : BlocksState) (inside : ℕ → Type 0) (old new : Medium) → ((p : ℕ) → IsBlockPlace geo p → inside p → ⊥)
-    → WandersOutside inside old new → AreMounted geo s old → blocks_of s new ≡ blocks_of s old
+    → WritesBackOutside inside old new → AreMounted geo s old → blocks_of s new ≡ blocks_of s old
 blocks_of-outside geo s inside old new apart x mounted =
     map_read-outside s.geo s.map old new inside x
     (λ p named. apart p (subst (λ g. IsBlockPlace g p) mounted.geometry (inr (inr (named_is_data s.geo mounted.serves.valid s.map (p / 8) mounted.serves.all mounted.serves.is_map named)))))
 
 -- The host serves a device whose volume alone was worked on, in the same mode or in one without blocks.
-pub serves-volume : (host : HostState) (mode : Mode) (old new : Device) → Serves host old → WandersOutside (IsVolumePlace host.geometry) old.medium new.medium
+pub serves-volume : (host : HostState) (mode : Mode) (old new : Device) → Serves host old → WritesBackOutside (IsVolumePlace host.geometry) old.medium new.medium
     → new.panel.power ≡ is_powered mode → (mode ≡ On → host.mode ≡ On) → Serves (record host { mode = mode }) new
 serves-volume host mode old new serves x power was_on =
     let geo = host.geometry in
@@ -129,38 +129,38 @@ volume_line_apart geo n valid of_blocks =
     ]
 
 -- work on blocks leaves the volume, but for write-back
-pub wander_volume-beside : (geo : Geometry) (lines : ℕ → Type 0) (old new : Medium) → IsValid geo → ((n : ℕ) → lines n → IsBlockLine geo n) → WandersBeside lines old new
-    → Wander (volume_of geo old) (volume_of geo new)
-wander_volume-beside geo lines old new valid of x =
+pub write_back_volume-beside : (geo : Geometry) (lines : ℕ → Type 0) (old new : Medium) → IsValid geo → ((n : ℕ) → lines n → IsBlockLine geo n) → WritesBackBeside lines old new
+    → WritesBack (volume_of geo old) (volume_of geo new)
+write_back_volume-beside geo lines old new valid of x =
     let out : (n : ℕ) → lines (volume_line geo n) → ⊥ = λ n at. volume_line_apart geo n valid (of (volume_line geo n) at) in
     record {
       count = refl;
       bad = λ n. x.bad (volume_line geo n) (out n);
       weak = λ n. x.weak (volume_line geo n) (out n);
-      fades = λ p.
+      word_write_back = λ p.
           let line : volume_place geo p / 8 ≡ volume_line geo (p / 8) = omega arith in
-          subst (λ n. Fades (old.is_weak n) (old.history (volume_place geo p)) (new.history (volume_place geo p))) line
-          (x.fades (volume_place geo p) (λ at. out (p / 8) (subst lines line at)));
+          subst (λ n. WordWritesBack (old.is_weak n) (old.history (volume_place geo p)) (new.history (volume_place geo p))) line
+          (x.word_write_back (volume_place geo p) (λ at. out (p / 8) (subst lines line at)));
     }
 
 -- work on the volume that went well, or was stopped, of a host behind a reference
-pub serves_worked : (now : HostState) (geo : Geometry) (a b : ℕ) (old new : Device) → geo ≡ now.geometry → Serves now old → WandersOutside (IsVolumePlace geo) old.medium new.medium
+pub serves_worked : (now : HostState) (geo : Geometry) (a b : ℕ) (old new : Device) → geo ≡ now.geometry → Serves now old → WritesBackOutside (IsVolumePlace geo) old.medium new.medium
     → Runs a b went old.panel new.panel → Serves now new
 serves_worked now geo a b old new same serves x runs =
-    serves-volume now now.mode old new serves (subst (λ g. WandersOutside (IsVolumePlace g) old.medium new.medium) same x) (runs.cause.0 ∙ serves.power) (λ on. on)
+    serves-volume now now.mode old new serves (subst (λ g. WritesBackOutside (IsVolumePlace g) old.medium new.medium) same x) (runs.cause.0 ∙ serves.power) (λ on. on)
 
 pub serves_stopped : (now after : HostState) (geo : Geometry) (a b : ℕ) (old new : Device) (stop : Interruption) → geo ≡ now.geometry → after ≡ record now { mode = interrupted_mode stop } → now.mode ≡ On → Serves now old
-    → WandersOutside (IsVolumePlace geo) old.medium new.medium → Runs a b (ended {T = Unit {0}} (Err stop)) old.panel new.panel → Serves after new
+    → WritesBackOutside (IsVolumePlace geo) old.medium new.medium → Runs a b (ended {T = Unit {0}} (Err stop)) old.panel new.panel → Serves after new
 serves_stopped now after geo a b old new stop same state on serves x runs = subst (λ k. Serves k new) (sym state) (by_stop stop runs)
   where
-    moved : WandersOutside (IsVolumePlace now.geometry) old.medium new.medium
-    moved = subst (λ g. WandersOutside (IsVolumePlace g) old.medium new.medium) same x
+    moved : WritesBackOutside (IsVolumePlace now.geometry) old.medium new.medium
+    moved = subst (λ g. WritesBackOutside (IsVolumePlace g) old.medium new.medium) same x
 
     by_stop : (stop : Interruption) → Runs a b (ended {T = Unit {0}} (Err stop)) old.panel new.panel → Serves (record now { mode = interrupted_mode stop }) new
     by_stop stops.Failed runs = serves-volume now Unsettled old new serves moved (runs.cause.0 ∙ serves.power ∙ ap is_powered on) (λ e. cc)
     by_stop stops.PowerLost runs = serves-volume now Off old new serves moved runs.cause.0 (λ e. cc)
 
 -- an order to the device leaves its lines, but for write-back, and the power
-pub serves_ordered : (host : HostState) (old new : Device) → Serves host old → Wander old.medium new.medium → new.panel.power ≡ old.panel.power → Serves host new
+pub serves_ordered : (host : HostState) (old new : Device) → Serves host old → WritesBack old.medium new.medium → new.panel.power ≡ old.panel.power → Serves host new
 serves_ordered host old new serves x power =
-    serves-volume host host.mode old new serves (outside-wander (IsVolumePlace host.geometry) old.medium new.medium x) (power ∙ serves.power) (λ on. on)
+    serves-volume host host.mode old new serves (outside-write_back (IsVolumePlace host.geometry) old.medium new.medium x) (power ∙ serves.power) (λ on. on)

@@ -3,9 +3,9 @@ use Rattle.std.proofs.Common.{◌≡◌, ℕ, ◌+◌, ◌*◌, ◌/◌, ◌%◌
 use Rattle.std.proofs.lemmas.List.{get_or-take, get_or-drop}
 use Rattle.std.specs.Int.{byte_at}
 use Rattle.line_device.specs.History.{newest}
-use Rattle.line_device.specs.Medium.{Medium, IsLine, Wander}
+use Rattle.line_device.specs.Medium.{Medium, IsLine, WritesBack}
 use Rattle.line_device.proofs.WordLemmas.{byte_at-word_from}
-use Rattle.line_device.proofs.WanderLemmas.{newest-wander}
+use Rattle.line_device.proofs.WriteBackLemmas.{newest-write_back}
 use Rattle.nvm_model.specs.Numbered.{list_from}
 use Rattle.nvm_model.specs.Lines.{shown_byte, span_shown}
 use Rattle.machine_host.specs.Volume.{line_byte}
@@ -43,10 +43,10 @@ span_shown-line m start len bytes is fits = list_from-same (line_byte bytes) (sh
         ∙ ap (λ q. byte_at ((start % 64 + k) % 8) (newest (m.history q))) p
         ∙ ap (λ j. byte_at j (newest (m.history ((start + k) / 8)))) i
 
--- lines that only wandered show what they showed
-pub span_shown-wander : (a b : Medium) (start len : ℕ) → Wander a b → span_shown b start len ≡ span_shown a start len
-span_shown-wander a b start len w =
-    list_from-same (shown_byte b) (shown_byte a) start start len (λ k lt. ap (byte_at ((start + k) % 8)) (newest-wander a b w ((start + k) / 8)))
+-- lines that were only written back show what they showed
+pub span_shown-write_back : (a b : Medium) (start len : ℕ) → WritesBack a b → span_shown b start len ≡ span_shown a start len
+span_shown-write_back a b start len w =
+    list_from-same (shown_byte b) (shown_byte a) start start len (λ k lt. ap (byte_at ((start + k) % 8)) (newest-write_back a b w ((start + k) / 8)))
 
 -- one stretch more
 pub said-next : (f : ℕ → ℕ) (out a b : List ℕ) (start n from len more : ℕ) → a ≡ out ++ list_from f start n → b ≡ a ++ list_from f from len

@@ -6,7 +6,7 @@ use Rattle.line_device.specs.Medium.{Medium, IsSound, last_image}
 use Rattle.line_device.specs.Panel.{Panel, Outcome, Runs}
 use Rattle.line_device.specs.Device.{Device}
 use Rattle.line_device.proofs.PanelLemmas.{runs_within}
-use Rattle.line_words.specs.Words.{WandersOutside}
+use Rattle.line_words.specs.Words.{WritesBackOutside}
 use Rattle.word_tables.specs.declared.geometry.Geometry.{Geometry}
 use Rattle.word_tables.specs.Layout.{first_range, meta_lines, total_lines}
 use Rattle.word_tables.proofs.LayoutLemmas.{areas_laid_out}
@@ -103,7 +103,7 @@ mount_within m e p q runs =
 
 -- a host serves the device after a mount, whether blocks are mounted or not
 pub serves_mounted : (host : HostState) (old new : Device) → HasLayout host.geometry old.medium → HasSuperblock host.geometry old.medium → AreReadable host.geometry old.medium
-    → WandersOutside (IsOf (block_area host.geometry)) old.medium new.medium → KeepsReads host.geometry old.medium new.medium
+    → WritesBackOutside (IsOf (block_area host.geometry)) old.medium new.medium → KeepsReads host.geometry old.medium new.medium
     → new.panel.power ≡ is_powered host.mode → (host.mode ≡ modes.On → AreMounted host.geometry host.blocks new.medium) → Serves host new
 serves_mounted host old new layout superblock readable outside reads power mounted =
     let geo = host.geometry in
@@ -130,7 +130,7 @@ nothing_early m none = by_first (early_finding m) refl none
 
 -- the same of a device that was mounted for the first time
 pub serves_found : (host : HostState) (old new : Device) → IsMountable old.medium → IsIntact old.medium → first_finding old.medium ≡ None → host.geometry ≡ geometry_told old.medium
-    → WandersOutside (IsOf (block_area (geometry_told old.medium))) old.medium new.medium
+    → WritesBackOutside (IsOf (block_area (geometry_told old.medium))) old.medium new.medium
     → (early_finding old.medium ≡ None → KeepsReads (geometry_told old.medium) old.medium new.medium) → new.panel.power ≡ is_powered host.mode
     → (host.mode ≡ modes.On → AreMounted host.geometry host.blocks new.medium) → Serves host new
 serves_found host old new mountable intact nothing same outside reads power mounted =
@@ -140,6 +140,6 @@ serves_found host old new mountable intact nothing same outside reads power moun
     (subst (λ g. HasLayout g old.medium) (sym same) (record { valid = found.valid; lines = found.count; intact = intact }))
     (subst (λ g. HasSuperblock g old.medium) (sym same) (superblock_found old.medium early mountable))
     (subst (λ g. AreReadable g old.medium) (sym same) (mountable.readable early))
-    (subst (λ g. WandersOutside (IsOf (block_area g)) old.medium new.medium) (sym same) outside)
+    (subst (λ g. WritesBackOutside (IsOf (block_area g)) old.medium new.medium) (sym same) outside)
     (subst (λ g. KeepsReads g old.medium new.medium) (sym same) (reads early))
     power mounted

@@ -30,7 +30,7 @@ use Rattle.script_text.specs.Script.{Input, lines_of, words_of, command_action, 
 use Rattle.script_text.specs.Script.Input.{Asked}
 use Rattle.machine_host.specs.declared.mode.Mode.TheVariants as modes
 use Rattle.machine_host.specs.Volume.{volume_image}
-use Rattle.machine_host.specs.Machine.{Machine, fate, unless, refusal, while_torn, after_work}
+use Rattle.machine_host.specs.Machine.{Machine, fate, unless, refusal, while_interrupted, after_work}
 use Rattle.machine_host.specs.Machine.Fate.{Gives, Works, Orders, Restarts}
 use Rattle.machine_host.specs.Interrupted.{interrupted_answer}
 use Rattle.machine_host.specs.Restarting.{Keeps, reading, fresh, restarted, restart_answer, zero_image}
@@ -68,7 +68,7 @@ module _ (h : Machine) (action : Action) (inputs : List Input) (answers : List A
       )
 
   began_working : (good : Answer) (to : Machine) → fate h action ≡ Works good to
-      → (answer : Answer) × (next : Machine) × (rest : List Answer) × (answers ≡ answer ∷ rest) × Ends good to (while_torn h action) answer next × Later next inputs rest
+      → (answer : Answer) × (next : Machine) × (rest : List Answer) × (answers ≡ answer ∷ rest) × Ends good to (while_interrupted h action) answer next × Later next inputs rest
   began_working good to is =
       let run = later.3 in
       let took = subst (λ f. Takes h action f run.0 run.2) is run.4 in (
@@ -108,7 +108,7 @@ line shown = codes "data " ++ shown
 
 -- the machine once the cut came, with what is armed still
 abbrev struck : Bool → Bool → Machine
-struck cut fail = record (while_torn armed the_write) { mode = modes.Off; cut_armed = cut; fail_armed = fail }
+struck cut fail = record (while_interrupted armed the_write) { mode = modes.Off; cut_armed = cut; fail_armed = fail }
 
 -- none of the volume's lines is bad after it
 no_bad_line : (choice : Choice) (image : Image) → KeepsPages choice (volume_image small image) (fresh small).volume → bad_lines (read_pages (volume_image small image) 2) ≡ 0
@@ -149,7 +149,7 @@ module _ (shown : List ℕ) (image : Image) (cut fail : Bool) (blocks : List Blo
       came = ap (λ b. unless back (option_map Unreadable (first_obstacle b 0 2)) (Works (Bytes (look b 0 2)) back)) is
           ∙ ap (λ o. unless back (option_map Unreadable o) (Works (Bytes (look blocks 0 2)) back)) good_blocks.free
 
-      by_end : (answer : Answer) (next : Machine) (rest : List Answer) → Ends (Bytes (look blocks 0 2)) back (while_torn back (BRead 0 2)) answer next
+      by_end : (answer : Answer) (next : Machine) (rest : List Answer) → Ends (Bytes (look blocks 0 2)) back (while_interrupted back (BRead 0 2)) answer next
           → rest ≡ [] → reply_text (answer ∷ rest) ≡ text (line shown ∷ []) → shown ≡ seen
       by_end answer next rest (inl good) last e =
           let same : codes "data " ++ (seen ++ 10 ∷ []) ≡ text (line shown ∷ []) =
@@ -205,7 +205,7 @@ struck_shows shown answers later wrote =
         let one = began_giving (struck cut fail) (BRead 0 1) (Asked (Restart Firsts) ∷ Asked (BRead 0 2) ∷ []) rest later (Refused Off) (struck cut fail) refl in
         back_shows shown cut fail one.0 one.2 (ap (drop 12) (sym (ap reply_text one.1) ∙ e))
 
-    by_end : (answer : Answer) (next : Machine) (rest : List Answer) → Ends Done (after_work armed the_write) (while_torn armed the_write) answer next
+    by_end : (answer : Answer) (next : Machine) (rest : List Answer) → Ends Done (after_work armed the_write) (while_interrupted armed the_write) answer next
         → Later next (Asked (BRead 0 1) ∷ Asked (Restart Firsts) ∷ Asked (BRead 0 2) ∷ []) rest
         → reply_text (answer ∷ rest) ≡ text (codes "power lost" ∷ codes "refused off" ∷ codes "ok bad 0" ∷ line shown ∷ []) → Whole shown
     by_end answer next rest (inl good) later e =

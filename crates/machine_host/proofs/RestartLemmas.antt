@@ -8,7 +8,7 @@ use Rattle.line_words.specs.Ending.{ended}
 use Rattle.line_device.specs.Panel.Outcome.{went}
 use Rattle.line_device.specs.Device.{Device, Restarted, Waited, Depicts}
 use Rattle.line_device.specs.declared.line.Choice.{Choice}
-use Rattle.line_words.specs.Words.{WandersOutside}
+use Rattle.line_words.specs.Words.{WritesBackOutside}
 use Rattle.line_words.proofs.BesideLemmas.{beside-outside}
 use Rattle.word_tables.specs.declared.geometry.Geometry.{Geometry}
 use Rattle.word_log.specs.Area.{IsOf}
@@ -44,7 +44,7 @@ use Rattle.machine_host.specs.Volume.{volume_of, volume_image, HasLayout}
 use Rattle.machine_host.specs.Stands.{HostState, Serves, DeviceStands, Stands, Tells, AreMounted, Comes, is_powered}
 use Rattle.machine_host.specs.Faults.{IsStop, LeftUnmounted, unmounted_answer, unmounted_mode}
 use Rattle.machine_host.proofs.VolumeLemmas.{volume_intact, survivors-volume, depicts-volume}
-use Rattle.machine_host.proofs.ElsewhereLemmas.{wander_volume-beside}
+use Rattle.machine_host.proofs.ElsewhereLemmas.{write_back_volume-beside}
 use Rattle.machine_host.proofs.StepLemmas.{interrupts, never_on, power_struck, struck}
 use Rattle.machine_host.proofs.DepictedLemmas.{blocks_depicted, reads_remounted}
 use Rattle.machine_host.proofs.MountLemmas.{line_zero, is_told, only_stops, serves_mounted}
@@ -89,7 +89,7 @@ module _ (host : HostState) (choice : Choice) (old mid new : Device) (h : Machin
   -- the restart left what it may leave
   keeps : Keeps choice start.image h
   keeps = record {
-    blocks = blocks_read-restarted geo was.valid choice old.medium mid.medium start.image (MayLeaveBlocks h.torn h.blocks) was.lines left.lines left.image stands.device.blocks;
+    blocks = blocks_read-restarted geo was.valid choice old.medium mid.medium start.image (MayLeaveBlocks h.interrupted h.blocks) was.lines left.lines left.image stands.device.blocks;
     left = stands.device.volume.pages;
     may = stands.device.volume.may;
     volume = pages_kept.0;
@@ -102,11 +102,11 @@ module _ (host : HostState) (choice : Choice) (old mid new : Device) (h : Machin
 
   no_bad_lines : bad_block_lines (blocks_read geo start.image.is_bad start.image.word) + bad_lines (read_pages (volume_image geo start.image) geo.vpages) ≡ 0
   no_bad_lines =
-      let none = no_bad_blocks-restarted geo choice old.medium mid.medium start.image (MayLeaveBlocks h.torn h.blocks) was.valid was.intact was.lines left.lines left.image stands.device.blocks in
+      let none = no_bad_blocks-restarted geo choice old.medium mid.medium start.image (MayLeaveBlocks h.interrupted h.blocks) was.valid was.intact was.lines left.lines left.image stands.device.blocks in
       omega (arith, none, no_bad_pages)
 
   -- what the device stands for after a mount, however it ended, in this mode and with what is armed then
-  remounted : (mode : Mode) → WandersOutside (IsOf (block_area geo)) mid.medium new.medium → KeepsReads geo mid.medium new.medium → new.panel.power ≡ is_powered mode
+  remounted : (mode : Mode) → WritesBackOutside (IsOf (block_area geo)) mid.medium new.medium → KeepsReads geo mid.medium new.medium → new.panel.power ≡ is_powered mode
       → DeviceStands new (record (restarted h start.image) { mode = mode; cut_armed = new.panel.cut_armed; fail_armed = new.panel.fail_armed })
   unfolding reading
   remounted mode outside reads power = record {
@@ -118,7 +118,7 @@ module _ (host : HostState) (choice : Choice) (old mid new : Device) (h : Machin
       stand =
           stand-loaded (volume_of geo mid.medium) (volume_of geo new.medium) geo.vpages (read_pages (volume_image geo start.image) geo.vpages) pages_kept.1
           (volume_intact geo mid.medium layout)
-          (wander_volume-beside geo (IsBlockLine geo) mid.medium new.medium was.valid (λ n at. at)
+          (write_back_volume-beside geo (IsBlockLine geo) mid.medium new.medium was.valid (λ n at. at)
           (beside-outside (IsOf (block_area geo)) (IsBlockLine geo) mid.medium new.medium (area_is_block geo was.valid) outside));
     };
     power = power;
@@ -143,7 +143,7 @@ module _ (host : HostState) (choice : Choice) (old mid new : Device) (h : Machin
   fail_was = ap (λ p. p.fail_armed) left.panel ∙ stands.device.fail_armed
 
   -- A restart comes to what the machine reads in what it left.
-  pub comes_of_restart : (s : BlocksState) (calls persists : ℕ) → Runs calls persists went mid.panel new.panel → WandersOutside (IsOf (block_area geo)) mid.medium new.medium
+  pub comes_of_restart : (s : BlocksState) (calls persists : ℕ) → Runs calls persists went mid.panel new.panel → WritesBackOutside (IsOf (block_area geo)) mid.medium new.medium
       → KeepsReads geo mid.medium new.medium → blocks_of s new.medium ≡ blocks_read geo mid.medium.is_bad (last_image mid.medium)
       → Comes h (Restart choice) (Restarts choice) (DoneBad 0) (record { geometry = host.geometry; mode = modes.On; blocks = s }) old new
   unfolding reading
@@ -169,7 +169,7 @@ module _ (host : HostState) (choice : Choice) (old mid new : Device) (h : Machin
 
   -- or to what stopped it as it mounted the blocks
   pub comes_of_stopped_restart : (after : HostState) (by : Interruption) (calls persists : ℕ) → after ≡ record host { mode = interrupted_mode by }
-      → Runs calls persists (ended {T = Unit {0}} (Err by)) mid.panel new.panel → WandersOutside (IsOf (block_area geo)) mid.medium new.medium
+      → Runs calls persists (ended {T = Unit {0}} (Err by)) mid.panel new.panel → WritesBackOutside (IsOf (block_area geo)) mid.medium new.medium
       → KeepsReads geo mid.medium new.medium → Comes h (Restart choice) (Restarts choice) (interrupted_answer by) after old new
   unfolding reading
   comes_of_stopped_restart after by calls persists is runs outside reads =
@@ -224,10 +224,10 @@ only_stops-restarted {T} host choice old mid start r f serves sound_old sound le
 
 -- what the mount leaves, said of the host's sizes
 pub outside_remounted : (host : HostState) (choice : Choice) (old mid new : Device) (start : Start) → Serves host old → IsSound old.medium → IsSound mid.medium → Restarted choice old mid start
-    → WandersOutside (IsOf (block_area (geometry_told mid.medium))) mid.medium new.medium → WandersOutside (IsOf (block_area host.geometry)) mid.medium new.medium
+    → WritesBackOutside (IsOf (block_area (geometry_told mid.medium))) mid.medium new.medium → WritesBackOutside (IsOf (block_area host.geometry)) mid.medium new.medium
 outside_remounted host choice old mid new start serves sound_old sound left outside =
     let back = is_back host choice old mid start serves sound_old left in
-    subst (λ g. WandersOutside (IsOf (block_area g)) mid.medium new.medium) (is_told host.geometry mid.medium back.layout back.superblock sound).sizes outside
+    subst (λ g. WritesBackOutside (IsOf (block_area g)) mid.medium new.medium) (is_told host.geometry mid.medium back.layout back.superblock sound).sizes outside
 
 pub reads_remounted_by : (host : HostState) (choice : Choice) (old mid new : Device) (start : Start) → Serves host old → IsSound old.medium → IsSound mid.medium → Restarted choice old mid start
     → (early_finding mid.medium ≡ None → KeepsReads (geometry_told mid.medium) mid.medium new.medium) → KeepsReads host.geometry mid.medium new.medium
@@ -238,13 +238,13 @@ reads_remounted_by host choice old mid new start serves sound_old sound left rea
 
 -- the host serves the device after a mount, in this mode and with these blocks
 pub serves_remounted : (host : HostState) (after : HostState) (choice : Choice) (old mid new : Device) (start : Start) → Serves host old → IsSound old.medium → Restarted choice old mid start
-    → after.geometry ≡ host.geometry → WandersOutside (IsOf (block_area host.geometry)) mid.medium new.medium
+    → after.geometry ≡ host.geometry → WritesBackOutside (IsOf (block_area host.geometry)) mid.medium new.medium
     → KeepsReads host.geometry mid.medium new.medium → new.panel.power ≡ is_powered after.mode
     → (after.mode ≡ modes.On → AreMounted after.geometry after.blocks new.medium) → Serves after new
 serves_remounted host after choice old mid new start serves sound left same outside reads power mounted =
     let back = subst (λ g. IsBack g mid.medium) (sym same) (is_back host choice old mid start serves sound left) in
     serves_mounted after mid new back.layout back.superblock back.readable
-    (subst (λ g. WandersOutside (IsOf (block_area g)) mid.medium new.medium) (sym same) outside)
+    (subst (λ g. WritesBackOutside (IsOf (block_area g)) mid.medium new.medium) (sym same) outside)
     (subst (λ g. KeepsReads g mid.medium new.medium) (sym same) reads)
     power mounted
 
@@ -298,7 +298,7 @@ stopped T fault.Memory stop other = absurd (other refl)
 
 -- what a restart leaves that had no memory to mount the blocks
 pub left_unmounted : (host after : HostState) (choice : Choice) (old mid new : Device) (start : Start) (f : MountFault) (calls persists : ℕ) (e : Outcome) → Restarted choice old mid start
-    → Runs calls persists e mid.panel new.panel → WandersOutside (IsOf (block_area host.geometry)) mid.medium new.medium
+    → Runs calls persists e mid.panel new.panel → WritesBackOutside (IsOf (block_area host.geometry)) mid.medium new.medium
     → KeepsReads host.geometry mid.medium new.medium → after ≡ record host { mode = unmounted_mode f } → f ≡ fault.Memory
     → LeftUnmounted choice host after old new
 left_unmounted host after choice old mid new start f calls persists e left runs outside reads is memory = record {

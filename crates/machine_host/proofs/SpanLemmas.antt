@@ -5,12 +5,12 @@ use Rattle.std.proofs.lemmas.Bool.{cases_lt}
 use Rattle.std.proofs.lemmas.List.{get_or-take, get_or-drop}
 use Rattle.line_device.specs.Word.{word_over, reaches}
 use Rattle.line_device.specs.History.{latest, newest}
-use Rattle.line_device.specs.Medium.{Medium, Wander, on_line, stored, settled, word_stored}
-use Rattle.line_device.proofs.HistoryLemmas.{fades-refl}
-use Rattle.line_device.proofs.WanderLemmas.{wander-trans, wander-stored, wander-settled}
+use Rattle.line_device.specs.Medium.{Medium, WritesBack, on_line, stored, flushed, word_stored}
+use Rattle.line_device.proofs.HistoryLemmas.{word_write_back-refl}
+use Rattle.line_device.proofs.WriteBackLemmas.{write_back-trans, write_back-stored, write_back-flushed}
 use Rattle.line_device.proofs.WordLemmas.{word_over-line, word_over-piece, reaches-out}
 use Rattle.nvm_model.specs.Cell.{touches}
-use Rattle.nvm_model.specs.Lines.{SameMarks, below, each, settled_within}
+use Rattle.nvm_model.specs.Lines.{SameMarks, below, each, flushed_within}
 
 -- what holds holds at an error
 pub on_err : {T E P : Type 0} (r : Result T E) → P → OnErr r P
@@ -18,17 +18,17 @@ on_err (Ok x) p = tt
 on_err (Err e) p = p
 
 -- media that agree place by place
-pub wander-same : (a b : Medium) → SameMarks a b → ((p : ℕ) → b.history p ≡ a.history p) → Wander a b
-wander-same a b marks same = record {
+pub write_back-same : (a b : Medium) → SameMarks a b → ((p : ℕ) → b.history p ≡ a.history p) → WritesBack a b
+write_back-same a b marks same = record {
   count = marks.count;
   bad = marks.bad;
   weak = marks.weak;
-  fades = λ p. rw (same p) (fades-refl (a.is_weak (p / 8)) (a.history p));
+  word_write_back = λ p. rw (same p) (word_write_back-refl (a.is_weak (p / 8)) (a.history p));
 }
 
 -- nothing is done below the first line
-pub below-first : (m : Medium) (first : ℕ) (f : ℕ → List ℕ → List ℕ) → ((p : ℕ) (h : List ℕ) → p / 8 < first → f p h ≡ h) → Wander (each m (below first f)) m
-below-first m first f none = wander-same _ m (record { count = refl; bad = λ n. refl; weak = λ n. refl }) (λ p. by_test (ltb (p / 8) first) p refl)
+pub below-first : (m : Medium) (first : ℕ) (f : ℕ → List ℕ → List ℕ) → ((p : ℕ) (h : List ℕ) → p / 8 < first → f p h ≡ h) → WritesBack (each m (below first f)) m
+below-first m first f none = write_back-same _ m (record { count = refl; bad = λ n. refl; weak = λ n. refl }) (λ p. by_test (ltb (p / 8) first) p refl)
   where
     by_test : (b : Bool) (p : ℕ) → ltb (p / 8) first ≡ b → m.history p ≡ cond b (f p (m.history p)) (m.history p)
     by_test true p e = sym (none p (m.history p) (grind arith))
@@ -36,9 +36,9 @@ below-first m first f none = wander-same _ m (record { count = refl; bad = λ n.
 
 -- a line's words changed, after those of the lines below it
 pub below-next : (m : Medium) (line : ℕ) (f word : ℕ → List ℕ → List ℕ) → ((p : ℕ) (h : List ℕ) → p / 8 ≡ line → word (p % 8) h ≡ f p h)
-    → Wander (each m (below (line + 1) f)) (record (each m (below line f)) { history = on_line line word (each m (below line f)).history })
+    → WritesBack (each m (below (line + 1) f)) (record (each m (below line f)) { history = on_line line word (each m (below line f)).history })
 below-next m line f word agree =
-    wander-same _ _ (record { count = refl; bad = λ n. refl; weak = λ n. refl }) (λ p. by_tests (eqb (p / 8) line) (ltb (p / 8) line) (ltb (p / 8) (line + 1)) p refl refl refl)
+    write_back-same _ _ (record { count = refl; bad = λ n. refl; weak = λ n. refl }) (λ p. by_tests (eqb (p / 8) line) (ltb (p / 8) line) (ltb (p / 8) (line + 1)) p refl refl refl)
   where
     by_tests : (here low next : Bool) (p : ℕ) → eqb (p / 8) line ≡ here → ltb (p / 8) line ≡ low → ltb (p / 8) (line + 1) ≡ next
         → cond here (word (p % 8) (cond low (f p (m.history p)) (m.history p))) (cond low (f p (m.history p)) (m.history p))
@@ -54,21 +54,21 @@ below-next m line f word agree =
 -- a store into the next line
 pub stored-next : (m a b : Medium) (line at : ℕ) (piece : List ℕ) (f : ℕ → List ℕ → List ℕ)
     → ((p : ℕ) (h : List ℕ) → p / 8 ≡ line → word_stored at piece (p % 8) h ≡ f p h)
-    → Wander (each m (below line f)) a → Wander (stored a line at piece) b → Wander (each m (below (line + 1) f)) b
+    → WritesBack (each m (below line f)) a → WritesBack (stored a line at piece) b → WritesBack (each m (below (line + 1) f)) b
 stored-next m a b line at piece f agree before after =
-    wander-trans _ _ _ (below-next m line f (word_stored at piece) agree) (wander-trans _ _ _ (wander-stored line at piece _ a before) after)
+    write_back-trans _ _ _ (below-next m line f (word_stored at piece) agree) (write_back-trans _ _ _ (write_back-stored line at piece _ a before) after)
 
 -- the next line made durable
-pub settled-next : (m a b : Medium) (line : ℕ) (f : ℕ → List ℕ → List ℕ) → ((p : ℕ) (h : List ℕ) → p / 8 ≡ line → latest h ≡ f p h)
-    → Wander (each m (below line f)) a → Wander (settled a line) b → Wander (each m (below (line + 1) f)) b
-settled-next m a b line f agree before after =
-    wander-trans _ _ _ (below-next m line f (λ _ h. latest h) agree) (wander-trans _ _ _ (wander-settled line _ a before) after)
+pub flushed-next : (m a b : Medium) (line : ℕ) (f : ℕ → List ℕ → List ℕ) → ((p : ℕ) (h : List ℕ) → p / 8 ≡ line → latest h ≡ f p h)
+    → WritesBack (each m (below line f)) a → WritesBack (flushed a line) b → WritesBack (each m (below (line + 1) f)) b
+flushed-next m a b line f agree before after =
+    write_back-trans _ _ _ (below-next m line f (λ _ h. latest h) agree) (write_back-trans _ _ _ (write_back-flushed line _ a before) after)
 
 -- nothing is done from the last line on
 pub below-last : (m b : Medium) (last : ℕ) (f : ℕ → List ℕ → List ℕ) → ((p : ℕ) (h : List ℕ) → last ≤ p / 8 → f p h ≡ h)
-    → Wander (each m (below last f)) b → Wander (each m f) b
+    → WritesBack (each m (below last f)) b → WritesBack (each m f) b
 below-last m b last f none done =
-    wander-trans _ _ _ (wander-same (each m f) (each m (below last f)) (record { count = refl; bad = λ n. refl; weak = λ n. refl }) (λ p. by_test (ltb (p / 8) last) p refl)) done
+    write_back-trans _ _ _ (write_back-same (each m f) (each m (below last f)) (record { count = refl; bad = λ n. refl; weak = λ n. refl }) (λ p. by_test (ltb (p / 8) last) p refl)) done
   where
     by_test : (low : Bool) (p : ℕ) → ltb (p / 8) last ≡ low → cond low (f p (m.history p)) (m.history p) ≡ f p (m.history p)
     by_test true p e = refl
@@ -125,12 +125,12 @@ word_stored-piece at m p line bytes piece h same fits in_line from front back in
         ∙ word_over-piece at m p (newest h) bytes piece same fits far near
 
 -- lines that a span touches are made durable, and no others
-pub settled_within-in : (start len line p : ℕ) (h : List ℕ) → 64 * line < start + len → start < 64 * line + 64 → p / 8 ≡ line → latest h ≡ settled_within start len p h
-settled_within-in start len line p h a b e =
+pub flushed_within-in : (start len line p : ℕ) (h : List ℕ) → 64 * line < start + len → start < 64 * line + 64 → p / 8 ≡ line → latest h ≡ flushed_within start len p h
+flushed_within-in start len line p h a b e =
     let t : touches start len (p / 8) ≡ true = rw e (grind (arith, nat_tests)) in sym (ap (λ x. cond x (latest h) h) t)
 
-pub settled_within-out : (start len p : ℕ) (h : List ℕ) → (64 * (p / 8) + 64 ≤ start) ⊎ (start + len ≤ 64 * (p / 8)) → settled_within start len p h ≡ h
-settled_within-out start len p h out =
+pub flushed_within-out : (start len p : ℕ) (h : List ℕ) → (64 * (p / 8) + 64 ≤ start) ⊎ (start + len ≤ 64 * (p / 8)) → flushed_within start len p h ≡ h
+flushed_within-out start len p h out =
     let t : touches start len (p / 8) ≡ false = grind (arith, nat_tests) in ap (λ x. cond x (latest h) h) t
 
 -- an item of a stretch of bytes
@@ -141,10 +141,10 @@ get_or-stretch from len k bytes lt = get_or-take len (drop from bytes) k 0 (omeg
 pub span_stored-next : (m a b : Medium) (at line start : ℕ) (bytes piece : List ℕ) → start ≡ max at (64 * line)
     → start + length piece ≡ min (at + length bytes) (64 * line + 64) → 64 * line < at + length bytes → at < 64 * line + 64
     → ((k : ℕ) → k < length piece → get_or piece k 0 ≡ get_or bytes (start - at + k) 0)
-    → Wander (each m (below line (word_stored at bytes))) a → Wander (stored a (start / 64) (start % 64) piece) b
-    → Wander (each m (below (line + 1) (word_stored at bytes))) b
+    → WritesBack (each m (below line (word_stored at bytes))) a → WritesBack (stored a (start / 64) (start % 64) piece) b
+    → WritesBack (each m (below (line + 1) (word_stored at bytes))) b
 span_stored-next m a b at line start bytes piece from to high low same before after =
-    stored-next m a b line (start % 64) piece (word_stored at bytes) agree before (subst (λ n. Wander (stored a n (start % 64) piece) b) here after)
+    stored-next m a b line (start % 64) piece (word_stored at bytes) agree before (subst (λ n. WritesBack (stored a n (start % 64) piece) b) here after)
   where
     here : start / 64 ≡ line
     here = omega arith

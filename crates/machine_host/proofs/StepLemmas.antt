@@ -1,6 +1,6 @@
 -- What a host and its device stand for, after work on the volume.
 use Rattle.std.proofs.Common.{◌≡◌, ℕ, ◌⊎◌, ◌+◌, ◌*◌, ◌/◌, ◌≤◌, inl, inr, true, false, IsTrue, Option, Some, None, Err, List, length, refl, sym, ap, subst, ◌∙◌}
-use Rattle.line_device.specs.Medium.{Wander, word_stored}
+use Rattle.line_device.specs.Medium.{WritesBack, word_stored}
 use Rattle.line_device.specs.Panel.{Panel, Runs, after_arm_cut, after_power_off}
 use Rattle.line_device.specs.declared.order.Order.TheVariants.{Cut as ForCut}
 use Rattle.line_device.specs.Panel.Outcome.{went}
@@ -17,17 +17,17 @@ use Rattle.script_text.specs.Action.Action.{Cut, CutIn, VLoad, VStore, VSync}
 use Rattle.reply_text.specs.Answer.{Answer}
 use Rattle.reply_text.specs.Answer.Answer.{Done, Bytes, Refused}
 use Rattle.reply_text.specs.declared.reply.Why.{Why}
-use Rattle.machine_host.specs.Machine.{Machine, Fate, refusal, fate_of, fate, while_torn}
+use Rattle.machine_host.specs.Machine.{Machine, Fate, refusal, fate_of, fate, while_interrupted}
 use Rattle.machine_host.specs.Machine.Fate.{Gives, Works, Orders}
 use Rattle.machine_host.specs.Interrupted.{MayLeaveBlocks, MayLeaveVolume, Interrupts, may_come, interrupted_answer, interrupted_mode}
 use Rattle.machine_host.specs.Run.{answered, with_order}
 use Rattle.machine_host.specs.declared.mode.Mode.TheVariants as modes
 use Rattle.nvm_model.specs.Lines.{span_shown}
 use Rattle.machine_host.specs.Volume.{volume_of, HasLayout, IsVolumePlace}
-use Rattle.machine_host.proofs.VolumeLemmas.{wander-volume, volume_intact}
+use Rattle.machine_host.proofs.VolumeLemmas.{write_back-volume, volume_intact}
 use Rattle.machine_host.specs.Stands.{HostState, Serves, VolumeStands, Stands, Tells, Comes, is_powered}
-use Rattle.line_words.specs.Words.{WandersOutside}
-use Rattle.line_words.proofs.FrameLemmas.{outside-wander}
+use Rattle.line_words.specs.Words.{WritesBackOutside}
+use Rattle.line_words.proofs.FrameLemmas.{outside-write_back}
 use Rattle.block_device.specs.Area.{IsBlockPlace}
 use Rattle.block_device.specs.Object.{blocks_of}
 use Rattle.block_device.specs.Images.{EachReads}
@@ -78,29 +78,29 @@ tells_nothing answer p = record { starts = refl; restarts = refl; orders = refl;
 
 -- of a state that is whole, what blocks and volume stand for
 module _ (host : HostState) (d : Device) (h : Machine) (stands : Stands host d h) where
-  pub whole_blocks : h.torn ≡ None → EachReads h.geometry d.medium (λ bs. bs ≡ h.blocks)
-  whole_blocks whole = subst (λ torn. EachReads h.geometry d.medium (MayLeaveBlocks torn h.blocks)) whole stands.device.blocks
+  pub whole_blocks : h.interrupted ≡ None → EachReads h.geometry d.medium (λ bs. bs ≡ h.blocks)
+  whole_blocks whole = subst (λ interrupted. EachReads h.geometry d.medium (MayLeaveBlocks interrupted h.blocks)) whole stands.device.blocks
 
-  pub whole_volume : h.torn ≡ None → VolumeStands h.geometry d.medium None h.volume
-  whole_volume whole = subst (λ torn. VolumeStands h.geometry d.medium torn h.volume) whole stands.device.volume
+  pub whole_volume : h.interrupted ≡ None → VolumeStands h.geometry d.medium None h.volume
+  whole_volume whole = subst (λ interrupted. VolumeStands h.geometry d.medium interrupted h.volume) whole stands.device.volume
 
-  pub whole_pages : h.torn ≡ None → PagesStand (volume_of host.geometry d.medium) host.geometry.vpages h.volume
+  pub whole_pages : h.interrupted ≡ None → PagesStand (volume_of host.geometry d.medium) host.geometry.vpages h.volume
   whole_pages whole =
       let v = whole_volume whole in
       subst (λ geo. PagesStand (volume_of geo d.medium) geo.vpages h.volume) (sym stands.geometry)
       (subst (PagesStand (volume_of h.geometry d.medium) h.geometry.vpages) v.may v.stand)
 
-  pub whole_length : h.torn ≡ None → length h.volume ≡ h.geometry.vpages
+  pub whole_length : h.interrupted ≡ None → length h.volume ≡ h.geometry.vpages
   whole_length whole = let v = whole_volume whole in sym (ap length v.may) ∙ v.length
 
-  -- with the power on nothing is torn
-  pub is_whole : host.mode ≡ modes.On → h.torn ≡ None
+  -- with the power on nothing is interrupted
+  pub is_whole : host.mode ≡ modes.On → h.interrupted ≡ None
   is_whole on = stands.device.whole (sym stands.mode ∙ on)
 
 -- the volume of a whole state, of pages that stand
 pub stands_whole : (host : HostState) (d : Device) (h : Machine) (pages : List Page) → host.geometry ≡ h.geometry → length pages ≡ h.geometry.vpages
-    → PagesStand (volume_of host.geometry d.medium) host.geometry.vpages pages → (torn : Option Action) → torn ≡ None → VolumeStands h.geometry d.medium torn pages
-stands_whole host d h pages same size stand torn whole = subst (λ t. VolumeStands h.geometry d.medium t pages) (sym whole) (record {
+    → PagesStand (volume_of host.geometry d.medium) host.geometry.vpages pages → (interrupted : Option Action) → interrupted ≡ None → VolumeStands h.geometry d.medium interrupted pages
+stands_whole host d h pages same size stand interrupted whole = subst (λ t. VolumeStands h.geometry d.medium t pages) (sym whole) (record {
   pages = pages;
   may = refl;
   length = size;
@@ -108,11 +108,11 @@ stands_whole host d h pages same size stand torn whole = subst (λ t. VolumeStan
 })
 
 -- blocks stay for what they are, while the volume is worked on
-pub blocks_elsewhere : (host : HostState) (old new : Device) (h : Machine) → Stands host old h → Serves host old → WandersOutside (IsVolumePlace host.geometry) old.medium new.medium
-    → (EachReads h.geometry new.medium (MayLeaveBlocks h.torn h.blocks)) × (host.mode ≡ modes.On → blocks_of host.blocks new.medium ≡ h.blocks)
+pub blocks_elsewhere : (host : HostState) (old new : Device) (h : Machine) → Stands host old h → Serves host old → WritesBackOutside (IsVolumePlace host.geometry) old.medium new.medium
+    → (EachReads h.geometry new.medium (MayLeaveBlocks h.interrupted h.blocks)) × (host.mode ≡ modes.On → blocks_of host.blocks new.medium ≡ h.blocks)
 blocks_elsewhere host old new h stands serves x =
     let geo = host.geometry in
-    let P = MayLeaveBlocks h.torn h.blocks in
+    let P = MayLeaveBlocks h.interrupted h.blocks in
     let apart : (p : ℕ) → IsBlockPlace geo p → IsVolumePlace geo p → ⊥ = λ p of_blocks of_volume. volume_apart geo (p / 8) serves.layout.valid of_volume of_blocks in (
       subst (λ g. EachReads g new.medium P) stands.geometry
           (each_reads-outside geo (IsVolumePlace geo) old.medium new.medium P serves.layout.valid apart x
@@ -120,9 +120,9 @@ blocks_elsewhere host old new h stands serves x =
       λ on. blocks_of-outside geo host.blocks (IsVolumePlace geo) old.medium new.medium apart x (serves.mounted on) ∙ stands.blocks on,
     )
 
--- the volume stays for what it is, where all only wandered
-pub volume_wandered : (host : HostState) (old new : Device) (h : Machine) → Stands host old h → Serves host old → Wander old.medium new.medium → VolumeStands h.geometry new.medium h.torn h.volume
-volume_wandered host old new h stands serves wander =
+-- the volume stays for what it is, where all were only written back
+pub volume_written_back : (host : HostState) (old new : Device) (h : Machine) → Stands host old h → Serves host old → WritesBack old.medium new.medium → VolumeStands h.geometry new.medium h.interrupted h.volume
+volume_written_back host old new h stands serves write_back =
     let v = stands.device.volume in
     let geo = h.geometry in
     let layout = subst (λ g. HasLayout g old.medium) stands.geometry serves.layout in
@@ -130,12 +130,12 @@ volume_wandered host old new h stands serves wander =
       pages = v.pages;
       may = v.may;
       length = v.length;
-      stand = stand-loaded (volume_of geo old.medium) (volume_of geo new.medium) geo.vpages v.pages v.stand (volume_intact geo old.medium layout) (wander-volume geo old.medium new.medium wander);
+      stand = stand-loaded (volume_of geo old.medium) (volume_of geo new.medium) geo.vpages v.pages v.stand (volume_intact geo old.medium layout) (write_back-volume geo old.medium new.medium write_back);
     }
 
 module _ (host : HostState) (old new : Device) (h : Machine) (action : Action) (stands : Stands host old h) (serves : Serves host old) (on : host.mode ≡ modes.On) where
   -- Work on the volume that went well comes to its answer and its state.
-  pub comes_of_work : (pages : List Page) (answer : Answer) (a b : ℕ) → Runs a b went old.panel new.panel → WandersOutside (IsVolumePlace host.geometry) old.medium new.medium
+  pub comes_of_work : (pages : List Page) (answer : Answer) (a b : ℕ) → Runs a b went old.panel new.panel → WritesBackOutside (IsVolumePlace host.geometry) old.medium new.medium
       → length pages ≡ length h.volume → PagesStand (volume_of host.geometry new.medium) host.geometry.vpages pages
       → Comes h action (Works answer (record h { volume = pages })) answer host old new
   comes_of_work pages answer a b runs outside size stand =
@@ -153,7 +153,7 @@ module _ (host : HostState) (old new : Device) (h : Machine) (action : Action) (
           blocks = kept.1;
           device = record {
             blocks = kept.0;
-            volume = stands_whole host new h pages stands.geometry (size ∙ whole_length host old h stands whole) stand h.torn whole;
+            volume = stands_whole host new h pages stands.geometry (size ∙ whole_length host old h stands whole) stand h.interrupted whole;
             power = runs.cause.0 ∙ stands.device.power;
             cut_armed = runs.cause.2 ∙ stands.device.cut_armed;
             fail_armed = runs.cause.3 ∙ stands.device.fail_armed;
@@ -163,18 +163,18 @@ module _ (host : HostState) (old new : Device) (h : Machine) (action : Action) (
         };
       }
 
-  -- Work that was interrupted comes to what stopped it, in a state that knows it torn.
+  -- Work that was interrupted comes to what stopped it, in a state that knows it interrupted.
   pub comes_of_interruption : (after : HostState) (good : Answer) (to : Machine) (by : Interruption) (a b : ℕ) → after.geometry ≡ host.geometry → after.mode ≡ interrupted_mode by
       → Runs a b (ended {T = Unit {0}} (Err by)) old.panel new.panel → EachReads h.geometry new.medium (MayLeaveBlocks (Some action) h.blocks)
       → VolumeStands h.geometry new.medium (Some action) h.volume → Comes h action (Works good to) (interrupted_answer by) after old new
   comes_of_interruption after good to by a b same mode runs blocks volume = record {
     said = answered (interrupted_answer by);
-    next = struck (while_torn h action) by new.panel;
+    next = struck (while_interrupted h action) by new.panel;
     answers = refl;
     takes = (
       interrupted_answer by,
       refl,
-      inr (by, refl, interrupts by (while_torn h action) a b old.panel new.panel runs stands.device.cut_armed stands.device.fail_armed),
+      inr (by, refl, interrupts by (while_interrupted h action) a b old.panel new.panel runs stands.device.cut_armed stands.device.fail_armed),
     );
     tells = tells_work a b (ended {T = Unit {0}} (Err by)) (interrupted_answer by) old.panel new.panel runs;
     stands = record {
@@ -194,27 +194,27 @@ module _ (host : HostState) (old new : Device) (h : Machine) (action : Action) (
   }
 
   -- work on the volume leaves the blocks
-  blocks_left : WandersOutside (IsVolumePlace host.geometry) old.medium new.medium → EachReads h.geometry new.medium (λ bs. (bs ≡ h.blocks) ⊎ (bs ≡ h.blocks))
+  blocks_left : WritesBackOutside (IsVolumePlace host.geometry) old.medium new.medium → EachReads h.geometry new.medium (λ bs. (bs ≡ h.blocks) ⊎ (bs ≡ h.blocks))
   blocks_left outside =
       each_reads-then h.geometry new.medium (λ bs. bs ≡ h.blocks) (λ bs. (bs ≡ h.blocks) ⊎ (bs ≡ h.blocks)) (λ bs e. inl e)
-      (subst (λ torn. EachReads h.geometry new.medium (MayLeaveBlocks torn h.blocks)) (is_whole host old h stands on) (blocks_elsewhere host old new h stands serves outside).0)
+      (subst (λ interrupted. EachReads h.geometry new.medium (MayLeaveBlocks interrupted h.blocks)) (is_whole host old h stands on) (blocks_elsewhere host old new h stands serves outside).0)
 
-  -- pages that a torn action may have left
-  pub pages_left : (pages : List Page) (torn : Option Action) → MayLeaveVolume torn h.volume pages → length pages ≡ length h.volume
-      → PagesStand (volume_of host.geometry new.medium) host.geometry.vpages pages → VolumeStands h.geometry new.medium torn h.volume
-  pages_left pages torn may size stand = record {
+  -- pages that an interrupted action may have left
+  pub pages_left : (pages : List Page) (interrupted : Option Action) → MayLeaveVolume interrupted h.volume pages → length pages ≡ length h.volume
+      → PagesStand (volume_of host.geometry new.medium) host.geometry.vpages pages → VolumeStands h.geometry new.medium interrupted h.volume
+  pages_left pages interrupted may size stand = record {
     pages = pages;
     may = may;
     length = size ∙ whole_length host old h stands (is_whole host old h stands on);
     stand = subst (λ geo. PagesStand (volume_of geo new.medium) geo.vpages pages) stands.geometry stand;
   }
 
-  -- the pages stand where all only wandered
-  pub pages_wandered : Wander old.medium new.medium → PagesStand (volume_of host.geometry new.medium) host.geometry.vpages h.volume
-  pages_wandered wander =
+  -- the pages stand where all were only written back
+  pub pages_written_back : WritesBack old.medium new.medium → PagesStand (volume_of host.geometry new.medium) host.geometry.vpages h.volume
+  pages_written_back write_back =
       let geo = host.geometry in
       stand-loaded (volume_of geo old.medium) (volume_of geo new.medium) geo.vpages h.volume (whole_pages host old h stands (is_whole host old h stands on))
-      (volume_intact geo old.medium serves.layout) (wander-volume geo old.medium new.medium wander)
+      (volume_intact geo old.medium serves.layout) (write_back-volume geo old.medium new.medium write_back)
 
 -- the same as a host answers it
 pub interrupted : (now after : HostState) (by : Interruption) (answer : Answer) (h : Machine) (action : Action) (fate : Fate) (old new : Device) → after ≡ record now { mode = interrupted_mode by }
@@ -224,7 +224,7 @@ interrupted now after by answer h action fate old new state is comes =
 
 -- A load comes to the bytes that the machine sees, or to what stopped it.
 module _ (host : HostState) (old new : Device) (h : Machine) (offset len : ℕ) (stands : Stands host old h) (serves : Serves host old) (on : host.mode ≡ modes.On)
-    (wander : Wander old.medium new.medium) where
+    (write_back : WritesBack old.medium new.medium) where
   pub comes_of_load : (bytes : List ℕ) (a b : ℕ) → Runs a b went old.panel new.panel → offset + len ≤ 4096 * host.geometry.vpages
       → bytes ≡ span_shown (volume_of host.geometry old.medium) offset len → Comes h (VLoad offset len) (Works (Bytes (look h.volume offset len)) h) (Bytes bytes) host old new
   unfolding comes_of_work
@@ -232,8 +232,8 @@ module _ (host : HostState) (old new : Device) (h : Machine) (offset len : ℕ) 
       let geo = host.geometry in
       let intact = volume_intact geo old.medium serves.layout in
       let seen = look-stand (volume_of geo old.medium) geo.vpages h.volume offset len (whole_pages host old h stands (is_whole host old h stands on)) intact within in
-      let comes = comes_of_work host old new h (VLoad offset len) stands serves on h.volume (Bytes bytes) a b runs (outside-wander (IsVolumePlace geo) old.medium new.medium wander) refl
-      (pages_wandered host old new h (VLoad offset len) stands serves on wander) in
+      let comes = comes_of_work host old new h (VLoad offset len) stands serves on h.volume (Bytes bytes) a b runs (outside-write_back (IsVolumePlace geo) old.medium new.medium write_back) refl
+      (pages_written_back host old new h (VLoad offset len) stands serves on write_back) in
       record {
         said = comes.said;
         next = h;
@@ -243,21 +243,21 @@ module _ (host : HostState) (old new : Device) (h : Machine) (offset len : ℕ) 
         stands = comes.stands;
       }
 
-  pub comes_of_torn_load : (by : Interruption) (a b : ℕ) → Runs a b (ended {T = Unit {0}} (Err by)) old.panel new.panel
+  pub comes_of_interrupted_load : (by : Interruption) (a b : ℕ) → Runs a b (ended {T = Unit {0}} (Err by)) old.panel new.panel
       → Comes h (VLoad offset len) (Works (Bytes (look h.volume offset len)) h) (interrupted_answer by) (record host { mode = interrupted_mode by }) old new
-  comes_of_torn_load by a b runs =
+  comes_of_interrupted_load by a b runs =
       let action = VLoad offset len in
       comes_of_interruption host old new h action stands serves on (record host { mode = interrupted_mode by }) _ h by a b refl refl runs
-      (blocks_left host old new h action stands serves on (outside-wander (IsVolumePlace host.geometry) old.medium new.medium wander))
-      (pages_left host old new h action stands serves on h.volume (Some action) refl refl (pages_wandered host old new h action stands serves on wander))
+      (blocks_left host old new h action stands serves on (outside-write_back (IsVolumePlace host.geometry) old.medium new.medium write_back))
+      (pages_left host old new h action stands serves on h.volume (Some action) refl refl (pages_written_back host old new h action stands serves on write_back))
 
 -- A store that was interrupted got to some line.
-pub comes_of_torn_store : (host : HostState) (old new : Device) (h : Machine) (offset : ℕ) (bytes : List ℕ) (good : Answer) (to : Machine) (by : Interruption) (a b line : ℕ)
+pub comes_of_interrupted_store : (host : HostState) (old new : Device) (h : Machine) (offset : ℕ) (bytes : List ℕ) (good : Answer) (to : Machine) (by : Interruption) (a b line : ℕ)
     → Stands host old h → Serves host old → host.mode ≡ modes.On → Runs a b (ended {T = Unit {0}} (Err by)) old.panel new.panel
-    → WandersOutside (IsVolumePlace host.geometry) old.medium new.medium
-    → Wander (each (volume_of host.geometry old.medium) (below line (word_stored offset bytes))) (volume_of host.geometry new.medium)
+    → WritesBackOutside (IsVolumePlace host.geometry) old.medium new.medium
+    → WritesBack (each (volume_of host.geometry old.medium) (below line (word_stored offset bytes))) (volume_of host.geometry new.medium)
     → Comes h (VStore offset bytes) (Works good to) (interrupted_answer by) (record host { mode = interrupted_mode by }) old new
-comes_of_torn_store host old new h offset bytes good to by a b line stands serves on runs outside wander =
+comes_of_interrupted_store host old new h offset bytes good to by a b line stands serves on runs outside write_back =
     let geo = host.geometry in
     let action = VStore offset bytes in
     comes_of_interruption host old new h action stands serves on (record host { mode = interrupted_mode by }) good to by a b refl refl runs
@@ -265,31 +265,31 @@ comes_of_torn_store host old new h offset bytes good to by a b line stands serve
     (pages_left host old new h action stands serves on (stored_below line offset bytes h.volume) (Some action) (may_store-below line offset bytes h.volume)
     (length-stored_below line offset bytes h.volume)
     (stand-stored_below (volume_of geo old.medium) (volume_of geo new.medium) line offset geo.vpages bytes h.volume (whole_pages host old h stands (is_whole host old h stands on))
-    (volume_intact geo old.medium serves.layout) wander))
+    (volume_intact geo old.medium serves.layout) write_back))
 
--- A sync that was interrupted leaves what was there: the lines that it got to only wandered.
-pub comes_of_torn_sync : (host : HostState) (old new : Device) (h : Machine) (offset len : ℕ) (good : Answer) (to : Machine) (by : Interruption) (a b : ℕ)
-    → Stands host old h → Serves host old → host.mode ≡ modes.On → Runs a b (ended {T = Unit {0}} (Err by)) old.panel new.panel → Wander old.medium new.medium
+-- A sync that was interrupted leaves what was there: the lines that it got to were only written back.
+pub comes_of_interrupted_sync : (host : HostState) (old new : Device) (h : Machine) (offset len : ℕ) (good : Answer) (to : Machine) (by : Interruption) (a b : ℕ)
+    → Stands host old h → Serves host old → host.mode ≡ modes.On → Runs a b (ended {T = Unit {0}} (Err by)) old.panel new.panel → WritesBack old.medium new.medium
     → Comes h (VSync offset len) (Works good to) (interrupted_answer by) (record host { mode = interrupted_mode by }) old new
-comes_of_torn_sync host old new h offset len good to by a b stands serves on runs wander =
+comes_of_interrupted_sync host old new h offset len good to by a b stands serves on runs write_back =
     let action = VSync offset len in
     comes_of_interruption host old new h action stands serves on (record host { mode = interrupted_mode by }) good to by a b refl refl runs
-    (blocks_left host old new h action stands serves on (outside-wander (IsVolumePlace host.geometry) old.medium new.medium wander))
-    (pages_left host old new h action stands serves on h.volume (Some action) (may_sync-none offset len h.volume) refl (pages_wandered host old new h action stands serves on wander))
+    (blocks_left host old new h action stands serves on (outside-write_back (IsVolumePlace host.geometry) old.medium new.medium write_back))
+    (pages_left host old new h action stands serves on h.volume (Some action) (may_sync-none offset len h.volume) refl (pages_written_back host old new h action stands serves on write_back))
 
--- what stands while all only wanders, in another mode and with other flags
-wandered : (host : HostState) (old new : Device) (h next : Machine) → Stands host old h → Serves host old → Wander old.medium new.medium → (next ≡ record h { mode = next.mode; cut_armed = next.cut_armed; fail_armed = next.fail_armed })
+-- what stands while all is only written back, in another mode and with other flags
+written_back : (host : HostState) (old new : Device) (h next : Machine) → Stands host old h → Serves host old → WritesBack old.medium new.medium → (next ≡ record h { mode = next.mode; cut_armed = next.cut_armed; fail_armed = next.fail_armed })
     → new.panel.power ≡ is_powered next.mode → new.panel.cut_armed ≡ next.cut_armed → new.panel.fail_armed ≡ next.fail_armed → (next.mode ≡ modes.On → h.mode ≡ modes.On)
     → Stands (record host { mode = next.mode }) new next
-wandered host old new h next stands serves wander is power cut fail mode =
-    let kept = blocks_elsewhere host old new h stands serves (outside-wander (IsVolumePlace host.geometry) old.medium new.medium wander) in
+written_back host old new h next stands serves write_back is power cut fail mode =
+    let kept = blocks_elsewhere host old new h stands serves (outside-write_back (IsVolumePlace host.geometry) old.medium new.medium write_back) in
     subst (λ n. Stands (record host { mode = next.mode }) new n) (sym is) (record {
       geometry = stands.geometry;
       mode = refl;
       blocks = λ on. kept.1 (stands.mode ∙ mode on);
       device = record {
         blocks = kept.0;
-        volume = volume_wandered host old new h stands serves wander;
+        volume = volume_written_back host old new h stands serves write_back;
         power = power;
         cut_armed = cut;
         fail_armed = fail;
@@ -299,10 +299,10 @@ wandered host old new h next stands serves wander is power cut fail mode =
     })
 
 -- A cut comes to the state without power.
-pub comes_of_cut : (host : HostState) (old new : Device) (h : Machine) → Stands host old h → Serves host old → Wander old.medium new.medium
+pub comes_of_cut : (host : HostState) (old new : Device) (h : Machine) → Stands host old h → Serves host old → WritesBack old.medium new.medium
     → new.panel ≡ after_power_off old.panel
     → Comes h Cut (Gives Done (record h { mode = modes.Off; cut_armed = false; fail_armed = false })) Done (record host { mode = modes.Off }) old new
-comes_of_cut host old new h stands serves wander panel =
+comes_of_cut host old new h stands serves write_back panel =
     let next = record h { mode = modes.Off; cut_armed = false; fail_armed = false } in
     record {
       said = answered Done;
@@ -315,13 +315,13 @@ comes_of_cut host old new h stands serves wander panel =
         orders = ap (λ p. p.last_order) panel;
         arms = ap (λ p. p.counts.arms) panel;
       };
-      stands = wandered host old new h next stands serves wander refl (ap (λ p. p.power) panel) (ap (λ p. p.cut_armed) panel) (ap (λ p. p.fail_armed) panel) (λ on. cc);
+      stands = written_back host old new h next stands serves write_back refl (ap (λ p. p.power) panel) (ap (λ p. p.cut_armed) panel) (ap (λ p. p.fail_armed) panel) (λ on. cc);
     }
 
 -- An order to cut comes to the state where a cut is armed.
-pub comes_of_cut_in : (host : HostState) (old new : Device) (h : Machine) (calls : ℕ) → Stands host old h → Serves host old → Wander old.medium new.medium
+pub comes_of_cut_in : (host : HostState) (old new : Device) (h : Machine) (calls : ℕ) → Stands host old h → Serves host old → WritesBack old.medium new.medium
     → new.panel ≡ after_arm_cut old.panel calls → Comes h (CutIn calls) (Orders (ForCut calls) (record h { cut_armed = true })) Done host old new
-comes_of_cut_in host old new h calls stands serves wander panel =
+comes_of_cut_in host old new h calls stands serves write_back panel =
     let next = record h { cut_armed = true } in
     record {
       said = with_order (ForCut calls) Done;
@@ -335,7 +335,7 @@ comes_of_cut_in host old new h calls stands serves wander panel =
         arms = ap (λ p. p.counts.arms) panel;
       };
       stands = subst (λ (s : HostState). Stands s new next) (ap (λ m. record host { mode = m }) (sym stands.mode))
-          (wandered host old new h next stands serves wander refl (ap (λ p. p.power) panel ∙ stands.device.power) (ap (λ p. p.cut_armed) panel) (ap (λ p. p.fail_armed) panel ∙ stands.device.fail_armed) (λ on. on));
+          (written_back host old new h next stands serves write_back refl (ap (λ p. p.power) panel ∙ stands.device.power) (ap (λ p. p.cut_armed) panel) (ap (λ p. p.fail_armed) panel ∙ stands.device.fail_armed) (λ on. on));
     }
 
 -- A refusal comes to itself.

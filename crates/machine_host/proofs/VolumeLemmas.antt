@@ -1,14 +1,14 @@
 -- The volume's lines on the device: what is done to one is done to the other.
 use Rattle.std.proofs.Common.{◌≡◌, inl, inr, ℕ, ◌+◌, ◌*◌, ◌/◌, ◌%◌, ◌<◌, List, Result, Ok, Err, MatchResult, OnOk, refl, sym, ap, ap₂, subst, ◌∙◌, arith}
 use Rattle.std.proofs.lemmas.Bool.{cases_eq}
-use Rattle.line_device.specs.History.{latest, newest, Fades}
-use Rattle.line_device.specs.Medium.{Medium, Wander, Survivors, Survives, IsHealthy, IsLine, on_line, settled}
+use Rattle.line_device.specs.History.{latest, newest, WordWritesBack}
+use Rattle.line_device.specs.Medium.{Medium, WritesBack, Survivors, Survives, IsHealthy, IsLine, on_line, flushed}
 use Rattle.line_device.specs.Panel.{Image}
 use Rattle.line_device.specs.Device.{Depicts}
 use Rattle.line_device.specs.declared.line.Choice.{Choice}
-use Rattle.line_device.proofs.WanderLemmas.{on_line-in, on_line-out}
-use Rattle.line_words.specs.Words.{WandersOutside}
-use Rattle.line_words.proofs.FrameLemmas.{outside-wander}
+use Rattle.line_device.proofs.WriteBackLemmas.{on_line-in, on_line-out}
+use Rattle.line_words.specs.Words.{WritesBackOutside}
+use Rattle.line_words.proofs.FrameLemmas.{outside-write_back}
 use Rattle.word_tables.specs.declared.geometry.Geometry.{Geometry}
 use Rattle.word_tables.specs.Layout.{volume_line, total_lines, IsVolumeLine}
 use Rattle.word_tables.proofs.LayoutLemmas.{volume_line-distinct, volume_line-in, volume_line-within}
@@ -32,12 +32,12 @@ module _ (geo : Geometry) where
       let line : (8 * n + w) / 8 ≡ n = omega arith in
       let word : (8 * n + w) % 8 ≡ w = omega arith in ap₂ (λ l k. 8 * volume_line geo l + k) line word
 
-  pub wander-volume : (a b : Medium) → Wander a b → Wander (volume_of geo a) (volume_of geo b)
-  wander-volume a b w = record {
+  pub write_back-volume : (a b : Medium) → WritesBack a b → WritesBack (volume_of geo a) (volume_of geo b)
+  write_back-volume a b w = record {
     count = refl;
     bad = λ n. w.bad (volume_line geo n);
     weak = λ n. w.weak (volume_line geo n);
-    fades = λ p. subst (λ n. Fades (a.is_weak n) (a.history (volume_place geo p)) (b.history (volume_place geo p))) (place-line p) (w.fades (volume_place geo p));
+    word_write_back = λ p. subst (λ n. WordWritesBack (a.is_weak n) (a.history (volume_place geo p)) (b.history (volume_place geo p))) (place-line p) (w.word_write_back (volume_place geo p));
   }
 
   -- the words of a line of the volume, changed on the device
@@ -54,33 +54,33 @@ module _ (geo : Geometry) where
             ∙ sym (on_line-out n change (λ q. history (volume_place geo q)) p other)
       ]
 
-  pub wander-changed : (line n : ℕ) (change : ℕ → List ℕ → List ℕ) (a b : Medium) → line ≡ volume_line geo n → Wander (changed a line change) b
-      → Wander (changed (volume_of geo a) n change) (volume_of geo b)
-  wander-changed line n change a b is w =
-      let moved = wander-volume (changed a line change) b w in
+  pub write_back-changed : (line n : ℕ) (change : ℕ → List ℕ → List ℕ) (a b : Medium) → line ≡ volume_line geo n → WritesBack (changed a line change) b
+      → WritesBack (changed (volume_of geo a) n change) (volume_of geo b)
+  write_back-changed line n change a b is w =
+      let moved = write_back-volume (changed a line change) b w in
       record {
         count = refl;
         bad = moved.bad;
         weak = moved.weak;
-        fades = λ p. subst (λ h. Fades (a.is_weak (volume_line geo (p / 8))) h (b.history (volume_place geo p))) (on_line-volume line n change a.history p is) (moved.fades p);
+        word_write_back = λ p. subst (λ h. WordWritesBack (a.is_weak (volume_line geo (p / 8))) h (b.history (volume_place geo p))) (on_line-volume line n change a.history p is) (moved.word_write_back p);
       }
 
-  -- other words than the volume's only wander then
+  -- other words than the volume's are only written back then
   pub outside-changed : (line n : ℕ) (change : ℕ → List ℕ → List ℕ) (a b : Medium) → line ≡ volume_line geo n → n < 64 * geo.vpages
-      → Wander (changed a line change) b → WandersOutside (IsVolumePlace geo) a b
+      → WritesBack (changed a line change) b → WritesBackOutside (IsVolumePlace geo) a b
   outside-changed line n change a b is within w = record {
     count = w.count;
     bad = w.bad;
     weak = w.weak;
-    fades = λ p out.
+    word_write_back = λ p out.
         let off : p / 8 ≡ line → ⊥ = λ e. out (subst (IsVolumeLine geo) (sym (e ∙ is)) (volume_line-in geo n within)) in
-        subst (λ h. Fades (a.is_weak (p / 8)) h (b.history p)) (on_line-out line change a.history p off) (w.fades p);
+        subst (λ h. WordWritesBack (a.is_weak (p / 8)) h (b.history p)) (on_line-out line change a.history p off) (w.word_write_back p);
   }
 
   -- a persist that went well
   pub volume-persist : {A E : Type 0} (r : Result A E) (line n : ℕ) (a b : Medium) → line ≡ volume_line geo n
-      → MatchResult r (λ _. Wander (settled a line) b) (λ _. Wander a b) → OnOk r (Wander (settled (volume_of geo a) n) (volume_of geo b))
-  volume-persist (Ok x) line n a b is w = wander-changed line n (λ _ old. latest old) a b is w
+      → MatchResult r (λ _. WritesBack (flushed a line) b) (λ _. WritesBack a b) → OnOk r (WritesBack (flushed (volume_of geo a) n) (volume_of geo b))
+  volume-persist (Ok x) line n a b is w = write_back-changed line n (λ _ old. latest old) a b is w
   volume-persist (Err e) line n a b is w = tt
 
   pub is_line-volume : (m : Medium) (line n : ℕ) (bytes : List ℕ) → line ≡ volume_line geo n → IsLine m line bytes → IsLine (volume_of geo m) n bytes
@@ -89,15 +89,15 @@ module _ (geo : Geometry) where
     words = λ w small. ap (λ p. newest (m.history p)) (place-of n w small ∙ ap (λ l. 8 * l + w) (sym is)) ∙ shows.words w small;
   }
 
-  pub has_layout-outside : (inside : ℕ → Type 0) (a b : Medium) → HasLayout geo a → WandersOutside inside a b → HasLayout geo b
+  pub has_layout-outside : (inside : ℕ → Type 0) (a b : Medium) → HasLayout geo a → WritesBackOutside inside a b → HasLayout geo b
   has_layout-outside inside a b layout w = record {
     valid = layout.valid;
     lines = w.count ∙ layout.lines;
     intact = λ n lt. let was = layout.intact n (subst (λ c. n < c) w.count lt) in (w.bad n ∙ was.0, w.weak n ∙ was.1);
   }
 
-  pub has_layout-wander : (a b : Medium) → HasLayout geo a → Wander a b → HasLayout geo b
-  has_layout-wander a b layout w = has_layout-outside (λ _. ⊥) a b layout (outside-wander (λ _. ⊥) a b w)
+  pub has_layout-write_back : (a b : Medium) → HasLayout geo a → WritesBack a b → HasLayout geo b
+  has_layout-write_back a b layout w = has_layout-outside (λ _. ⊥) a b layout (outside-write_back (λ _. ⊥) a b w)
 
   line_there : (m : Medium) (n : ℕ) → m.count ≡ total_lines geo → n < 64 * geo.vpages → volume_line geo n < m.count
   line_there m n lines lt = subst (λ c. volume_line geo n < c) (sym lines) (volume_line-within geo n lt)

@@ -8,8 +8,8 @@ use Rattle.script_text.specs.Script.{Input}
 use Rattle.script_text.specs.Script.Input.{Skipped, Malformed, Asked}
 
 -- how many counted calls a command makes at most, and how many persists: one for each line that its span touches
-abbrev pub lines_in : ℕ → ℕ → ℕ
-lines_in start len = (units_of 64 (record { start = start; len = len })).len
+abbrev pub lines_touched : ℕ → ℕ → ℕ
+lines_touched start len = (units_of 64 (record { start = start; len = len })).len
 
 -- what a mount makes at most: it reads the superblock, makes log and map of the blocks durable, replays, and reads the map
 abbrev pub mount_calls : ℕ
@@ -28,9 +28,9 @@ most_calls (BDiscard block count) = 326
 most_calls (BDiscardIf block count) = 11 * count
 most_calls (BExists block) = 0
 most_calls (BScar ranges) = 326
-most_calls (VLoad offset len) = lines_in offset len
-most_calls (VStore offset bytes) = lines_in offset (length bytes)
-most_calls (VSync offset len) = lines_in offset len
+most_calls (VLoad offset len) = lines_touched offset len
+most_calls (VStore offset bytes) = lines_touched offset (length bytes)
+most_calls (VSync offset len) = lines_touched offset len
 most_calls Cut = 0
 most_calls (CutIn calls) = 0
 most_calls (Restart choice) = mount_calls
@@ -43,7 +43,7 @@ most_persists (BDiscard block count) = 131
 most_persists (BDiscardIf block count) = 5 * count
 most_persists (BScar ranges) = 131
 most_persists (Restart choice) = mount_persists
-most_persists (VSync offset len) = lines_in offset len
+most_persists (VSync offset len) = lines_touched offset len
 most_persists _ = 0
 
 -- only `cut in` arms anything

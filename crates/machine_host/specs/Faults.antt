@@ -3,7 +3,7 @@ use Rattle.std.specs.Prelude.{◌≡◌, ◌+◌, ◌*◌, ◌⊎◌, ℕ, Resul
 use Rattle.line_device.specs.Panel.{Start}
 use Rattle.line_device.specs.Device.{Device, Restarted, Waited}
 use Rattle.line_device.specs.declared.line.Choice.{Choice}
-use Rattle.line_words.specs.Words.{WandersOutside}
+use Rattle.line_words.specs.Words.{WritesBackOutside}
 use Rattle.word_log.specs.Area.{IsOf}
 use Rattle.block_device.specs.Images.{KeepsReads}
 use Rattle.block_device.specs.Area.{block_area}
@@ -21,12 +21,12 @@ use Rattle.recovery.specs.declared.fault.MountFault.TheVariants as mount
 use Rattle.machine_host.specs.Stands.{HostState}
 
 -- A restart that was done, after which there was no memory to mount the blocks. Their log may be replayed since, so that each
--- image reads as one did before; all other words only wandered.
+-- image reads as one did before; all other words were only written back.
 pub record LeftUnmounted (choice : Choice) (host after : HostState) (old new : Device) : Type 0 where
   pub between : Device
   pub start : Start
   pub restarted : Restarted choice old between start
-  pub outside : WandersOutside (IsOf (block_area host.geometry)) between.medium new.medium
+  pub outside : WritesBackOutside (IsOf (block_area host.geometry)) between.medium new.medium
   pub reads : KeepsReads host.geometry between.medium new.medium
   pub starts : new.panel.starts ≡ between.panel.starts
   pub unsettled : after ≡ record host { mode = modes.Unsettled }

@@ -21,7 +21,7 @@ use Rattle.script_text.specs.Action.Action.{BRead, BWrite, BAtomic, BMulti, BDis
 use Rattle.reply_text.specs.Answer.{Answer}
 use Rattle.reply_text.specs.Answer.Answer.{Done, Bytes, Yes, No, Scarred, PoisonBlock, Refused, RefusedMeta}
 
--- `bad_meta` are the bad metadata lines, rising. `torn` is the action that a cut or a failure interrupted.
+-- `bad_meta` are the bad metadata lines, rising. `interrupted` is the action that a cut or a failure interrupted.
 pub record Machine : Type 0 where
   pub geometry : Geometry
   pub blocks : List Block
@@ -32,7 +32,7 @@ pub record Machine : Type 0 where
   pub events : List Event
   pub bad_meta : List ℕ
   pub mode : Mode
-  pub torn : Option Action
+  pub interrupted : Option Action
   pub cut_armed : Bool
   pub fail_armed : Bool
 
@@ -139,8 +139,8 @@ abbrev pub after_work : Machine → Action → Machine
 after_work h action = record h { blocks = blocks_after action h.blocks; volume = volume_after action h.volume }
 
 -- and while it is not done
-abbrev pub while_torn : Machine → Action → Machine
-while_torn h action = record h { torn = Some action }
+abbrev pub while_interrupted : Machine → Action → Machine
+while_interrupted h action = record h { interrupted = Some action }
 
 -- what comes of a command that is done
 abbrev pub done : Machine → Action → Fate

@@ -26,7 +26,7 @@ reading geometry image = record {
   events = [];
   bad_meta = [];
   mode = modes.On;
-  torn = None;
+  interrupted = None;
   cut_armed = false;
   fail_armed = false;
 }
@@ -43,9 +43,9 @@ restart_answer h image =
 -- What a restart may leave of a state: blocks and volume as an interrupted action may have left them, and of each word of the
 -- volume one of its values.
 pub record Keeps (choice : Choice) (image : Image) (h : Machine) : Type 0 where
-  pub blocks : MayLeaveBlocks h.torn h.blocks (blocks_read h.geometry image.is_bad image.word)
+  pub blocks : MayLeaveBlocks h.interrupted h.blocks (blocks_read h.geometry image.is_bad image.word)
   pub left : List Page
-  pub may : MayLeaveVolume h.torn h.volume left
+  pub may : MayLeaveVolume h.interrupted h.volume left
   pub volume : KeepsPages choice (volume_image h.geometry image) left
 
 -- a medium of zeros

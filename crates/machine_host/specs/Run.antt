@@ -9,15 +9,15 @@ use Rattle.reply_text.specs.Answer.Answer.{Done, Refused}
 use Rattle.script_text.specs.Action.{Action}
 use Rattle.script_text.specs.Script.{Input}
 use Rattle.script_text.specs.Script.Input.{Skipped, Malformed, Asked}
-use Rattle.machine_host.specs.Machine.{Machine, Fate, fate, while_torn}
+use Rattle.machine_host.specs.Machine.{Machine, Fate, fate, while_interrupted}
 use Rattle.machine_host.specs.Machine.Fate.{Gives, Works, Orders, Restarts}
 use Rattle.machine_host.specs.Interrupted.{Interrupts, interrupted_answer}
 use Rattle.machine_host.specs.Restarting.{Keeps, restarted, restart_answer}
 
 -- It came to this answer and this state, or was interrupted in that one.
 abbrev pub Ends : Answer → Machine → Machine → Answer → Machine → Type 0
-Ends good to torn answer next =
-    ((answer ≡ good) × (next ≡ to)) ⊎ ((by : Interruption) × (answer ≡ interrupted_answer by) × Interrupts by torn next)
+Ends good to interrupted answer next =
+    ((answer ≡ good) × (next ≡ to)) ⊎ ((by : Interruption) × (answer ≡ interrupted_answer by) × Interrupts by interrupted next)
 
 -- what was said between script and device: what each restart left, the orders that the device got, and the answers
 pub record Transcript : Type 0 where
@@ -49,7 +49,7 @@ with_start start answer = record { starts = start ∷ []; orders = []; answers =
 -- what comes of a command in h
 abbrev pub Takes : Machine → Action → Fate → Transcript → Machine → Type 0
 Takes h action (Gives good to) said next = (said ≡ answered good) × (next ≡ to)
-Takes h action (Works good to) said next = (answer : Answer) × (said ≡ answered answer) × Ends good to (while_torn h action) answer next
+Takes h action (Works good to) said next = (answer : Answer) × (said ≡ answered answer) × Ends good to (while_interrupted h action) answer next
 Takes h action (Orders order to) said next = (said ≡ with_order order Done) × (next ≡ to)
 Takes h action (Restarts choice) said next =
     (start : Start) × (answer : Answer) × (said ≡ with_start start answer) × (start.choice ≡ choice) × Keeps choice start.image h

@@ -36,7 +36,7 @@ is_powered modes.Unsettled = true
 pub record AreMounted (geo : Geometry) (s : BlocksState) (m : Medium) : Type 0 where
   pub geometry : s.geo ≡ geo
   pub settled : IsTrue s.settled
-  pub serves : blocks.Serves s m
+  pub serves : blocks.BlocksServe s m
 
 -- The device is the one that the host mounted: it has the lines of the whole layout, none bad or weak, and its superblock tells
 -- the sizes; each image of its blocks is one, and in mode On they are mounted; and its power is off exactly in mode Off.
@@ -47,23 +47,23 @@ pub record Serves (host : HostState) (d : Device) : Type 0 where
   pub readable : AreReadable host.geometry d.medium
   pub mounted : host.mode ≡ modes.On → AreMounted host.geometry host.blocks d.medium
 
--- the volume's lines stand for pages that a torn action may have left of these
-pub record VolumeStands (geo : Geometry) (m : Medium) (torn : Option Action) (volume : List Page) : Type 0 where
+-- the volume's lines stand for pages that an interrupted action may have left of these
+pub record VolumeStands (geo : Geometry) (m : Medium) (interrupted : Option Action) (volume : List Page) : Type 0 where
   pub pages : List Page
-  pub may : MayLeaveVolume torn volume pages
+  pub may : MayLeaveVolume interrupted volume pages
   pub length : length pages ≡ geo.vpages
   pub stand : PagesStand (volume_of geo m) geo.vpages pages
 
 -- The device stands for the state: its blocks in each image, each line of the volume for its cell, and what is armed. Where an
 -- action was interrupted, blocks and volume are as it may have left them. What is not built yet is not there.
 pub record DeviceStands (d : Device) (h : Machine) : Type 0 where
-  pub blocks : EachReads h.geometry d.medium (MayLeaveBlocks h.torn h.blocks)
-  pub volume : VolumeStands h.geometry d.medium h.torn h.volume
+  pub blocks : EachReads h.geometry d.medium (MayLeaveBlocks h.interrupted h.blocks)
+  pub volume : VolumeStands h.geometry d.medium h.interrupted h.volume
   pub power : d.panel.power ≡ is_powered h.mode
   pub cut_armed : d.panel.cut_armed ≡ h.cut_armed
   pub fail_armed : d.panel.fail_armed ≡ h.fail_armed
   pub good_meta : h.bad_meta ≡ []
-  pub whole : h.mode ≡ modes.On → h.torn ≡ None
+  pub whole : h.mode ≡ modes.On → h.interrupted ≡ None
 
 -- and the host is in its mode, and sees its blocks
 pub record Stands (host : HostState) (d : Device) (h : Machine) : Type 0 where

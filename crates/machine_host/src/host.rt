@@ -46,7 +46,7 @@ impl Host {
     ghost use Rattle.script_text.specs.Parsing.{InBounds};
     ghost use Rattle.line_device.specs.Medium.{last_image};
     ghost use Rattle.line_device.specs.Panel.{Runs};
-    ghost use Rattle.line_words.specs.Words.{WandersOutside};
+    ghost use Rattle.line_words.specs.Words.{WritesBackOutside};
     ghost use Rattle.word_log.specs.Area.{IsOf};
     ghost use Rattle.block_device.specs.Area.{block_area};
     ghost use Rattle.block_device.specs.Reading.{blocks_read};
@@ -66,7 +66,7 @@ impl Host {
             ≡ blocks_read (geometry_told (D.state device.old).medium) (D.state device.old).medium.is_bad
             (last_image (D.state device.old).medium))) }
         ensures finds { Finds (first_finding (D.state device.old).medium) result }
-        ensures lines { WandersOutside (IsOf (block_area (geometry_told (D.state device.old).medium)))
+        ensures lines { WritesBackOutside (IsOf (block_area (geometry_told (D.state device.old).medium)))
             (D.state device.old).medium (D.state device.new).medium }
         ensures reads { early_finding (D.state device.old).medium ≡ None
             → KeepsReads (geometry_told (D.state device.old).medium) (D.state device.old).medium (D.state device.new).medium }

@@ -1,12 +1,12 @@
 // The volume's bytes over the lines of a device. Each line that a span touches is one call.
 ghost use Rattle.std.specs.Prelude.{◌≡◌, ◌+◌, ◌-◌, ◌*◌, ◌/◌, ◌%◌, ◌<◌, ◌≤◌, ◌^◌, ◌++◌, ℕ, IsTrue, length, min, max, OnErr, OnOk};
 ghost use Rattle.nvm_base.specs.Units.{units_of};
-ghost use Rattle.line_device.specs.Medium.{Wander, stored, settled, word_stored};
+ghost use Rattle.line_device.specs.Medium.{WritesBack, stored, flushed, word_stored};
 ghost use Rattle.line_device.specs.Panel.{Runs};
 ghost use Rattle.line_words.specs.Ending.{ended};
-ghost use Rattle.line_words.specs.Words.{WandersOutside};
+ghost use Rattle.line_words.specs.Words.{WritesBackOutside};
 ghost use Rattle.nvm_model.specs.Numbered.{list_from};
-ghost use Rattle.nvm_model.specs.Lines.{below, each, span_stored, span_settled, span_shown};
+ghost use Rattle.nvm_model.specs.Lines.{below, each, span_stored, span_flushed, span_shown};
 ghost use Rattle.machine_host.specs.Volume.{HasLayout, IsReachable, IsVolumePlace, line_byte, part_in as part_of, volume_of};
 
 use line_device::{DeviceFault, Lines};
@@ -42,7 +42,7 @@ fn load_part<L: Lines>(
     ensures ok { OnOk result (out.new.items
         ≡ out.old.items ++ span_shown (volume_of geo (L.state device.old).medium) part.start part.len) }
     ensures room { out.old.spare ≤ out.new.spare + part.len }
-    ensures lines { Wander (L.state device.old).medium (L.state device.new).medium }
+    ensures lines { WritesBack (L.state device.old).medium (L.state device.new).medium }
     ensures runs { Runs 1 0 (ended result) (L.state device.old).panel (L.state device.new).panel }
 {
     match device.load(LineNo(geo.volume_line(part.start / LINE))) {
@@ -83,7 +83,7 @@ pub fn load_span<L: Lines>(
     requires room { span.len ≤ out.old.spare }
     ensures ok { OnOk result (out.new.items
         ≡ out.old.items ++ span_shown (volume_of geo (L.state device.old).medium) span.start span.len) }
-    ensures lines { Wander (L.state device.old).medium (L.state device.new).medium }
+    ensures lines { WritesBack (L.state device.old).medium (L.state device.new).medium }
     ensures runs { Runs (units_of LINE span).len 0 (ended result) (L.state device.old).panel (L.state device.new).panel }
 {
     let lines = lines_of(span);
@@ -103,11 +103,11 @@ fn store_part<L: Lines>(
     requires layout { HasLayout geo (L.state device.old).medium }
     requires reachable { IsReachable geo offset (length bytes.now) }
     requires on { IsTrue (L.state device.old).panel.power }
-    ensures ok { OnOk result (Wander
+    ensures ok { OnOk result (WritesBack
         (stored (volume_of geo (L.state device.old).medium) (offset / 64) (offset % 64) bytes.now)
         (volume_of geo (L.state device.new).medium)) }
-    ensures err { OnErr result (Wander (L.state device.old).medium (L.state device.new).medium) }
-    ensures outside { WandersOutside (IsVolumePlace geo) (L.state device.old).medium (L.state device.new).medium }
+    ensures err { OnErr result (WritesBack (L.state device.old).medium (L.state device.new).medium) }
+    ensures outside { WritesBackOutside (IsVolumePlace geo) (L.state device.old).medium (L.state device.new).medium }
     ensures runs { Runs 1 0 (ended result) (L.state device.old).panel (L.state device.new).panel }
 {
     match device.store(LineNo(geo.volume_line(offset / LINE)), offset % LINE, bytes) {
@@ -129,12 +129,12 @@ pub fn store_span<L: Lines>(
     requires some { 1 ≤ length bytes.now }
     requires within { offset + length bytes.now ≤ 4096 * geo.vpages }
     requires on { IsTrue (L.state device.old).panel.power }
-    ensures ok { OnOk result (Wander (span_stored (volume_of geo (L.state device.old).medium) offset bytes.now)
+    ensures ok { OnOk result (WritesBack (span_stored (volume_of geo (L.state device.old).medium) offset bytes.now)
         (volume_of geo (L.state device.new).medium)) }
     ensures err { OnErr result ((line : ℕ)
-        × Wander (each (volume_of geo (L.state device.old).medium) (below line (word_stored offset bytes.now)))
+        × WritesBack (each (volume_of geo (L.state device.old).medium) (below line (word_stored offset bytes.now)))
         (volume_of geo (L.state device.new).medium)) }
-    ensures outside { WandersOutside (IsVolumePlace geo) (L.state device.old).medium (L.state device.new).medium }
+    ensures outside { WritesBackOutside (IsVolumePlace geo) (L.state device.old).medium (L.state device.new).medium }
     ensures runs { Runs (units_of LINE (record { start = offset; len = length bytes.now })).len 0 (ended result)
         (L.state device.old).panel (L.state device.new).panel }
 {
@@ -161,9 +161,9 @@ fn persist_line<L: Lines>(device: &mut L, geo: Geometry, line: u64) -> Result<()
     requires layout { HasLayout geo (L.state device.old).medium }
     requires there { line < 64 * geo.vpages }
     requires on { IsTrue (L.state device.old).panel.power }
-    ensures ok { OnOk result (Wander (settled (volume_of geo (L.state device.old).medium) line)
+    ensures ok { OnOk result (WritesBack (flushed (volume_of geo (L.state device.old).medium) line)
         (volume_of geo (L.state device.new).medium)) }
-    ensures lines { Wander (L.state device.old).medium (L.state device.new).medium }
+    ensures lines { WritesBack (L.state device.old).medium (L.state device.new).medium }
     ensures runs { Runs 1 1 (ended result) (L.state device.old).panel (L.state device.new).panel }
 {
     line_words::persist_line(device, geo.volume_line(line))
@@ -175,9 +175,9 @@ pub fn persist_span<L: Lines>(device: &mut L, geo: Geometry, span: Span) -> Resu
     requires some { 1 ≤ span.len }
     requires within { span.start + span.len ≤ 4096 * geo.vpages }
     requires on { IsTrue (L.state device.old).panel.power }
-    ensures ok { OnOk result (Wander (span_settled (volume_of geo (L.state device.old).medium) span.start span.len)
+    ensures ok { OnOk result (WritesBack (span_flushed (volume_of geo (L.state device.old).medium) span.start span.len)
         (volume_of geo (L.state device.new).medium)) }
-    ensures lines { Wander (L.state device.old).medium (L.state device.new).medium }
+    ensures lines { WritesBack (L.state device.old).medium (L.state device.new).medium }
     ensures runs { Runs (units_of LINE span).len (units_of LINE span).len (ended result) (L.state device.old).panel
         (L.state device.new).panel }
 {

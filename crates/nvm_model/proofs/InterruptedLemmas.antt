@@ -1,7 +1,7 @@
 -- What a device stands for after a store or a sync that was interrupted.
 use Rattle.std.proofs.Common.{◌≡◌, ◌⊎◌, inl, inr, ℕ, ◌+◌, ◌*◌, ◌/◌, Bool, true, false, cond, ltb, Option, Some, None, option_map, List, length, slice_get, refl, sym, ap, subst, ◌∙◌}
-use Rattle.line_device.specs.History.{Fades}
-use Rattle.line_device.specs.Medium.{Medium, Wander, word_stored}
+use Rattle.line_device.specs.History.{WordWritesBack}
+use Rattle.line_device.specs.Medium.{Medium, WritesBack, word_stored}
 use Rattle.nvm_model.specs.Numbered.{map_from}
 use Rattle.nvm_model.specs.Cell.{Cell}
 use Rattle.nvm_model.specs.Cell.Cell.{Bad, Kept}
@@ -10,7 +10,7 @@ use Rattle.nvm_model.specs.Page.{Page, map_lines, cell_of, fill, PagesStand}
 use Rattle.nvm_model.specs.Interrupted.{AreMixed, MayPut, MayPersist, Became, MayStore, MaySync}
 use Rattle.nvm_model.proofs.NumberedLemmas.{slice_get-map_from, length-map_from}
 use Rattle.nvm_model.proofs.PageLemmas.{cell_of-map, cell_of-fill, length-fill}
-use Rattle.nvm_model.proofs.StandLemmas.{fades-strong, fades-word_stored, cell_stands-each, words_of, after_wander}
+use Rattle.nvm_model.proofs.StandLemmas.{word_write_back-strong, word_write_back-word_stored, cell_stands-each, words_of, after_write_back}
 
 -- a line's words changed by what is done at their places
 abbrev pub changed_cell : (ℕ → List ℕ → List ℕ) → ℕ → Cell → Cell
@@ -21,11 +21,11 @@ changed_cell change n (Kept weak words) = Kept weak (map_from change (8 * n) wor
 unfoldable pub stored_below : ℕ → ℕ → List ℕ → List Page → List Page
 stored_below limit at bytes pages = map_from (map_lines (changed_cell (below limit (word_stored at bytes)))) 0 (fill at (length bytes) pages)
 
-fades-below : (limit at p : ℕ) (bytes x y : List ℕ) → Fades false x y → Fades false (below limit (word_stored at bytes) p x) (below limit (word_stored at bytes) p y)
-fades-below limit at p bytes x y f = by_test (ltb (p / 8) limit)
+word_write_back-below : (limit at p : ℕ) (bytes x y : List ℕ) → WordWritesBack false x y → WordWritesBack false (below limit (word_stored at bytes) p x) (below limit (word_stored at bytes) p y)
+word_write_back-below limit at p bytes x y f = by_test (ltb (p / 8) limit)
   where
-    by_test : (b : Bool) → Fades false (cond b (word_stored at bytes p x) x) (cond b (word_stored at bytes p y) y)
-    by_test true = fades-word_stored at p bytes x y f
+    by_test : (b : Bool) → WordWritesBack false (cond b (word_stored at bytes p x) x) (cond b (word_stored at bytes p y) y)
+    by_test true = word_write_back-word_stored at p bytes x y f
     by_test false = f
 
 are_mixed-below : (limit at n : ℕ) (bytes : List ℕ) (words : List (List ℕ))
@@ -73,19 +73,19 @@ may_store-below limit at bytes pages = inr (record {
 
 -- and the device stands for them, where its lines below the limit got the bytes
 pub stand-stored_below : (m b : Medium) (limit at count : ℕ) (bytes : List ℕ) (pages : List Page) → PagesStand m count pages → AreIntact m (64 * count)
-    → Wander (each m (below limit (word_stored at bytes))) b → PagesStand b count (stored_below limit at bytes pages)
+    → WritesBack (each m (below limit (word_stored at bytes))) b → PagesStand b count (stored_below limit at bytes pages)
 unfolding stored_below
 stand-stored_below m b limit at count bytes pages stand intact w n lt =
     let line = stand n lt in
     let kept = words_of m n line.cell line.stands (intact n lt).0 (intact n lt).1 in
     let filled = cell_of-fill at (length bytes) pages n line.cell line.is in
-    let after = after_wander m b count (record { count = w.count; bad = w.bad; weak = w.weak }) intact in
+    let after = after_write_back m b count (record { count = w.count; bad = w.bad; weak = w.weak }) intact in
     record {
       cell = Kept false (map_from (below limit (word_stored at bytes)) (8 * n) kept.0);
       is = cell_of-map (changed_cell (below limit (word_stored at bytes))) (fill at (length bytes) pages) n
           ∙ ap (option_map (changed_cell (below limit (word_stored at bytes)) n)) (filled ∙ ap (λ cell. Some cell) kept.1);
-      stands = cell_stands-each m b n false (below limit (word_stored at bytes)) kept.0 (λ p x y f. fades-below limit at p bytes x y f) kept.2 (after n lt).0 (after n lt).1
-          (λ p here. fades-strong (m.is_weak (p / 8)) _ _ (w.fades p));
+      stands = cell_stands-each m b n false (below limit (word_stored at bytes)) kept.0 (λ p x y f. word_write_back-below limit at p bytes x y f) kept.2 (after n lt).0 (after n lt).1
+          (λ p here. word_write_back-strong (m.is_weak (p / 8)) _ _ (w.word_write_back p));
     }
 
 pub length-stored_below : (limit at : ℕ) (bytes : List ℕ) (pages : List Page) → length (stored_below limit at bytes pages) ≡ length pages

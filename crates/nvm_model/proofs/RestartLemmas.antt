@@ -2,15 +2,15 @@
 use Rattle.std.proofs.Common.{◌≡◌, ℕ, ◌+◌, ◌*◌, ◌/◌, ◌%◌, ◌<◌, ◌≤◌, Bool, true, false, cond, Option, Some, None, option_map, option_and_then, List, [], ◌∷◌, length, map, slice_get, slice_index_or, refl, sym, ap, subst, ◌∙◌, inl, arith}
 use Rattle.std.proofs.lemmas.Option.{slice_get-map, slice_get-get_or, slice_get_within}
 use Rattle.std.specs.Int.{byte_at}
-use Rattle.line_device.specs.History.{Fades, latest, newest, IsIn}
+use Rattle.line_device.specs.History.{WordWritesBack, latest, newest, IsIn}
 use Rattle.line_device.specs.Medium.{Medium, IsHealthy, Survivors, Survives}
 use Rattle.line_device.specs.Panel.{Image}
 use Rattle.line_device.specs.Device.{Depicts}
 use Rattle.line_device.specs.declared.line.Choice.{Choice}
 use Rattle.line_device.specs.declared.line.Choice.TheVariants.{Lasts}
-use Rattle.line_device.proofs.HistoryLemmas.{fades-refl, newest-fades, is_in-part, is_in-latest}
+use Rattle.line_device.proofs.HistoryLemmas.{word_write_back-refl, newest-word_write_back, is_in-part, is_in-latest}
 use Rattle.nvm_model.specs.Numbered.{list_from}
-use Rattle.nvm_model.specs.Cell.{Cell, persist_cell, settle_cell, cell_byte, touches, CellStands, KeepsCell, IsKept}
+use Rattle.nvm_model.specs.Cell.{Cell, persist_cell, flush_cell, cell_byte, touches, CellStands, KeepsCell, MaySurvive}
 use Rattle.nvm_model.specs.Cell.Cell.{Bad, Kept}
 use Rattle.nvm_model.specs.Lines.{AreIntact}
 use Rattle.nvm_model.specs.Page.{Page, cell_of, persist, byte_in, read_pages, cell_in, PagesStand, KeepsPages}
@@ -33,8 +33,8 @@ pages_stand-read b image count after good one n lt = record {
     λ w history found.
         let small : w < 8 = omega (arith, slice_get_within (list_from (λ p. image.word p ∷ []) (8 * n) 8) w history found, length-list_from (λ p. image.word p ∷ []) (8 * n) 8) in
         let is : image.word (8 * n + w) ∷ [] ≡ history = cc (slice_get-list_from (λ p. image.word p ∷ []) (8 * n) 8 w small) in
-        subst (λ h. Fades false h (b.history (8 * n + w))) is
-        (subst (λ h. Fades false (image.word (8 * n + w) ∷ []) h) (sym (one (8 * n + w) (omega arith))) (fades-refl false _)),
+        subst (λ h. WordWritesBack false h (b.history (8 * n + w))) is
+        (subst (λ h. WordWritesBack false (image.word (8 * n + w) ∷ []) h) (sym (one (8 * n + w) (omega arith))) (word_write_back-refl false _)),
   );
 }
 
@@ -47,13 +47,13 @@ within_pages pages n cell is count size = by_page (slice_get pages (n / 64)) ref
     by_page (Some page) found is = omega (arith, slice_get_within pages (n / 64) page found)
 
 -- what survived of a word may be left of what it stood for
-is_kept : (choice : Choice) (weak : Bool) (history old new : List ℕ) (left value : ℕ) → Fades false history old → Survives choice weak old new left
-    → new ≡ value ∷ [] → IsKept choice history value
-is_kept choice weak history old new left value fades survives is =
+is_kept : (choice : Choice) (weak : Bool) (history old new : List ℕ) (left value : ℕ) → WordWritesBack false history old → Survives choice weak old new left
+    → new ≡ value ∷ [] → MaySurvive choice history value
+is_kept choice weak history old new left value word_write_back survives is =
     let same : value ≡ left = cc (is, survives.one) in
     record {
-      was = subst (λ v. IsIn v history) {x = left} (sym same) (is_in-part left old history fades.part survives.was);
-      last = λ lasts. same ∙ survives.last lasts ∙ newest-fades false history old fades;
+      was = subst (λ v. IsIn v history) {x = left} (sym same) (is_in-part left old history word_write_back.part survives.was);
+      last = λ lasts. same ∙ survives.last lasts ∙ newest-word_write_back false history old word_write_back;
     }
 
 -- what the power's return left is what it may leave of the pages that the device stood for
@@ -112,7 +112,7 @@ keeps-read choice image count n cell is =
       λ w history found.
           let small : w < 8 = omega (arith, slice_get_within (list_from (λ p. image.word p ∷ []) (8 * n) 8) w history found, length-list_from (λ p. image.word p ∷ []) (8 * n) 8) in
           let value : image.word (8 * n + w) ∷ [] ≡ history = cc (slice_get-list_from (λ p. image.word p ∷ []) (8 * n) 8 w small, found) in
-          subst (λ h. IsKept choice h (image.word (8 * n + w))) value (record { was = inl refl; last = λ _. refl }),
+          subst (λ h. MaySurvive choice h (image.word (8 * n + w))) value (record { was = inl refl; last = λ _. refl }),
     )
 
 -- a byte of words, once a restart left the last value of each
@@ -139,16 +139,16 @@ keeps-persisted choice image start len i pages words is size touched keeps = las
     history : List ℕ
     history = slice_index_or words ((i % 64) / 8) []
 
-    settled_cell : cell_of (persist start len pages) (i / 64) ≡ Some (Kept false (map latest words))
-    settled_cell =
+    flushed_cell : cell_of (persist start len pages) (i / 64) ≡ Some (Kept false (map latest words))
+    flushed_cell =
         cell_of-persist start len pages (i / 64) ∙ ap (option_map (persist_cell start len (i / 64))) is
-        ∙ ap (λ t. Some (cond t (settle_cell (Kept false words)) (Kept false words))) touched
+        ∙ ap (λ t. Some (cond t (flush_cell (Kept false words)) (Kept false words))) touched
 
     found : slice_get (map latest words) ((i % 64) / 8) ≡ Some (latest history)
     found = slice_get-map latest words ((i % 64) / 8) ∙ ap (option_map latest) (slice_get-get_or words ((i % 64) / 8) [] (omega (arith, size)))
 
-    kept : IsKept choice (latest history) (image.word (8 * (i / 64) + (i % 64) / 8))
-    kept = (keeps (i / 64) _ settled_cell).2 ((i % 64) / 8) (latest history) found
+    kept : MaySurvive choice (latest history) (image.word (8 * (i / 64) + (i % 64) / 8))
+    kept = (keeps (i / 64) _ flushed_cell).2 ((i % 64) / 8) (latest history) found
 
 -- A restart that is asked to keeps all last values.
 pub keeps-lasts : (image : Image) (i : ℕ) (pages : List Page) (weak : Bool) (words : List (List ℕ)) → cell_of pages (i / 64) ≡ Some (Kept weak words)

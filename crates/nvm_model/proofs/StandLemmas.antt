@@ -5,30 +5,30 @@ use Rattle.std.proofs.lemmas.List.{length-map}
 use Rattle.std.proofs.lemmas.Option.{slice_get-map, slice_get-get_or, slice_get_within}
 use Rattle.std.specs.Int.{byte_at}
 use Rattle.line_device.specs.Word.{reaches, word_over}
-use Rattle.line_device.specs.History.{Fades, latest, newest}
-use Rattle.line_device.specs.Medium.{Medium, Wander, word_stored, persisted, poisoned, settled}
-use Rattle.line_device.proofs.HistoryLemmas.{fades-trans, fades-push, fades-latest_both, newest-fades}
+use Rattle.line_device.specs.History.{WordWritesBack, latest, newest}
+use Rattle.line_device.specs.Medium.{Medium, WritesBack, word_stored, persisted, poisoned, flushed}
+use Rattle.line_device.proofs.HistoryLemmas.{word_write_back-trans, word_write_back-push, word_write_back-latest_both, newest-word_write_back}
 use Rattle.nvm_model.specs.Numbered.{map_from}
-use Rattle.nvm_model.specs.Cell.{Cell, put_cell, persist_cell, settle_cell, cell_byte, touches, CellStands}
+use Rattle.nvm_model.specs.Cell.{Cell, put_cell, persist_cell, flush_cell, cell_byte, touches, CellStands}
 use Rattle.nvm_model.specs.Cell.Cell.{Bad, Kept}
-use Rattle.nvm_model.specs.Lines.{AreIntact, SameMarks, shown_byte, span_shown, span_stored, span_settled}
+use Rattle.nvm_model.specs.Lines.{AreIntact, SameMarks, shown_byte, span_shown, span_stored, span_flushed}
 use Rattle.nvm_model.specs.Page.{Page, look, cell_of, fill, put, persist, byte_in, LineStands, PagesStand}
 use Rattle.nvm_model.proofs.NumberedLemmas.{list_from-same, slice_get-map_from, length-map_from}
 use Rattle.nvm_model.proofs.PageLemmas.{cell_of-put, cell_of-persist, cell_of-fill}
 
--- what may fade from any word may from one that is not weak
-pub fades-strong : (weak : Bool) (a b : List ℕ) → Fades weak a b → Fades false a b
-fades-strong weak a b f = record { part = f.part; last = f.last; first = λ weak. cc }
+-- what may be written back of any word may of one that is not weak
+pub word_write_back-strong : (weak : Bool) (a b : List ℕ) → WordWritesBack weak a b → WordWritesBack false a b
+word_write_back-strong weak a b f = record { part = f.part; last = f.last; first = λ weak. cc }
 
 -- a store does alike to what is alike
-pub fades-word_stored : (at p : ℕ) (bytes a b : List ℕ) → Fades false a b → Fades false (word_stored at bytes p a) (word_stored at bytes p b)
-fades-word_stored at p bytes a b f = by_test (reaches at (length bytes) p)
+pub word_write_back-word_stored : (at p : ℕ) (bytes a b : List ℕ) → WordWritesBack false a b → WordWritesBack false (word_stored at bytes p a) (word_stored at bytes p b)
+word_write_back-word_stored at p bytes a b f = by_test (reaches at (length bytes) p)
   where
     same : newest b ≡ newest a
-    same = newest-fades false a b f
+    same = newest-word_write_back false a b f
 
-    by_test : (r : Bool) → Fades false (cond r (a ++ word_over at bytes p (newest a) ∷ []) a) (cond r (b ++ word_over at bytes p (newest b) ∷ []) b)
-    by_test true = rw same (fades-push false a b (word_over at bytes p (newest a)) f)
+    by_test : (r : Bool) → WordWritesBack false (cond r (a ++ word_over at bytes p (newest a) ∷ []) a) (cond r (b ++ word_over at bytes p (newest b) ∷ []) b)
+    by_test true = rw same (word_write_back-push false a b (word_over at bytes p (newest a)) f)
     by_test false = f
 
 -- an item that was changed, from the one that it was
@@ -38,20 +38,20 @@ changed_from f (Some x) y e = (x, refl, cc)
 
 -- a line and its cell, both with the same done to each word
 pub cell_stands-each : (m b : Medium) (n : ℕ) (weak : Bool) (change : ℕ → List ℕ → List ℕ) (words : List (List ℕ))
-    → ((p : ℕ) (x y : List ℕ) → Fades false x y → Fades false (change p x) (change p y))
+    → ((p : ℕ) (x y : List ℕ) → WordWritesBack false x y → WordWritesBack false (change p x) (change p y))
     → CellStands m n (Kept weak words) → b.is_bad n ≡ false → b.is_weak n ≡ weak
-    → ((p : ℕ) → p / 8 ≡ n → Fades false (change p (m.history p)) (b.history p))
+    → ((p : ℕ) → p / 8 ≡ n → WordWritesBack false (change p (m.history p)) (b.history p))
     → CellStands b n (Kept weak (map_from change (8 * n) words))
-cell_stands-each m b n weak change words alike stands healthy mark fades =
+cell_stands-each m b n weak change words alike stands healthy mark word_write_back =
     (healthy, mark, length-map_from change (8 * n) words ∙ stands.2, each)
   where
-    each : (w : ℕ) (history : List ℕ) → slice_get (map_from change (8 * n) words) w ≡ Some history → Fades false history (b.history (8 * n + w))
+    each : (w : ℕ) (history : List ℕ) → slice_get (map_from change (8 * n) words) w ≡ Some history → WordWritesBack false history (b.history (8 * n + w))
     each w history is =
         let was = changed_from (change (8 * n + w)) (slice_get words w) history (sym (slice_get-map_from change (8 * n) words w) ∙ is) in
         let small : w < 8 = omega (arith, slice_get_within words w was.0 was.1, stands.2) in
         let here : (8 * n + w) / 8 ≡ n = omega arith in
-        subst (λ h. Fades false h (b.history (8 * n + w))) (sym was.2)
-        (fades-trans false _ _ _ (alike (8 * n + w) was.0 (m.history (8 * n + w)) (stands.3 w was.0 was.1)) (fades (8 * n + w) here))
+        subst (λ h. WordWritesBack false h (b.history (8 * n + w))) (sym was.2)
+        (word_write_back-trans false _ _ _ (alike (8 * n + w) was.0 (m.history (8 * n + w)) (stands.3 w was.0 was.1)) (word_write_back (8 * n + w) here))
 
 -- a line that is not bad or weak stands for words
 pub words_of : (m : Medium) (n : ℕ) (cell : Cell) → CellStands m n cell → m.is_bad n ≡ false → m.is_weak n ≡ false
@@ -62,35 +62,35 @@ words_of m n (Kept false words) stands healthy strong = (words, refl, stands)
 
 -- pages that were changed as the device was, word by word
 pub pages_stand-put : (m b : Medium) (at len count : ℕ) (bytes : List ℕ) (pages : List Page) → PagesStand m count pages → AreIntact m (64 * count) → AreIntact b (64 * count)
-    → ((p : ℕ) → Fades false (word_stored at bytes p (m.history p)) (b.history p)) → PagesStand b count (put at bytes (fill at len pages))
-pages_stand-put m b at len count bytes pages stand intact after fades n lt =
+    → ((p : ℕ) → WordWritesBack false (word_stored at bytes p (m.history p)) (b.history p)) → PagesStand b count (put at bytes (fill at len pages))
+pages_stand-put m b at len count bytes pages stand intact after word_write_back n lt =
     let line = stand n lt in
     let kept = words_of m n line.cell line.stands (intact n lt).0 (intact n lt).1 in
     let filled = cell_of-fill at len pages n line.cell line.is in
     record {
       cell = Kept false (map_from (word_stored at bytes) (8 * n) kept.0);
       is = cell_of-put at bytes (fill at len pages) n ∙ ap (option_map (put_cell at bytes n)) (filled ∙ ap (λ cell. Some cell) kept.1);
-      stands = cell_stands-each m b n false (word_stored at bytes) kept.0 (λ p x y f. fades-word_stored at p bytes x y f) kept.2 (after n lt).0 (after n lt).1 (λ p here. fades p);
+      stands = cell_stands-each m b n false (word_stored at bytes) kept.0 (λ p x y f. word_write_back-word_stored at p bytes x y f) kept.2 (after n lt).0 (after n lt).1 (λ p here. word_write_back p);
     }
 
 pub pages_stand-persist : (m b : Medium) (start len count : ℕ) (pages : List Page) → PagesStand m count pages → AreIntact m (64 * count) → AreIntact b (64 * count)
-    → ((p : ℕ) → Fades false (cond (touches start len (p / 8)) (latest (m.history p)) (m.history p)) (b.history p)) → PagesStand b count (persist start len pages)
-pages_stand-persist m b start len count pages stand intact after fades n lt =
+    → ((p : ℕ) → WordWritesBack false (cond (touches start len (p / 8)) (latest (m.history p)) (m.history p)) (b.history p)) → PagesStand b count (persist start len pages)
+pages_stand-persist m b start len count pages stand intact after word_write_back n lt =
     let line = stand n lt in
     let kept = words_of m n line.cell line.stands (intact n lt).0 (intact n lt).1 in
     let changed = cell_of-persist start len pages n ∙ ap (option_map (persist_cell start len n)) (line.is ∙ ap (λ cell. Some cell) kept.1) in
     by_test kept.0 kept.2 (touches start len n) refl changed
   where
-    at_line : (t : Bool) → touches start len n ≡ t → (w : ℕ) → w < 8 → Fades false (cond t (latest (m.history (8 * n + w))) (m.history (8 * n + w))) (b.history (8 * n + w))
+    at_line : (t : Bool) → touches start len n ≡ t → (w : ℕ) → w < 8 → WordWritesBack false (cond t (latest (m.history (8 * n + w))) (m.history (8 * n + w))) (b.history (8 * n + w))
     at_line t is w small =
         let here : (8 * n + w) / 8 ≡ n = omega arith in
-        subst (λ x. Fades false (cond x (latest (m.history (8 * n + w))) (m.history (8 * n + w))) (b.history (8 * n + w))) (ap (touches start len) here ∙ is) (fades (8 * n + w))
+        subst (λ x. WordWritesBack false (cond x (latest (m.history (8 * n + w))) (m.history (8 * n + w))) (b.history (8 * n + w))) (ap (touches start len) here ∙ is) (word_write_back (8 * n + w))
 
     by_test : (words : List (List ℕ)) → CellStands m n (Kept false words) → (t : Bool) → touches start len n ≡ t
-        → cell_of (persist start len pages) n ≡ Some (cond (touches start len n) (settle_cell (Kept false words)) (Kept false words)) → LineStands b (persist start len pages) n
+        → cell_of (persist start len pages) n ≡ Some (cond (touches start len n) (flush_cell (Kept false words)) (Kept false words)) → LineStands b (persist start len pages) n
     by_test words stands true is changed = record {
       cell = Kept false (map latest words);
-      is = changed ∙ ap (λ t. Some (cond t (settle_cell (Kept false words)) (Kept false words))) is;
+      is = changed ∙ ap (λ t. Some (cond t (flush_cell (Kept false words)) (Kept false words))) is;
       stands = (
         (after n lt).0,
         (after n lt).1,
@@ -98,33 +98,33 @@ pages_stand-persist m b start len count pages stand intact after fades n lt =
         λ w history found.
             let was = changed_from latest (slice_get words w) history (sym (slice_get-map latest words w) ∙ found) in
             let small : w < 8 = omega (arith, slice_get_within words w was.0 was.1, stands.2) in
-            subst (λ h. Fades false h (b.history (8 * n + w))) (sym was.2)
-            (fades-trans false _ _ _ (fades-latest_both false _ _ (stands.3 w was.0 was.1)) (at_line true is w small)),
+            subst (λ h. WordWritesBack false h (b.history (8 * n + w))) (sym was.2)
+            (word_write_back-trans false _ _ _ (word_write_back-latest_both false _ _ (stands.3 w was.0 was.1)) (at_line true is w small)),
       );
     }
     by_test words stands false is changed = record {
       cell = Kept false words;
-      is = changed ∙ ap (λ t. Some (cond t (settle_cell (Kept false words)) (Kept false words))) is;
+      is = changed ∙ ap (λ t. Some (cond t (flush_cell (Kept false words)) (Kept false words))) is;
       stands = (
         (after n lt).0,
         (after n lt).1,
         stands.2,
         λ w history found.
             let small : w < 8 = omega (arith, slice_get_within words w history found, stands.2) in
-            fades-trans false _ _ _ (stands.3 w history found) (at_line false is w small),
+            word_write_back-trans false _ _ _ (stands.3 w history found) (at_line false is w small),
       );
     }
 
--- lines that only wandered
-pub pages_stand-wander : (m b : Medium) (count : ℕ) (pages : List Page) → PagesStand m count pages → AreIntact m (64 * count) → AreIntact b (64 * count)
-    → ((p : ℕ) → Fades false (m.history p) (b.history p)) → PagesStand b count pages
-pages_stand-wander m b count pages stand intact after fades n lt =
+-- lines that were only written back
+pub pages_stand-write_back : (m b : Medium) (count : ℕ) (pages : List Page) → PagesStand m count pages → AreIntact m (64 * count) → AreIntact b (64 * count)
+    → ((p : ℕ) → WordWritesBack false (m.history p) (b.history p)) → PagesStand b count pages
+pages_stand-write_back m b count pages stand intact after word_write_back n lt =
     let line = stand n lt in
     let kept = words_of m n line.cell line.stands (intact n lt).0 (intact n lt).1 in
     record {
       cell = Kept false kept.0;
       is = line.is ∙ ap (λ cell. Some cell) kept.1;
-      stands = ((after n lt).0, (after n lt).1, kept.2.2, λ w history found. fades-trans false _ _ _ (kept.2.3 w history found) (fades (8 * n + w)));
+      stands = ((after n lt).0, (after n lt).1, kept.2.2, λ w history found. word_write_back-trans false _ _ _ (kept.2.3 w history found) (word_write_back (8 * n + w)));
     }
 
 -- a byte of the pages is that of the device's last values
@@ -152,7 +152,7 @@ byte_in-stand m count pages i stand intact lt =
         let there : (i % 64) / 8 < length words = omega (arith, stands.2) in
         let found = slice_get-get_or words ((i % 64) / 8) [] there in
         ap (λ k. byte_at k (newest (slice_index_or words ((i % 64) / 8) []))) byte
-        ∙ ap (byte_at (i % 8)) (sym (newest-fades false _ _ (stands.3 ((i % 64) / 8) _ found)) ∙ ap (λ p. newest (m.history p)) place)
+        ∙ ap (byte_at (i % 8)) (sym (newest-word_write_back false _ _ (stands.3 ((i % 64) / 8) _ found)) ∙ ap (λ p. newest (m.history p)) place)
 
 -- what a span shows is what the machine sees there
 pub look-stand : (m : Medium) (count : ℕ) (pages : List Page) (offset len : ℕ) → PagesStand m count pages → AreIntact m (64 * count) → offset + len ≤ 4096 * count
@@ -162,41 +162,41 @@ look-stand m count pages offset len stand intact within =
     list_from-same (shown_byte m) (byte_in pages) offset offset len (λ k lt. sym (byte_in-stand m count pages (offset + k) stand intact (omega arith)))
 
 -- marks stay
-pub after_wander : (m b : Medium) (count : ℕ) → SameMarks m b → AreIntact m (64 * count) → AreIntact b (64 * count)
-after_wander m b count marks intact n lt = let was = intact n lt in (marks.bad n ∙ was.0, marks.weak n ∙ was.1)
+pub after_write_back : (m b : Medium) (count : ℕ) → SameMarks m b → AreIntact m (64 * count) → AreIntact b (64 * count)
+after_write_back m b count marks intact n lt = let was = intact n lt in (marks.bad n ∙ was.0, marks.weak n ∙ was.1)
 
-pub stand-loaded : (m b : Medium) (count : ℕ) (pages : List Page) → PagesStand m count pages → AreIntact m (64 * count) → Wander m b → PagesStand b count pages
+pub stand-loaded : (m b : Medium) (count : ℕ) (pages : List Page) → PagesStand m count pages → AreIntact m (64 * count) → WritesBack m b → PagesStand b count pages
 stand-loaded m b count pages stand intact w =
-    pages_stand-wander m b count pages stand intact (after_wander m b count (record { count = w.count; bad = w.bad; weak = w.weak }) intact)
-    (λ p. fades-strong (m.is_weak (p / 8)) _ _ (w.fades p))
+    pages_stand-write_back m b count pages stand intact (after_write_back m b count (record { count = w.count; bad = w.bad; weak = w.weak }) intact)
+    (λ p. word_write_back-strong (m.is_weak (p / 8)) _ _ (w.word_write_back p))
 
 pub stand-stored : (m b : Medium) (at len count : ℕ) (bytes : List ℕ) (pages : List Page) → PagesStand m count pages → AreIntact m (64 * count)
-    → Wander (span_stored m at bytes) b → PagesStand b count (put at bytes (fill at len pages))
+    → WritesBack (span_stored m at bytes) b → PagesStand b count (put at bytes (fill at len pages))
 stand-stored m b at len count bytes pages stand intact w =
-    pages_stand-put m b at len count bytes pages stand intact (after_wander m b count (record { count = w.count; bad = w.bad; weak = w.weak }) intact)
-    (λ p. fades-strong (m.is_weak (p / 8)) _ _ (w.fades p))
+    pages_stand-put m b at len count bytes pages stand intact (after_write_back m b count (record { count = w.count; bad = w.bad; weak = w.weak }) intact)
+    (λ p. word_write_back-strong (m.is_weak (p / 8)) _ _ (w.word_write_back p))
 
-pub stand-settled : (m b : Medium) (start len count : ℕ) (pages : List Page) → PagesStand m count pages → AreIntact m (64 * count)
-    → Wander (span_settled m start len) b → PagesStand b count (persist start len pages)
-stand-settled m b start len count pages stand intact w =
-    pages_stand-persist m b start len count pages stand intact (after_wander m b count (record { count = w.count; bad = w.bad; weak = w.weak }) intact)
-    (λ p. fades-strong (m.is_weak (p / 8)) _ _ (w.fades p))
+pub stand-flushed : (m b : Medium) (start len count : ℕ) (pages : List Page) → PagesStand m count pages → AreIntact m (64 * count)
+    → WritesBack (span_flushed m start len) b → PagesStand b count (persist start len pages)
+stand-flushed m b start len count pages stand intact w =
+    pages_stand-persist m b start len count pages stand intact (after_write_back m b count (record { count = w.count; bad = w.bad; weak = w.weak }) intact)
+    (λ p. word_write_back-strong (m.is_weak (p / 8)) _ _ (w.word_write_back p))
 
 -- a line and its cell, both made durable
-pub cell_stands-persisted : (m : Medium) (n : ℕ) (cell : Cell) → CellStands m n cell → CellStands (persisted m n) n (settle_cell cell)
+pub cell_stands-persisted : (m : Medium) (n : ℕ) (cell : Cell) → CellStands m n cell → CellStands (persisted m n) n (flush_cell cell)
 cell_stands-persisted m n Bad bad = by_mark (m.is_weak n)
   where
     here : eqb n n ≡ true
     here = grind (arith, nat_tests)
 
-    by_mark : (weak : Bool) → (cond weak (poisoned m n) (settled m n)).is_bad n ≡ true
+    by_mark : (weak : Bool) → (cond weak (poisoned m n) (flushed m n)).is_bad n ≡ true
     by_mark true = ap (λ b. cond b true (m.is_bad n)) here
     by_mark false = bad
 cell_stands-persisted m n (Kept true words) stands =
     let here : eqb n n ≡ true = grind (arith, nat_tests) in
-    ap (λ weak. (cond weak (poisoned m n) (settled m n)).is_bad n) stands.1 ∙ ap (λ b. cond b true (m.is_bad n)) here
+    ap (λ weak. (cond weak (poisoned m n) (flushed m n)).is_bad n) stands.1 ∙ ap (λ b. cond b true (m.is_bad n)) here
 cell_stands-persisted m n (Kept false words) stands =
-    subst (λ weak. CellStands (cond weak (poisoned m n) (settled m n)) n (Kept false (map latest words))) (sym stands.1) (
+    subst (λ weak. CellStands (cond weak (poisoned m n) (flushed m n)) n (Kept false (map latest words))) (sym stands.1) (
       stands.0,
       stands.1,
       omega (arith, length-map words latest, stands.2),
@@ -204,7 +204,7 @@ cell_stands-persisted m n (Kept false words) stands =
           let was = changed_from latest (slice_get words w) history (sym (slice_get-map latest words w) ∙ found) in
           let small : w < 8 = omega (arith, slice_get_within words w was.0 was.1, stands.2) in
           let here : eqb ((8 * n + w) / 8) n ≡ true = grind (arith, nat_tests) in
-          subst (λ h. Fades false h (cond (eqb ((8 * n + w) / 8) n) (latest (m.history (8 * n + w))) (m.history (8 * n + w)))) (sym was.2)
-          (subst (λ t. Fades false (latest was.0) (cond t (latest (m.history (8 * n + w))) (m.history (8 * n + w)))) (sym here)
-          (fades-latest_both false _ _ (stands.3 w was.0 was.1))),
+          subst (λ h. WordWritesBack false h (cond (eqb ((8 * n + w) / 8) n) (latest (m.history (8 * n + w))) (m.history (8 * n + w)))) (sym was.2)
+          (subst (λ t. WordWritesBack false (latest was.0) (cond t (latest (m.history (8 * n + w))) (m.history (8 * n + w)))) (sym here)
+          (word_write_back-latest_both false _ _ (stands.3 w was.0 was.1))),
     )

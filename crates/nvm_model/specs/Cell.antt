@@ -3,7 +3,7 @@ use Rattle.std.specs.Prelude.{◌≡◌, ◌+◌, ◌*◌, ◌/◌, ◌%◌, ◌
 use Rattle.std.specs.Int.{byte_at}
 use Rattle.line_device.specs.History.{latest, newest, IsIn}
 use Rattle.line_device.specs.Medium.{Medium, word_stored}
-use Rattle.line_device.specs.History.{Fades}
+use Rattle.line_device.specs.History.{WordWritesBack}
 use Rattle.line_device.specs.Panel.{Image}
 use Rattle.line_device.specs.declared.line.Choice.{Choice}
 use Rattle.line_device.specs.declared.line.Choice.TheVariants.{Lasts}
@@ -37,14 +37,14 @@ TakesPut at len n Bad = covers at len n ≡ true
 TakesPut at len n (Kept weak words) = length words ≡ 8
 
 -- a line made durable, which a weak line does not survive
-abbrev pub settle_cell : Cell → Cell
-settle_cell Bad = Bad
-settle_cell (Kept true words) = Bad
-settle_cell (Kept false words) = Kept false (map latest words)
+abbrev pub flush_cell : Cell → Cell
+flush_cell Bad = Bad
+flush_cell (Kept true words) = Bad
+flush_cell (Kept false words) = Kept false (map latest words)
 
 -- line n once the span is made durable
 abbrev pub persist_cell : ℕ → ℕ → ℕ → Cell → Cell
-persist_cell start len n cell = if touches start len n then settle_cell cell else cell
+persist_cell start len n cell = if touches start len n then flush_cell cell else cell
 
 -- byte i of the line as last stored
 abbrev pub cell_byte : Cell → ℕ → ℕ
@@ -56,7 +56,7 @@ abbrev pub read_cell : Image → ℕ → Cell
 read_cell image n = if image.is_bad n then Bad else Kept (image.is_weak n) (list_from (λ p. image.word p ∷ []) (8 * n) 8)
 
 -- what a restart may leave of a word: one of its values, the last one where that was asked for
-pub record IsKept (choice : Choice) (history : List ℕ) (value : ℕ) : Type 0 where
+pub record MaySurvive (choice : Choice) (history : List ℕ) (value : ℕ) : Type 0 where
   pub was : IsIn value history
   pub last : choice ≡ Lasts → value ≡ newest history
 
@@ -65,7 +65,7 @@ abbrev pub KeepsCell : Choice → Image → ℕ → Cell → Type 0
 KeepsCell choice image n Bad = image.is_bad n ≡ true
 KeepsCell choice image n (Kept weak words) =
     (image.is_bad n ≡ false) × (image.is_weak n ≡ weak)
-    × ((w : ℕ) (history : List ℕ) → slice_get words w ≡ Some history → IsKept choice history (image.word (8 * n + w)))
+    × ((w : ℕ) (history : List ℕ) → slice_get words w ≡ Some history → MaySurvive choice history (image.word (8 * n + w)))
 
 -- The device's line stands for the cell: bad or weak where the cell is, and each word's history is that of the cell but for
 -- values that were written back or forgotten.
@@ -73,4 +73,4 @@ abbrev pub CellStands : Medium → ℕ → Cell → Type 0
 CellStands m line Bad = m.is_bad line ≡ true
 CellStands m line (Kept weak words) =
     (m.is_bad line ≡ false) × (m.is_weak line ≡ weak) × (length words ≡ 8)
-    × ((w : ℕ) (history : List ℕ) → slice_get words w ≡ Some history → Fades false history (m.history (8 * line + w)))
+    × ((w : ℕ) (history : List ℕ) → slice_get words w ≡ Some history → WordWritesBack false history (m.history (8 * line + w)))

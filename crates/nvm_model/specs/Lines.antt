@@ -2,7 +2,7 @@
 use Rattle.std.specs.Prelude.{◌≡◌, ◌*◌, ◌/◌, ◌%◌, ◌<◌, ◌≤◌, ℕ, false, List, length, nat_lt, if◌then◌else◌}
 use Rattle.std.specs.Int.{byte_at}
 use Rattle.line_device.specs.History.{latest, newest}
-use Rattle.line_device.specs.Medium.{Medium, Wander, Survivors, word_stored}
+use Rattle.line_device.specs.Medium.{Medium, WritesBack, Survivors, word_stored}
 use Rattle.line_device.specs.Panel.{Image}
 use Rattle.line_device.specs.Device.{Depicts}
 use Rattle.line_device.specs.declared.line.Choice.{Choice}
@@ -37,11 +37,11 @@ abbrev pub span_stored : Medium → ℕ → List ℕ → Medium
 span_stored m at bytes = each m (word_stored at bytes)
 
 -- the lines that a span touches made durable
-abbrev pub settled_within : ℕ → ℕ → ℕ → List ℕ → List ℕ
-settled_within start len p old = if touches start len (p / 8) then latest old else old
+abbrev pub flushed_within : ℕ → ℕ → ℕ → List ℕ → List ℕ
+flushed_within start len p old = if touches start len (p / 8) then latest old else old
 
-abbrev pub span_settled : Medium → ℕ → ℕ → Medium
-span_settled m start len = each m (settled_within start len)
+abbrev pub span_flushed : Medium → ℕ → ℕ → Medium
+span_flushed m start len = each m (flushed_within start len)
 
 -- byte i as last stored, and the bytes of a span
 abbrev pub shown_byte : Medium → ℕ → ℕ
@@ -54,7 +54,7 @@ span_shown m start len = list_from (shown_byte m) start len
 -- or weak.
 abbrev pub KeepStep : (Medium → Medium) → (List Page → List Page) → Type 0
 KeepStep to_lines to_pages = (old new : Medium) (count : ℕ) (pages : List Page)
-    → PagesStand old count pages → AreIntact old (64 * count) → Wander (to_lines old) new → PagesStand new count (to_pages pages)
+    → PagesStand old count pages → AreIntact old (64 * count) → WritesBack (to_lines old) new → PagesStand new count (to_pages pages)
 
 -- A restart leaves what it may leave of the pages, and the lines stand for that.
 abbrev pub RestartKeepsStep : Type 0

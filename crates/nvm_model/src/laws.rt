@@ -2,15 +2,15 @@
 ghost use Rattle.std.specs.Prelude.{◌≡◌, ◌<◌, ◌+◌, ◌*◌, ◌/◌, ◌%◌, ◌≤◌, ℕ, Bool, true, false, List, Some, length, option_map, slice_index};
 ghost use Rattle.std.specs.Int.{byte_at};
 ghost use Rattle.line_device.specs.Word.{byte_over};
-ghost use Rattle.line_device.specs.Medium.{Medium, Wander, persisted, word_stored};
+ghost use Rattle.line_device.specs.Medium.{Medium, WritesBack, persisted, word_stored};
 ghost use Rattle.line_device.specs.Panel.{Image};
 ghost use Rattle.line_device.specs.declared.line.Choice.{Choice};
 ghost use Rattle.line_device.specs.declared.line.Choice.TheVariants.{Lasts};
-ghost use Rattle.nvm_model.specs.Cell.{Cell, put_cell, persist_cell, settle_cell, TakesPut, touches, CellStands};
+ghost use Rattle.nvm_model.specs.Cell.{Cell, put_cell, persist_cell, flush_cell, TakesPut, touches, CellStands};
 ghost use Rattle.nvm_model.specs.Cell.Cell.{Kept};
 ghost use Rattle.nvm_model.specs.Page.{Page, cell_of, fill, put, persist, byte_in, look, read_pages, KeepsPages, PagesStand};
 ghost use Rattle.nvm_model.specs.Interrupted.{MayStore};
-ghost use Rattle.nvm_model.specs.Lines.{AreIntact, KeepStep, each, below, RestartKeepsStep, span_shown, span_stored, span_settled};
+ghost use Rattle.nvm_model.specs.Lines.{AreIntact, KeepStep, each, below, RestartKeepsStep, span_shown, span_stored, span_flushed};
 
 /// An action changes each line by its number, and filling changes no line that is there.
 pub fn actions_go_line_by_line()
@@ -32,10 +32,10 @@ pub fn what_was_put_is_seen()
 /// A device's lines and the pages that they stand for change alike.
 pub fn lines_and_pages_keep_step()
     ensures put { (at : ℕ) (bytes : List ℕ) → KeepStep (λ m. span_stored m at bytes) (λ pages. put at bytes (fill at (length bytes) pages)) }
-    ensures persist { (start len : ℕ) → KeepStep (λ m. span_settled m start len) (persist start len) }
-    ensures wander { KeepStep (λ m. m) (λ pages. pages) }
+    ensures persist { (start len : ℕ) → KeepStep (λ m. span_flushed m start len) (persist start len) }
+    ensures write_back { KeepStep (λ m. m) (λ pages. pages) }
     ensures restart { RestartKeepsStep }
-    ensures weak { (m : Medium) (n : ℕ) (cell : Cell) → CellStands m n cell → CellStands (persisted m n) n (settle_cell cell) }
+    ensures weak { (m : Medium) (n : ℕ) (cell : Cell) → CellStands m n cell → CellStands (persisted m n) n (flush_cell cell) }
     ensures look { (m : Medium) (count offset len : ℕ) (pages : List Page) → PagesStand m count pages → AreIntact m (64 * count)
         → offset + len ≤ 4096 * count → look pages offset len ≡ span_shown m offset len }
 {}
@@ -58,6 +58,6 @@ pub fn what_was_persisted_is_kept()
 /// A store that got to some line leaves what an interrupted store may leave, and the lines stand for that.
 pub fn an_interrupted_store_keeps_step()
     ensures { (old new : Medium) (limit at count : ℕ) (bytes : List ℕ) (pages : List Page) → PagesStand old count pages
-        → AreIntact old (64 * count) → Wander (each old (below limit (word_stored at bytes))) new
+        → AreIntact old (64 * count) → WritesBack (each old (below limit (word_stored at bytes))) new
         → (after : List Page) × MayStore at bytes pages after × PagesStand new count after }
 {}

@@ -6,7 +6,7 @@ use Rattle.line_device.specs.Panel.{Panel, ArmsNothing, Runs, SetsUp}
 use Rattle.line_device.specs.Panel.Outcome.{went}
 use Rattle.line_device.specs.Device.{Device}
 use Rattle.line_device.proofs.PanelLemmas.{arms_nothing-trans}
-use Rattle.line_words.specs.Words.{WandersOutside}
+use Rattle.line_words.specs.Words.{WritesBackOutside}
 use Rattle.line_words.proofs.BesideLemmas.{beside-outside}
 use Rattle.word_tables.specs.declared.geometry.Geometry.{Geometry}
 use Rattle.word_tables.specs.Layout.{total_lines}
@@ -32,7 +32,7 @@ use Rattle.machine_host.specs.Restarting.{fresh, reading, zero_image}
 use Rattle.machine_host.specs.Volume.{volume_place, volume_of, volume_image, HasLayout}
 use Rattle.machine_host.specs.Stands.{HostState, Serves, is_powered}
 use Rattle.machine_host.specs.Costs.{mount_calls, mount_persists}
-use Rattle.machine_host.proofs.ElsewhereLemmas.{volume_line_some, wander_volume-beside}
+use Rattle.machine_host.proofs.ElsewhereLemmas.{volume_line_some, write_back_volume-beside}
 use Rattle.machine_host.proofs.VolumeLemmas.{volume_intact}
 use Rattle.recovery.specs.Mounting.{Finds, mount_outcome}
 use Rattle.recovery.specs.declared.fault.MountFault.{MountFault}
@@ -66,7 +66,7 @@ pub record IsStarted (host : HostState) (mid new : Device) : Type 0 where
   pub geometry : host.geometry ≡ geometry_told mid.medium
   pub mode : host.mode ≡ On
   pub blocks : blocks_of host.blocks new.medium ≡ blocks_read (geometry_told mid.medium) mid.medium.is_bad (last_image mid.medium)
-  pub outside : WandersOutside (IsOf (block_area (geometry_told mid.medium))) mid.medium new.medium
+  pub outside : WritesBackOutside (IsOf (block_area (geometry_told mid.medium))) mid.medium new.medium
   pub reads : early_finding mid.medium ≡ None → KeepsReads (geometry_told mid.medium) mid.medium new.medium
   pub serves : Serves host new
   pub runs : Runs mount_calls mount_persists went mid.panel new.panel
@@ -99,9 +99,9 @@ ready_of_mount geo host old mid new sound is sets started = record {
         stand =
             stand-loaded (volume_of geo mid.medium) (volume_of geo new.medium) geo.vpages _ (pages_of_fresh geo mid.medium is)
             (volume_intact geo mid.medium (layout_of_fresh geo mid.medium is))
-            (wander_volume-beside geo (IsBlockLine geo) mid.medium new.medium is.valid (λ n at. at)
+            (write_back_volume-beside geo (IsBlockLine geo) mid.medium new.medium is.valid (λ n at. at)
             (beside-outside (IsOf (block_area geo)) (IsBlockLine geo) mid.medium new.medium (area_is_block geo is.valid)
-            (subst (λ g. WandersOutside (IsOf (block_area g)) mid.medium new.medium) sizes started.outside)));
+            (subst (λ g. WritesBackOutside (IsOf (block_area g)) mid.medium new.medium) sizes started.outside)));
       };
       power = started.serves.power ∙ ap is_powered started.mode;
       cut_armed = refl;

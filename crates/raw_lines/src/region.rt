@@ -21,13 +21,13 @@ pub struct Region {
 
 impl Model for Region {
     ghost use Rattle.std.specs.Prelude.{ℕ, List, Option};
-    ghost use Rattle.raw_lines.specs.Kept.{IsKept};
+    ghost use Rattle.raw_lines.specs.Kept.{IsRegion};
 
     ghost Value = { List (Option (List ℕ)) };
 
     ghost view = { λ r. r.room.lines };
 
-    ghost invariant = { λ r. IsKept r.room r.held.items r.lease r.alloc };
+    ghost invariant = { λ r. IsRegion r.room r.held.items r.lease r.alloc };
 }
 
 impl Region {

@@ -5,8 +5,8 @@ use Rattle.std.proofs.lemmas.Bool.{cases_Bool}
 use Rattle.line_device.specs.History.{newest, IsIn}
 use Rattle.line_device.specs.Medium.{Medium, IsSound, Survivors, Waits, last_image}
 use Rattle.line_device.specs.declared.line.Choice.{Choice}
-use Rattle.line_device.proofs.HistoryLemmas.{newest-fades, is_in-fades, is_in-one}
-use Rattle.line_words.specs.Words.{IsOnly, WandersOutside}
+use Rattle.line_device.proofs.HistoryLemmas.{newest-word_write_back, is_in-word_write_back, is_in-one}
+use Rattle.line_words.specs.Words.{IsOnly, WritesBackOutside}
 use Rattle.line_words.proofs.FrameLemmas.{newest-outside, is_only-outside}
 use Rattle.nvm_model.specs.Numbered.{list_from}
 use Rattle.nvm_model.specs.Blocks.{first_there}
@@ -93,7 +93,7 @@ told : (m : Medium) → early_finding m ≡ None → IsSuperblock m.count (last_
 told m early = is_superblock m (early_none m early).0
 
 -- after a mount
-pub goes_on-mounted : (old new : Medium) → IsMountable old → WandersOutside (IsOf (block_area (geometry_told old))) old new
+pub goes_on-mounted : (old new : Medium) → IsMountable old → WritesBackOutside (IsOf (block_area (geometry_told old))) old new
     → (early_finding old ≡ None → KeepsReads (geometry_told old) old new) → GoesOn old new
 goes_on-mounted old new may x keeps =
     let area = IsOf (block_area (geometry_told old)) in
@@ -142,9 +142,9 @@ goes_on-waited old new may x =
       weak = x.weak;
       words = λ p below.
           elim (x.words p) as (λ _. (last_image new p ≡ last_image old p) × IsOnly (last_image new p) (new.history p)) [
-            | inl fades ↦
-                let same = newest-fades (old.is_weak (p / 8)) (old.history p) (new.history p) fades in
-                (same, λ v at. may.first p below v (is_in-fades (old.is_weak (p / 8)) v (old.history p) (new.history p) fades at) ∙ sym same)
+            | inl word_write_back ↦
+                let same = newest-word_write_back (old.is_weak (p / 8)) (old.history p) (new.history p) word_write_back in
+                (same, λ v at. may.first p below v (is_in-word_write_back (old.is_weak (p / 8)) v (old.history p) (new.history p) word_write_back at) ∙ sym same)
             | inr one ↦ was_only (old.history p) (new.history p) one.0 (may.first p below) one.1 one.2
           ];
     } in

@@ -3,7 +3,7 @@ use Rattle.std.proofs.Common.{◌≡◌, slice_index, ◌*◌, inl, inr, ℕ, Bo
 use Rattle.std.specs.List.{range_with_len}
 use Rattle.std.proofs.lemmas.Bool.{cases_Bool}
 use Rattle.std.proofs.lemmas.Option.{none-some}
-use Rattle.line_device.specs.Medium.{Medium, Wander, last_image}
+use Rattle.line_device.specs.Medium.{Medium, WritesBack, last_image}
 use Rattle.line_device.specs.Panel.Outcome.{went}
 use Rattle.line_words.specs.declared.interruption.Interruption.{Interruption}
 use Rattle.line_words.specs.declared.interruption.Interruption.TheVariants as stop
@@ -120,29 +120,29 @@ strong_metadata geo m none n below =
     let parts = first_none (option_map bad_line (position m.is_bad (range_with_len 0 (meta_lines geo)))) _ none in
     fails_below m.is_weak (meta_lines geo) n (none_mapped (λ k. wrong_word (8 * k)) _ parts.1) below
 
--- lines that wander keep their marks
-pub bad-wander : (old new : Medium) → Wander old new → new.is_bad ≡ old.is_bad
-bad-wander old new x = λ i n. x.bad n i
+-- lines that are written back keep their marks
+pub bad-write_back : (old new : Medium) → WritesBack old new → new.is_bad ≡ old.is_bad
+bad-write_back old new x = λ i n. x.bad n i
 
-weak-wander : (old new : Medium) → Wander old new → new.is_weak ≡ old.is_weak
-weak-wander old new x = λ i n. x.weak n i
+weak-write_back : (old new : Medium) → WritesBack old new → new.is_weak ≡ old.is_weak
+weak-write_back old new x = λ i n. x.weak n i
 
-pub meta-wander : (geo : Geometry) (old new : Medium) → Wander old new → meta_finding geo new ≡ meta_finding geo old
-meta-wander geo old new x =
+pub meta-write_back : (geo : Geometry) (old new : Medium) → WritesBack old new → meta_finding geo new ≡ meta_finding geo old
+meta-write_back geo old new x =
     ap₂ (λ (bad weak : ℕ → Bool). first_there (option_map bad_line (position bad (range_with_len 0 (meta_lines geo)))) (option_map (λ n. wrong_word (8 * n)) (position weak (range_with_len 0 (meta_lines geo)))))
-    (bad-wander old new x) (weak-wander old new x)
+    (bad-write_back old new x) (weak-write_back old new x)
 
 pub finds_superblock : (T U : Type 0) (m : Medium) (f : MountFault) → Finds {T = U} (superblock_finding m) (Err f) → Finds {T = T} (early_finding m) (Err f)
 unfolding early_finding
 finds_superblock T U m f h = finds_first T U (superblock_finding m) (meta_finding (geometry_told m) m) f h
 
 -- once the superblock is found to be right
-pub finds_early : {T : Type 0} (geo : Geometry) (old new : Medium) (r : Result T MountFault) → geo ≡ geometry_told old → Wander old new → superblock_finding old ≡ None
+pub finds_early : {T : Type 0} (geo : Geometry) (old new : Medium) (r : Result T MountFault) → geo ≡ geometry_told old → WritesBack old new → superblock_finding old ≡ None
     → Finds (meta_finding geo new) r → Finds (early_finding old) r
 unfolding early_finding
 finds_early geo old new r is x none h =
     finds_second (superblock_finding old) (meta_finding (geometry_told old) old) r none
-    (subst (λ o. Finds o r) (meta-wander geo old new x ∙ ap (λ g. meta_finding g old) is) h)
+    (subst (λ o. Finds o r) (meta-write_back geo old new x ∙ ap (λ g. meta_finding g old) is) h)
 
 -- and once nothing is found before the log
 pub first_late : (m : Medium) → early_finding m ≡ None → first_finding m ≡ option_map wrong_word (wrong_place (geometry_told m) (last_image m))

@@ -1,12 +1,12 @@
 -- A device that was made anew.
 use Rattle.std.proofs.Common.{◌≡◌, ◌/◌, ◌%◌, ◌==◌, ◌<◌, ◌≤◌, inl, inr, ℕ, Bool, true, false, List, [], ◌∷◌, None, option_map, Result, Ok, Err, OnOk, if◌then◌else◌, refl, sym, ◌∙◌, ap, subst, arith}
 use Rattle.std.proofs.lemmas.Bool.{cases_lt, lt-ltb, le-ltb}
-use Rattle.line_device.specs.History.{newest, IsIn, Fades}
-use Rattle.line_device.specs.Medium.{Medium, Wander, IsSound, last_image, zeros, installed, with_at}
+use Rattle.line_device.specs.History.{newest, IsIn, WordWritesBack}
+use Rattle.line_device.specs.Medium.{Medium, WritesBack, IsSound, last_image, zeros, installed, with_at}
 use Rattle.line_device.specs.Word.{word_at}
 use Rattle.line_device.specs.declared.line.LineState.TheVariants.{Healthy}
-use Rattle.line_device.proofs.HistoryLemmas.{fades-one, is_in-one}
-use Rattle.line_device.proofs.WanderLemmas.{wander-refl, on_line-in, on_line-out}
+use Rattle.line_device.proofs.HistoryLemmas.{word_write_back-one, is_in-one}
+use Rattle.line_device.proofs.WriteBackLemmas.{write_back-refl, on_line-in, on_line-out}
 use Rattle.line_words.specs.Words.{IsOnly}
 use Rattle.word_tables.specs.declared.geometry.Geometry.{Geometry}
 use Rattle.word_tables.specs.Bounds.{IsValid}
@@ -38,22 +38,22 @@ none_marked : (f : ℕ → Bool) (line n : ℕ) → f n ≡ false → with_at f 
 none_marked f line n h = elim (n == line) as (λ b. (if b then false else f n) ≡ false) [ true ↦ refl | false ↦ h ]
 
 -- lines of zeros, and the first one installed
-module _ (geo : Geometry) (lines : ℕ) (mid new : Medium) (bytes : List ℕ) (valid : IsValid geo) (all : lines ≡ total_lines geo) (zeroed : Wander (zeros lines) mid)
-    (put : Wander (installed mid 0 (Healthy bytes)) new) (spells : (w : ℕ) → w < 8 → word_at bytes w ≡ superblock_word geo w) where
+module _ (geo : Geometry) (lines : ℕ) (mid new : Medium) (bytes : List ℕ) (valid : IsValid geo) (all : lines ≡ total_lines geo) (zeroed : WritesBack (zeros lines) mid)
+    (put : WritesBack (installed mid 0 (Healthy bytes)) new) (spells : (w : ℕ) → w < 8 → word_at bytes w ≡ superblock_word geo w) where
   first_word : (p : ℕ) → p < 8 → new.history p ≡ superblock_word geo p ∷ []
   first_word p below =
       let on : p / 8 ≡ 0 = omega arith in
       let at : p % 8 ≡ p = omega arith in
       let was = on_line-in 0 (λ w _. word_at bytes w ∷ []) mid.history p on ∙ ap (λ w. word_at bytes w ∷ []) at ∙ ap (λ v. v ∷ []) (spells p below) in
       let weak : Bool = (installed mid 0 (Healthy bytes)).is_weak (p / 8) in
-      fades-one weak (superblock_word geo p) (new.history p) (subst (λ h. Fades weak h (new.history p)) was (put.fades p))
+      word_write_back-one weak (superblock_word geo p) (new.history p) (subst (λ h. WordWritesBack weak h (new.history p)) was (put.word_write_back p))
 
   later_word : (p : ℕ) → 8 ≤ p → p / 8 < lines → new.history p ≡ 0 ∷ []
   later_word p from within =
-      let zero = fades-one false 0 (mid.history p) (subst (λ b. Fades false (if b then 0 ∷ [] else []) (mid.history p)) (lt-ltb (p / 8) lines within) (zeroed.fades p)) in
+      let zero = word_write_back-one false 0 (mid.history p) (subst (λ b. WordWritesBack false (if b then 0 ∷ [] else []) (mid.history p)) (lt-ltb (p / 8) lines within) (zeroed.word_write_back p)) in
       let was = on_line-out 0 (λ w _. word_at bytes w ∷ []) mid.history p (λ on. absurd (omega (arith, on))) ∙ zero in
       let weak : Bool = (installed mid 0 (Healthy bytes)).is_weak (p / 8) in
-      fades-one weak 0 (new.history p) (subst (λ h. Fades weak h (new.history p)) was (put.fades p))
+      word_write_back-one weak 0 (new.history p) (subst (λ h. WordWritesBack weak h (new.history p)) was (put.word_write_back p))
 
   made_fresh : IsFresh geo new
   made_fresh = record {
@@ -70,8 +70,8 @@ module _ (geo : Geometry) (lines : ℕ) (mid new : Medium) (bytes : List ℕ) (v
         ];
   }
 
-pub fresh_installed : {A E : Type 0} (r : Result A E) (geo : Geometry) (lines : ℕ) (mid new : Medium) (bytes : List ℕ) → IsValid geo → lines ≡ total_lines geo → Wander (zeros lines) mid
-    → OnOk r (Wander (installed mid 0 (Healthy bytes)) new) → ((w : ℕ) → w < 8 → word_at bytes w ≡ superblock_word geo w) → OnOk r (IsFresh geo new)
+pub fresh_installed : {A E : Type 0} (r : Result A E) (geo : Geometry) (lines : ℕ) (mid new : Medium) (bytes : List ℕ) → IsValid geo → lines ≡ total_lines geo → WritesBack (zeros lines) mid
+    → OnOk r (WritesBack (installed mid 0 (Healthy bytes)) new) → ((w : ℕ) → w < 8 → word_at bytes w ≡ superblock_word geo w) → OnOk r (IsFresh geo new)
 fresh_installed (Ok x) geo lines mid new bytes valid all zeroed put spells = made_fresh geo lines mid new bytes valid all zeroed put spells
 fresh_installed (Err e) geo lines mid new bytes valid all zeroed put spells = tt
 
@@ -119,7 +119,7 @@ module _ (geo : Geometry) (m : Medium) (fresh : IsFresh geo m) where
             subst (IsIn v) (sym word.1) (subst (IsIn v) word.0 at);
         durable = λ p has _. is_only_one 0 (m.history p) (block_word p (inr (inr has))).0;
       })
-      (zeros_read geo fresh.valid (total_lines geo) (zeros (total_lines geo)) refl (wander-refl (zeros (total_lines geo))))
+      (zeros_read geo fresh.valid (total_lines geo) (zeros (total_lines geo)) refl (write_back-refl (zeros (total_lines geo))))
 
   module _ (sound : IsSound m) where
     -- its sizes are told, and nothing is found

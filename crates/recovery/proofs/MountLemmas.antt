@@ -1,10 +1,10 @@
 -- What a mount of the blocks gives, once nothing was found before their log.
 use Rattle.std.proofs.Common.{◌≡◌, ℕ, None, Err, option_map, sym, ◌∙◌, ap, ap₂, subst, arith}
 use Rattle.std.proofs.lemmas.Bool.{false≢true}
-use Rattle.line_device.specs.Medium.{Medium, Wander, last_image}
-use Rattle.line_device.proofs.WanderLemmas.{wander-trans, newest-wander}
-use Rattle.line_words.specs.Words.{WandersOutside}
-use Rattle.line_words.proofs.FrameLemmas.{last_image-wander, outside-trans, outside-wander}
+use Rattle.line_device.specs.Medium.{Medium, WritesBack, last_image}
+use Rattle.line_device.proofs.WriteBackLemmas.{write_back-trans, newest-write_back}
+use Rattle.line_words.specs.Words.{WritesBackOutside}
+use Rattle.line_words.proofs.FrameLemmas.{last_image-write_back, outside-trans, outside-write_back}
 use Rattle.word_tables.specs.declared.geometry.Geometry.{Geometry}
 use Rattle.word_tables.specs.Bounds.{IsValid}
 use Rattle.word_log.specs.Area.{IsOf, IsWhole, gate_place}
@@ -17,16 +17,16 @@ use Rattle.block_device.specs.Mounting as below_mount
 use Rattle.block_device.specs.Mounting.{wrong_place}
 use Rattle.block_device.specs.Images.{KeepsReads}
 use Rattle.block_device.proofs.PlaceLemmas.{area_in_metadata, area_whole}
-use Rattle.block_device.proofs.ReachLemmas.{keeps_reads-trans, keeps_reads-wander}
-use Rattle.block_device.proofs.ReadLemmas.{durable-wander}
+use Rattle.block_device.proofs.ReachLemmas.{keeps_reads-trans, keeps_reads-write_back}
+use Rattle.block_device.proofs.ReadLemmas.{durable-write_back}
 use Rattle.recovery.specs.Stopped.{of_block_fault}
 use Rattle.recovery.specs.Findings.{geometry_told, early_finding, first_finding}
 use Rattle.recovery.specs.Findings.Finding.{wrong_word}
 use Rattle.recovery.specs.Mounting.{Finds, HasDurableBlocks, IsInOrder}
-use Rattle.recovery.proofs.FindingLemmas.{bad-wander, first_late}
+use Rattle.recovery.proofs.FindingLemmas.{bad-write_back, first_late}
 
 -- a mount of the blocks keeps all marks
-pub in_order-outside : (geo : Geometry) (now new : Medium) → IsInOrder geo now → WandersOutside (IsOf (block_area geo)) now new → IsInOrder geo new
+pub in_order-outside : (geo : Geometry) (now new : Medium) → IsInOrder geo now → WritesBackOutside (IsOf (block_area geo)) now new → IsInOrder geo new
 in_order-outside geo now new order x = record {
   valid = order.valid;
   count = x.count ∙ order.count;
@@ -34,20 +34,20 @@ in_order-outside geo now new order x = record {
   strong = λ n below. x.weak n ∙ order.strong n below;
 }
 
-module _ (old now : Medium) (geo : Geometry) (is : geo ≡ geometry_told old) (x : Wander old now) (early : early_finding old ≡ None) where
+module _ (old now : Medium) (geo : Geometry) (is : geo ≡ geometry_told old) (x : WritesBack old now) (early : early_finding old ≡ None) where
   place_same : wrong_place geo (last_image now) ≡ wrong_place (geometry_told old) (last_image old)
-  place_same = ap₂ wrong_place is (last_image-wander old now x)
+  place_same = ap₂ wrong_place is (last_image-write_back old now x)
 
   -- what was durable is so after the look
   pub durable_now : HasDurableBlocks old → AreDurable geo now (states_read geo (last_image now))
   durable_now durable =
       let told = subst (λ g. AreDurable g old (states_read g (last_image old))) (sym is) (durable early) in
-      subst (λ (word : ℕ → ℕ). AreDurable geo now (states_read geo word)) (sym (last_image-wander old now x)) (durable-wander geo (states_read geo (last_image old)) old now x told)
+      subst (λ (word : ℕ → ℕ). AreDurable geo now (states_read geo word)) (sym (last_image-write_back old now x)) (durable-write_back geo (states_read geo (last_image old)) old now x told)
 
   -- and the blocks are the same
   pub blocks_same : blocks_read geo now.is_bad (last_image now) ≡ blocks_read (geometry_told old) old.is_bad (last_image old)
   blocks_same =
-      ap₂ (blocks_read geo) (bad-wander old now x) (last_image-wander old now x) ∙ ap (λ g. blocks_read g old.is_bad (last_image old)) is
+      ap₂ (blocks_read geo) (bad-write_back old now x) (last_image-write_back old now x) ∙ ap (λ g. blocks_read g old.is_bad (last_image old)) is
 
   -- nothing is wrong with the blocks, or it is the first finding
   pub finds_right : wrong_place geo (last_image now) ≡ None → first_finding old ≡ None
@@ -66,13 +66,13 @@ module _ (old now : Medium) (geo : Geometry) (is : geo ≡ geometry_told old) (x
   -- what the mount of the blocks leaves, it leaves of the device
   pub mount_reads : (new : Medium) → IsValid geo → HasGoodMetadata geo now → (IsWhole (block_area geo) now → KeepsReads geo now new) → KeepsReads (geometry_told old) old new
   mount_reads new valid good keeps =
-      subst (λ g. KeepsReads g old new) is (keeps_reads-trans geo old now new (keeps_reads-wander geo old now x) (keeps (area_whole geo valid now good)))
+      subst (λ g. KeepsReads g old new) is (keeps_reads-trans geo old now new (keeps_reads-write_back geo old now x) (keeps (area_whole geo valid now good)))
 
-  pub mount_closed : (new : Medium) → (last_image now (gate_place (block_area geo)) ≡ 0 → Wander now new) → last_image old (gate_place (block_area (geometry_told old))) ≡ 0 → Wander old new
+  pub mount_closed : (new : Medium) → (last_image now (gate_place (block_area geo)) ≡ 0 → WritesBack now new) → last_image old (gate_place (block_area (geometry_told old))) ≡ 0 → WritesBack old new
   mount_closed new closed zero =
-      wander-trans old now new x (closed (newest-wander old now x (gate_place (block_area geo)) ∙ ap (λ g. last_image old (gate_place (block_area g))) is ∙ zero))
+      write_back-trans old now new x (closed (newest-write_back old now x (gate_place (block_area geo)) ∙ ap (λ g. last_image old (gate_place (block_area g))) is ∙ zero))
 
-  pub mount_outside : (new : Medium) → WandersOutside (IsOf (block_area geo)) now new → WandersOutside (IsOf (block_area (geometry_told old))) old new
+  pub mount_outside : (new : Medium) → WritesBackOutside (IsOf (block_area geo)) now new → WritesBackOutside (IsOf (block_area (geometry_told old))) old new
   mount_outside new out =
-      subst (λ g. WandersOutside (IsOf (block_area g)) old new) is
-      (outside-trans (IsOf (block_area geo)) old now new (outside-wander (IsOf (block_area geo)) old now x) out)
+      subst (λ g. WritesBackOutside (IsOf (block_area g)) old new) is
+      (outside-trans (IsOf (block_area geo)) old now new (outside-write_back (IsOf (block_area geo)) old now x) out)

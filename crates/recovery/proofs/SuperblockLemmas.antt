@@ -2,11 +2,11 @@
 use Rattle.std.proofs.Common.{◌≡◌, slice_index, ◌+◌, ◌/◌, ◌<◌, ◌≤◌, ◌==◌, ◌*◌, ℕ, Bool, true, false, List, [], Some, None, if◌then◌else◌, option_map, inl, inr, sym, ◌∙◌, ap, ap₂, subst, arith}
 use Rattle.std.proofs.lemmas.Bool.{cases_Bool}
 use Rattle.line_device.specs.History.{IsIn}
-use Rattle.line_device.specs.Medium.{Medium, IsSound, Wander, Survivors, Waits, Weakens, last_image, poisoned}
+use Rattle.line_device.specs.Medium.{Medium, IsSound, WritesBack, Survivors, Waits, Weakens, last_image, poisoned}
 use Rattle.line_device.specs.declared.line.Choice.{Choice}
-use Rattle.line_device.proofs.HistoryLemmas.{is_in-fades, is_in-one}
-use Rattle.line_words.specs.Words.{IsOnly, WandersOutside, WandersBeside}
-use Rattle.line_words.proofs.FrameLemmas.{is_only-outside, is_only-wander}
+use Rattle.line_device.proofs.HistoryLemmas.{is_in-word_write_back, is_in-one}
+use Rattle.line_words.specs.Words.{IsOnly, WritesBackOutside, WritesBackBeside}
+use Rattle.line_words.proofs.FrameLemmas.{is_only-outside, is_only-write_back}
 use Rattle.line_words.proofs.BesideLemmas.{is_only-beside}
 use Rattle.nvm_model.specs.Numbered.{list_from}
 use Rattle.nvm_model.specs.Blocks.{first_there}
@@ -80,16 +80,16 @@ superblock_found m early may p below =
     subst (λ v. IsOnly v (m.history p)) (is.words p below) (may.first p below)
 
 -- what calls and cuts leave of it
-pub superblock-outside : (geo : Geometry) (inside : ℕ → Type 0) (old new : Medium) → WandersOutside inside old new → ((p : ℕ) → p < 8 → inside p → ⊥) → HasSuperblock geo old → HasSuperblock geo new
+pub superblock-outside : (geo : Geometry) (inside : ℕ → Type 0) (old new : Medium) → WritesBackOutside inside old new → ((p : ℕ) → p < 8 → inside p → ⊥) → HasSuperblock geo old → HasSuperblock geo new
 superblock-outside geo inside old new x out has p below = is_only-outside inside old new p (superblock_word geo p) x (out p below) (has p below)
 
-pub superblock-beside : (geo : Geometry) (lines : ℕ → Type 0) (old new : Medium) → WandersBeside lines old new → (lines 0 → ⊥) → HasSuperblock geo old → HasSuperblock geo new
+pub superblock-beside : (geo : Geometry) (lines : ℕ → Type 0) (old new : Medium) → WritesBackBeside lines old new → (lines 0 → ⊥) → HasSuperblock geo old → HasSuperblock geo new
 superblock-beside geo lines old new x out has p below =
     let on : p / 8 ≡ 0 = omega arith in
     is_only-beside lines old new p (superblock_word geo p) x (λ of. out (subst lines on of)) (has p below)
 
-pub superblock-wander : (geo : Geometry) (old new : Medium) → Wander old new → HasSuperblock geo old → HasSuperblock geo new
-superblock-wander geo old new x has p below = is_only-wander old new p (superblock_word geo p) x (has p below)
+pub superblock-write_back : (geo : Geometry) (old new : Medium) → WritesBack old new → HasSuperblock geo old → HasSuperblock geo new
+superblock-write_back geo old new x has p below = is_only-write_back old new p (superblock_word geo p) x (has p below)
 
 pub superblock-restarted : (geo : Geometry) (choice : Choice) (old new : Medium) → IsSound old → 1 ≤ old.count → Survivors choice old new → HasSuperblock geo old → HasSuperblock geo new
 superblock-restarted geo choice old new sound some x has p below =
@@ -104,18 +104,18 @@ superblock-restarted geo choice old new sound some x has p below =
 pub superblock-waits : (geo : Geometry) (old new : Medium) → Waits old new → HasSuperblock geo old → HasSuperblock geo new
 superblock-waits geo old new x has p below =
     elim (x.words p) as (λ _. IsOnly (superblock_word geo p) (new.history p)) [
-      | inl fades ↦ λ v at. has p below v (is_in-fades (old.is_weak (p / 8)) v (old.history p) (new.history p) fades at)
+      | inl word_write_back ↦ λ v at. has p below v (is_in-word_write_back (old.is_weak (p / 8)) v (old.history p) (new.history p) word_write_back at)
       | inr one ↦ λ v at. is_in-one v one.0 (subst (IsIn v) one.2 at) ∙ has p below one.0 one.1
     ]
 
 -- a line that became bad has no words, and a weak one keeps them
-pub superblock-poisoned : (geo : Geometry) (line : ℕ) (old new : Medium) → Wander (poisoned old line) new → HasSuperblock geo old → HasSuperblock geo new
+pub superblock-poisoned : (geo : Geometry) (line : ℕ) (old new : Medium) → WritesBack (poisoned old line) new → HasSuperblock geo old → HasSuperblock geo new
 superblock-poisoned geo line old new x has p below v at =
-    fewer (p / 8 == line) (is_in-fades ((poisoned old line).is_weak (p / 8)) v ((poisoned old line).history p) (new.history p) (x.fades p) at)
+    fewer (p / 8 == line) (is_in-word_write_back ((poisoned old line).is_weak (p / 8)) v ((poisoned old line).history p) (new.history p) (x.word_write_back p) at)
   where
     fewer : (b : Bool) → IsIn v (if b then [] else old.history p) → v ≡ superblock_word geo p
     fewer true none = absurd none
     fewer false was = has p below v was
 
 pub superblock-weakens : (geo : Geometry) (line : ℕ) (old new : Medium) → Weakens line old new → HasSuperblock geo old → HasSuperblock geo new
-superblock-weakens geo line old new x has = superblock-wander geo old (record new { is_weak = old.is_weak }) x.wander has
+superblock-weakens geo line old new x has = superblock-write_back geo old (record new { is_weak = old.is_weak }) x.write_back has

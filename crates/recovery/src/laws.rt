@@ -1,8 +1,8 @@
 // Laws of mounts and of what they find, each a function without a body.
 ghost use Rattle.std.specs.Prelude.{◌≡◌, ◌≤◌, ◌<◌, ℕ, Bool, false, IsTrue, None, Some};
-ghost use Rattle.line_device.specs.Medium.{Medium, IsSound, Survivors, Waits, Wander, Weakens, poisoned};
+ghost use Rattle.line_device.specs.Medium.{Medium, IsSound, Survivors, Waits, WritesBack, Weakens, poisoned};
 ghost use Rattle.line_device.specs.declared.line.Choice.{Choice};
-ghost use Rattle.line_words.specs.Words.{WandersBeside, WandersOutside};
+ghost use Rattle.line_words.specs.Words.{WritesBackBeside, WritesBackOutside};
 ghost use Rattle.word_log.specs.Area.{IsOf};
 ghost use Rattle.nvm_model.specs.Numbered.{list_from};
 ghost use Rattle.nvm_model.specs.Storage.Block.{Absent};
@@ -22,7 +22,7 @@ ghost use Rattle.recovery.specs.Mounting.{HasDurableBlocks, IsMountable, GoesOn}
 /// A mount that was cut or refused can be begun again, after a restart or before one.
 pub fn mounts_again()
     ensures durable { (m : Medium) → IsSound m → IsMountable m → HasDurableBlocks m }
-    ensures mounted { (old new : Medium) → IsMountable old → WandersOutside (IsOf (block_area (geometry_told old))) old new
+    ensures mounted { (old new : Medium) → IsMountable old → WritesBackOutside (IsOf (block_area (geometry_told old))) old new
         → (early_finding old ≡ None → KeepsReads (geometry_told old) old new) → GoesOn old new }
     ensures restarted { (choice : Choice) (old new : Medium) → IsSound old → IsMountable old → Survivors choice old new → GoesOn old new }
     ensures waited { (old new : Medium) → IsMountable old → Waits old new → GoesOn old new }
@@ -51,11 +51,11 @@ pub fn superblocks_are_found()
 
 /// A superblock stays where other lines are changed or become bad, and in a cut.
 pub fn superblocks_stay()
-    ensures outside { (geo : Geometry) (inside : ℕ → Bool) (old new : Medium) → WandersOutside (λ p. IsTrue (inside p)) old new
+    ensures outside { (geo : Geometry) (inside : ℕ → Bool) (old new : Medium) → WritesBackOutside (λ p. IsTrue (inside p)) old new
         → ((p : ℕ) → p < 8 → inside p ≡ false) → HasSuperblock geo old → HasSuperblock geo new }
-    ensures beside { (geo : Geometry) (lines : ℕ → Bool) (old new : Medium) → WandersBeside (λ n. IsTrue (lines n)) old new
+    ensures beside { (geo : Geometry) (lines : ℕ → Bool) (old new : Medium) → WritesBackBeside (λ n. IsTrue (lines n)) old new
         → lines 0 ≡ false → HasSuperblock geo old → HasSuperblock geo new }
-    ensures poisoned { (geo : Geometry) (line : ℕ) (old new : Medium) → Wander (poisoned old line) new → HasSuperblock geo old
+    ensures poisoned { (geo : Geometry) (line : ℕ) (old new : Medium) → WritesBack (poisoned old line) new → HasSuperblock geo old
         → HasSuperblock geo new }
     ensures weakened { (geo : Geometry) (line : ℕ) (old new : Medium) → Weakens line old new → HasSuperblock geo old
         → HasSuperblock geo new }

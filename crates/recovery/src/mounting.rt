@@ -1,12 +1,12 @@
 // Mounting: what is to be found is found before anything is stored.
 ghost use Rattle.std.specs.Prelude.{◌≡◌, ◌≢◌, ◌+◌, ◌*◌, ◌/◌, ◌≤◌, None, IfOk, IsTrue};
-ghost use Rattle.line_device.specs.Medium.{Wander, last_image};
+ghost use Rattle.line_device.specs.Medium.{WritesBack, last_image};
 ghost use Rattle.line_device.specs.Panel.{Runs};
-ghost use Rattle.line_words.specs.Words.{WandersOutside};
+ghost use Rattle.line_words.specs.Words.{WritesBackOutside};
 ghost use Rattle.word_log.specs.Area.{IsOf, gate_place};
 ghost use Rattle.block_device.specs.Area.{block_area};
 ghost use Rattle.block_device.specs.Images.{KeepsReads};
-ghost use Rattle.block_device.specs.Object.{Serves, blocks_of};
+ghost use Rattle.block_device.specs.Object.{BlocksServe, blocks_of};
 ghost use Rattle.block_device.specs.Reading.{blocks_read};
 ghost use Rattle.recovery.specs.Findings.{geometry_told, early_finding, first_finding};
 ghost use Rattle.recovery.specs.Mounting.{Finds, HasDurableBlocks, IsInOrder, blocks_told, mount_outcome};
@@ -32,12 +32,12 @@ pub fn mount<L: Lines>(alloc: Global, dev: &mut L) -> Result<Mounted, MountFault
     ensures reads { early_finding (L.state dev.old).medium ≡ None
         → KeepsReads (geometry_told (L.state dev.old).medium) (L.state dev.old).medium (L.state dev.new).medium }
     ensures closed { last_image (L.state dev.old).medium (gate_place (block_area (geometry_told (L.state dev.old).medium))) ≡ 0
-        → Wander (L.state dev.old).medium (L.state dev.new).medium }
+        → WritesBack (L.state dev.old).medium (L.state dev.new).medium }
     ensures refused { early_finding (L.state dev.old).medium ≢ None
-        → Wander (L.state dev.old).medium (L.state dev.new).medium }
-    ensures outside { WandersOutside (IsOf (block_area (geometry_told (L.state dev.old).medium)))
+        → WritesBack (L.state dev.old).medium (L.state dev.new).medium }
+    ensures outside { WritesBackOutside (IsOf (block_area (geometry_told (L.state dev.old).medium)))
         (L.state dev.old).medium (L.state dev.new).medium }
-    ensures serves { IfOk result (λ mounted. Serves mounted.blocks (L.state dev.new).medium) }
+    ensures serves { IfOk result (λ mounted. BlocksServe mounted.blocks (L.state dev.new).medium) }
     ensures settled { IfOk result (λ mounted. IsTrue mounted.blocks.settled) }
     ensures order { IfOk result (λ mounted. IsInOrder mounted.geo (L.state dev.new).medium) }
     ensures runs { Runs (2 * blocks_told (L.state dev.old).medium + 287) (blocks_told (L.state dev.old).medium / 8 + 84)
@@ -55,7 +55,7 @@ fn look<L: Lines>(dev: &mut L) -> Result<Geometry, MountFault>
     ensures geo { IfOk result (λ geo. geo ≡ geometry_told (L.state dev.old).medium) }
     ensures order { IfOk result (λ geo. IsInOrder geo (L.state dev.new).medium) }
     ensures finds { Finds (early_finding (L.state dev.old).medium) result }
-    ensures lines { Wander (L.state dev.old).medium (L.state dev.new).medium }
+    ensures lines { WritesBack (L.state dev.old).medium (L.state dev.new).medium }
     ensures runs { Runs 8 0 (mount_outcome result) (L.state dev.old).panel (L.state dev.new).panel }
 {
     let geo = read_superblock(dev)?;

@@ -1,6 +1,6 @@
 // The superblock: loaded word by word, and compared with the layout.
 ghost use Rattle.std.specs.Prelude.{◌≡◌, ◌≤◌, ◌%◌, ◌==◌, ◌&&◌, false, IsTrue, IfOk, option_map, slice_index};
-ghost use Rattle.line_device.specs.Medium.{Wander, last_image};
+ghost use Rattle.line_device.specs.Medium.{WritesBack, last_image};
 ghost use Rattle.line_device.specs.Panel.{Runs};
 ghost use Rattle.line_words.specs.Ending.{ended};
 ghost use Rattle.nvm_model.specs.Numbered.{list_from};
@@ -24,7 +24,7 @@ pub fn read_superblock<L: Lines>(dev: &mut L) -> Result<Geometry, MountFault>
     requires on { IsTrue (L.state dev.old).panel.power }
     ensures geo { IfOk result (λ geo. geo ≡ geometry_told (L.state dev.old).medium) }
     ensures finds { Finds (superblock_finding (L.state dev.old).medium) result }
-    ensures lines { Wander (L.state dev.old).medium (L.state dev.new).medium }
+    ensures lines { WritesBack (L.state dev.old).medium (L.state dev.new).medium }
     ensures runs { Runs 8 0 (mount_outcome result) (L.state dev.old).panel (L.state dev.new).panel }
 {
     if dev.is_bad(LineNo(0)) {
@@ -40,7 +40,7 @@ fn load_words<L: Lines>(dev: &mut L) -> Result<[u64; WORDS], Interruption>
     requires good { (L.state dev.old).medium.is_bad 0 ≡ false }
     requires on { IsTrue (L.state dev.old).panel.power }
     ensures words { IfOk result (λ words. words ≡ list_from (last_image (L.state dev.old).medium) 0 8) }
-    ensures lines { Wander (L.state dev.old).medium (L.state dev.new).medium }
+    ensures lines { WritesBack (L.state dev.old).medium (L.state dev.new).medium }
     ensures runs { Runs 8 0 (ended result) (L.state dev.old).panel (L.state dev.new).panel }
 {
     let mut words = [0; WORDS];

@@ -1,9 +1,9 @@
 // Mounts of plain devices, told by what a caller sees.
 ghost use Rattle.std.specs.Prelude.{◌≡◌, ◌/◌, ◌≤◌, ℕ, [], false, IfOk, IsTrue};
-ghost use Rattle.line_device.specs.Medium.{Wander};
+ghost use Rattle.line_device.specs.Medium.{WritesBack};
 ghost use Rattle.line_device.specs.Plain.{device_of};
-ghost use Rattle.line_words.specs.Words.{IsSteadfast};
-ghost use Rattle.block_device.specs.Object.{Serves};
+ghost use Rattle.line_words.specs.Words.{IsGoodLine};
+ghost use Rattle.block_device.specs.Object.{BlocksServe};
 
 use crate::{MountFault, Mounted, format, mount};
 use block_device::{BlockFault, Blocks};
@@ -29,7 +29,7 @@ const META_LINES: u64 = 2304;
 
 // The line is there and can be used, and the power is on.
 fn is_good<L: Lines>(dev: &L, line: u64) -> bool
-    ensures steadfast { IsTrue result → IsSteadfast (L.state dev.now).medium line }
+    ensures good_line { IsTrue result → IsGoodLine (L.state dev.now).medium line }
     ensures on { IsTrue result → IsTrue (L.state dev.now).panel.power }
 {
     line < dev.lines() && dev.power() && !dev.is_bad(LineNo(line)) && !dev.is_weak(LineNo(line))
@@ -69,7 +69,7 @@ fn fresh(alloc: Global, lines: u64) -> Result<Plain, Fail>
 }
 
 fn switch_off<D: LineDevice>(dev: &mut D)
-    ensures lines { Wander (D.state dev.old).medium (D.state dev.new).medium }
+    ensures lines { WritesBack (D.state dev.old).medium (D.state dev.new).medium }
     ensures off { (D.state dev.new).panel.power ≡ false }
 {
     if dev.power() {
@@ -80,7 +80,7 @@ fn switch_off<D: LineDevice>(dev: &mut D)
 // Takes a device that has no words past its end through a cut, and mounts it.
 fn open<D: LineDevice>(alloc: Global, dev: &mut D, choice: Choice) -> Result<Mounted, MountFault>
     requires end { (p : ℕ) → (D.state dev.old).medium.count ≤ p / 8 → (D.state dev.old).medium.history p ≡ [] }
-    ensures { IfOk result (λ mounted. IsTrue mounted.blocks.settled → Serves mounted.blocks (D.state dev.new).medium) }
+    ensures { IfOk result (λ mounted. IsTrue mounted.blocks.settled → BlocksServe mounted.blocks (D.state dev.new).medium) }
 {
     switch_off(dev);
     let Ok(()) = dev.restart(choice) else {
@@ -94,7 +94,7 @@ fn open<D: LineDevice>(alloc: Global, dev: &mut D, choice: Choice) -> Result<Mou
 
 // The same of a plain device.
 fn start(alloc: Global, dev: &mut Plain, choice: Choice) -> Result<Mounted, MountFault>
-    ensures { IfOk result (λ mounted. IsTrue mounted.blocks.settled → Serves mounted.blocks (device_of dev.new).medium) }
+    ensures { IfOk result (λ mounted. IsTrue mounted.blocks.settled → BlocksServe mounted.blocks (device_of dev.new).medium) }
 {
     open(alloc, dev, choice)
 }
@@ -106,8 +106,8 @@ fn finding(alloc: Global, dev: &mut Plain) -> Option<MountFault> {
 
 // The first byte of a block.
 fn byte_of<L: Lines>(blocks: &mut Blocks, dev: &mut L, block: u64) -> Result<u8, BlockFault>
-    requires { IsTrue blocks.old.settled → Serves blocks.old (L.state dev.old).medium }
-    ensures { IsTrue blocks.new.settled → Serves blocks.new (L.state dev.new).medium }
+    requires { IsTrue blocks.old.settled → BlocksServe blocks.old (L.state dev.old).medium }
+    ensures { IsTrue blocks.new.settled → BlocksServe blocks.new (L.state dev.new).medium }
 {
     if !blocks.settled() || !dev.power() {
         return Err(BlockFault::Device);

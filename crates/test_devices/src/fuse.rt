@@ -1,6 +1,6 @@
 // A device whose power goes at a counted call of the caller's choice.
 ghost use Rattle.std.specs.Prelude.{◌≡◌, ◌↔◌, false, Some, None, IsTrue};
-ghost use Rattle.line_device.specs.Medium.{Wander};
+ghost use Rattle.line_device.specs.Medium.{WritesBack};
 ghost use Rattle.line_device.specs.Panel.{Runs};
 ghost use Rattle.line_device.specs.Panel.Outcome.{lost};
 ghost use Rattle.test_devices.specs.Fuse.{fused, fused_panel, passes_left, after_pass, behind};
@@ -42,7 +42,7 @@ impl<D: LineDevice> Fuse<D> {
         requires { IsTrue (fused D.state self.old).panel.power }
         ensures left { passes_left self.new ≡ after_pass (passes_left self.old) }
         ensures burns { IsTrue result ↔ (passes_left self.old ≡ Some 0) }
-        ensures lines { Wander (fused D.state self.old).medium (fused D.state self.new).medium }
+        ensures lines { WritesBack (fused D.state self.old).medium (fused D.state self.new).medium }
         ensures cut { IsTrue result → Runs 1 0 lost (fused D.state self.old).panel (fused D.state self.new).panel }
         ensures passes { result ≡ false → self.new ≡ record self.old { left = after_pass (passes_left self.old) } }
     {

@@ -1,20 +1,20 @@
 -- A commit, by what is durable after each of its steps, and what each image replays to then.
 use Rattle.std.proofs.Common.{◌≡◌, ◌⊎◌, inl, inr, ℕ, false, None, ◌/◌, ◌<◌, ◌≤◌, List, length, IsTrue, sym, ◌∙◌, subst, arith}
 use Rattle.line_device.specs.History.{IsIn}
-use Rattle.line_device.specs.Medium.{Medium, Wander, IsSound, last_image}
-use Rattle.line_device.proofs.HistoryLemmas.{is_in-fades}
+use Rattle.line_device.specs.Medium.{Medium, WritesBack, IsSound, last_image}
+use Rattle.line_device.proofs.HistoryLemmas.{is_in-word_write_back}
 use Rattle.word_log.specs.declared.area.LogArea.{LogArea}
 use Rattle.word_log.specs.Area.{gate_place, count_place, entry_place, Fits, IsLog, IsHome, IsOf, IsWhole}
 use Rattle.word_log.specs.Changes.{changed, lists, IsTaken}
 use Rattle.word_log.specs.Replay.{first_wrong, replayed, Replays}
-use Rattle.line_words.specs.Words.{WandersOutside}
+use Rattle.line_words.specs.Words.{WritesBackOutside}
 use Rattle.word_log.specs.Rest.{IsImageOn, EachImage, IsAtRest, IsReached}
 use Rattle.line_words.specs.Words.{IsOnly}
 use Rattle.word_log.specs.Protocol.{IsBehindGate, IsRecorded, IsWritten, IsOpen}
 use Rattle.word_log.proofs.ChangeLemmas.{listed_or, lists_not, changed-listed, changed-unlisted}
 use Rattle.word_log.proofs.EntryLemmas.{entries-cong}
 use Rattle.word_log.proofs.FrameLemmas.{fits-outside}
-use Rattle.line_words.proofs.FrameLemmas.{is_only-outside, is_only-wander, newest-outside, outside-wider}
+use Rattle.line_words.proofs.FrameLemmas.{is_only-outside, is_only-write_back, newest-outside, outside-wider}
 use Rattle.word_log.proofs.StepLemmas.{behind_gate-entries}
 use Rattle.word_log.proofs.ReplayLemmas.{replays_closed, replays_open}
 
@@ -24,7 +24,7 @@ gate_of a m fits = inl (omega arith, omega (arith, fits.shape.len))
 pub behind_gate_of : (a : LogArea) (p : ℕ) → IsBehindGate a p → IsLog a p
 behind_gate_of a p h = (omega (arith, h), h.1)
 
-pub written-outside : (a : LogArea) (cs : List (ℕ × ℕ)) (inside : ℕ → Type 0) (old new : Medium) → ((p : ℕ) → IsBehindGate a p → inside p → ⊥) → Fits a new → IsWritten a cs old → WandersOutside inside old new → IsWritten a cs new
+pub written-outside : (a : LogArea) (cs : List (ℕ × ℕ)) (inside : ℕ → Type 0) (old new : Medium) → ((p : ℕ) → IsBehindGate a p → inside p → ⊥) → Fits a new → IsWritten a cs old → WritesBackOutside inside old new → IsWritten a cs new
 written-outside a cs inside old new apart fits was x =
     let at : (p : ℕ) → entry_place a 0 ≤ p → p < entry_place a (length cs) → inside p → ⊥ =
     λ p from to. apart p (behind_gate-entries a cs old p was.fits was.taken.few from to) in
@@ -63,7 +63,7 @@ pub images_rest : (a : LogArea) (words : ℕ → ℕ) (m : Medium) → Fits a m 
 images_rest a words m fits rest image is = image_closed a words image m rest.home is (rest.gate (image (gate_place a)) (is (gate_place a) (gate_of a m fits)))
 
 -- entries are written behind a closed gate
-pub rest-outside : (a : LogArea) (words : ℕ → ℕ) (old new : Medium) → Fits a old → IsAtRest a old words → WandersOutside (IsBehindGate a) old new → IsAtRest a new words
+pub rest-outside : (a : LogArea) (words : ℕ → ℕ) (old new : Medium) → Fits a old → IsAtRest a old words → WritesBackOutside (IsBehindGate a) old new → IsAtRest a new words
 rest-outside a words old new fits rest x = record {
   gate = is_only-outside (IsBehindGate a) old new (gate_place a) 0 x (λ behind. omega (arith, behind)) rest.gate;
   home = λ p in_home. is_only-outside (IsBehindGate a) old new p (words p) x (λ behind. fits.shape.apart p (behind_gate_of a p behind) in_home) (rest.home p in_home);
@@ -76,7 +76,7 @@ home_not_gate : (a : LogArea) (m : Medium) (p : ℕ) → Fits a m → IsHome a p
 home_not_gate a m p fits in_home is = fits.shape.apart p (omega arith, omega (arith, fits.shape.len)) in_home
 
 -- the gate is being opened
-pub images_opening : (a : LogArea) (cs : List (ℕ × ℕ)) (words : ℕ → ℕ) (old new : Medium) → IsWritten a cs old → IsAtRest a old words → Fits a new → WandersOutside (λ p. p ≡ gate_place a) old new → ((x : ℕ) → IsIn x (new.history (gate_place a)) → IsIn x (old.history (gate_place a)) ⊎ (x ≡ 1)) → EachImage a new (λ image. Replays a image words ⊎ Replays a image (changed cs words))
+pub images_opening : (a : LogArea) (cs : List (ℕ × ℕ)) (words : ℕ → ℕ) (old new : Medium) → IsWritten a cs old → IsAtRest a old words → Fits a new → WritesBackOutside (λ p. p ≡ gate_place a) old new → ((x : ℕ) → IsIn x (new.history (gate_place a)) → IsIn x (old.history (gate_place a)) ⊎ (x ≡ 1)) → EachImage a new (λ image. Replays a image words ⊎ Replays a image (changed cs words))
 images_opening a cs words old new written rest fits x either image is =
     let home : (p : ℕ) → IsHome a p → IsOnly (words p) (new.history p) =
     λ p in_home. is_only-outside (λ q. q ≡ gate_place a) old new p (words p) x (home_not_gate a old p written.fits in_home) (rest.home p in_home) in
@@ -90,7 +90,7 @@ pub images_open : (a : LogArea) (cs : List (ℕ × ℕ)) (words : ℕ → ℕ) (
 images_open a cs words m open_ image is =
     image_open a cs words image m open_.written open_.home is (open_.gate (image (gate_place a)) (is (gate_place a) (gate_of a m open_.written.fits)))
 
-pub opened : (a : LogArea) (cs : List (ℕ × ℕ)) (words : ℕ → ℕ) (old new : Medium) → IsWritten a cs old → IsAtRest a old words → Fits a new → WandersOutside (λ p. p ≡ gate_place a) old new → IsOnly 1 (new.history (gate_place a)) → IsOpen a cs words new
+pub opened : (a : LogArea) (cs : List (ℕ × ℕ)) (words : ℕ → ℕ) (old new : Medium) → IsWritten a cs old → IsAtRest a old words → Fits a new → WritesBackOutside (λ p. p ≡ gate_place a) old new → IsOnly 1 (new.history (gate_place a)) → IsOpen a cs words new
 opened a cs words old new written rest fits x gate = record {
   written = written-outside a cs (λ q. q ≡ gate_place a) old new (not_gate a) fits written x;
   gate = gate;
@@ -98,7 +98,7 @@ opened a cs words old new written rest fits x gate = record {
 }
 
 -- the listed home words are being stored
-pub open-outside : (a : LogArea) (cs : List (ℕ × ℕ)) (words : ℕ → ℕ) (old new : Medium) → IsOpen a cs words old → Fits a new → WandersOutside (λ p. IsTrue (lists cs p)) old new → IsOpen a cs words new
+pub open-outside : (a : LogArea) (cs : List (ℕ × ℕ)) (words : ℕ → ℕ) (old new : Medium) → IsOpen a cs words old → Fits a new → WritesBackOutside (λ p. IsTrue (lists cs p)) old new → IsOpen a cs words new
 open-outside a cs words old new open_ fits x =
     let inside : ℕ → Type 0 = λ p. IsTrue (lists cs p) in
     let written = open_.written in
@@ -124,7 +124,7 @@ applied a cs words before m open_ durable = record {
 }
 
 -- the gate is being closed
-pub images_closing : (a : LogArea) (cs : List (ℕ × ℕ)) (words : ℕ → ℕ) (old new : Medium) → IsApplied a cs words old → Fits a new → WandersOutside (λ p. p ≡ gate_place a) old new → ((x : ℕ) → IsIn x (new.history (gate_place a)) → IsIn x (old.history (gate_place a)) ⊎ (x ≡ 0)) → EachImage a new (λ image. Replays a image (changed cs words))
+pub images_closing : (a : LogArea) (cs : List (ℕ × ℕ)) (words : ℕ → ℕ) (old new : Medium) → IsApplied a cs words old → Fits a new → WritesBackOutside (λ p. p ≡ gate_place a) old new → ((x : ℕ) → IsIn x (new.history (gate_place a)) → IsIn x (old.history (gate_place a)) ⊎ (x ≡ 0)) → EachImage a new (λ image. Replays a image (changed cs words))
 images_closing a cs words old new applied_ fits x either image is =
     let written = applied_.open_.written in
     let home : (p : ℕ) → IsHome a p → IsOnly (changed cs words p) (new.history p) =
@@ -137,24 +137,24 @@ images_closing a cs words old new applied_ fits x either image is =
       | inr closed_ ↦ image_closed a (changed cs words) image new home is closed_
     ]
 
-pub closed : (a : LogArea) (cs : List (ℕ × ℕ)) (words : ℕ → ℕ) (old new : Medium) → IsApplied a cs words old → WandersOutside (λ p. p ≡ gate_place a) old new → IsOnly 0 (new.history (gate_place a)) → IsAtRest a new (changed cs words)
+pub closed : (a : LogArea) (cs : List (ℕ × ℕ)) (words : ℕ → ℕ) (old new : Medium) → IsApplied a cs words old → WritesBackOutside (λ p. p ≡ gate_place a) old new → IsOnly 0 (new.history (gate_place a)) → IsAtRest a new (changed cs words)
 closed a cs words old new applied_ x gate = record {
   gate = gate;
   home = λ p in_home. is_only-outside (λ q. q ≡ gate_place a) old new p (changed cs words p) x (home_not_gate a old p applied_.open_.written.fits in_home) (applied_.changed p in_home);
 }
 
 -- each step stays within log and home
-pub outside-gate : (a : LogArea) (m old new : Medium) → Fits a m → WandersOutside (λ p. p ≡ gate_place a) old new → WandersOutside (IsOf a) old new
+pub outside-gate : (a : LogArea) (m old new : Medium) → Fits a m → WritesBackOutside (λ p. p ≡ gate_place a) old new → WritesBackOutside (IsOf a) old new
 outside-gate a m old new fits x = outside-wider (λ p. p ≡ gate_place a) (IsOf a) old new (λ p is. inl (omega arith, omega (arith, fits.shape.len))) x
 
-pub outside-behind_gate : (a : LogArea) (old new : Medium) → WandersOutside (IsBehindGate a) old new → WandersOutside (IsOf a) old new
+pub outside-behind_gate : (a : LogArea) (old new : Medium) → WritesBackOutside (IsBehindGate a) old new → WritesBackOutside (IsOf a) old new
 outside-behind_gate a old new x = outside-wider (IsBehindGate a) (IsOf a) old new (λ p behind. inl (behind_gate_of a p behind)) x
 
-pub outside-listed : (a : LogArea) (cs : List (ℕ × ℕ)) (old new : Medium) → IsTaken a cs → WandersOutside (λ p. IsTrue (lists cs p)) old new → WandersOutside (IsOf a) old new
+pub outside-listed : (a : LogArea) (cs : List (ℕ × ℕ)) (old new : Medium) → IsTaken a cs → WritesBackOutside (λ p. IsTrue (lists cs p)) old new → WritesBackOutside (IsOf a) old new
 outside-listed a cs old new taken x = outside-wider (λ p. IsTrue (lists cs p)) (IsOf a) old new (λ p h. inr (taken.home p h)) x
 
 -- after the home words are durable
-pub open-applied : (a : LogArea) (cs : List (ℕ × ℕ)) (words : ℕ → ℕ) (old new : Medium) → IsOpen a cs words old → WandersOutside (λ p. IsTrue (lists cs p)) old new → ((p : ℕ) → IsTrue (lists cs p) → IsOnly (changed cs (last_image old) p) (new.history p)) → IsApplied a cs words new
+pub open-applied : (a : LogArea) (cs : List (ℕ × ℕ)) (words : ℕ → ℕ) (old new : Medium) → IsOpen a cs words old → WritesBackOutside (λ p. IsTrue (lists cs p)) old new → ((p : ℕ) → IsTrue (lists cs p) → IsOnly (changed cs (last_image old) p) (new.history p)) → IsApplied a cs words new
 open-applied a cs words old new open_ x durable =
     applied a cs words (last_image old) new (open-outside a cs words old new open_ (fits-outside a (λ p. IsTrue (lists cs p)) old new open_.written.fits x) x) durable
 
@@ -162,11 +162,11 @@ open-applied a cs words old new open_ x durable =
 pub on_device : (a : LogArea) (m : Medium) (p : ℕ) → Fits a m → IsOf a p → p / 8 < m.count
 on_device a m p fits of = elim of as (λ _. p / 8 < m.count) [ inl log ↦ omega (arith, fits.log, log) | inr home ↦ omega (arith, fits.home, home) ]
 
--- lines that wandered
-pub reached_wander : (a : LogArea) (old new : Medium) → Wander old new → EachImage a new (IsReached a old)
-reached_wander a old new x image is = record {
+-- lines that were written back
+pub reached_write_back : (a : LogArea) (old new : Medium) → WritesBack old new → EachImage a new (IsReached a old)
+reached_write_back a old new x image is = record {
   before = image;
-  was = λ p of. is_in-fades (old.is_weak (p / 8)) (image p) (old.history p) (new.history p) (x.fades p) (is p of);
+  was = λ p of. is_in-word_write_back (old.is_weak (p / 8)) (image p) (old.history p) (new.history p) (x.word_write_back p) (is p of);
   same = inl (λ p of i. image p);
 }
 
@@ -179,15 +179,15 @@ reached_last a old image sound fits whole valid replays = record {
 }
 
 -- the gate was opened on entries that were written on a log at rest
-pub opened_from : (a : LogArea) (cs : List (ℕ × ℕ)) (words : ℕ → ℕ) (old entered new : Medium) → Fits a old → IsTaken a cs → IsAtRest a old words → WandersOutside (IsBehindGate a) old entered → IsRecorded a cs entered → WandersOutside (λ p. p ≡ gate_place a) entered new → IsOnly 1 (new.history (gate_place a)) → IsOpen a cs words new
+pub opened_from : (a : LogArea) (cs : List (ℕ × ℕ)) (words : ℕ → ℕ) (old entered new : Medium) → Fits a old → IsTaken a cs → IsAtRest a old words → WritesBackOutside (IsBehindGate a) old entered → IsRecorded a cs entered → WritesBackOutside (λ p. p ≡ gate_place a) entered new → IsOnly 1 (new.history (gate_place a)) → IsOpen a cs words new
 opened_from a cs words old entered new fits taken rest x recorded y gate =
     let fits_entered = fits-outside a (IsBehindGate a) old entered fits x in
     opened a cs words entered new (record { fits = fits_entered; taken = taken; recorded = recorded }) (rest-outside a words old entered fits rest x)
     (fits-outside a (λ p. p ≡ gate_place a) entered new fits_entered y) y gate
 
--- wandering leaves a log at rest
-pub rest-wander : (a : LogArea) (words : ℕ → ℕ) (old new : Medium) → IsAtRest a old words → Wander old new → IsAtRest a new words
-rest-wander a words old new rest x = record {
-  gate = is_only-wander old new (gate_place a) 0 x rest.gate;
-  home = λ p in_home. is_only-wander old new p (words p) x (rest.home p in_home);
+-- writing_back leaves a log at rest
+pub rest-write_back : (a : LogArea) (words : ℕ → ℕ) (old new : Medium) → IsAtRest a old words → WritesBack old new → IsAtRest a new words
+rest-write_back a words old new rest x = record {
+  gate = is_only-write_back old new (gate_place a) 0 x rest.gate;
+  home = λ p in_home. is_only-write_back old new p (words p) x (rest.home p in_home);
 }

@@ -5,7 +5,7 @@ use Rattle.word_log.specs.declared.area.LogArea.{LogArea}
 use Rattle.word_log.specs.Area.{gate_place, count_place, entry_place, IsShaped, Fits, IsWhole, IsOf, IsHome}
 use Rattle.word_log.specs.Changes.{changed}
 use Rattle.word_log.specs.Replay.{entries, listed, Replays}
-use Rattle.line_words.specs.Words.{WandersOutside}
+use Rattle.line_words.specs.Words.{WritesBackOutside}
 use Rattle.word_log.specs.Rest.{IsAtRest, IsImageOn, IsReached}
 use Rattle.word_log.proofs.EntryLemmas.{entries-cong}
 use Rattle.line_words.proofs.FrameLemmas.{is_only-outside}
@@ -23,7 +23,7 @@ pub rest-last_image : (a : LogArea) (m : Medium) (words : ℕ → ℕ) (p : ℕ)
 rest-last_image a m words p fits whole sound rest in_home = rest.home p in_home (last_image m p) (sound.last p (on_device a m p fits (inr in_home), whole p (inr in_home)))
 
 -- work elsewhere leaves a log at rest
-pub rest-elsewhere : (a : LogArea) (inside : ℕ → Type 0) (words : ℕ → ℕ) (old new : Medium) → ((p : ℕ) → IsOf a p → inside p → ⊥) → Fits a old → IsAtRest a old words → WandersOutside inside old new → IsAtRest a new words
+pub rest-elsewhere : (a : LogArea) (inside : ℕ → Type 0) (words : ℕ → ℕ) (old new : Medium) → ((p : ℕ) → IsOf a p → inside p → ⊥) → Fits a old → IsAtRest a old words → WritesBackOutside inside old new → IsAtRest a new words
 rest-elsewhere a inside words old new apart fits rest x = record {
   gate = is_only-outside inside old new (gate_place a) 0 x (apart (gate_place a) (gate_of a old fits)) rest.gate;
   home = λ p in_home. is_only-outside inside old new p (words p) x (apart p (inr in_home)) (rest.home p in_home);

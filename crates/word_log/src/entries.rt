@@ -5,7 +5,7 @@ ghost use Rattle.line_device.specs.Panel.{Runs};
 ghost use Rattle.word_log.specs.Area.{Fits, IsStrong, IsWhole, entry_place};
 ghost use Rattle.word_log.specs.Changes.{IsTaken};
 ghost use Rattle.word_log.specs.Replay.{entries};
-ghost use Rattle.line_words.specs.Words.{WandersOutside};
+ghost use Rattle.line_words.specs.Words.{WritesBackOutside};
 ghost use Rattle.word_log.specs.Protocol.{IsBehindGate, IsRecorded};
 ghost use Rattle.line_words.specs.Ending.{ended};
 
@@ -24,7 +24,7 @@ fn store_entry<L: Lines>(
     requires fits { Fits area (L.state dev.old).medium }
     requires whole { IsWhole area (L.state dev.old).medium }
     requires on { IsTrue (L.state dev.old).panel.power }
-    ensures outside { WandersOutside (λ p. (entry_place area k ≤ p) × (p < entry_place area (k + 1)))
+    ensures outside { WritesBackOutside (λ p. (entry_place area k ≤ p) × (p < entry_place area (k + 1)))
         (L.state dev.old).medium (L.state dev.new).medium }
     ensures place { OnOk result (last_image (L.state dev.new).medium (entry_place area k) ≡ change.0) }
     ensures value { OnOk result (last_image (L.state dev.new).medium (entry_place area k + 1) ≡ change.1) }
@@ -44,7 +44,7 @@ fn store_entries<L: Lines>(
     requires fits { Fits area (L.state dev.old).medium }
     requires whole { IsWhole area (L.state dev.old).medium }
     requires on { IsTrue (L.state dev.old).panel.power }
-    ensures outside { WandersOutside (λ p. (entry_place area 0 ≤ p) × (p < entry_place area (length changes.now)))
+    ensures outside { WritesBackOutside (λ p. (entry_place area 0 ≤ p) × (p < entry_place area (length changes.now)))
         (L.state dev.old).medium (L.state dev.new).medium }
     ensures ok { OnOk result
         (entries (last_image (L.state dev.new).medium) (entry_place area 0) (length changes.now) ≡ changes.now) }
@@ -68,7 +68,7 @@ pub fn write_entries<L: Lines>(
     requires strong { IsStrong area (L.state dev.old).medium }
     requires whole { IsWhole area (L.state dev.old).medium }
     requires on { IsTrue (L.state dev.old).panel.power }
-    ensures outside { WandersOutside (IsBehindGate area) (L.state dev.old).medium (L.state dev.new).medium }
+    ensures outside { WritesBackOutside (IsBehindGate area) (L.state dev.old).medium (L.state dev.new).medium }
     ensures ok { OnOk result (IsRecorded area changes.now (L.state dev.new).medium) }
     ensures runs { Runs (3 * length changes.now + 2) (length changes.now + 1) (ended result)
         (L.state dev.old).panel (L.state dev.new).panel }

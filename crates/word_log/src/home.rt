@@ -1,9 +1,9 @@
 // Giving home words their values.
 ghost use Rattle.std.specs.Prelude.{◌≡◌, ◌*◌, ◌/◌, ℕ, length, IsTrue, OnOk};
-ghost use Rattle.line_device.specs.Medium.{Wander, last_image};
+ghost use Rattle.line_device.specs.Medium.{WritesBack, last_image};
 ghost use Rattle.line_device.specs.Panel.{Runs};
 ghost use Rattle.word_log.specs.Changes.{changed, lists, IsDistinct};
-ghost use Rattle.line_words.specs.Words.{IsSteadfast, WandersOutside};
+ghost use Rattle.line_words.specs.Words.{IsGoodLine, WritesBackOutside};
 ghost use Rattle.line_words.specs.Words.{IsOnly};
 ghost use Rattle.line_words.specs.Ending.{ended};
 
@@ -11,10 +11,10 @@ use line_device::Lines;
 use line_words::{Interruption, persist_line, store_word};
 
 fn store_home<L: Lines>(dev: &mut L, changes: &[(u64, u64)]) -> Result<(), Interruption>
-    requires steadfast { (p : ℕ) → IsTrue (lists changes.now p) → IsSteadfast (L.state dev.old).medium (p / 8) }
+    requires good_line { (p : ℕ) → IsTrue (lists changes.now p) → IsGoodLine (L.state dev.old).medium (p / 8) }
     requires distinct { IsDistinct changes.now }
     requires on { IsTrue (L.state dev.old).panel.power }
-    ensures outside { WandersOutside (λ p. IsTrue (lists changes.now p))
+    ensures outside { WritesBackOutside (λ p. IsTrue (lists changes.now p))
         (L.state dev.old).medium (L.state dev.new).medium }
     ensures ok { OnOk result ((p : ℕ) → last_image (L.state dev.new).medium p
         ≡ changed changes.now (last_image (L.state dev.old).medium) p) }
@@ -28,9 +28,9 @@ fn store_home<L: Lines>(dev: &mut L, changes: &[(u64, u64)]) -> Result<(), Inter
 }
 
 fn persist_home<L: Lines>(dev: &mut L, changes: &[(u64, u64)]) -> Result<(), Interruption>
-    requires steadfast { (p : ℕ) → IsTrue (lists changes.now p) → IsSteadfast (L.state dev.old).medium (p / 8) }
+    requires good_line { (p : ℕ) → IsTrue (lists changes.now p) → IsGoodLine (L.state dev.old).medium (p / 8) }
     requires on { IsTrue (L.state dev.old).panel.power }
-    ensures lines { Wander (L.state dev.old).medium (L.state dev.new).medium }
+    ensures lines { WritesBack (L.state dev.old).medium (L.state dev.new).medium }
     ensures ok { OnOk result ((p : ℕ) → IsTrue (lists changes.now p)
         → IsOnly (last_image (L.state dev.old).medium p) ((L.state dev.new).medium.history p)) }
     ensures runs { Runs (length changes.now) (length changes.now) (ended result)
@@ -44,10 +44,10 @@ fn persist_home<L: Lines>(dev: &mut L, changes: &[(u64, u64)]) -> Result<(), Int
 
 /// Gives the listed words their values, and makes them durable.
 pub fn apply<L: Lines>(dev: &mut L, changes: &[(u64, u64)]) -> Result<(), Interruption>
-    requires steadfast { (p : ℕ) → IsTrue (lists changes.now p) → IsSteadfast (L.state dev.old).medium (p / 8) }
+    requires good_line { (p : ℕ) → IsTrue (lists changes.now p) → IsGoodLine (L.state dev.old).medium (p / 8) }
     requires distinct { IsDistinct changes.now }
     requires on { IsTrue (L.state dev.old).panel.power }
-    ensures outside { WandersOutside (λ p. IsTrue (lists changes.now p))
+    ensures outside { WritesBackOutside (λ p. IsTrue (lists changes.now p))
         (L.state dev.old).medium (L.state dev.new).medium }
     ensures ok { OnOk result ((p : ℕ) → IsTrue (lists changes.now p)
         → IsOnly (changed changes.now (last_image (L.state dev.old).medium) p) ((L.state dev.new).medium.history p)) }

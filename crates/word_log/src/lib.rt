@@ -14,7 +14,7 @@ ghost use Rattle.line_device.specs.Panel.{Runs};
 ghost use Rattle.word_log.specs.Area.{Fits, IsStrong, IsWhole, IsOf};
 ghost use Rattle.word_log.specs.Changes.{changed, IsTaken};
 ghost use Rattle.word_log.specs.Replay.{Replays};
-ghost use Rattle.line_words.specs.Words.{WandersOutside};
+ghost use Rattle.line_words.specs.Words.{WritesBackOutside};
 ghost use Rattle.word_log.specs.Rest.{IsAtRest, EachImage};
 ghost use Rattle.line_words.specs.Ending.{ended};
 
@@ -90,7 +90,7 @@ impl Log {
         ensures images { (words : ℕ → ℕ) → IsAtRest self.old.area (L.state dev.old).medium words
             → EachImage self.old.area (L.state dev.new).medium (λ image.
             Replays self.old.area image words ⊎ Replays self.old.area image (changed changes.now words)) }
-        ensures outside { WandersOutside (IsOf self.old.area) (L.state dev.old).medium (L.state dev.new).medium }
+        ensures outside { WritesBackOutside (IsOf self.old.area) (L.state dev.old).medium (L.state dev.new).medium }
         ensures runs { Runs (5 * length changes.now + 6) (2 * length changes.now + 3) (ended result)
             (L.state dev.old).panel (L.state dev.new).panel }
         ensures log { self.new ≡ record self.old { settled = is_ok result } }

@@ -1,17 +1,17 @@
 // Mounting a log, and looking at it without a store.
 ghost use Rattle.std.specs.Prelude.{◌≡◌, ◌+◌, ◌*◌, ◌/◌, ℕ, None, true, IsTrue, IfOk, IfErr, OnOk};
-ghost use Rattle.line_device.specs.Medium.{Wander, last_image};
+ghost use Rattle.line_device.specs.Medium.{WritesBack, last_image};
 ghost use Rattle.line_device.specs.Panel.{Runs};
 ghost use Rattle.word_log.specs.Area.{Fits, IsStrong, IsWhole, IsOf, gate_place};
 ghost use Rattle.word_log.specs.Replay.{listed, replayed, first_wrong, Replays};
-ghost use Rattle.line_words.specs.Words.{WandersOutside};
+ghost use Rattle.line_words.specs.Words.{WritesBackOutside};
 ghost use Rattle.word_log.specs.Rest.{IsAtRest, IsReached, EachImage};
 ghost use Rattle.line_words.specs.Words.{IsOnly};
 ghost use Rattle.word_log.specs.Mount.{Finds, IsRefusal};
 ghost use Rattle.word_log.specs.Outcomes.{log_outcome};
 ghost use Rattle.line_words.specs.Ending.{ended};
 
-use crate::lines::settle;
+use crate::lines::make_durable;
 use crate::protocol::finish;
 use crate::reading::read_log;
 use crate::{Log, LogArea, LogFault};
@@ -34,8 +34,8 @@ fn redo<L: Lines>(dev: &mut L, area: LogArea, changes: &[(u64, u64)]) -> Result<
     ensures images { EachImage area (L.state dev.new).medium (λ image.
         Replays area image (replayed area (last_image (L.state dev.old).medium))) }
     ensures closed { last_image (L.state dev.old).medium (gate_place area) ≡ 0
-        → Wander (L.state dev.old).medium (L.state dev.new).medium }
-    ensures outside { WandersOutside (IsOf area) (L.state dev.old).medium (L.state dev.new).medium }
+        → WritesBack (L.state dev.old).medium (L.state dev.new).medium }
+    ensures outside { WritesBackOutside (IsOf area) (L.state dev.old).medium (L.state dev.new).medium }
     ensures runs { Runs (2 * area.cap + 2) (area.cap + 1) (ended result)
         (L.state dev.old).panel (L.state dev.new).panel }
 {
@@ -56,17 +56,17 @@ pub fn mount<L: Lines>(alloc: Global, dev: &mut L, area: LogArea) -> Result<Log,
     ensures finds { Finds area (L.state dev.old).medium result }
     ensures images { EachImage area (L.state dev.new).medium (IsReached area (L.state dev.old).medium) }
     ensures refused { IfErr result (λ fault. IsRefusal fault
-        → Wander (L.state dev.old).medium (L.state dev.new).medium) }
+        → WritesBack (L.state dev.old).medium (L.state dev.new).medium) }
     ensures closed { last_image (L.state dev.old).medium (gate_place area) ≡ 0
-        → Wander (L.state dev.old).medium (L.state dev.new).medium }
-    ensures outside { WandersOutside (IsOf area) (L.state dev.old).medium (L.state dev.new).medium }
+        → WritesBack (L.state dev.old).medium (L.state dev.new).medium }
+    ensures outside { WritesBackOutside (IsOf area) (L.state dev.old).medium (L.state dev.new).medium }
     ensures runs { Runs (area.log.len + area.home.len / 8 + 4 * area.cap + 6)
         (area.log.len + area.home.len / 8 + area.cap + 3) (log_outcome result)
         (L.state dev.old).panel (L.state dev.new).panel }
 {
     let changes = read_log(alloc, dev, area)?;
     // What was read is to be durable before it is replayed: a cut could still take it back.
-    settle(dev, area)?;
+    make_durable(dev, area)?;
     redo(dev, area, changes.as_slice())?;
     Ok(Log::at_rest(area))
 }
@@ -76,7 +76,7 @@ pub fn inspect<L: Lines>(alloc: Global, dev: &mut L, area: LogArea) -> Result<()
     requires on { IsTrue (L.state dev.old).panel.power }
     requires fits { Fits area (L.state dev.old).medium }
     ensures finds { Finds area (L.state dev.old).medium result }
-    ensures lines { Wander (L.state dev.old).medium (L.state dev.new).medium }
+    ensures lines { WritesBack (L.state dev.old).medium (L.state dev.new).medium }
     ensures runs { Runs (2 * area.cap + 2) 0 (log_outcome result) (L.state dev.old).panel (L.state dev.new).panel }
 {
     let _changes = read_log(alloc, dev, area)?;

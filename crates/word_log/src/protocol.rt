@@ -5,7 +5,7 @@ ghost use Rattle.line_device.specs.Panel.{Runs};
 ghost use Rattle.word_log.specs.Area.{Fits, IsStrong, IsWhole, IsOf, gate_place};
 ghost use Rattle.word_log.specs.Changes.{changed, IsTaken};
 ghost use Rattle.word_log.specs.Replay.{Replays};
-ghost use Rattle.line_words.specs.Words.{WandersOutside};
+ghost use Rattle.line_words.specs.Words.{WritesBackOutside};
 ghost use Rattle.word_log.specs.Rest.{IsAtRest, EachImage};
 ghost use Rattle.line_words.specs.Words.{IsOnly};
 ghost use Rattle.word_log.specs.Protocol.{IsWritten, IsOpen};
@@ -29,7 +29,7 @@ pub fn set_gate<L: Lines>(dev: &mut L, area: LogArea, gate: u64) -> Result<(), I
     requires strong { IsStrong area (L.state dev.old).medium }
     requires whole { IsWhole area (L.state dev.old).medium }
     requires on { IsTrue (L.state dev.old).panel.power }
-    ensures outside { WandersOutside (λ p. p ≡ gate_place area) (L.state dev.old).medium (L.state dev.new).medium }
+    ensures outside { WritesBackOutside (λ p. p ≡ gate_place area) (L.state dev.old).medium (L.state dev.new).medium }
     ensures either { (x : ℕ) → IsIn x ((L.state dev.new).medium.history (gate_place area))
         → IsIn x ((L.state dev.old).medium.history (gate_place area)) ⊎ (x ≡ gate) }
     ensures ok { OnOk result (IsOnly gate ((L.state dev.new).medium.history (gate_place area))) }
@@ -53,7 +53,7 @@ pub fn finish<L: Lines>(
         → IsAtRest area (L.state dev.new).medium (changed changes.now words)) }
     ensures images { (words : ℕ → ℕ) → IsOpen area changes.now words (L.state dev.old).medium
         → EachImage area (L.state dev.new).medium (λ image. Replays area image (changed changes.now words)) }
-    ensures outside { WandersOutside (IsOf area) (L.state dev.old).medium (L.state dev.new).medium }
+    ensures outside { WritesBackOutside (IsOf area) (L.state dev.old).medium (L.state dev.new).medium }
     ensures runs { Runs (2 * length changes.now + 2) (length changes.now + 1) (ended result)
         (L.state dev.old).panel (L.state dev.new).panel }
 {
@@ -78,7 +78,7 @@ pub fn commit_at<L: Lines>(
     ensures images { (words : ℕ → ℕ) → IsAtRest area (L.state dev.old).medium words
         → EachImage area (L.state dev.new).medium (λ image.
         Replays area image words ⊎ Replays area image (changed changes.now words)) }
-    ensures outside { WandersOutside (IsOf area) (L.state dev.old).medium (L.state dev.new).medium }
+    ensures outside { WritesBackOutside (IsOf area) (L.state dev.old).medium (L.state dev.new).medium }
     ensures runs { Runs (5 * length changes.now + 6) (2 * length changes.now + 3) (ended result)
         (L.state dev.old).panel (L.state dev.new).panel }
 {

@@ -1,6 +1,6 @@
 // Reads a log, and tells whether it is in order.
 ghost use Rattle.std.specs.Prelude.{◌≡◌, ◌+◌, ◌*◌, ◌&&◌, ◌<◌, ◌≤◌, ◌^◌, [], None, not, length, IsTrue, IfOk};
-ghost use Rattle.line_device.specs.Medium.{Wander, last_image};
+ghost use Rattle.line_device.specs.Medium.{WritesBack, last_image};
 ghost use Rattle.line_device.specs.Panel.{Runs};
 ghost use Rattle.word_log.specs.Area.{Fits, IsWhole, is_home, gate_place, count_place, entry_place};
 ghost use Rattle.word_log.specs.Changes.{lists};
@@ -29,7 +29,7 @@ fn read_entry<L: Lines>(dev: &mut L, area: LogArea, k: u64) -> Result<(u64, u64)
       last_image (L.state dev.old).medium (entry_place area k),
       last_image (L.state dev.old).medium (entry_place area k + 1),
     )) }
-    ensures lines { Wander (L.state dev.old).medium (L.state dev.new).medium }
+    ensures lines { WritesBack (L.state dev.old).medium (L.state dev.new).medium }
     ensures runs { Runs 2 0 (ended result) (L.state dev.old).panel (L.state dev.new).panel }
 {
     let at = area.entry_place(k);
@@ -51,7 +51,7 @@ fn read_entries<L: Lines>(
     ensures stops { Tells None result }
     ensures entries { IfOk result (λ changes. changes.items
         ≡ entries (last_image (L.state dev.old).medium) (entry_place area 0) count) }
-    ensures lines { Wander (L.state dev.old).medium (L.state dev.new).medium }
+    ensures lines { WritesBack (L.state dev.old).medium (L.state dev.new).medium }
     ensures runs { Runs (2 * count) 0 (log_outcome result) (L.state dev.old).panel (L.state dev.new).panel }
 {
     let mut changes = Buffer::new(alloc);
@@ -97,7 +97,7 @@ fn read_open<L: Lines>(alloc: Global, dev: &mut L, area: LogArea) -> Result<Chan
     ensures tells { Tells (wrong_at 1 area (last_image (L.state dev.old).medium)) result }
     ensures changes { IfOk result (λ changes. changes.items ≡ entries (last_image (L.state dev.old).medium)
         (entry_place area 0) (last_image (L.state dev.old).medium (count_place area))) }
-    ensures lines { Wander (L.state dev.old).medium (L.state dev.new).medium }
+    ensures lines { WritesBack (L.state dev.old).medium (L.state dev.new).medium }
     ensures runs { Runs (2 * area.cap + 1) 0 (log_outcome result) (L.state dev.old).panel (L.state dev.new).panel }
 {
     let count = load_word(dev, area.count_place())?;
@@ -118,7 +118,7 @@ fn read_whole<L: Lines>(alloc: Global, dev: &mut L, area: LogArea) -> Result<Cha
     requires on { IsTrue (L.state dev.old).panel.power }
     ensures tells { Tells (first_wrong area (last_image (L.state dev.old).medium)) result }
     ensures changes { IfOk result (λ changes. changes.items ≡ listed area (last_image (L.state dev.old).medium)) }
-    ensures lines { Wander (L.state dev.old).medium (L.state dev.new).medium }
+    ensures lines { WritesBack (L.state dev.old).medium (L.state dev.new).medium }
     ensures runs { Runs (2 * area.cap + 2) 0 (log_outcome result) (L.state dev.old).panel (L.state dev.new).panel }
 {
     match load_word(dev, area.gate_place())? {
@@ -134,7 +134,7 @@ pub fn read_log<L: Lines>(alloc: Global, dev: &mut L, area: LogArea) -> Result<C
     requires on { IsTrue (L.state dev.old).panel.power }
     ensures finds { Finds area (L.state dev.old).medium result }
     ensures changes { IfOk result (λ changes. changes.items ≡ listed area (last_image (L.state dev.old).medium)) }
-    ensures lines { Wander (L.state dev.old).medium (L.state dev.new).medium }
+    ensures lines { WritesBack (L.state dev.old).medium (L.state dev.new).medium }
     ensures runs { Runs (2 * area.cap + 2) 0 (log_outcome result) (L.state dev.old).panel (L.state dev.new).panel }
 {
     match bad_line(dev, area) {

@@ -2,12 +2,12 @@
 use Rattle.std.proofs.Common.{◌≡◌, ◌/◌, ◌<◌, ap, ap₂, arith}
 use Rattle.word_tables.specs.declared.geometry.Geometry.{Geometry}
 use Rattle.word_tables.specs.Bounds.{IsValid}
-use Rattle.word_tables.specs.Layout.{Area, block_log, volume_log, file_log, rank, first_line, size, meta_lines, HasLine, IsLog}
+use Rattle.word_tables.specs.Layout.{Area, block_log, volume_log, file_log, rank, first_line, size, meta_lines, HasLine, IsLogArea}
 use Rattle.word_tables.proofs.LayoutLemmas.{one_area}
 use Rattle.word_tables.specs.Words.{Word, of_block, of_volume_page, of_inode, of_file_page, HasWord, area_of, place, HasPlaces}
 
 -- the area of a table's word is no log
-no_table_in_log : (w : Word) (log : Area) → IsLog log → rank (area_of w) ≡ rank log → ⊥
+no_table_in_log : (w : Word) (log : Area) → IsLogArea log → rank (area_of w) ≡ rank log → ⊥
 no_table_in_log (of_block b) block_log l same = omega arith
 no_table_in_log (of_block b) volume_log l same = omega arith
 no_table_in_log (of_block b) file_log l same = omega arith
@@ -45,7 +45,7 @@ module _ (geo : Geometry) (valid : IsValid geo) where
   word_in_metadata (of_inode i w) h = (omega arith, omega arith)
   word_in_metadata (of_file_page i p) h = (omega arith, omega arith)
 
-  word_in_no_log : (w : Word) (log : Area) → HasWord geo w → IsLog log → ¬ HasLine geo log (place geo w / 8)
+  word_in_no_log : (w : Word) (log : Area) → HasWord geo w → IsLogArea log → ¬ HasLine geo log (place geo w / 8)
   word_in_no_log w log h is_log in_log = no_table_in_log w log is_log (one_area geo (area_of w) log (place geo w / 8) (word_in_area w h) in_log)
 
   pub places_apart : HasPlaces geo

@@ -97,11 +97,11 @@ abbrev pub file_line : Geometry → ℕ → ℕ
 file_line geo unit = first_line geo file_pages + 64 * unit
 
 -- the areas of logs
-abbrev pub IsLog : Area → Type 0
-IsLog block_log = Unit {0}
-IsLog volume_log = Unit {0}
-IsLog file_log = Unit {0}
-IsLog _ = ⊥
+abbrev pub IsLogArea : Area → Type 0
+IsLogArea block_log = Unit {0}
+IsLogArea volume_log = Unit {0}
+IsLogArea file_log = Unit {0}
+IsLogArea _ = ⊥
 
 -- areas follow each other and end with the medium; those of data begin at whole pages
 pub record IsLaidOut (geo : Geometry) : Type 0 where

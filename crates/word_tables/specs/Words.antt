@@ -1,7 +1,7 @@
 -- The words of the tables, and where each lies: place 8 * n + k is word k of line n.
 use Rattle.std.specs.Prelude.{◌≡◌, ℕ, ◌+◌, ◌*◌, ◌/◌, ◌<◌}
 use Rattle.word_tables.specs.declared.geometry.Geometry.{Geometry}
-use Rattle.word_tables.specs.Layout.{Area, block_map, presence, inodes, page_tables, first_line, meta_lines, HasLine, IsLog}
+use Rattle.word_tables.specs.Layout.{Area, block_map, presence, inodes, page_tables, first_line, meta_lines, HasLine, IsLogArea}
 
 -- the words of the tables, by what they are about
 pub data Word : Type 0 where
@@ -40,4 +40,4 @@ pub record HasPlaces (geo : Geometry) : Type 0 where
   pub distinct : (v w : Word) → HasWord geo v → HasWord geo w → place geo v ≡ place geo w → v ≡ w
   pub in_area : (w : Word) → HasWord geo w → HasLine geo (area_of w) (place geo w / 8)
   pub in_metadata : (w : Word) → HasWord geo w → (0 < place geo w / 8) × (place geo w / 8 < meta_lines geo)
-  pub in_no_log : (w : Word) (log : Area) → HasWord geo w → IsLog log → ¬ HasLine geo log (place geo w / 8)
+  pub in_no_log : (w : Word) (log : Area) → HasWord geo w → IsLogArea log → ¬ HasLine geo log (place geo w / 8)

@@ -1,6 +1,6 @@
 // Blocks that are written together.
 ghost use Rattle.std.specs.Prelude.{IsTrue};
-ghost use Rattle.block_device.specs.Object.{Serves};
+ghost use Rattle.block_device.specs.Object.{BlocksServe};
 
 use super::cuts::start_fused;
 use super::{LARGE, LARGE_LINES, SMALL, SMALL_LINES, byte_of, fresh, start, write};
@@ -16,8 +16,8 @@ fn write_at_once<L: Lines>(
     block: u64,
     bytes: &[u8],
 ) -> Result<(), BlockFault>
-    requires { IsTrue blocks.old.settled → Serves blocks.old (L.state dev.old).medium }
-    ensures { IsTrue blocks.new.settled → Serves blocks.new (L.state dev.new).medium }
+    requires { IsTrue blocks.old.settled → BlocksServe blocks.old (L.state dev.old).medium }
+    ensures { IsTrue blocks.new.settled → BlocksServe blocks.new (L.state dev.new).medium }
 {
     if !blocks.settled() || !dev.power() {
         return Err(BlockFault::Device);
@@ -32,8 +32,8 @@ fn write_pair<L: Lines>(
     places: [u64; 2],
     told: [u8; 2],
 ) -> Result<(), BlockFault>
-    requires { IsTrue blocks.old.settled → Serves blocks.old (L.state dev.old).medium }
-    ensures { IsTrue blocks.new.settled → Serves blocks.new (L.state dev.new).medium }
+    requires { IsTrue blocks.old.settled → BlocksServe blocks.old (L.state dev.old).medium }
+    ensures { IsTrue blocks.new.settled → BlocksServe blocks.new (L.state dev.new).medium }
 {
     if !blocks.settled() || !dev.power() {
         return Err(BlockFault::Device);
@@ -93,7 +93,7 @@ fn write_behind<D: LineDevice>(
     dev: D,
     calls: u64,
 ) -> (Result<(), BlockFault>, Fuse<D>)
-    requires { IsTrue blocks.old.settled → Serves blocks.old (D.state dev).medium }
+    requires { IsTrue blocks.old.settled → BlocksServe blocks.old (D.state dev).medium }
 {
     let mut fuse = Fuse::new(dev, calls);
     let answer = write_pair(blocks, &mut fuse, [6, 1], [4, 5]);

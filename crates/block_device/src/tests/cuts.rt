@@ -2,7 +2,7 @@
 ghost use Rattle.std.specs.Prelude.{IfOk, IsTrue};
 ghost use Rattle.line_device.specs.Plain.{device_of};
 ghost use Rattle.test_devices.specs.Fuse.{fused};
-ghost use Rattle.block_device.specs.Object.{Serves};
+ghost use Rattle.block_device.specs.Object.{BlocksServe};
 
 use super::{SMALL, SMALL_LINES, byte_of, fresh, open, start, write};
 use crate::{BlockFault, Blocks, MountFault};
@@ -17,7 +17,7 @@ fn write_behind<D: LineDevice>(
     dev: D,
     calls: u64,
 ) -> (Result<(), BlockFault>, Fuse<D>)
-    requires { IsTrue blocks.old.settled → Serves blocks.old (D.state dev).medium }
+    requires { IsTrue blocks.old.settled → BlocksServe blocks.old (D.state dev).medium }
 {
     let mut fuse = Fuse::new(dev, calls);
     let answer = write(blocks, &mut fuse, 6, &[4; 1024]);
@@ -30,7 +30,7 @@ pub(super) fn start_fused(
     dev: &mut Fuse<Plain>,
     choice: Choice,
 ) -> Result<Blocks, MountFault>
-    ensures { IfOk result (λ blocks. IsTrue blocks.settled → Serves blocks (fused device_of dev.new).medium) }
+    ensures { IfOk result (λ blocks. IsTrue blocks.settled → BlocksServe blocks (fused device_of dev.new).medium) }
 {
     open(alloc, dev, choice, SMALL)
 }

@@ -1,10 +1,10 @@
 ghost use Rattle.std.specs.Prelude.{◌≡◌, ◌<◌, ◌≤◌, ℕ, false, IsTrue, IsOk, IfOk, OnOk, OnErr, MatchResult, Some, None};
-ghost use Rattle.line_device.specs.Medium.{Wander, Shows, installed, zeros};
+ghost use Rattle.line_device.specs.Medium.{WritesBack, Shows, installed, zeros};
 ghost use Rattle.line_device.specs.Panel.{Start, SetsUp, outcome, after_arm_cut, after_arm_fail, after_evict, after_disarm, after_power_off};
 ghost use Rattle.line_device.specs.Device.{Restarted, Waited, setup_outcome};
 ghost use Rattle.line_device.specs.Cells.{kept};
 ghost use Rattle.line_device.specs.Switches.{cut_left, fail_left, after_restart, powered};
-ghost use Rattle.line_device.specs.Plain.{device_of, lines_of, switches_of};
+ghost use Rattle.line_device.specs.Plain.{device_of, plain_medium, switches_of};
 ghost use Rattle.line_device.specs.declared.fault.ResetFault.TheVariants as setup;
 ghost use Rattle.line_device.specs.declared.fault.DeviceFault.TheVariants.{Poisoned};
 
@@ -18,10 +18,10 @@ impl LineDevice for Plain {
         requires some { 1 ≤ lines }
         requires few { lines ≤ 118016 }
         requires words { unit ≡ 8 }
-        ensures lines { OnOk result (Wander (zeros lines) (lines_of self.new)) }
+        ensures lines { OnOk result (WritesBack (zeros lines) (plain_medium self.new)) }
         ensures on { OnOk result (IsTrue (device_of self.new).panel.power) }
         ensures sets_up { SetsUp (setup_outcome result) (device_of self.old).panel (device_of self.new).panel }
-        ensures exactly { MatchResult result (λ _. lines_of self.new ≡ zeros lines) (λ _. lines_of self.new ≡ lines_of self.old) }
+        ensures exactly { MatchResult result (λ _. plain_medium self.new ≡ zeros lines) (λ _. plain_medium self.new ≡ plain_medium self.old) }
         ensures never_failed { result ≡ Err setup.Failed → ⊥ }
         ensures switches { MatchResult result
             (λ _. switches_of self.new ≡ powered (switches_of self.old))
@@ -37,10 +37,10 @@ impl LineDevice for Plain {
     }
 
     fn install(&mut self, line: LineNo, told: &LineState) -> Result<(), ResetFault>
-        requires { line.0 < (lines_of self.old).count }
-        ensures lines { OnOk result (Wander (installed (lines_of self.old) line.0 told.now) (lines_of self.new)) }
+        requires { line.0 < (plain_medium self.old).count }
+        ensures lines { OnOk result (WritesBack (installed (plain_medium self.old) line.0 told.now) (plain_medium self.new)) }
         ensures sets_up { SetsUp (setup_outcome result) (device_of self.old).panel (device_of self.new).panel }
-        ensures exactly { lines_of self.new ≡ installed (lines_of self.old) line.0 told.now }
+        ensures exactly { plain_medium self.new ≡ installed (plain_medium self.old) line.0 told.now }
         ensures never_fails { IsOk result }
         ensures switches { switches_of self.new ≡ switches_of self.old }
     {
@@ -49,22 +49,22 @@ impl LineDevice for Plain {
     }
 
     fn extract(&mut self, line: LineNo) -> Result<LineState, DeviceFault>
-        requires { line.0 < (lines_of self.old).count }
-        ensures told { IfOk result (λ told. Shows (lines_of self.old) line.0 told) }
+        requires { line.0 < (plain_medium self.old).count }
+        ensures told { IfOk result (λ told. Shows (plain_medium self.old) line.0 told) }
         ensures never_poisoned { (n : _) → result ≡ Err (Poisoned n) → ⊥ }
-        ensures lines { Wander (lines_of self.old) (lines_of self.new) }
+        ensures lines { WritesBack (plain_medium self.old) (plain_medium self.new) }
         ensures sets_up { SetsUp (outcome result) (device_of self.old).panel (device_of self.new).panel }
         ensures never_fails { IsOk result }
-        ensures exactly { lines_of self.new ≡ lines_of self.old }
+        ensures exactly { plain_medium self.new ≡ plain_medium self.old }
         ensures switches { switches_of self.new ≡ switches_of self.old }
     {
         Ok(self.cells.shown(line))
     }
 
     fn evict(&mut self, lines: u64)
-        ensures lines { Wander (lines_of self.old) (lines_of self.new) }
+        ensures lines { WritesBack (plain_medium self.old) (plain_medium self.new) }
         ensures panel { (device_of self.new).panel ≡ after_evict (device_of self.old).panel lines }
-        ensures exactly { lines_of self.new ≡ lines_of self.old }
+        ensures exactly { plain_medium self.new ≡ plain_medium self.old }
         ensures cut { cut_left (switches_of self.new) ≡ cut_left (switches_of self.old) }
         ensures fail { fail_left (switches_of self.new) ≡ fail_left (switches_of self.old) }
     {
@@ -73,9 +73,9 @@ impl LineDevice for Plain {
 
     fn power_off(&mut self)
         requires { IsTrue (device_of self.old).panel.power }
-        ensures lines { Wander (lines_of self.old) (lines_of self.new) }
+        ensures lines { WritesBack (plain_medium self.old) (plain_medium self.new) }
         ensures panel { (device_of self.new).panel ≡ after_power_off (device_of self.old).panel }
-        ensures exactly { lines_of self.new ≡ lines_of self.old }
+        ensures exactly { plain_medium self.new ≡ plain_medium self.old }
     {
         self.switches.power_off();
     }
@@ -85,7 +85,7 @@ impl LineDevice for Plain {
         ensures restarted { MatchResult result
             (λ _. (start : Start) × Restarted choice (device_of self.old) (device_of self.new) start)
             (λ _. Waited (device_of self.old) (device_of self.new)) }
-        ensures exactly { lines_of self.new ≡ kept choice (lines_of self.old) }
+        ensures exactly { plain_medium self.new ≡ kept choice (plain_medium self.old) }
         ensures never_refuses { IsOk result }
         ensures switches { switches_of self.new ≡ after_restart (switches_of self.old) }
     {
@@ -96,9 +96,9 @@ impl LineDevice for Plain {
 
     fn arm_cut(&mut self, calls: u64)
         requires { 1 ≤ calls }
-        ensures lines { Wander (lines_of self.old) (lines_of self.new) }
+        ensures lines { WritesBack (plain_medium self.old) (plain_medium self.new) }
         ensures panel { (device_of self.new).panel ≡ after_arm_cut (device_of self.old).panel calls }
-        ensures exactly { lines_of self.new ≡ lines_of self.old }
+        ensures exactly { plain_medium self.new ≡ plain_medium self.old }
         ensures cut { cut_left (switches_of self.new) ≡ Some calls }
         ensures fail { fail_left (switches_of self.new) ≡ fail_left (switches_of self.old) }
     {
@@ -107,9 +107,9 @@ impl LineDevice for Plain {
 
     fn arm_fail(&mut self, calls: u64)
         requires { 1 ≤ calls }
-        ensures lines { Wander (lines_of self.old) (lines_of self.new) }
+        ensures lines { WritesBack (plain_medium self.old) (plain_medium self.new) }
         ensures panel { (device_of self.new).panel ≡ after_arm_fail (device_of self.old).panel calls }
-        ensures exactly { lines_of self.new ≡ lines_of self.old }
+        ensures exactly { plain_medium self.new ≡ plain_medium self.old }
         ensures cut { cut_left (switches_of self.new) ≡ cut_left (switches_of self.old) }
         ensures fail { fail_left (switches_of self.new) ≡ Some calls }
     {
@@ -117,9 +117,9 @@ impl LineDevice for Plain {
     }
 
     fn disarm(&mut self)
-        ensures lines { Wander (lines_of self.old) (lines_of self.new) }
+        ensures lines { WritesBack (plain_medium self.old) (plain_medium self.new) }
         ensures panel { (device_of self.new).panel ≡ after_disarm (device_of self.old).panel }
-        ensures exactly { lines_of self.new ≡ lines_of self.old }
+        ensures exactly { plain_medium self.new ≡ plain_medium self.old }
     {
         self.switches.disarm();
     }

@@ -1,12 +1,12 @@
 ghost use Rattle.std.specs.Prelude.{false, ◌≡◌, ◌+◌, ◌<◌, ◌≤◌, length, IsTrue, IfOk, MatchResult, IsOk, OnOk};
 ghost use Rattle.std.specs.Borrow.{sem};
 ghost use Rattle.std.specs.Io.BufRead.{Rests};
-ghost use Rattle.line_device.specs.Medium.{Wander, IsLine, Weakens, stored, persisted, cleared, poisoned};
+ghost use Rattle.line_device.specs.Medium.{WritesBack, IsLine, Weakens, stored, persisted, cleared, poisoned};
 ghost use Rattle.line_device.specs.Panel.{Runs, outcome};
 ghost use Rattle.line_device.specs.Device.{Poisons};
 ghost use Rattle.line_device.specs.Cells.{ends_of, weakened};
 ghost use Rattle.line_device.specs.Switches.{end_of, after_call, after_persist};
-ghost use Rattle.line_device.specs.Plain.{device_of, lines_of, switches_of, OnlyCounts};
+ghost use Rattle.line_device.specs.Plain.{device_of, plain_medium, switches_of, OnlyCounts};
 ghost use Rattle.line_device.specs.contracts.plain.Plain.{the_row};
 
 use super::Plain;
@@ -42,13 +42,13 @@ impl Lines for Plain {
     }
 
     fn load(&mut self, line: LineNo) -> Result<&[u8], DeviceFault>
-        requires within { line.0 < (lines_of self.old).count }
+        requires within { line.0 < (plain_medium self.old).count }
         requires on { IsTrue (device_of self.old).panel.power }
-        ensures bytes { IfOk result (λ bytes. IsLine (lines_of self.old) line.0 bytes.now) }
-        ensures poison { Poisons line.0 ((lines_of self.old).is_bad line.0) result }
+        ensures bytes { IfOk result (λ bytes. IsLine (plain_medium self.old) line.0 bytes.now) }
+        ensures poison { Poisons line.0 ((plain_medium self.old).is_bad line.0) result }
         ensures fires { outcome result ≡ end_of (switches_of self.old) }
         ensures* after { sem 𝓛 (Rests the_row self.entry (λ new.
-            Wander (lines_of self.old) (lines_of new)
+            WritesBack (plain_medium self.old) (plain_medium new)
             × Runs 1 0 (outcome result) (device_of self.old).panel (device_of new).panel
             × OnlyCounts self.old new)) }
     {
@@ -57,18 +57,18 @@ impl Lines for Plain {
     }
 
     fn store(&mut self, line: LineNo, at: u64, bytes: &[u8]) -> Result<(), DeviceFault>
-        requires within { line.0 < (lines_of self.old).count }
+        requires within { line.0 < (plain_medium self.old).count }
         requires on { IsTrue (device_of self.old).panel.power }
         requires some { 0 < length bytes.now }
         requires fits { at + length bytes.now ≤ 64 }
         ensures lines { MatchResult result
-            (λ _. Wander (stored (lines_of self.old) line.0 at bytes.now) (lines_of self.new))
-            (λ _. Wander (lines_of self.old) (lines_of self.new)) }
-        ensures poison { Poisons line.0 ((lines_of self.old).is_bad line.0) result }
+            (λ _. WritesBack (stored (plain_medium self.old) line.0 at bytes.now) (plain_medium self.new))
+            (λ _. WritesBack (plain_medium self.old) (plain_medium self.new)) }
+        ensures poison { Poisons line.0 ((plain_medium self.old).is_bad line.0) result }
         ensures runs { Runs 1 0 (outcome result) (device_of self.old).panel (device_of self.new).panel }
         ensures exactly { MatchResult result
-            (λ _. lines_of self.new ≡ ends_of (stored (lines_of self.old) line.0 at bytes.now))
-            (λ _. lines_of self.new ≡ lines_of self.old) }
+            (λ _. plain_medium self.new ≡ ends_of (stored (plain_medium self.old) line.0 at bytes.now))
+            (λ _. plain_medium self.new ≡ plain_medium self.old) }
         ensures fires { outcome result ≡ end_of (switches_of self.old) }
         ensures switches { switches_of self.new ≡ after_call (switches_of self.old) }
     {
@@ -78,16 +78,16 @@ impl Lines for Plain {
     }
 
     fn persist(&mut self, line: LineNo) -> Result<(), DeviceFault>
-        requires within { line.0 < (lines_of self.old).count }
+        requires within { line.0 < (plain_medium self.old).count }
         requires on { IsTrue (device_of self.old).panel.power }
         ensures lines { MatchResult result
-            (λ _. Wander (persisted (lines_of self.old) line.0) (lines_of self.new))
-            (λ _. Wander (lines_of self.old) (lines_of self.new)) }
-        ensures poison { Poisons line.0 ((lines_of self.old).is_bad line.0) result }
+            (λ _. WritesBack (persisted (plain_medium self.old) line.0) (plain_medium self.new))
+            (λ _. WritesBack (plain_medium self.old) (plain_medium self.new)) }
+        ensures poison { Poisons line.0 ((plain_medium self.old).is_bad line.0) result }
         ensures runs { Runs 1 1 (outcome result) (device_of self.old).panel (device_of self.new).panel }
         ensures exactly { MatchResult result
-            (λ _. lines_of self.new ≡ persisted (lines_of self.old) line.0)
-            (λ _. lines_of self.new ≡ lines_of self.old) }
+            (λ _. plain_medium self.new ≡ persisted (plain_medium self.old) line.0)
+            (λ _. plain_medium self.new ≡ plain_medium self.old) }
         ensures fires { outcome result ≡ end_of (switches_of self.old) }
         ensures switches { switches_of self.new ≡ after_call (after_persist (switches_of self.old)) }
     {
@@ -98,16 +98,16 @@ impl Lines for Plain {
     }
 
     fn clear(&mut self, line: LineNo) -> Result<(), DeviceFault>
-        requires within { line.0 < (lines_of self.old).count }
+        requires within { line.0 < (plain_medium self.old).count }
         requires on { IsTrue (device_of self.old).panel.power }
         ensures lines { MatchResult result
-            (λ _. Wander (cleared (lines_of self.old) line.0) (lines_of self.new))
-            (λ _. Wander (lines_of self.old) (lines_of self.new)) }
+            (λ _. WritesBack (cleared (plain_medium self.old) line.0) (plain_medium self.new))
+            (λ _. WritesBack (plain_medium self.old) (plain_medium self.new)) }
         ensures poison { Poisons line.0 false result }
         ensures runs { Runs 1 0 (outcome result) (device_of self.old).panel (device_of self.new).panel }
         ensures exactly { MatchResult result
-            (λ _. lines_of self.new ≡ cleared (lines_of self.old) line.0)
-            (λ _. lines_of self.new ≡ lines_of self.old) }
+            (λ _. plain_medium self.new ≡ cleared (plain_medium self.old) line.0)
+            (λ _. plain_medium self.new ≡ plain_medium self.old) }
         ensures fires { outcome result ≡ end_of (switches_of self.old) }
         ensures switches { switches_of self.new ≡ after_call (switches_of self.old) }
     {
@@ -117,22 +117,22 @@ impl Lines for Plain {
     }
 
     fn poison(&mut self, line: LineNo)
-        requires { line.0 < (lines_of self.old).count }
-        ensures lines { Wander (poisoned (lines_of self.old) line.0) (lines_of self.new) }
+        requires { line.0 < (plain_medium self.old).count }
+        ensures lines { WritesBack (poisoned (plain_medium self.old) line.0) (plain_medium self.new) }
         ensures panel { (device_of self.new).panel ≡ (device_of self.old).panel }
-        ensures exactly { lines_of self.new ≡ poisoned (lines_of self.old) line.0 }
+        ensures exactly { plain_medium self.new ≡ poisoned (plain_medium self.old) line.0 }
         ensures switches { switches_of self.new ≡ switches_of self.old }
     {
         self.cells.poison(line);
     }
 
     fn weaken(&mut self, line: LineNo) -> Result<(), AllocError>
-        requires { line.0 < (lines_of self.old).count }
+        requires { line.0 < (plain_medium self.old).count }
         ensures lines { MatchResult result
-            (λ _. Weakens line.0 (lines_of self.old) (lines_of self.new))
-            (λ _. Wander (lines_of self.old) (lines_of self.new)) }
+            (λ _. Weakens line.0 (plain_medium self.old) (plain_medium self.new))
+            (λ _. WritesBack (plain_medium self.old) (plain_medium self.new)) }
         ensures panel { (device_of self.new).panel ≡ (device_of self.old).panel }
-        ensures exactly { OnOk result (lines_of self.new ≡ weakened (lines_of self.old) line.0) }
+        ensures exactly { OnOk result (plain_medium self.new ≡ weakened (plain_medium self.old) line.0) }
         ensures never_refuses { IsOk result }
         ensures switches { switches_of self.new ≡ switches_of self.old }
     {

@@ -2,7 +2,7 @@
 ghost use Rattle.std.specs.Prelude.{IfOk, IsTrue};
 ghost use Rattle.line_device.specs.Plain.{device_of};
 ghost use Rattle.test_devices.specs.Fuse.{fused};
-ghost use Rattle.block_device.specs.Object.{Serves};
+ghost use Rattle.block_device.specs.Object.{BlocksServe};
 
 use super::{LINES, byte_of, fresh, open, write};
 use crate::{MountFault, Mounted};
@@ -25,7 +25,7 @@ const OPEN: [(u64, u64); 7] = [
 
 // Takes a plain device behind a fuse through a cut, and mounts it.
 fn start_fused(alloc: Global, dev: &mut Fuse<Plain>, choice: Choice) -> Result<Mounted, MountFault>
-    ensures { IfOk result (λ mounted. IsTrue mounted.blocks.settled → Serves mounted.blocks (fused device_of dev.new).medium) }
+    ensures { IfOk result (λ mounted. IsTrue mounted.blocks.settled → BlocksServe mounted.blocks (fused device_of dev.new).medium) }
 {
     open(alloc, dev, choice)
 }

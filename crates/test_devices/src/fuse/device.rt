@@ -1,5 +1,5 @@
 ghost use Rattle.std.specs.Prelude.{◌≡◌, ◌<◌, ◌≤◌, false, IsTrue, IfOk, OnOk, MatchResult};
-ghost use Rattle.line_device.specs.Medium.{Wander, Shows, installed, zeros};
+ghost use Rattle.line_device.specs.Medium.{WritesBack, Shows, installed, zeros};
 ghost use Rattle.line_device.specs.Panel.{Start, SetsUp, outcome, after_arm_cut, after_arm_fail, after_evict};
 ghost use Rattle.line_device.specs.Device.{Restarted, Waited, setup_outcome};
 ghost use Rattle.line_device.specs.declared.fault.DeviceFault.TheVariants.{Poisoned};
@@ -15,7 +15,7 @@ impl<D: LineDevice> LineDevice for Fuse<D> {
         requires some { 1 ≤ lines }
         requires few { lines ≤ 118016 }
         requires words { unit ≡ 8 }
-        ensures lines { OnOk result (Wander (zeros lines) (fused D.state self.new).medium) }
+        ensures lines { OnOk result (WritesBack (zeros lines) (fused D.state self.new).medium) }
         ensures on { OnOk result (IsTrue (fused D.state self.new).panel.power) }
         ensures sets_up { SetsUp (setup_outcome result) (fused D.state self.old).panel (fused D.state self.new).panel }
         ensures left { passes_left self.new ≡ passes_left self.old }
@@ -25,7 +25,7 @@ impl<D: LineDevice> LineDevice for Fuse<D> {
 
     fn install(&mut self, line: LineNo, told: &LineState) -> Result<(), ResetFault>
         requires { line.0 < (fused D.state self.old).medium.count }
-        ensures lines { OnOk result (Wander (installed (fused D.state self.old).medium line.0 told.now) (fused D.state self.new).medium) }
+        ensures lines { OnOk result (WritesBack (installed (fused D.state self.old).medium line.0 told.now) (fused D.state self.new).medium) }
         ensures sets_up { SetsUp (setup_outcome result) (fused D.state self.old).panel (fused D.state self.new).panel }
         ensures left { passes_left self.new ≡ passes_left self.old }
     {
@@ -36,7 +36,7 @@ impl<D: LineDevice> LineDevice for Fuse<D> {
         requires { line.0 < (fused D.state self.old).medium.count }
         ensures told { IfOk result (λ told. Shows (fused D.state self.old).medium line.0 told) }
         ensures never_poisoned { (n : _) → result ≡ Err (Poisoned n) → ⊥ }
-        ensures lines { Wander (fused D.state self.old).medium (fused D.state self.new).medium }
+        ensures lines { WritesBack (fused D.state self.old).medium (fused D.state self.new).medium }
         ensures sets_up { SetsUp (outcome result) (fused D.state self.old).panel (fused D.state self.new).panel }
         ensures left { passes_left self.new ≡ passes_left self.old }
     {
@@ -44,7 +44,7 @@ impl<D: LineDevice> LineDevice for Fuse<D> {
     }
 
     fn evict(&mut self, lines: u64)
-        ensures lines { Wander (fused D.state self.old).medium (fused D.state self.new).medium }
+        ensures lines { WritesBack (fused D.state self.old).medium (fused D.state self.new).medium }
         ensures panel { (fused D.state self.new).panel ≡ after_evict (fused D.state self.old).panel lines }
         ensures left { passes_left self.new ≡ passes_left self.old }
     {
@@ -69,7 +69,7 @@ impl<D: LineDevice> LineDevice for Fuse<D> {
 
     fn arm_cut(&mut self, calls: u64)
         requires { 1 ≤ calls }
-        ensures lines { Wander (fused D.state self.old).medium (fused D.state self.new).medium }
+        ensures lines { WritesBack (fused D.state self.old).medium (fused D.state self.new).medium }
         ensures panel { (fused D.state self.new).panel ≡ after_arm_cut (fused D.state self.old).panel calls }
         ensures left { passes_left self.new ≡ passes_left self.old }
     {
@@ -78,7 +78,7 @@ impl<D: LineDevice> LineDevice for Fuse<D> {
 
     fn arm_fail(&mut self, calls: u64)
         requires { 1 ≤ calls }
-        ensures lines { Wander (fused D.state self.old).medium (fused D.state self.new).medium }
+        ensures lines { WritesBack (fused D.state self.old).medium (fused D.state self.new).medium }
         ensures panel { (fused D.state self.new).panel ≡ after_arm_fail (fused D.state self.old).panel calls }
         ensures left { passes_left self.new ≡ passes_left self.old }
     {

@@ -1,7 +1,7 @@
 ghost use Rattle.std.specs.Prelude.{◌≡◌, ◌<◌, ◌≤◌, ◌+◌, false, length, IsTrue, IfOk, MatchResult};
 ghost use Rattle.std.specs.Borrow.{sem};
 ghost use Rattle.std.specs.Io.BufRead.{Rests};
-ghost use Rattle.line_device.specs.Medium.{Wander, IsLine, Weakens, stored, persisted, cleared, poisoned};
+ghost use Rattle.line_device.specs.Medium.{WritesBack, IsLine, Weakens, stored, persisted, cleared, poisoned};
 ghost use Rattle.line_device.specs.Panel.{Runs, outcome};
 ghost use Rattle.line_device.specs.Device.{Poisons};
 ghost use Rattle.test_devices.specs.contracts.fuse.Fuse.{the_row};
@@ -48,7 +48,7 @@ impl<D: LineDevice> Lines for Fuse<D> {
         ensures poison { Poisons line.0 ((fused D.state self.old).medium.is_bad line.0) result }
         ensures burns { Burns (passes_left self.old) (D.state (behind self.old)).panel.cut_armed result }
         ensures* after { sem 𝓛 (Rests (the_row D.row) self.entry (λ new.
-            Wander (fused D.state self.old).medium (fused D.state new).medium
+            WritesBack (fused D.state self.old).medium (fused D.state new).medium
             × Runs 1 0 (outcome result) (fused D.state self.old).panel (fused D.state new).panel
             × LoadPasses D.load_leaves self.old new)) }
     {
@@ -64,8 +64,8 @@ impl<D: LineDevice> Lines for Fuse<D> {
         requires some { 0 < length bytes.now }
         requires fits { at + length bytes.now ≤ 64 }
         ensures lines { MatchResult result
-            (λ _. Wander (stored (fused D.state self.old).medium line.0 at bytes.now) (fused D.state self.new).medium)
-            (λ _. Wander (fused D.state self.old).medium (fused D.state self.new).medium) }
+            (λ _. WritesBack (stored (fused D.state self.old).medium line.0 at bytes.now) (fused D.state self.new).medium)
+            (λ _. WritesBack (fused D.state self.old).medium (fused D.state self.new).medium) }
         ensures poison { Poisons line.0 ((fused D.state self.old).medium.is_bad line.0) result }
         ensures runs { Runs 1 0 (outcome result) (fused D.state self.old).panel (fused D.state self.new).panel }
         ensures burns { Burns (passes_left self.old) (D.state (behind self.old)).panel.cut_armed result }
@@ -81,8 +81,8 @@ impl<D: LineDevice> Lines for Fuse<D> {
         requires within { line.0 < (fused D.state self.old).medium.count }
         requires on { IsTrue (fused D.state self.old).panel.power }
         ensures lines { MatchResult result
-            (λ _. Wander (persisted (fused D.state self.old).medium line.0) (fused D.state self.new).medium)
-            (λ _. Wander (fused D.state self.old).medium (fused D.state self.new).medium) }
+            (λ _. WritesBack (persisted (fused D.state self.old).medium line.0) (fused D.state self.new).medium)
+            (λ _. WritesBack (fused D.state self.old).medium (fused D.state self.new).medium) }
         ensures poison { Poisons line.0 ((fused D.state self.old).medium.is_bad line.0) result }
         ensures runs { Runs 1 1 (outcome result) (fused D.state self.old).panel (fused D.state self.new).panel }
         ensures burns { Burns (passes_left self.old) (D.state (behind self.old)).panel.cut_armed result }
@@ -98,8 +98,8 @@ impl<D: LineDevice> Lines for Fuse<D> {
         requires within { line.0 < (fused D.state self.old).medium.count }
         requires on { IsTrue (fused D.state self.old).panel.power }
         ensures lines { MatchResult result
-            (λ _. Wander (cleared (fused D.state self.old).medium line.0) (fused D.state self.new).medium)
-            (λ _. Wander (fused D.state self.old).medium (fused D.state self.new).medium) }
+            (λ _. WritesBack (cleared (fused D.state self.old).medium line.0) (fused D.state self.new).medium)
+            (λ _. WritesBack (fused D.state self.old).medium (fused D.state self.new).medium) }
         ensures poison { Poisons line.0 false result }
         ensures runs { Runs 1 0 (outcome result) (fused D.state self.old).panel (fused D.state self.new).panel }
         ensures burns { Burns (passes_left self.old) (D.state (behind self.old)).panel.cut_armed result }
@@ -113,7 +113,7 @@ impl<D: LineDevice> Lines for Fuse<D> {
 
     fn poison(&mut self, line: LineNo)
         requires { line.0 < (fused D.state self.old).medium.count }
-        ensures lines { Wander (poisoned (fused D.state self.old).medium line.0) (fused D.state self.new).medium }
+        ensures lines { WritesBack (poisoned (fused D.state self.old).medium line.0) (fused D.state self.new).medium }
         ensures panel { (fused D.state self.new).panel ≡ (fused D.state self.old).panel }
         ensures left { passes_left self.new ≡ passes_left self.old }
     {
@@ -124,7 +124,7 @@ impl<D: LineDevice> Lines for Fuse<D> {
         requires { line.0 < (fused D.state self.old).medium.count }
         ensures lines { MatchResult result
             (λ _. Weakens line.0 (fused D.state self.old).medium (fused D.state self.new).medium)
-            (λ _. Wander (fused D.state self.old).medium (fused D.state self.new).medium) }
+            (λ _. WritesBack (fused D.state self.old).medium (fused D.state self.new).medium) }
         ensures panel { (fused D.state self.new).panel ≡ (fused D.state self.old).panel }
         ensures left { passes_left self.new ≡ passes_left self.old }
     {

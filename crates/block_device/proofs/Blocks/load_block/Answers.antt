@@ -1,5 +1,5 @@
 use Rattle.std.proofs.Common.{◌≡◌, ◌*◌, ℕ, Some, length-take, length-drop, slice_get, ap, ◌∙◌, subst, arith}
-use Rattle.line_device.proofs.WanderLemmas.{wander-refl}
+use Rattle.line_device.proofs.WriteBackLemmas.{write_back-refl}
 use Rattle.line_device.proofs.PanelLemmas.{runs-refl, runs_within}
 use Rattle.word_tables.specs.Layout.{block_line}
 use Rattle.line_device.specs.Medium.{last_image}
@@ -36,6 +36,6 @@ returns-in-Absent g c =
     let state = subst (λ (s : BlocksState). slice_get s.map c.args.block ≡ Some c.get.result) c.self.view_is c.get.ensures.state in
     record {
       ok = zeros_put s m c.args.block c.args.at c.get.result c.args.out.now c.zero.new.out c.requires.within state c.in-Absent.is (omega (arith, c.zero.auto.out, length-take {A = ℕ}, length-drop {A = ℕ})) c.zero.ensures;
-      lines = wander-refl _;
+      lines = write_back-refl _;
       runs = runs_within 0 0 8 0 _ _ _ (runs-refl _) (omega arith) (omega arith);
     }

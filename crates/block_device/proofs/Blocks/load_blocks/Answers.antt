@@ -1,23 +1,23 @@
 use Rattle.std.proofs.Common.{◌≡◌, ◌+◌, ◌*◌, ◌++◌, None, List, take, drop, ◌∙◌, subst, sym, arith}
 use Rattle.nvm_model.specs.Storage.{Block}
 use Rattle.nvm_model.specs.Blocks.{nth, obstacle_in, look}
-use Rattle.line_device.proofs.WanderLemmas.{wander-refl, wander-trans}
+use Rattle.line_device.proofs.WriteBackLemmas.{write_back-refl, write_back-trans}
 use Rattle.line_device.proofs.PanelLemmas.{runs-refl, runs_then, runs_within}
 use Rattle.block_device.specs.Object.{blocks_of}
 use Rattle.block_device.proofs.BlockLemmas.{looked_none, looked_more, looked_all}
 use Rattle.block_device.proofs.ObstacleLemmas.{readable}
-use Rattle.block_device.proofs.ServesLemmas.{blocks_of-wander, serves-wander}
+use Rattle.block_device.proofs.ServesLemmas.{blocks_of-write_back, serves-write_back}
 use Rattle.block_device.proofs.Blocks.load_blocks.Goals as goal
 
 pub loop-k-init : goal.loop-k-init
 loop-k-init g c = record {
   bytes = looked_none (blocks_of c.args.self.now (g.L.Lines.state c.args.dev.now).medium) c.args.block c.args.out.now;
-  lines = wander-refl _;
+  lines = write_back-refl _;
   runs = runs-refl _;
 }
 
 pub load_block-requires-clause-serves : goal.load_block-requires-clause-serves
-load_block-requires-clause-serves g c = serves-wander c.args.self.now (g.L.Lines.state c.args.dev.now).medium (g.L.Lines.state c.loop-k.dev).medium c.loop-k.invariant.lines c.requires.serves
+load_block-requires-clause-serves g c = serves-write_back c.args.self.now (g.L.Lines.state c.args.dev.now).medium (g.L.Lines.state c.loop-k.dev).medium c.loop-k.invariant.lines c.requires.serves
 
 pub load_block-requires-clause-on : goal.load_block-requires-clause-on
 load_block-requires-clause-on g c = c.loop-k.invariant.runs.cause.0 ∙ c.requires.on
@@ -27,11 +27,11 @@ load_block-requires-clause-readable g c =
     let s = c.args.self.now in
     let old = (g.L.Lines.state c.args.dev.now).medium in
     let i = c.args.block + c.loop-k.k in
-    subst (λ (bs : List Block). obstacle_in i (nth bs i) ≡ None) (sym (blocks_of-wander s old (g.L.Lines.state c.loop-k.dev).medium c.loop-k.invariant.lines))
+    subst (λ (bs : List Block). obstacle_in i (nth bs i) ≡ None) (sym (blocks_of-write_back s old (g.L.Lines.state c.loop-k.dev).medium c.loop-k.invariant.lines))
     (readable (blocks_of s old) c.args.block _ c.loop-k.k c.requires.readable c.loop-k-test.true)
 
 pub returns-in_err-load_block-clause-lines : goal.returns-in_err-load_block-clause-lines
-returns-in_err-load_block-clause-lines g c = wander-trans _ _ _ c.loop-k.invariant.lines c.in_err-load_block.ensures.lines
+returns-in_err-load_block-clause-lines g c = write_back-trans _ _ _ c.loop-k.invariant.lines c.in_err-load_block.ensures.lines
 
 pub loop-k-preserved : goal.loop-k-preserved
 loop-k-preserved g c =
@@ -44,8 +44,8 @@ loop-k-preserved g c =
       bytes =
           looked_more (blocks_of s old) c.args.block k c.args.out.now before c.load_block.new.out c.loop-k.invariant.bytes
           (subst (λ (bs : List Block). c.load_block.new.out ≡ take (512 * k) before ++ look bs (c.args.block + k) 1 ++ drop (512 * k + 512) before)
-          (blocks_of-wander s old now c.loop-k.invariant.lines) c.in_ok-load_block.ensures.ok);
-      lines = wander-trans _ _ _ c.loop-k.invariant.lines c.in_ok-load_block.ensures.lines;
+          (blocks_of-write_back s old now c.loop-k.invariant.lines) c.in_ok-load_block.ensures.ok);
+      lines = write_back-trans _ _ _ c.loop-k.invariant.lines c.in_ok-load_block.ensures.lines;
       runs = runs_within _ 0 _ 0 _ _ _ (runs_then _ _ 8 0 _ _ _ _ c.loop-k.invariant.runs c.in_ok-load_block.ensures.runs) (omega arith) (omega arith);
     }
 

@@ -1,5 +1,5 @@
 use Rattle.std.proofs.Common.{◌≡◌, ◌*◌, ◌++◌, drop}
-use Rattle.line_device.specs.Medium.{Wander}
+use Rattle.line_device.specs.Medium.{WritesBack}
 use Rattle.line_device.specs.Panel.{Runs}
 use Rattle.line_device.specs.Panel.Outcome.{went}
 use Rattle.nvm_model.specs.Blocks.{look}
@@ -12,6 +12,6 @@ invariant-loop-k g l =
     let new = g.L.Lines.state l.dev in
     record {
       bytes : l.out ≡ look (blocks_of l.self old.medium) l.block l.k ++ drop (512 * l.k) l.initial.out;
-      lines : Wander old.medium new.medium;
+      lines : WritesBack old.medium new.medium;
       runs : Runs (8 * l.k) 0 went old.panel new.panel;
     }

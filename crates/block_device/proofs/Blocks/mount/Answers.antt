@@ -16,17 +16,17 @@ use Rattle.nvm_model.proofs.NumberedLemmas.{length-list_from}
 use Rattle.block_map.specs.States.{word_of}
 use Rattle.std.proofs.lemmas.List.{length-map}
 use Rattle.std.proofs.Common.{◌≡◌, ℕ, length, sym, ap, subst, ◌∙◌}
-use Rattle.line_device.proofs.WanderLemmas.{wander-trans}
-use Rattle.line_words.proofs.FrameLemmas.{outside-trans, outside-wander}
+use Rattle.line_device.proofs.WriteBackLemmas.{write_back-trans}
+use Rattle.line_words.proofs.FrameLemmas.{outside-trans, outside-write_back}
 use Rattle.word_log.specs.declared.area.LogArea.{LogArea}
-use Rattle.line_device.specs.Medium.{Wander, last_image}
-use Rattle.line_words.specs.Words.{WandersOutside}
-use Rattle.line_words.proofs.FrameLemmas.{outside-wander}
+use Rattle.line_device.specs.Medium.{WritesBack, last_image}
+use Rattle.line_words.specs.Words.{WritesBackOutside}
+use Rattle.line_words.proofs.FrameLemmas.{outside-write_back}
 use Rattle.word_log.specs.Area.{IsOf, Fits, IsStrong, gate_place}
 use Rattle.word_log.specs.Rest.{EachImage, IsReached}
 use Rattle.block_device.specs.Area.{block_area}
 use Rattle.block_device.proofs.PlaceLemmas.{area_fits, area_strong}
-use Rattle.block_device.proofs.MountLemmas.{reached-wander, mount_runs}
+use Rattle.block_device.proofs.MountLemmas.{reached-write_back, mount_runs}
 use Rattle.block_device.proofs.Blocks.mount.Goals as goal
 
 pub mount-requires-clause-fits : goal.mount-requires-clause-fits
@@ -48,77 +48,77 @@ pub returns-in_err-words-clause-images : goal.returns-in_err-words-clause-images
 returns-in_err-words-clause-images g c =
     let old = (g.L.Lines.state c.args.dev.now).medium in
     let now = (g.L.Lines.state c.mount.new.dev).medium in
-    reached-wander (block_area c.args.geo) old now _ (subst (λ (a : LogArea). EachImage a now (IsReached a old)) c.block_area.ensures c.in_ok-log.ensures.images) c.in_err-words.ensures.lines
+    reached-write_back (block_area c.args.geo) old now _ (subst (λ (a : LogArea). EachImage a now (IsReached a old)) c.block_area.ensures c.in_ok-log.ensures.images) c.in_err-words.ensures.lines
 
 pub returns-in_err-words-clause-closed : goal.returns-in_err-words-clause-closed
 returns-in_err-words-clause-closed g c = λ zero.
     let old = (g.L.Lines.state c.args.dev.now).medium in
     let now = (g.L.Lines.state c.mount.new.dev).medium in
-    wander-trans old now _ (subst (λ (a : LogArea). last_image old (gate_place a) ≡ 0 → Wander old now) c.block_area.ensures c.in_ok-log.ensures.closed zero) c.in_err-words.ensures.lines
+    write_back-trans old now _ (subst (λ (a : LogArea). last_image old (gate_place a) ≡ 0 → WritesBack old now) c.block_area.ensures c.in_ok-log.ensures.closed zero) c.in_err-words.ensures.lines
 
 pub returns-in_err-words-clause-outside : goal.returns-in_err-words-clause-outside
 returns-in_err-words-clause-outside g c =
     let old = (g.L.Lines.state c.args.dev.now).medium in
     let now = (g.L.Lines.state c.mount.new.dev).medium in
-    outside-trans (IsOf (block_area c.args.geo)) old now _ (subst (λ (a : LogArea). WandersOutside (IsOf a) old now) c.block_area.ensures c.in_ok-log.ensures.outside)
-    (outside-wander (IsOf (block_area c.args.geo)) now _ c.in_err-words.ensures.lines)
+    outside-trans (IsOf (block_area c.args.geo)) old now _ (subst (λ (a : LogArea). WritesBackOutside (IsOf a) old now) c.block_area.ensures c.in_ok-log.ensures.outside)
+    (outside-write_back (IsOf (block_area c.args.geo)) now _ c.in_err-words.ensures.lines)
 
 pub returns-in_err-map-clause-images : goal.returns-in_err-map-clause-images
 returns-in_err-map-clause-images g c =
     let old = (g.L.Lines.state c.args.dev.now).medium in
     let now = (g.L.Lines.state c.mount.new.dev).medium in
-    reached-wander (block_area c.args.geo) old now _ (subst (λ (a : LogArea). EachImage a now (IsReached a old)) c.block_area.ensures c.in_ok-log.ensures.images) c.in_ok-words.ensures.lines
+    reached-write_back (block_area c.args.geo) old now _ (subst (λ (a : LogArea). EachImage a now (IsReached a old)) c.block_area.ensures c.in_ok-log.ensures.images) c.in_ok-words.ensures.lines
 
 pub returns-in_err-map-clause-closed : goal.returns-in_err-map-clause-closed
 returns-in_err-map-clause-closed g c = λ zero.
     let old = (g.L.Lines.state c.args.dev.now).medium in
     let now = (g.L.Lines.state c.mount.new.dev).medium in
-    wander-trans old now _ (subst (λ (a : LogArea). last_image old (gate_place a) ≡ 0 → Wander old now) c.block_area.ensures c.in_ok-log.ensures.closed zero) c.in_ok-words.ensures.lines
+    write_back-trans old now _ (subst (λ (a : LogArea). last_image old (gate_place a) ≡ 0 → WritesBack old now) c.block_area.ensures c.in_ok-log.ensures.closed zero) c.in_ok-words.ensures.lines
 
 pub returns-in_err-map-clause-outside : goal.returns-in_err-map-clause-outside
 returns-in_err-map-clause-outside g c =
     let old = (g.L.Lines.state c.args.dev.now).medium in
     let now = (g.L.Lines.state c.mount.new.dev).medium in
-    outside-trans (IsOf (block_area c.args.geo)) old now _ (subst (λ (a : LogArea). WandersOutside (IsOf a) old now) c.block_area.ensures c.in_ok-log.ensures.outside)
-    (outside-wander (IsOf (block_area c.args.geo)) now _ c.in_ok-words.ensures.lines)
+    outside-trans (IsOf (block_area c.args.geo)) old now _ (subst (λ (a : LogArea). WritesBackOutside (IsOf a) old now) c.block_area.ensures c.in_ok-log.ensures.outside)
+    (outside-write_back (IsOf (block_area c.args.geo)) now _ c.in_ok-words.ensures.lines)
 
 pub returns-in_err-pool-clause-images : goal.returns-in_err-pool-clause-images
 returns-in_err-pool-clause-images g c =
     let old = (g.L.Lines.state c.args.dev.now).medium in
     let now = (g.L.Lines.state c.mount.new.dev).medium in
-    reached-wander (block_area c.args.geo) old now _ (subst (λ (a : LogArea). EachImage a now (IsReached a old)) c.block_area.ensures c.in_ok-log.ensures.images) c.in_ok-words.ensures.lines
+    reached-write_back (block_area c.args.geo) old now _ (subst (λ (a : LogArea). EachImage a now (IsReached a old)) c.block_area.ensures c.in_ok-log.ensures.images) c.in_ok-words.ensures.lines
 
 pub returns-in_err-pool-clause-closed : goal.returns-in_err-pool-clause-closed
 returns-in_err-pool-clause-closed g c = λ zero.
     let old = (g.L.Lines.state c.args.dev.now).medium in
     let now = (g.L.Lines.state c.mount.new.dev).medium in
-    wander-trans old now _ (subst (λ (a : LogArea). last_image old (gate_place a) ≡ 0 → Wander old now) c.block_area.ensures c.in_ok-log.ensures.closed zero) c.in_ok-words.ensures.lines
+    write_back-trans old now _ (subst (λ (a : LogArea). last_image old (gate_place a) ≡ 0 → WritesBack old now) c.block_area.ensures c.in_ok-log.ensures.closed zero) c.in_ok-words.ensures.lines
 
 pub returns-in_err-pool-clause-outside : goal.returns-in_err-pool-clause-outside
 returns-in_err-pool-clause-outside g c =
     let old = (g.L.Lines.state c.args.dev.now).medium in
     let now = (g.L.Lines.state c.mount.new.dev).medium in
-    outside-trans (IsOf (block_area c.args.geo)) old now _ (subst (λ (a : LogArea). WandersOutside (IsOf a) old now) c.block_area.ensures c.in_ok-log.ensures.outside)
-    (outside-wander (IsOf (block_area c.args.geo)) now _ c.in_ok-words.ensures.lines)
+    outside-trans (IsOf (block_area c.args.geo)) old now _ (subst (λ (a : LogArea). WritesBackOutside (IsOf a) old now) c.block_area.ensures c.in_ok-log.ensures.outside)
+    (outside-write_back (IsOf (block_area c.args.geo)) now _ c.in_ok-words.ensures.lines)
 
 pub returns-clause-images : goal.returns-clause-images
 returns-clause-images g c =
     let old = (g.L.Lines.state c.args.dev.now).medium in
     let now = (g.L.Lines.state c.mount.new.dev).medium in
-    reached-wander (block_area c.args.geo) old now _ (subst (λ (a : LogArea). EachImage a now (IsReached a old)) c.block_area.ensures c.in_ok-log.ensures.images) c.in_ok-words.ensures.lines
+    reached-write_back (block_area c.args.geo) old now _ (subst (λ (a : LogArea). EachImage a now (IsReached a old)) c.block_area.ensures c.in_ok-log.ensures.images) c.in_ok-words.ensures.lines
 
 pub returns-clause-closed : goal.returns-clause-closed
 returns-clause-closed g c = λ zero.
     let old = (g.L.Lines.state c.args.dev.now).medium in
     let now = (g.L.Lines.state c.mount.new.dev).medium in
-    wander-trans old now _ (subst (λ (a : LogArea). last_image old (gate_place a) ≡ 0 → Wander old now) c.block_area.ensures c.in_ok-log.ensures.closed zero) c.in_ok-words.ensures.lines
+    write_back-trans old now _ (subst (λ (a : LogArea). last_image old (gate_place a) ≡ 0 → WritesBack old now) c.block_area.ensures c.in_ok-log.ensures.closed zero) c.in_ok-words.ensures.lines
 
 pub returns-clause-outside : goal.returns-clause-outside
 returns-clause-outside g c =
     let old = (g.L.Lines.state c.args.dev.now).medium in
     let now = (g.L.Lines.state c.mount.new.dev).medium in
-    outside-trans (IsOf (block_area c.args.geo)) old now _ (subst (λ (a : LogArea). WandersOutside (IsOf a) old now) c.block_area.ensures c.in_ok-log.ensures.outside)
-    (outside-wander (IsOf (block_area c.args.geo)) now _ c.in_ok-words.ensures.lines)
+    outside-trans (IsOf (block_area c.args.geo)) old now _ (subst (λ (a : LogArea). WritesBackOutside (IsOf a) old now) c.block_area.ensures c.in_ok-log.ensures.outside)
+    (outside-write_back (IsOf (block_area c.args.geo)) now _ c.in_ok-words.ensures.lines)
 
 pub returns-clause-runs : goal.returns-clause-runs
 returns-clause-runs g c = mount_runs c.args.geo c.block_area.result _ _ _ _ c.block_area.ensures c.in_ok-log.ensures.runs c.in_ok-words.ensures.runs
@@ -138,7 +138,7 @@ pub returns-in_err-log-clause-reads : goal.returns-in_err-log-clause-reads
 returns-in_err-log-clause-reads g c =
     let old = (g.L.Lines.state c.args.dev.now).medium in
     let now = (g.L.Lines.state c.mount.new.dev).medium in
-    keeps_reads-reached c.args.geo old now c.requires.valid (subst (λ (a : LogArea). WandersOutside (IsOf a) old now) c.block_area.ensures c.in_err-log.ensures.outside) (returns-in_err-log-clause-images g c)
+    keeps_reads-reached c.args.geo old now c.requires.valid (subst (λ (a : LogArea). WritesBackOutside (IsOf a) old now) c.block_area.ensures c.in_err-log.ensures.outside) (returns-in_err-log-clause-images g c)
 
 pub returns-in_err-words-clause-reads : goal.returns-in_err-words-clause-reads
 returns-in_err-words-clause-reads g c =
@@ -165,7 +165,7 @@ returns-clause-finds g c =
     let words = c.as_slice.result.now in
     let whole = subst (λ (a : LogArea). IsWhole a old) c.block_area.ensures c.in_ok-log.ensures.finds.0 in
     let none = subst (λ (a : LogArea). first_wrong a (last_image old) ≡ None) c.block_area.ensures c.in_ok-log.ensures.finds.1 in
-    let outside = subst (λ (a : LogArea). WandersOutside (IsOf a) old now) c.block_area.ensures c.in_ok-log.ensures.outside in
+    let outside = subst (λ (a : LogArea). WritesBackOutside (IsOf a) old now) c.block_area.ensures c.in_ok-log.ensures.outside in
     let rest = subst (λ (a : LogArea). IsAtRest a now (replayed a (last_image old))) c.block_area.ensures c.in_ok-log.ensures.ok in
     let read = mounted_words geo c.requires.valid old now c.requires.lines whole outside rest words (g.met.L.Lines.sound c.mount.new.dev) (c.as_slice.ensures ∙ c.in_ok-words.ensures.words) in
     let is = states_same c.in_ok-map.map (states_read geo (last_image old)) (c.in_ok-map.ensures.ok ∙ read) in
@@ -181,7 +181,7 @@ returns-clause-ok g c =
     let words = c.as_slice.result.now in
     let whole = subst (λ (a : LogArea). IsWhole a old) c.block_area.ensures c.in_ok-log.ensures.finds.0 in
     let none = subst (λ (a : LogArea). first_wrong a (last_image old) ≡ None) c.block_area.ensures c.in_ok-log.ensures.finds.1 in
-    let outside = subst (λ (a : LogArea). WandersOutside (IsOf a) old now) c.block_area.ensures c.in_ok-log.ensures.outside in
+    let outside = subst (λ (a : LogArea). WritesBackOutside (IsOf a) old now) c.block_area.ensures c.in_ok-log.ensures.outside in
     let rest = subst (λ (a : LogArea). IsAtRest a now (replayed a (last_image old))) c.block_area.ensures c.in_ok-log.ensures.ok in
     let read = mounted_words geo c.requires.valid old now c.requires.lines whole outside rest words (g.met.L.Lines.sound c.mount.new.dev) (c.as_slice.ensures ∙ c.in_ok-words.ensures.words) in
     let is = states_same c.in_ok-map.map (states_read geo (last_image old)) (c.in_ok-map.ensures.ok ∙ read) in
@@ -197,7 +197,7 @@ returns-clause-serves g c =
     let words = c.as_slice.result.now in
     let whole = subst (λ (a : LogArea). IsWhole a old) c.block_area.ensures c.in_ok-log.ensures.finds.0 in
     let none = subst (λ (a : LogArea). first_wrong a (last_image old) ≡ None) c.block_area.ensures c.in_ok-log.ensures.finds.1 in
-    let outside = subst (λ (a : LogArea). WandersOutside (IsOf a) old now) c.block_area.ensures c.in_ok-log.ensures.outside in
+    let outside = subst (λ (a : LogArea). WritesBackOutside (IsOf a) old now) c.block_area.ensures c.in_ok-log.ensures.outside in
     let rest = subst (λ (a : LogArea). IsAtRest a now (replayed a (last_image old))) c.block_area.ensures c.in_ok-log.ensures.ok in
     let read = mounted_words geo c.requires.valid old now c.requires.lines whole outside rest words (g.met.L.Lines.sound c.mount.new.dev) (c.as_slice.ensures ∙ c.in_ok-words.ensures.words) in
     let is = states_same c.in_ok-map.map (states_read geo (last_image old)) (c.in_ok-map.ensures.ok ∙ read) in
@@ -238,7 +238,7 @@ returns-in_err-map-clause-finds g c =
     let words = c.as_slice.result.now in
     let whole = subst (λ (a : LogArea). IsWhole a old) c.block_area.ensures c.in_ok-log.ensures.finds.0 in
     let none = subst (λ (a : LogArea). first_wrong a (last_image old) ≡ None) c.block_area.ensures c.in_ok-log.ensures.finds.1 in
-    let outside = subst (λ (a : LogArea). WandersOutside (IsOf a) old now) c.block_area.ensures c.in_ok-log.ensures.outside in
+    let outside = subst (λ (a : LogArea). WritesBackOutside (IsOf a) old now) c.block_area.ensures c.in_ok-log.ensures.outside in
     let rest = subst (λ (a : LogArea). IsAtRest a now (replayed a (last_image old))) c.block_area.ensures c.in_ok-log.ensures.ok in
     let read = mounted_words geo c.requires.valid old now c.requires.lines whole outside rest words (g.met.L.Lines.sound c.mount.new.dev) (c.as_slice.ensures ∙ c.in_ok-words.ensures.words) in
     finds_table geo old c.from_residual-in_err-map.result c.in_err-map.field-0.0 words (handed c.from_residual-in_err-map.result c.in_err-map.field-0.0 c.from_residual-in_err-map.ensures.1) c.in_err-map.ensures.err whole none read

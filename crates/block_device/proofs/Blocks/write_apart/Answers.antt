@@ -1,7 +1,7 @@
 use Rattle.std.proofs.Common.{false, length, sym, subst, ◌∙◌, ap, arith}
 use Rattle.line_device.proofs.PanelLemmas.{runs_then, runs_within}
 use Rattle.nvm_model.specs.Blocks.{write_ranges}
-use Rattle.block_device.specs.Object.{Serves}
+use Rattle.block_device.specs.Object.{BlocksServe}
 use Rattle.block_device.specs.Prepared.{ArePrepared, blocks_with}
 use Rattle.block_device.proofs.ServesLemmas.{serves_settled}
 use Rattle.block_device.proofs.MadeLemmas.{before_from, before-images, none_prepared, none_with, made_ok, made_images, made_outside}
@@ -10,7 +10,7 @@ use Rattle.block_device.proofs.Blocks.write_apart.Goals as goal
 
 pub prepare_ranges-requires-clause-serves : goal.prepare_ranges-requires-clause-serves
 prepare_ranges-requires-clause-serves g c =
-    serves_settled _ _ false (subst (λ s. Serves s (g.L.Lines.state c.args.dev.now).medium) (sym c.self.view_is) c.requires.serves)
+    serves_settled _ _ false (subst (λ s. BlocksServe s (g.L.Lines.state c.args.dev.now).medium) (sym c.self.view_is) c.requires.serves)
 
 pub prepare_ranges-requires-clause-prepared : goal.prepare_ranges-requires-clause-prepared
 prepare_ranges-requires-clause-prepared g c =

@@ -1,6 +1,6 @@
 use Rattle.std.proofs.Common.{refl, sym, subst, ◌∙◌, arith}
 use Rattle.line_device.proofs.PanelLemmas.{runs-refl, runs_then, runs_within}
-use Rattle.line_words.specs.Words.{WandersBeside}
+use Rattle.line_words.specs.Words.{WritesBackBeside}
 use Rattle.line_words.proofs.BesideLemmas.{beside-refl, beside-trans}
 use Rattle.block_device.specs.Area.{IsBlockLine}
 use Rattle.block_device.specs.Object.{HasGoodMetadata}
@@ -26,7 +26,7 @@ returns-in_err-write_block-clause-images g c =
 pub returns-in_err-write_block-clause-outside : goal.returns-in_err-write_block-clause-outside
 returns-in_err-write_block-clause-outside g c =
     beside-trans (IsBlockLine c.args.self.now.geo) _ _ _ c.loop-k.invariant.outside
-    (subst (λ geo. WandersBeside (IsBlockLine geo) (g.L.Lines.state c.loop-k.dev).medium (g.L.Lines.state c.write_block.new.dev).medium) c.loop-k.invariant.geo c.in_err-write_block.ensures.outside)
+    (subst (λ geo. WritesBackBeside (IsBlockLine geo) (g.L.Lines.state c.loop-k.dev).medium (g.L.Lines.state c.write_block.new.dev).medium) c.loop-k.invariant.geo c.in_err-write_block.ensures.outside)
 
 pub loop-k-preserved : goal.loop-k-preserved
 loop-k-preserved g c =
@@ -38,7 +38,7 @@ loop-k-preserved g c =
       images = λ _. each_mixed c.args.self.now.geo c.loop-k.self.geo _ c.args.block c.loop-k.k c.args.bytes.now _ _ _ before.geo (omega arith) (piece_is c.args.bytes.now c.loop-k.k) before.so_far after.images;
       outside =
           beside-trans (IsBlockLine c.args.self.now.geo) _ _ _ before.outside
-          (subst (λ geo. WandersBeside (IsBlockLine geo) (g.L.Lines.state c.loop-k.dev).medium new) before.geo after.outside);
+          (subst (λ geo. WritesBackBeside (IsBlockLine geo) (g.L.Lines.state c.loop-k.dev).medium new) before.geo after.outside);
       good = subst (λ geo. HasGoodMetadata geo new) before.geo after.good;
       serves = after.serves;
       geo = after.object.0 ∙ before.geo;

@@ -1,5 +1,5 @@
 use Rattle.std.proofs.Common.{◌≡◌}
-use Rattle.line_device.specs.Medium.{Wander, last_image}
+use Rattle.line_device.specs.Medium.{WritesBack, last_image}
 use Rattle.line_device.specs.Panel.{Runs}
 use Rattle.line_device.specs.Panel.Outcome.{went}
 use Rattle.word_tables.specs.Words.{place, of_block}
@@ -12,6 +12,6 @@ invariant-loop-block g l =
     let new = g.L.Lines.state l.dev in
     record {
       words : l.words.items ≡ list_from (λ b. last_image old.medium (place l.geo (of_block b))) 0 l.block;
-      lines : Wander old.medium new.medium;
+      lines : WritesBack old.medium new.medium;
       runs : Runs l.block 0 went old.panel new.panel;
     }

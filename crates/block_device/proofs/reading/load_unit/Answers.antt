@@ -1,26 +1,26 @@
 use Rattle.std.proofs.Common.{◌+◌, ◌*◌, ◌∙◌, arith}
 use Rattle.line_device.specs.Medium.{last_image}
-use Rattle.line_device.proofs.WanderLemmas.{wander-refl, wander-trans, is_healthy-wander}
+use Rattle.line_device.proofs.WriteBackLemmas.{write_back-refl, write_back-trans, is_healthy-write_back}
 use Rattle.line_device.proofs.PanelLemmas.{runs-refl, runs_then}
-use Rattle.line_words.proofs.FrameLemmas.{last_image-wander}
+use Rattle.line_words.proofs.FrameLemmas.{last_image-write_back}
 use Rattle.block_device.proofs.BufferLemmas.{read_none, read_more, read_at, read_all}
 use Rattle.block_device.proofs.reading.load_unit.Goals as goal
 
 pub loop-k-init : goal.loop-k-init
 loop-k-init g c = record {
   bytes = read_none (last_image (g.L.Lines.state c.args.dev.now).medium) (64 * c.args.first) 0 c.args.out.now (omega arith);
-  lines = wander-refl _;
+  lines = write_back-refl _;
   runs = runs-refl _;
 }
 
 pub load_at-requires-clause-healthy : goal.load_at-requires-clause-healthy
-load_at-requires-clause-healthy g c = is_healthy-wander _ _ _ c.loop-k.invariant.lines (c.requires.healthy c.loop-k.k (omega arith))
+load_at-requires-clause-healthy g c = is_healthy-write_back _ _ _ c.loop-k.invariant.lines (c.requires.healthy c.loop-k.k (omega arith))
 
 pub load_at-requires-clause-on : goal.load_at-requires-clause-on
 load_at-requires-clause-on g c = c.loop-k.invariant.runs.cause.0 ∙ c.requires.on
 
 pub returns-in_err-load_at-clause-lines : goal.returns-in_err-load_at-clause-lines
-returns-in_err-load_at-clause-lines g c = wander-trans _ _ _ c.loop-k.invariant.lines c.in_err-load_at.ensures.lines
+returns-in_err-load_at-clause-lines g c = write_back-trans _ _ _ c.loop-k.invariant.lines c.in_err-load_at.ensures.lines
 
 pub loop-k-preserved : goal.loop-k-preserved
 loop-k-preserved g c =
@@ -30,9 +30,9 @@ loop-k-preserved g c =
       bytes =
           read_more (last_image old) (64 * c.args.first) (64 * k) 64 (64 * (k + 1)) c.args.out.now c.loop-k.out c.load_at.new.out c.loop-k.invariant.bytes
           (read_at (last_image old) (last_image (g.L.Lines.state c.loop-k.dev).medium) (64 * k) (c.args.first + k) (64 * c.args.first + 64 * k) c.loop-k.out c.load_at.new.out
-          (last_image-wander _ _ c.loop-k.invariant.lines) (omega arith) c.in_ok-load_at.ensures.ok)
+          (last_image-write_back _ _ c.loop-k.invariant.lines) (omega arith) c.in_ok-load_at.ensures.ok)
           (omega arith);
-      lines = wander-trans _ _ _ c.loop-k.invariant.lines c.in_ok-load_at.ensures.lines;
+      lines = write_back-trans _ _ _ c.loop-k.invariant.lines c.in_ok-load_at.ensures.lines;
       runs = runs_then _ _ 1 0 _ _ _ _ c.loop-k.invariant.runs c.in_ok-load_at.ensures.runs;
     }
 

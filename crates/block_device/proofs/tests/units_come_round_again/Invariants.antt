@@ -1,10 +1,10 @@
 use Rattle.std.proofs.Common.{IsTrue}
 use Rattle.line_device.specs.Plain.{device_of}
-use Rattle.block_device.specs.Object.{Serves}
+use Rattle.block_device.specs.Object.{BlocksServe}
 use Rattle.block_device.proofs.tests.units_come_round_again.Given as goal
 
 abbrev pub invariant-loop-k : goal.invariant-loop-k
-invariant-loop-k g l = IsTrue l.blocks.settled → Serves l.blocks (device_of l.device).medium
+invariant-loop-k g l = IsTrue l.blocks.settled → BlocksServe l.blocks (device_of l.device).medium
 
 abbrev pub invariant-loop-block : goal.invariant-loop-block
-invariant-loop-block g l = IsTrue l.blocks.settled → Serves l.blocks (device_of l.device).medium
+invariant-loop-block g l = IsTrue l.blocks.settled → BlocksServe l.blocks (device_of l.device).medium

@@ -2,12 +2,12 @@ use Rattle.line_words.proofs.BesideLemmas.{beside-trans, beside-store, beside-pe
 use Rattle.line_words.proofs.renewal.renew_line.Goals as goal
 
 pub returns-in_err-store_line-clause-outside : goal.returns-in_err-store_line-clause-outside
-returns-in_err-store_line-clause-outside g c = beside-trans _ _ _ _ c.in_ok-make_steadfast.ensures.outside (beside-store _ _ _ c.args.line 0 c.args.bytes.now c.store_line.ensures.lines)
+returns-in_err-store_line-clause-outside g c = beside-trans _ _ _ _ c.in_ok-make_good.ensures.outside (beside-store _ _ _ c.args.line 0 c.args.bytes.now c.store_line.ensures.lines)
 
 pub returns-clause-ok : goal.returns-clause-ok
-returns-clause-ok g c = holds-persist c.persist_line.result _ _ _ c.args.line c.args.bytes.now c.in_ok-make_steadfast.ensures.ok c.requires.length c.in_ok-store_line.ensures.lines c.persist_line.ensures.lines
+returns-clause-ok g c = holds-persist c.persist_line.result _ _ _ c.args.line c.args.bytes.now c.in_ok-make_good.ensures.ok c.requires.length c.in_ok-store_line.ensures.lines c.persist_line.ensures.lines
 
 pub returns-clause-outside : goal.returns-clause-outside
 returns-clause-outside g c =
-    beside-trans _ _ _ _ (beside-trans _ _ _ _ c.in_ok-make_steadfast.ensures.outside (beside-store _ _ _ c.args.line 0 c.args.bytes.now c.store_line.ensures.lines))
+    beside-trans _ _ _ _ (beside-trans _ _ _ _ c.in_ok-make_good.ensures.outside (beside-store _ _ _ c.args.line 0 c.args.bytes.now c.store_line.ensures.lines))
     (beside-persist _ _ _ c.args.line c.persist_line.ensures.lines)

@@ -1,7 +1,7 @@
 use Rattle.std.proofs.Common.{ℕ, ◌+◌, ◌*◌, ◌<◌, ◌≤◌, take, drop}
 use Rattle.line_device.specs.Panel.{Runs}
 use Rattle.line_device.specs.Panel.Outcome.{went}
-use Rattle.line_words.specs.Words.{HoldsLine, WandersBeside}
+use Rattle.line_words.specs.Words.{HoldsLine, WritesBackBeside}
 use Rattle.line_words.proofs.renewal.renew_lines.Given as goal
 
 abbrev pub invariant-loop-k : goal.invariant-loop-k
@@ -10,6 +10,6 @@ invariant-loop-k g l =
     let new = g.L.Lines.state l.dev in
     record {
       holds : (j : ℕ) → j < l.k → HoldsLine new.medium (l.first + j) (take 64 (drop (64 * j) l.bytes));
-      outside : WandersBeside (λ n. (l.first ≤ n) × (n < l.first + l.k)) old.medium new.medium;
+      outside : WritesBackBeside (λ n. (l.first ≤ n) × (n < l.first + l.k)) old.medium new.medium;
       runs : Runs (3 * l.k) l.k went old.panel new.panel;
     }

@@ -1,5 +1,5 @@
 use Rattle.std.proofs.Common.{◌≡◌, ◌+◌, ◌-◌, ◌/◌, ◌≤◌, ◌++◌}
-use Rattle.line_device.specs.Medium.{Wander}
+use Rattle.line_device.specs.Medium.{WritesBack}
 use Rattle.line_device.specs.Panel.{Runs}
 use Rattle.line_device.specs.Panel.Outcome.{went}
 use Rattle.nvm_model.specs.Lines.{span_shown}
@@ -15,6 +15,6 @@ invariant-loop-line g l =
     record {
       bytes : l.out.items ≡ l.fn.out.items ++ span_shown (volume_of l.fn.geo old.medium) l.fn.span.start done;
       room : l.fn.out.spare ≤ l.out.spare + done;
-      lines : Wander old.medium now.medium;
+      lines : WritesBack old.medium now.medium;
       runs : Runs (l.line - l.fn.span.start / 64) 0 went old.panel now.panel;
     }

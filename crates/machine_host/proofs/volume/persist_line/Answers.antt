@@ -1,5 +1,5 @@
 use Rattle.std.proofs.Common.{arith}
-use Rattle.line_words.proofs.FrameLemmas.{wander-persist}
+use Rattle.line_words.proofs.FrameLemmas.{write_back-persist}
 use Rattle.machine_host.proofs.VolumeLemmas.{volume-persist}
 use Rattle.machine_host.proofs.volume.persist_line.Goals as goal
 
@@ -12,4 +12,4 @@ pub returns-clause-lines : goal.returns-clause-lines
 returns-clause-lines g c =
     let old = (g.L.Lines.state c.args.device.now).medium in
     let strong = (c.requires.layout.intact c.volume_line.result (omega (arith, c.requires.layout.lines))).1 in
-    wander-persist c.persist_line.result old _ c.volume_line.result strong c.persist_line.ensures.lines
+    write_back-persist c.persist_line.result old _ c.volume_line.result strong c.persist_line.ensures.lines

@@ -1,8 +1,8 @@
 use Rattle.std.proofs.Common.{◌-◌, ◌/◌}
-use Rattle.line_device.specs.Medium.{Wander}
+use Rattle.line_device.specs.Medium.{WritesBack}
 use Rattle.line_device.specs.Panel.{Runs}
 use Rattle.line_device.specs.Panel.Outcome.{went}
-use Rattle.nvm_model.specs.Lines.{below, each, settled_within}
+use Rattle.nvm_model.specs.Lines.{below, each, flushed_within}
 use Rattle.machine_host.specs.Volume.{volume_of}
 use Rattle.machine_host.proofs.volume.persist_span.Given as goal
 
@@ -12,7 +12,7 @@ invariant-loop-line g l =
     let old = g.L.Lines.state l.fn.device in
     let now = g.L.Lines.state l.device in
     record {
-      lines : Wander (each (volume_of l.fn.geo old.medium) (below l.line (settled_within l.fn.span.start l.fn.span.len))) (volume_of l.fn.geo now.medium);
-      wanders : Wander old.medium now.medium;
+      lines : WritesBack (each (volume_of l.fn.geo old.medium) (below l.line (flushed_within l.fn.span.start l.fn.span.len))) (volume_of l.fn.geo now.medium);
+      writes_back : WritesBack old.medium now.medium;
       runs : Runs (l.line - l.fn.span.start / 64) (l.line - l.fn.span.start / 64) went old.panel now.panel;
     }

@@ -3,12 +3,12 @@ use Rattle.std.proofs.lemmas.Result.{err_from_is_err_and}
 use Rattle.line_device.specs.Medium.{word_stored}
 use Rattle.line_device.specs.Panel.Outcome.{went}
 use Rattle.line_device.proofs.PanelLemmas.{runs-refl, runs_then, runs_within}
-use Rattle.line_device.proofs.WanderLemmas.{wander-trans}
+use Rattle.line_device.proofs.WriteBackLemmas.{write_back-trans}
 use Rattle.line_words.specs.Ending.{ended}
 use Rattle.line_words.proofs.FrameLemmas.{outside-refl, outside-trans}
 use Rattle.machine_host.specs.Volume.{volume_of, IsVolumePlace}
 use Rattle.machine_host.proofs.SpanLemmas.{below-first, on_err, below-last, get_or-stretch, span_stored-next, word_stored-out}
-use Rattle.machine_host.proofs.VolumeLemmas.{has_layout-outside, wander-volume}
+use Rattle.machine_host.proofs.VolumeLemmas.{has_layout-outside, write_back-volume}
 use Rattle.machine_host.proofs.volume.store_span.Goals as goal
 
 pub loop-line-init : goal.loop-line-init
@@ -51,7 +51,7 @@ store_part-requires-clause-layout g c = has_layout-outside c.args.geo (IsVolumeP
 pub returns-in_err-store_part-clause-err : goal.returns-in_err-store_part-clause-err
 returns-in_err-store_part-clause-err g c =
     on_err c.from_residual.result
-    (c.loop-line.line, wander-trans _ _ _ c.loop-line.invariant.lines (wander-volume c.args.geo _ _ c.in_err-store_part.ensures.err))
+    (c.loop-line.line, write_back-trans _ _ _ c.loop-line.invariant.lines (write_back-volume c.args.geo _ _ c.in_err-store_part.ensures.err))
 
 pub returns-in_err-store_part-clause-outside : goal.returns-in_err-store_part-clause-outside
 returns-in_err-store_part-clause-outside g c = outside-trans (IsVolumePlace c.args.geo) _ _ _ c.loop-line.invariant.outside c.in_err-store_part.ensures.outside

@@ -1,16 +1,16 @@
 use Rattle.std.proofs.Common.{length, sym}
 use Rattle.nvm_model.proofs.RestartLemmas.{stand-restarted}
-use Rattle.nvm_model.proofs.StandLemmas.{cell_stands-persisted, look-stand, stand-loaded, stand-settled, stand-stored}
+use Rattle.nvm_model.proofs.StandLemmas.{cell_stands-persisted, look-stand, stand-loaded, stand-flushed, stand-stored}
 use Rattle.nvm_model.proofs.laws.lines_and_pages_keep_step.Goals as goal
 
 pub returns-clause-put : goal.returns-clause-put
 returns-clause-put c at bytes old new count pages = stand-stored old new at (length bytes) count bytes pages
 
 pub returns-clause-persist : goal.returns-clause-persist
-returns-clause-persist c start len old new count pages = stand-settled old new start len count pages
+returns-clause-persist c start len old new count pages = stand-flushed old new start len count pages
 
-pub returns-clause-wander : goal.returns-clause-wander
-returns-clause-wander c old new count pages = stand-loaded old new count pages
+pub returns-clause-write_back : goal.returns-clause-write_back
+returns-clause-write_back c old new count pages = stand-loaded old new count pages
 
 pub returns-clause-restart : goal.returns-clause-restart
 returns-clause-restart c = stand-restarted

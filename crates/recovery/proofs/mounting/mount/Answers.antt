@@ -2,7 +2,7 @@ use Rattle.std.proofs.Common.{◌∙◌}
 use Rattle.word_tables.specs.declared.geometry.Geometry.{Geometry}
 use Rattle.block_device.specs.Object.{BlocksState}
 use Rattle.block_device.proofs.MountedLemmas.{handed}
-use Rattle.block_device.proofs.ReachLemmas.{keeps_reads-wander}
+use Rattle.block_device.proofs.ReachLemmas.{keeps_reads-write_back}
 use Rattle.recovery.specs.declared.Mounted.{Mounted}
 use Rattle.recovery.specs.Stopped.{of_block_fault}
 use Rattle.recovery.specs.Findings.{geometry_told, first_finding}
@@ -19,7 +19,7 @@ returns-in_err-geo-clause-finds g c =
 pub returns-in_err-geo-clause-reads : goal.returns-in_err-geo-clause-reads
 returns-in_err-geo-clause-reads g c =
     let old = (g.L.Lines.state c.args.dev.now).medium in
-    λ _. keeps_reads-wander (geometry_told old) old (g.L.Lines.state c.look.new.dev).medium c.in_err-geo.ensures.lines
+    λ _. keeps_reads-write_back (geometry_told old) old (g.L.Lines.state c.look.new.dev).medium c.in_err-geo.ensures.lines
 
 pub mount-requires-clause-durable : goal.mount-requires-clause-durable
 mount-requires-clause-durable g c =

@@ -1,5 +1,5 @@
 use Rattle.std.proofs.Common.{◌≡◌, length, take}
-use Rattle.line_device.specs.Medium.{Wander, last_image}
+use Rattle.line_device.specs.Medium.{WritesBack, last_image}
 use Rattle.line_device.specs.Panel.{Runs}
 use Rattle.line_device.specs.Panel.Outcome.{went}
 use Rattle.nvm_model.specs.Numbered.{list_from}
@@ -12,6 +12,6 @@ invariant-loop-w g l =
     record {
       size : length l.words ≡ 8;
       words : take l.w l.words ≡ list_from (last_image old.medium) 0 l.w;
-      lines : Wander old.medium new.medium;
+      lines : WritesBack old.medium new.medium;
       runs : Runs l.w 0 went old.panel new.panel;
     }

@@ -1,13 +1,13 @@
 use Rattle.std.proofs.Common.{◌∙◌, sym, subst, option_map, slice_index}
 use Rattle.line_device.specs.Panel.{Outcome, Runs}
-use Rattle.line_device.proofs.WanderLemmas.{wander-refl}
+use Rattle.line_device.proofs.WriteBackLemmas.{write_back-refl}
 use Rattle.word_tables.specs.Superblock.{first_wrong_word}
 use Rattle.recovery.specs.Findings.Finding.{wrong_word}
 use Rattle.recovery.proofs.FindingLemmas.{superblock_checked, finds_checked, went_checked}
 use Rattle.recovery.proofs.superblock.read_superblock.Goals as goal
 
 pub returns-then-is_bad-clause-lines : goal.returns-then-is_bad-clause-lines
-returns-then-is_bad-clause-lines g c = wander-refl _
+returns-then-is_bad-clause-lines g c = write_back-refl _
 
 pub returns-clause-finds : goal.returns-clause-finds
 returns-clause-finds g c =

@@ -1,6 +1,6 @@
 use Rattle.std.proofs.Common.{arith}
-use Rattle.word_log.proofs.FrameLemmas.{log_steadfast}
-use Rattle.line_words.proofs.FrameLemmas.{outside-trans, outside-wander, outside-wider, steadfast-outside}
+use Rattle.word_log.proofs.FrameLemmas.{log_good_line}
+use Rattle.line_words.proofs.FrameLemmas.{outside-trans, outside-write_back, outside-wider, good_line-outside}
 use Rattle.word_log.proofs.StepLemmas.{writes_entries, behind_gate-entries, outside-counted}
 use Rattle.word_log.proofs.entries.write_entries.Goals as goal
 
@@ -8,12 +8,12 @@ pub returns-in_err-store_word-clause-outside : goal.returns-in_err-store_word-cl
 returns-in_err-store_word-clause-outside g c =
     outside-trans _ _ _ _
     (outside-wider _ _ _ _ (λ p within. behind_gate-entries c.args.area c.args.changes.now _ p c.requires.fits c.requires.taken.few within.0 within.1) c.in_ok-store_entries.ensures.outside)
-    (outside-wander _ _ _ c.in_err-store_word.ensures.lines)
+    (outside-write_back _ _ _ c.in_err-store_word.ensures.lines)
 
-pub persist_lines-requires-clause-steadfast : goal.persist_lines-requires-clause-steadfast
-persist_lines-requires-clause-steadfast g c = λ line from to.
-    steadfast-outside _ _ _ line
-    (log_steadfast c.args.area _ line c.requires.fits c.requires.strong c.requires.whole from (omega (arith, c.requires.fits.shape.len, c.requires.fits.shape.whole, c.requires.taken.few, c.div_ceil.ensures)))
+pub persist_lines-requires-clause-good_line : goal.persist_lines-requires-clause-good_line
+persist_lines-requires-clause-good_line g c = λ line from to.
+    good_line-outside _ _ _ line
+    (log_good_line c.args.area _ line c.requires.fits c.requires.strong c.requires.whole from (omega (arith, c.requires.fits.shape.len, c.requires.fits.shape.whole, c.requires.taken.few, c.div_ceil.ensures)))
     (outside-counted c.args.area c.args.changes.now _ _ _ _ c.requires.fits c.requires.taken.few c.in_ok-store_entries.ensures.outside c.count_place.ensures c.in_ok-store_word.ensures.lines)
 
 pub returns-clause-outside : goal.returns-clause-outside

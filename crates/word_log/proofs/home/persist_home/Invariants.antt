@@ -1,5 +1,5 @@
 use Rattle.std.proofs.Common.{ℕ, IsTrue, take}
-use Rattle.line_device.specs.Medium.{Wander, last_image}
+use Rattle.line_device.specs.Medium.{WritesBack, last_image}
 use Rattle.line_device.specs.Panel.{Runs}
 use Rattle.line_device.specs.Panel.Outcome.{went}
 use Rattle.word_log.specs.Changes.{lists}
@@ -12,7 +12,7 @@ invariant-loop-change g l =
     let new = g.L.Lines.state l.dev in
     let i = l.change-index in
     record {
-      lines : Wander old.medium new.medium;
+      lines : WritesBack old.medium new.medium;
       durable : (p : ℕ) → IsTrue (lists (take i l.changes) p) → IsOnly (last_image old.medium p) (new.medium.history p);
       runs : Runs i i went old.panel new.panel;
     }

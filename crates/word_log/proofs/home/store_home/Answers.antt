@@ -2,7 +2,7 @@ use Rattle.std.proofs.Common.{◌≡◌, IsTrue, get_or, refl, sym, subst}
 use Rattle.line_device.proofs.PanelLemmas.{runs-refl, runs_then}
 use Rattle.word_log.specs.Changes.{lists}
 use Rattle.word_log.proofs.ChangeLemmas.{lists-at}
-use Rattle.line_words.proofs.FrameLemmas.{outside-refl, outside-trans, outside-wider, outside-wander, outside-stored}
+use Rattle.line_words.proofs.FrameLemmas.{outside-refl, outside-trans, outside-wider, outside-write_back, outside-stored}
 use Rattle.word_log.proofs.StepLemmas.{changed-more}
 use Rattle.word_log.proofs.home.store_home.Goals as goal
 
@@ -11,7 +11,7 @@ loop-change-init g c = record { outside = outside-refl _ _; words = λ p. refl; 
 
 pub returns-in_err-store_word-clause-outside : goal.returns-in_err-store_word-clause-outside
 returns-in_err-store_word-clause-outside g c =
-    outside-trans _ _ _ _ c.loop-change.invariant.outside (outside-wander _ _ _ c.in_err-store_word.ensures.lines)
+    outside-trans _ _ _ _ c.loop-change.invariant.outside (outside-write_back _ _ _ c.in_err-store_word.ensures.lines)
 
 pub loop-change-preserved : goal.loop-change-preserved
 loop-change-preserved g c =

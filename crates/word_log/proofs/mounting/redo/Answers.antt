@@ -1,6 +1,6 @@
 use Rattle.std.proofs.Common.{sym, subst, arith}
 use Rattle.line_device.specs.Medium.{last_image}
-use Rattle.line_device.proofs.WanderLemmas.{wander-refl}
+use Rattle.line_device.proofs.WriteBackLemmas.{write_back-refl}
 use Rattle.line_device.proofs.PanelLemmas.{runs_within}
 use Rattle.word_log.specs.Changes.{changed}
 use Rattle.word_log.specs.Replay.{Replays}
@@ -21,7 +21,7 @@ returns-then-is_empty-clause-images g c =
     (durable_empty c.args.area _ c.args.changes.now c.requires.fits c.requires.durable c.requires.valid c.requires.listed (sym c.if-is_empty.ensures))
 
 pub returns-then-is_empty-clause-closed : goal.returns-then-is_empty-clause-closed
-returns-then-is_empty-clause-closed g c = λ _. wander-refl _
+returns-then-is_empty-clause-closed g c = λ _. write_back-refl _
 
 pub returns-then-is_empty-clause-outside : goal.returns-then-is_empty-clause-outside
 returns-then-is_empty-clause-outside g c = outside-refl _ _

@@ -1,5 +1,5 @@
 use Rattle.std.proofs.Common.{inl}
-use Rattle.line_device.proofs.HistoryLemmas.{is_in-fades}
+use Rattle.line_device.proofs.HistoryLemmas.{is_in-word_write_back}
 use Rattle.word_log.specs.Area.{gate_place}
 use Rattle.word_log.proofs.FrameLemmas.{gate_line}
 use Rattle.line_words.proofs.FrameLemmas.{outside-stored}
@@ -7,10 +7,10 @@ use Rattle.word_log.proofs.StepLemmas.{sets_gate}
 use Rattle.word_log.proofs.protocol.set_gate.Goals as goal
 
 pub returns-in_err-store_word-clause-either : goal.returns-in_err-store_word-clause-either
-returns-in_err-store_word-clause-either g c = λ x at. inl (is_in-fades _ x _ _ (c.in_err-store_word.ensures.lines.fades (gate_place c.args.area)) at)
+returns-in_err-store_word-clause-either g c = λ x at. inl (is_in-word_write_back _ x _ _ (c.in_err-store_word.ensures.lines.word_write_back (gate_place c.args.area)) at)
 
-pub persist_line-requires-clause-steadfast : goal.persist_line-requires-clause-steadfast
-persist_line-requires-clause-steadfast g c =
+pub persist_line-requires-clause-good_line : goal.persist_line-requires-clause-good_line
+persist_line-requires-clause-good_line g c =
     gate_line c.args.area _ _ _ c.requires.fits c.requires.strong c.requires.whole (outside-stored _ _ _ _ c.in_ok-store_word.ensures.lines)
 
 pub returns-clause-outside : goal.returns-clause-outside

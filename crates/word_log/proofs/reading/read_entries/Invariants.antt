@@ -1,5 +1,5 @@
 use Rattle.std.proofs.Common.{◌≡◌, ◌*◌}
-use Rattle.line_device.specs.Medium.{Wander, last_image}
+use Rattle.line_device.specs.Medium.{WritesBack, last_image}
 use Rattle.line_device.specs.Panel.{Runs}
 use Rattle.line_device.specs.Panel.Outcome.{went}
 use Rattle.word_log.specs.Area.{entry_place}
@@ -12,6 +12,6 @@ invariant-loop-k g l =
     let new = g.L.Lines.state l.dev in
     record {
       entries : l.changes.items ≡ entries (last_image old.medium) (entry_place l.area 0) l.k;
-      lines : Wander old.medium new.medium;
+      lines : WritesBack old.medium new.medium;
       runs : Runs (2 * l.k) 0 went old.panel new.panel;
     }

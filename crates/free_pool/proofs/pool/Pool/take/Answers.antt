@@ -1,12 +1,12 @@
 use Rattle.std.proofs.Common.{◌≡◌, ◌-◌, ◌<◌, ℕ, List, Bool, false, get_or, set, subst, ap, ◌∙◌, arith}
 use Rattle.std.proofs.lemmas.List.{get_or_read}
 use Rattle.free_pool.specs.Units.{IsFree}
-use Rattle.free_pool.specs.Sparse.{IsKept}
+use Rattle.free_pool.specs.Sparse.{IsPool}
 use Rattle.free_pool.proofs.SparseLemmas.{free_within, last_is_free, last_taken, kept_taken}
 use Rattle.free_pool.proofs.pool.Pool.take.Goals as goal
 
 -- what was read is the last free unit
-last : (order places : List ℕ) (free unit : ℕ) → IsKept order places free → 0 < free → unit ≡ get_or order (free - 1) unit → unit ≡ get_or order (free - 1) 0
+last : (order places : List ℕ) (free unit : ℕ) → IsPool order places free → 0 < free → unit ≡ get_or order (free - 1) unit → unit ≡ get_or order (free - 1) 0
 last order places free unit kept some read = get_or_read order (free - 1) unit (omega (arith, free_within order places free kept)) read 0
 
 pub index-requires : goal.index-requires

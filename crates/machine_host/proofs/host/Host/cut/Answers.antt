@@ -1,5 +1,5 @@
 use Rattle.std.proofs.Common.{ap, subst, sym}
-use Rattle.line_words.proofs.FrameLemmas.{outside-wander}
+use Rattle.line_words.proofs.FrameLemmas.{outside-write_back}
 use Rattle.machine_host.specs.declared.mode.Mode.TheVariants.{Off}
 use Rattle.machine_host.specs.Stands.{HostState, Serves, Stands}
 use Rattle.machine_host.specs.Volume.{IsVolumePlace}
@@ -18,7 +18,7 @@ pub returns-clause-serves : goal.returns-clause-serves
 returns-clause-serves g c =
     let host : HostState = record { geometry = c.self.inside.geometry; mode = c.self.inside.mode; blocks = c.self.inside.blocks } in
     serves-volume host Off _ _ (subst (λ host. Serves host (g.D.Lines.state c.args.device.now)) (sym c.self.view_is) c.requires.serves)
-    (outside-wander (IsVolumePlace c.self.inside.geometry) _ _ c.power_off.ensures.lines) (ap (λ p. p.power) c.power_off.ensures.panel) (λ on. cc)
+    (outside-write_back (IsVolumePlace c.self.inside.geometry) _ _ c.power_off.ensures.lines) (ap (λ p. p.power) c.power_off.ensures.panel) (λ on. cc)
 
 pub returns-clause-short : goal.returns-clause-short
 returns-clause-short g c = short-done

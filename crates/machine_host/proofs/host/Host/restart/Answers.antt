@@ -1,5 +1,5 @@
 use Rattle.std.proofs.Common.{◌≡◌, refl, sym, ap, subst, ◌∙◌, inr}
-use Rattle.line_words.specs.Words.{WandersOutside}
+use Rattle.line_words.specs.Words.{WritesBackOutside}
 use Rattle.word_log.specs.Area.{IsOf}
 use Rattle.block_device.specs.Area.{block_area}
 use Rattle.block_device.specs.Images.{KeepsReads}
@@ -56,7 +56,7 @@ returns-in-Ok-clause-step g c h stands =
     let sound = g.met.D.Lines.sound c.restart.new.self in
     let sizes = sizes_back host c.args.choice old mid start serves sound_old sound left in
     comes_of_restart host c.args.choice old mid new h start serves here left sound_old sound c.in-Ok.mounted.blocks _ _ x.runs
-    (subst (λ geo. WandersOutside (IsOf (block_area geo)) mid.medium new.medium) here.geometry (outside_remounted host c.args.choice old mid new start serves sound_old sound left x.outside))
+    (subst (λ geo. WritesBackOutside (IsOf (block_area geo)) mid.medium new.medium) here.geometry (outside_remounted host c.args.choice old mid new start serves sound_old sound left x.outside))
     (subst (λ geo. KeepsReads geo mid.medium new.medium) here.geometry (reads_remounted_by host c.args.choice old mid new start serves sound_old sound left x.reads))
     (subst (λ geo. blocks_of c.in-Ok.mounted.blocks new.medium ≡ blocks_read geo mid.medium.is_bad (last_image mid.medium)) (sizes ∙ here.geometry) x.ok.2)
 
@@ -104,7 +104,7 @@ returns-in-Err-clause-step g c =
     c.unmounted.new.self end.by _ _
     (c.unmounted.ensures.state ∙ sym (ap (λ (s : HostState). record s { mode = unmounted_mode c.in-Err.fault }) c.self.view_is) ∙ ap (λ m. record host { mode = m }) end.mode)
     (runs_stopped Mounted c.in-Err.fault _ _ mid.panel new.panel end x.runs)
-    (subst (λ geo. WandersOutside (IsOf (block_area geo)) mid.medium new.medium) here.geometry (outside_remounted host c.args.choice old mid new left.0 serves sound_old sound left.1 x.outside))
+    (subst (λ geo. WritesBackOutside (IsOf (block_area geo)) mid.medium new.medium) here.geometry (outside_remounted host c.args.choice old mid new left.0 serves sound_old sound left.1 x.outside))
     (subst (λ geo. KeepsReads geo mid.medium new.medium) here.geometry (reads_remounted_by host c.args.choice old mid new left.0 serves sound_old sound left.1 x.reads))))
     c.unmounted.ensures.answer
 

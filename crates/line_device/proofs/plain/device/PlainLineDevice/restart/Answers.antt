@@ -2,7 +2,7 @@ use Rattle.std.proofs.Common.{refl, sym, ap, subst}
 use Rattle.line_device.specs.Medium.{Survivors}
 use Rattle.line_device.specs.Panel.{Start}
 use Rattle.line_device.specs.Cells.{medium_of}
-use Rattle.line_device.specs.Plain.{lines_of}
+use Rattle.line_device.specs.Plain.{plain_medium}
 use Rattle.line_device.specs.Switches.{panel_of}
 use Rattle.line_device.specs.PlainSound.{is_sound-plain}
 use Rattle.line_device.proofs.RestartLemmas.{survivors-kept, image_of, depicts-survivors}
@@ -10,7 +10,7 @@ use Rattle.line_device.proofs.plain.device.PlainLineDevice.restart.Goals as goal
 
 pub returns-clause-restarted : goal.returns-clause-restarted
 returns-clause-restarted c =
-    let old = lines_of c.args.self.now in
+    let old = plain_medium c.args.self.now in
     let new = medium_of c.keep.new.self in
     let survivors : Survivors c.args.choice old new = subst (Survivors c.args.choice old) (sym c.keep.ensures) (survivors-kept c.args.choice old (is_sound-plain c.args.self.now)) in
     let start : Start = record { choice = c.args.choice; image = image_of new } in
