@@ -5,7 +5,7 @@ use Rattle.line_device.specs.Panel.{Panel, Outcome, HasCause, SameOrders, ArmsNo
 use Rattle.line_device.specs.Panel.Outcome.{went, failed, lost}
 
 pub same_orders-refl : (p : Panel) → SameOrders p p
-same_orders-refl p = record { offs = refl; arms = refl; evicts = refl; restarts = refl; disarms = refl; starts = refl; last_order = refl }
+same_orders-refl p = record { offs = refl; arms = refl; evicts = refl; restarts = refl; disarms = refl; starts = refl; last_order = refl; loans = refl }
 
 pub same_orders-trans : (p q r : Panel) → SameOrders p q → SameOrders q r → SameOrders p r
 same_orders-trans p q r a b = record {
@@ -16,6 +16,7 @@ same_orders-trans p q r a b = record {
   disarms = b.disarms ∙ a.disarms;
   starts = b.starts ∙ a.starts;
   last_order = b.last_order ∙ a.last_order;
+  loans = b.loans ∙ a.loans;
 }
 
 pub arms_nothing-refl : (p : Panel) → ArmsNothing p p

@@ -60,7 +60,7 @@ depicts-survivors choice old new x = record {
 pub waited-refl : (d : Device) → Waited d d
 waited-refl d = record {
   lines = record { count = refl; bad = λ n. refl; weak = λ n. refl; words = λ p. inl (word_write_back-refl (d.medium.is_weak (p / 8)) (d.medium.history p)) };
-  panel = record { power = refl; armed = arms_nothing-refl d.panel; restarts = omega arith; once = omega arith; counts = refl; starts = refl; last_order = refl };
+  panel = record { power = refl; armed = arms_nothing-refl d.panel; restarts = omega arith; once = omega arith; counts = refl; starts = refl; last_order = refl; loans = refl };
 }
 
 pub waited_same : (a b : Device) → b ≡ a → Waited a b

@@ -1,12 +1,18 @@
 -- What a device shows beside its lines: the power, what is armed, its counts, and what it tells of orders and restarts.
 use Rattle.std.specs.Prelude.{◌≡◌, ◌+◌, ◌≤◌, ℕ, Bool, true, false, List, [], ◌∷◌, ◌++◌, Option, Some, option_map, Result, Ok, Err, IsTrue}
+use Rattle.std.specs.Borrow.{GName}
 use Rattle.nvm_base.specs.Counts.{raised, Rose}
+use Rattle.nvm_base.specs.declared.units.Span.{Span}
 use Rattle.line_device.specs.declared.counts.Counts.{Counts}
 use Rattle.line_device.specs.declared.line.Choice.{Choice}
 use Rattle.line_device.specs.declared.order.Order.{Order}
 use Rattle.line_device.specs.declared.order.Order.TheVariants.{Cut, Fail, Evict}
 use Rattle.line_device.specs.declared.fault.DeviceFault.{DeviceFault}
 use Rattle.line_device.specs.declared.fault.DeviceFault.TheVariants.{Poisoned, Failed, PowerLost}
+
+-- the counts of a new device
+abbrev pub zero_counts : Counts
+zero_counts = record { faults = 0; cuts = 0; offs = 0; arms = 0; evicts = 0; persists = 0; restarts = 0; calls = 0; setups = 0; disarms = 0 }
 
 -- what a restart left: which lines are bad or weak, and the one value of each word
 pub record Image : Type 0 where
@@ -20,7 +26,13 @@ pub record Start : Type 0 where
   pub choice : Choice
   pub image : Image
 
--- `starts` and `last_order` are None on a device that doesn't tell them
+-- a borrowed device, of which these ranges are shown as so many lines
+pub record Loan : Type 0 where
+  pub name : GName
+  pub ranges : List Span
+  pub count : ℕ
+
+-- `starts` and `last_order` are None on a device that doesn't tell them; `loans` are those behind it, the nearest first
 pub record Panel : Type 0 where
   pub power : Bool
   pub cut_armed : Bool
@@ -28,6 +40,7 @@ pub record Panel : Type 0 where
   pub counts : Counts
   pub starts : Option (List Start)
   pub last_order : Option (Option Order)
+  pub loans : List Loan
 
 -- the starts told so far, and then these
 abbrev pub told : Option (List Start) → List Start → Option (List Start)
@@ -64,6 +77,7 @@ pub record SameOrders (old new : Panel) : Type 0 where
   pub disarms : new.counts.disarms ≡ old.counts.disarms
   pub starts : new.starts ≡ old.starts
   pub last_order : new.last_order ≡ old.last_order
+  pub loans : new.loans ≡ old.loans
 
 -- No call arms by itself.
 pub record ArmsNothing (old new : Panel) : Type 0 where
@@ -83,13 +97,11 @@ pub record Runs (at_most persists_at_most : ℕ) (end : Outcome) (old new : Pane
   pub setups : new.counts.setups ≡ old.counts.setups
   pub orders : SameOrders old new
 
--- Setting up needs no arming to fail, but both `setups` and the fault's own count rise then. Power goes in no other way.
+-- Setting up needs no arming to fail, but both `setups` and the fault's own count rise then.
 abbrev pub HasSetupCause : Outcome → Panel → Panel → Type 0
-HasSetupCause went old new =
-    (IsTrue old.power → IsTrue new.power) × (new.counts.cuts ≡ old.counts.cuts) × (new.counts.setups ≡ old.counts.setups)
+HasSetupCause went old new = (new.counts.cuts ≡ old.counts.cuts) × (new.counts.setups ≡ old.counts.setups)
 HasSetupCause failed old new =
-    (IsTrue old.power → IsTrue new.power) × (new.counts.cuts ≡ old.counts.cuts) × Rose old.counts.faults new.counts.faults
-    × Rose old.counts.setups new.counts.setups
+    (new.counts.cuts ≡ old.counts.cuts) × Rose old.counts.faults new.counts.faults × Rose old.counts.setups new.counts.setups
 HasSetupCause lost old new =
     (new.power ≡ false) × Rose old.counts.cuts new.counts.cuts × Rose old.counts.setups new.counts.setups
 
@@ -103,6 +115,12 @@ pub record SetsUp (end : Outcome) (old new : Panel) : Type 0 where
   pub calls : new.counts.calls ≡ old.counts.calls
   pub persists : new.counts.persists ≡ old.counts.persists
   pub orders : SameOrders old new
+
+-- the power is as it was, where it was not lost
+abbrev pub KeepsPower : Outcome → Panel → Panel → Type 0
+KeepsPower went old new = new.power ≡ old.power
+KeepsPower failed old new = new.power ≡ old.power
+KeepsPower lost old new = Unit {0}
 
 -- a device that tells its last order tells this one
 abbrev pub ordered : Option (Option Order) → Order → Option (Option Order)
@@ -141,3 +159,4 @@ pub record RestartRefused (old new : Panel) : Type 0 where
   pub counts : new.counts ≡ record old.counts { restarts = new.counts.restarts }
   pub starts : new.starts ≡ old.starts
   pub last_order : new.last_order ≡ old.last_order
+  pub loans : new.loans ≡ old.loans

@@ -1,5 +1,5 @@
 -- A device's power, what is armed, and its counts.
-use Rattle.std.specs.Prelude.{ℕ, true, false, None, Option, Result, Ok, Err, if◌then◌else◌}
+use Rattle.std.specs.Prelude.{ℕ, true, false, [], None, Option, Result, Ok, Err, if◌then◌else◌}
 use Rattle.std.specs.Option.{is_some}
 use Rattle.nvm_base.specs.Counts.{raised}
 use Rattle.line_device.specs.Panel.{Panel, Outcome}
@@ -10,7 +10,7 @@ use Rattle.line_device.specs.declared.fault.DeviceFault.{DeviceFault}
 use Rattle.line_device.specs.declared.fault.DeviceFault.TheVariants.{Failed, PowerLost}
 use Rattle.line_device.specs.declared.switches.Switches.{Switches}
 
--- the panel of a device that tells no starts and no orders
+-- the panel of a device of its own, which tells no starts and no orders
 abbrev pub panel_of : Switches → Panel
 panel_of s = record {
   power = s.power;
@@ -19,6 +19,7 @@ panel_of s = record {
   counts = s.counts;
   starts = None;
   last_order = None;
+  loans = [];
 }
 
 -- the counted calls left until the armed cut, and until the armed failure
@@ -52,16 +53,16 @@ after_call s = record {
 }
 
 -- after what only counts a persist, or an order to write back
-abbrev pub after_persist : Switches → Switches
-after_persist s = record s { counts = record s.counts { persists = raised s.counts.persists } }
+abbrev pub switches_after_persist : Switches → Switches
+switches_after_persist s = record s { counts = record s.counts { persists = raised s.counts.persists } }
 
-abbrev pub after_evict : Switches → Switches
-after_evict s = record s { counts = record s.counts { evicts = raised s.counts.evicts } }
+abbrev pub switches_after_evict : Switches → Switches
+switches_after_evict s = record s { counts = record s.counts { evicts = raised s.counts.evicts } }
 
 -- with the power on
 abbrev pub powered : Switches → Switches
 powered s = record s { power = true }
 
 -- after a restart
-abbrev pub after_restart : Switches → Switches
-after_restart s = record s { power = true; counts = record s.counts { restarts = raised s.counts.restarts } }
+abbrev pub switches_after_restart : Switches → Switches
+switches_after_restart s = record s { power = true; counts = record s.counts { restarts = raised s.counts.restarts } }

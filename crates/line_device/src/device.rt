@@ -1,7 +1,7 @@
 // The calls that set a device up and take it through power cuts.
 ghost use Rattle.std.specs.Prelude.{◌≡◌, ◌<◌, ◌≤◌, ℕ, true, false, IsTrue, IsErr, IfOk, OnOk, MatchResult};
 ghost use Rattle.line_device.specs.Medium.{WritesBack, Shows, installed, zeros};
-ghost use Rattle.line_device.specs.Panel.{Start, SetsUp, outcome, after_arm_cut, after_arm_fail, after_evict, after_disarm, after_power_off};
+ghost use Rattle.line_device.specs.Panel.{Start, SetsUp, KeepsPower, outcome, after_arm_cut, after_arm_fail, after_evict, after_disarm, after_power_off};
 ghost use Rattle.line_device.specs.Device.{Restarted, Waited, setup_outcome};
 ghost use Rattle.line_device.specs.declared.fault.DeviceFault.TheVariants.{Poisoned};
 
@@ -18,12 +18,14 @@ pub trait LineDevice: Lines {
         requires words { unit ≡ 8 }
         ensures lines { OnOk result (WritesBack (zeros lines) (Self.state self.new).medium) }
         ensures on { OnOk result (IsTrue (Self.state self.new).panel.power) }
+        ensures stays_on { IsTrue (Self.state self.old).panel.power → IsTrue (Self.state self.new).panel.power }
         ensures sets_up { SetsUp (setup_outcome result) (Self.state self.old).panel (Self.state self.new).panel };
 
     /// Makes a line what is told, durably. After a refusal nothing is known of the lines.
     fn install(&mut self, line: LineNo, told: &LineState) -> Result<(), ResetFault>
         requires { line.0 < (Self.state self.old).medium.count }
         ensures lines { OnOk result (WritesBack (installed (Self.state self.old).medium line.0 told.now) (Self.state self.new).medium) }
+        ensures power { (Self.state self.new).panel.power ≡ (Self.state self.old).panel.power }
         ensures sets_up { SetsUp (setup_outcome result) (Self.state self.old).panel (Self.state self.new).panel };
 
     /// Reads a line out as last stored, bad or not.
@@ -32,6 +34,7 @@ pub trait LineDevice: Lines {
         ensures told { IfOk result (λ told. Shows (Self.state self.old).medium line.0 told) }
         ensures never_poisoned { (n : _) → result ≡ Err (Poisoned n) → ⊥ }
         ensures lines { WritesBack (Self.state self.old).medium (Self.state self.new).medium }
+        ensures power { KeepsPower (outcome result) (Self.state self.old).panel (Self.state self.new).panel }
         ensures sets_up { SetsUp (outcome result) (Self.state self.old).panel (Self.state self.new).panel };
 
     /// Asks for the write-back of so many lines.

@@ -1,6 +1,6 @@
 // A device of memory that keeps of each word its first and its last value, and never writes back by itself.
 ghost use Rattle.std.specs.Prelude.{◌≡◌, ◌<◌, false, None};
-ghost use Rattle.line_device.specs.Panel.{Runs, outcome};
+ghost use Rattle.line_device.specs.Panel.{Runs, zero_counts, outcome};
 ghost use Rattle.line_device.specs.Device.{Poisons};
 ghost use Rattle.line_device.specs.Switches.{cut_left, fail_left, end_of, after_call};
 ghost use Rattle.line_device.specs.Plain.{device_of, plain_medium, switches_of};
@@ -29,6 +29,7 @@ impl Plain {
         ensures power { (device_of result).panel.power ≡ false }
         ensures cut { cut_left (switches_of result) ≡ None }
         ensures fail { fail_left (switches_of result) ≡ None }
+        ensures counts { (device_of result).panel.counts ≡ zero_counts }
     {
         Plain {
             cells: Cells::new(alloc),

@@ -3,7 +3,7 @@ ghost use Rattle.std.specs.Prelude.{◌≡◌, ◌+◌, ◌≤◌, true, false, 
 ghost use Rattle.line_device.specs.Arming.{is_due, counted_down, fail_after};
 ghost use Rattle.line_device.specs.Panel.{Runs, outcome, after_arm_cut, after_arm_fail, after_disarm, after_power_off};
 ghost use Rattle.line_device.specs.Panel.Outcome.{went};
-ghost use Rattle.line_device.specs.Switches.{panel_of, cut_left, fail_left, call_answer, after_call, after_persist, after_evict, after_restart, powered};
+ghost use Rattle.line_device.specs.Switches.{panel_of, cut_left, fail_left, call_answer, after_call, switches_after_persist, switches_after_evict, switches_after_restart, powered};
 
 use crate::{Counts, DeviceFault};
 use nvm_base::raise;
@@ -66,7 +66,7 @@ impl Switches {
     }
 
     pub fn count_persist(&mut self)
-        ensures after { self.new ≡ after_persist self.old }
+        ensures after { self.new ≡ switches_after_persist self.old }
         ensures runs { Runs 0 1 went (panel_of self.old) (panel_of self.new) }
     {
         raise(&mut self.counts.persists);
@@ -115,14 +115,14 @@ impl Switches {
     }
 
     pub fn restart(&mut self)
-        ensures { self.new ≡ after_restart self.old }
+        ensures { self.new ≡ switches_after_restart self.old }
     {
         self.power = true;
         raise(&mut self.counts.restarts);
     }
 
     pub fn count_evict(&mut self)
-        ensures { self.new ≡ after_evict self.old }
+        ensures { self.new ≡ switches_after_evict self.old }
     {
         raise(&mut self.counts.evicts);
     }

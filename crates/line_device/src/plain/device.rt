@@ -1,9 +1,9 @@
 ghost use Rattle.std.specs.Prelude.{◌≡◌, ◌<◌, ◌≤◌, ℕ, false, IsTrue, IsOk, IfOk, OnOk, OnErr, MatchResult, Some, None};
 ghost use Rattle.line_device.specs.Medium.{WritesBack, Shows, installed, zeros};
-ghost use Rattle.line_device.specs.Panel.{Start, SetsUp, outcome, after_arm_cut, after_arm_fail, after_evict, after_disarm, after_power_off};
+ghost use Rattle.line_device.specs.Panel.{Start, SetsUp, KeepsPower, outcome, after_arm_cut, after_arm_fail, after_evict, after_disarm, after_power_off};
 ghost use Rattle.line_device.specs.Device.{Restarted, Waited, setup_outcome};
 ghost use Rattle.line_device.specs.Cells.{kept};
-ghost use Rattle.line_device.specs.Switches.{cut_left, fail_left, after_restart, powered};
+ghost use Rattle.line_device.specs.Switches.{cut_left, fail_left, switches_after_restart, powered};
 ghost use Rattle.line_device.specs.Plain.{device_of, plain_medium, switches_of};
 ghost use Rattle.line_device.specs.declared.fault.ResetFault.TheVariants as setup;
 ghost use Rattle.line_device.specs.declared.fault.DeviceFault.TheVariants.{Poisoned};
@@ -20,6 +20,7 @@ impl LineDevice for Plain {
         requires words { unit ≡ 8 }
         ensures lines { OnOk result (WritesBack (zeros lines) (plain_medium self.new)) }
         ensures on { OnOk result (IsTrue (device_of self.new).panel.power) }
+        ensures stays_on { IsTrue (device_of self.old).panel.power → IsTrue (device_of self.new).panel.power }
         ensures sets_up { SetsUp (setup_outcome result) (device_of self.old).panel (device_of self.new).panel }
         ensures exactly { MatchResult result (λ _. plain_medium self.new ≡ zeros lines) (λ _. plain_medium self.new ≡ plain_medium self.old) }
         ensures never_failed { result ≡ Err setup.Failed → ⊥ }
@@ -39,6 +40,7 @@ impl LineDevice for Plain {
     fn install(&mut self, line: LineNo, told: &LineState) -> Result<(), ResetFault>
         requires { line.0 < (plain_medium self.old).count }
         ensures lines { OnOk result (WritesBack (installed (plain_medium self.old) line.0 told.now) (plain_medium self.new)) }
+        ensures power { (device_of self.new).panel.power ≡ (device_of self.old).panel.power }
         ensures sets_up { SetsUp (setup_outcome result) (device_of self.old).panel (device_of self.new).panel }
         ensures exactly { plain_medium self.new ≡ installed (plain_medium self.old) line.0 told.now }
         ensures never_fails { IsOk result }
@@ -53,6 +55,7 @@ impl LineDevice for Plain {
         ensures told { IfOk result (λ told. Shows (plain_medium self.old) line.0 told) }
         ensures never_poisoned { (n : _) → result ≡ Err (Poisoned n) → ⊥ }
         ensures lines { WritesBack (plain_medium self.old) (plain_medium self.new) }
+        ensures power { KeepsPower (outcome result) (device_of self.old).panel (device_of self.new).panel }
         ensures sets_up { SetsUp (outcome result) (device_of self.old).panel (device_of self.new).panel }
         ensures never_fails { IsOk result }
         ensures exactly { plain_medium self.new ≡ plain_medium self.old }
@@ -87,7 +90,7 @@ impl LineDevice for Plain {
             (λ _. Waited (device_of self.old) (device_of self.new)) }
         ensures exactly { plain_medium self.new ≡ kept choice (plain_medium self.old) }
         ensures never_refuses { IsOk result }
-        ensures switches { switches_of self.new ≡ after_restart (switches_of self.old) }
+        ensures switches { switches_of self.new ≡ switches_after_restart (switches_of self.old) }
     {
         self.cells.keep(choice);
         self.switches.restart();

@@ -5,7 +5,7 @@ ghost use Rattle.line_device.specs.Medium.{WritesBack, IsLine, Weakens, stored, 
 ghost use Rattle.line_device.specs.Panel.{Runs, outcome};
 ghost use Rattle.line_device.specs.Device.{Poisons};
 ghost use Rattle.line_device.specs.Cells.{ends_of, weakened};
-ghost use Rattle.line_device.specs.Switches.{end_of, after_call, after_persist};
+ghost use Rattle.line_device.specs.Switches.{end_of, after_call, switches_after_persist};
 ghost use Rattle.line_device.specs.Plain.{device_of, plain_medium, switches_of, OnlyCounts};
 ghost use Rattle.line_device.specs.contracts.plain.Plain.{the_row};
 
@@ -89,7 +89,7 @@ impl Lines for Plain {
             (λ _. plain_medium self.new ≡ persisted (plain_medium self.old) line.0)
             (λ _. plain_medium self.new ≡ plain_medium self.old) }
         ensures fires { outcome result ≡ end_of (switches_of self.old) }
-        ensures switches { switches_of self.new ≡ after_call (after_persist (switches_of self.old)) }
+        ensures switches { switches_of self.new ≡ after_call (switches_after_persist (switches_of self.old)) }
     {
         self.switches.count_persist();
         self.reach(line)?;
