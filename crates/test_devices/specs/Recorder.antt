@@ -10,3 +10,7 @@ recorded_panel state r = record (state r.inner).panel { starts = Some (map told_
 
 abbrev pub recorded : {D : Type 0} → (D → Device) → Recorder D → Device
 recorded state r = record { medium = (state r.inner).medium; panel = recorded_panel state r }
+
+-- the device behind the record
+abbrev pub recorded_device : {D : Type 0} → Recorder D → D
+recorded_device r = r.inner

@@ -5,11 +5,12 @@ ghost use Rattle.test_devices.specs.Starts.{told_start};
 ghost use Rattle.test_devices.specs.Recorder.{recorded};
 
 use crate::Start;
-use line_device::{
-    Choice, Counts, DeviceFault, LineDevice, LineList, LineState, Lines, Order, Peek, ResetFault,
-};
+use line_device::{LineList, Order, Peek};
 use nvm_base::{Buffer, LineNo};
 use std::alloc::{AllocError, Global};
+
+mod device;
+mod lines;
 
 /// A device of memory that keeps a record of its restarts and its last order. Else it is the inner device.
 #[derive(Drop)]
@@ -62,117 +63,6 @@ impl<D: Peek> Recorder<D> {
         let mut lines = LineList::new(self.alloc);
         lines.reserve(self.inner.lines())?;
         Ok(lines)
-    }
-}
-
-impl<D: Peek> Lines for Recorder<D> {
-    ghost state = { recorded D.state };
-
-    ghost load_leaves = { λ old new. D.load_leaves old.inner new.inner };
-
-    fn lines(&self) -> u64 {
-        self.inner.lines()
-    }
-
-    fn power(&self) -> bool {
-        self.inner.power()
-    }
-
-    fn counts(&self) -> Counts {
-        self.inner.counts()
-    }
-
-    fn is_bad(&self, line: LineNo) -> bool {
-        self.inner.is_bad(line)
-    }
-
-    fn is_weak(&self, line: LineNo) -> bool {
-        self.inner.is_weak(line)
-    }
-
-    fn load(&mut self, line: LineNo) -> Result<&[u8], DeviceFault> {
-        self.inner.load(line)
-    }
-
-    fn store(&mut self, line: LineNo, at: u64, bytes: &[u8]) -> Result<(), DeviceFault> {
-        self.inner.store(line, at, bytes)
-    }
-
-    fn persist(&mut self, line: LineNo) -> Result<(), DeviceFault> {
-        self.inner.persist(line)
-    }
-
-    fn clear(&mut self, line: LineNo) -> Result<(), DeviceFault> {
-        self.inner.clear(line)
-    }
-
-    fn poison(&mut self, line: LineNo) {
-        self.inner.poison(line);
-    }
-
-    fn weaken(&mut self, line: LineNo) -> Result<(), AllocError> {
-        self.inner.weaken(line)
-    }
-
-    ghost sound = { λ r. D.sound r.inner };
-}
-
-impl<D: Peek> LineDevice for Recorder<D> {
-    fn reset(&mut self, lines: u64, unit: u64) -> Result<(), ResetFault> {
-        self.inner.reset(lines, unit)
-    }
-
-    fn install(&mut self, line: LineNo, told: &LineState) -> Result<(), ResetFault> {
-        self.inner.install(line, told)
-    }
-
-    fn extract(&mut self, line: LineNo) -> Result<LineState, DeviceFault> {
-        self.inner.extract(line)
-    }
-
-    fn evict(&mut self, lines: u64) {
-        self.last = Some(Order::Evict(lines));
-        self.inner.evict(lines);
-    }
-
-    fn power_off(&mut self) {
-        self.inner.power_off();
-    }
-
-    fn restart(&mut self, choice: Choice) -> Result<(), AllocError> {
-        let mut lines = self.room()?;
-        self.inner.restart(choice)?;
-        look(&self.inner, &mut lines);
-        self.starts.push(Start { choice, lines }).unwrap();
-        Ok(())
-    }
-
-    fn arm_cut(&mut self, calls: u64) {
-        self.last = Some(Order::Cut(calls));
-        self.inner.arm_cut(calls);
-    }
-
-    fn arm_fail(&mut self, calls: u64) {
-        self.last = Some(Order::Fail(calls));
-        self.inner.arm_fail(calls);
-    }
-
-    fn disarm(&mut self) {
-        self.inner.disarm();
-    }
-
-    fn cut_armed(&self) -> bool {
-        self.inner.cut_armed()
-    }
-
-    fn fail_armed(&self) -> bool {
-        self.inner.fail_armed()
-    }
-}
-
-impl<D: Peek> Peek for Recorder<D> {
-    fn peek(&self, line: LineNo) -> LineState {
-        self.inner.peek(line)
     }
 }
 

@@ -41,6 +41,29 @@ fn byte<D: Peek>(device: &D) -> u8 {
     }
 }
 
+// Whether each call that may want memory is answered as one that had it, and a line becomes weak with bytes of its own.
+fn is_set_up<D: LineDevice>(device: &mut D) -> bool {
+    if device.reset(2, 8) != Ok(()) || device.lines() <= LINE.0 {
+        return false;
+    }
+    if device.install(LINE, &LineState::Healthy([3; 64])) != Ok(()) || device.lines() <= LINE.0 {
+        return false;
+    }
+    if device.weaken(LINE).is_err() || !cycle(device, Choice::Firsts) || device.lines() <= LINE.0 {
+        return false;
+    }
+    device.extract(LINE) == Ok(LineState::Weak([3; 64]))
+}
+
+#[test]
+fn devices_are_set_up_while_there_is_memory(rt: HostRuntime) -> Result<(), Fail> {
+    let alloc = rt.alloc();
+    assert!(rt; is_set_up(&mut Recorder::new(alloc, Plain::new(alloc))));
+    assert!(rt; is_set_up(&mut Fuse::new(Plain::new(alloc), 9)));
+    assert!(rt; is_set_up(&mut Recorder::new(alloc, Fuse::new(Plain::new(alloc), 9))));
+    Ok(())
+}
+
 #[test]
 fn a_recorder_tells_orders_and_starts(rt: HostRuntime) -> Result<(), Fail> {
     let mut device = Recorder::new(rt.alloc(), Plain::new(rt.alloc()));

@@ -1,6 +1,6 @@
 ghost use Rattle.std.specs.Prelude.{◌≡◌, ◌<◌, ◌≤◌, false, IsTrue, IfOk, OnOk, MatchResult};
 ghost use Rattle.line_device.specs.Medium.{WritesBack, Shows, installed, zeros};
-ghost use Rattle.line_device.specs.Panel.{Start, SetsUp, outcome, after_arm_cut, after_arm_fail, after_evict};
+ghost use Rattle.line_device.specs.Panel.{Start, SetsUp, KeepsPower, outcome, after_arm_cut, after_arm_fail, after_evict};
 ghost use Rattle.line_device.specs.Device.{Restarted, Waited, setup_outcome};
 ghost use Rattle.line_device.specs.declared.fault.DeviceFault.TheVariants.{Poisoned};
 ghost use Rattle.test_devices.specs.Fuse.{fused, passes_left};
@@ -17,6 +17,7 @@ impl<D: LineDevice> LineDevice for Fuse<D> {
         requires words { unit ≡ 8 }
         ensures lines { OnOk result (WritesBack (zeros lines) (fused D.state self.new).medium) }
         ensures on { OnOk result (IsTrue (fused D.state self.new).panel.power) }
+        ensures stays_on { IsTrue (fused D.state self.old).panel.power → IsTrue (fused D.state self.new).panel.power }
         ensures sets_up { SetsUp (setup_outcome result) (fused D.state self.old).panel (fused D.state self.new).panel }
         ensures left { passes_left self.new ≡ passes_left self.old }
     {
@@ -26,6 +27,7 @@ impl<D: LineDevice> LineDevice for Fuse<D> {
     fn install(&mut self, line: LineNo, told: &LineState) -> Result<(), ResetFault>
         requires { line.0 < (fused D.state self.old).medium.count }
         ensures lines { OnOk result (WritesBack (installed (fused D.state self.old).medium line.0 told.now) (fused D.state self.new).medium) }
+        ensures power { (fused D.state self.new).panel.power ≡ (fused D.state self.old).panel.power }
         ensures sets_up { SetsUp (setup_outcome result) (fused D.state self.old).panel (fused D.state self.new).panel }
         ensures left { passes_left self.new ≡ passes_left self.old }
     {
@@ -37,6 +39,7 @@ impl<D: LineDevice> LineDevice for Fuse<D> {
         ensures told { IfOk result (λ told. Shows (fused D.state self.old).medium line.0 told) }
         ensures never_poisoned { (n : _) → result ≡ Err (Poisoned n) → ⊥ }
         ensures lines { WritesBack (fused D.state self.old).medium (fused D.state self.new).medium }
+        ensures power { KeepsPower (outcome result) (fused D.state self.old).panel (fused D.state self.new).panel }
         ensures sets_up { SetsUp (outcome result) (fused D.state self.old).panel (fused D.state self.new).panel }
         ensures left { passes_left self.new ≡ passes_left self.old }
     {

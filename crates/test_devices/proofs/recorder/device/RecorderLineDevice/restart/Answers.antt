@@ -8,13 +8,13 @@ use Rattle.test_devices.specs.Starts.{told_start}
 use Rattle.test_devices.specs.Recorder.{recorded}
 use Rattle.test_devices.specs.declared.start.Start.{Start}
 use Rattle.test_devices.proofs.RecorderLemmas.{telling, restarted-telling}
-use Rattle.test_devices.proofs.recorder.RecorderLineDevice.restart.Goals as goal
+use Rattle.test_devices.proofs.recorder.device.RecorderLineDevice.restart.Goals as goal
 
-pub returns-in_err-lines : goal.returns-in_err-lines
-returns-in_err-lines g c = MatchResult-from_err c.from_residual.result _ _ c.from_residual.ensures.0 (λ _. waited_same _ _ c.in_err-lines.ensures.same)
+pub returns-in_err-lines-clause-restarted : goal.returns-in_err-lines-clause-restarted
+returns-in_err-lines-clause-restarted g c = MatchResult-from_err c.from_residual.result _ _ c.from_residual.ensures.0 (λ _. waited_same _ _ c.in_err-lines.ensures.same)
 
-pub returns : goal.returns
-returns g c =
+pub returns-clause-restarted : goal.returns-clause-restarted
+returns-clause-restarted g c =
     let choice = c.args.choice in
     let before = c.room.new.self in
     let start : Start = record { choice = choice; lines = c.look.new.lines } in
