@@ -13,12 +13,16 @@ pub record Device : Type 0 where
   pub medium : Medium
   pub panel : Panel
 
+-- this fault is Poisoned only where this line is bad, and names it
+abbrev pub IsPoison : ℕ → Bool → DeviceFault → Type 0
+IsPoison line bad (Poisoned n) = (n.0 ≡ line) × (bad ≡ true)
+IsPoison line bad Failed = Unit {0}
+IsPoison line bad PowerLost = Unit {0}
+
 -- a load, store or persist of this line is answered Poisoned exactly where the line is bad, and names it
 abbrev pub Poisons : {T : Type 0} → ℕ → Bool → Result T DeviceFault → Type 0
 Poisons line bad (Ok x) = bad ≡ false
-Poisons line bad (Err (Poisoned n)) = (n.0 ≡ line) × (bad ≡ true)
-Poisons line bad (Err Failed) = Unit {0}
-Poisons line bad (Err PowerLost) = Unit {0}
+Poisons line bad (Err fault) = IsPoison line bad fault
 
 -- how setting up ended
 abbrev pub setup_outcome : {T : Type 0} → Result T ResetFault → Outcome

@@ -47,17 +47,20 @@ abbrev pub told : Option (List Start) → List Start → Option (List Start)
 told before [] = before
 told before (start ∷ starts) = told (option_map (λ all. all ++ start ∷ []) before) starts
 
--- how a call ended, as far as the device goes
+-- how a call ended, as far as the device goes: it answered, Poisoned or not; it failed; the power went
 pub data Outcome : Type 0 where
   went : Outcome
   failed : Outcome
   lost : Outcome
 
+abbrev pub fault_outcome : DeviceFault → Outcome
+fault_outcome (Poisoned line) = went
+fault_outcome Failed = failed
+fault_outcome PowerLost = lost
+
 abbrev pub outcome : {T : Type 0} → Result T DeviceFault → Outcome
 outcome (Ok x) = went
-outcome (Err (Poisoned line)) = went
-outcome (Err Failed) = failed
-outcome (Err PowerLost) = lost
+outcome (Err fault) = fault_outcome fault
 
 -- A failure comes only where one was armed and `faults` rose, a loss of power only where a cut was armed and `cuts` rose.
 -- Power goes, `cuts` rises and what is armed ends in no other way.

@@ -8,7 +8,7 @@ mod renewal;
 mod tests;
 mod words;
 
-pub use interruption::Interruption;
+pub use interruption::{Interruption, stop_of};
 pub use lines::{clear_line, load_line, persist_line, persist_lines, store_line};
 pub use renewal::{renew_line, renew_lines};
 pub use words::{load_word, store_word};

@@ -6,7 +6,8 @@ ghost use Rattle.line_words.specs.Words.{IsOnly, IsGoodLine};
 ghost use Rattle.line_words.specs.Ending.{ended};
 
 use crate::Interruption;
-use line_device::{DeviceFault, Lines};
+use crate::interruption::stop_of;
+use line_device::Lines;
 use nvm_base::LineNo;
 
 /// Makes a line durable.
@@ -20,9 +21,7 @@ pub fn persist_line<L: Lines>(dev: &mut L, line: u64) -> Result<(), Interruption
 {
     match dev.persist(LineNo(line)) {
         Ok(()) => Ok(()),
-        Err(DeviceFault::Poisoned(_)) => unreachable!(),
-        Err(DeviceFault::Failed) => Err(Interruption::Failed),
-        Err(DeviceFault::PowerLost) => Err(Interruption::PowerLost),
+        Err(fault) => Err(stop_of(fault, line)),
     }
 }
 
@@ -53,9 +52,7 @@ pub fn clear_line<L: Lines>(dev: &mut L, line: u64) -> Result<(), Interruption>
 {
     match dev.clear(LineNo(line)) {
         Ok(()) => Ok(()),
-        Err(DeviceFault::Poisoned(_)) => unreachable!(),
-        Err(DeviceFault::Failed) => Err(Interruption::Failed),
-        Err(DeviceFault::PowerLost) => Err(Interruption::PowerLost),
+        Err(fault) => Err(stop_of(fault, line)),
     }
 }
 
@@ -71,9 +68,7 @@ pub fn store_line<L: Lines>(dev: &mut L, line: u64, bytes: &[u8]) -> Result<(), 
 {
     match dev.store(LineNo(line), 0, bytes) {
         Ok(()) => Ok(()),
-        Err(DeviceFault::Poisoned(_)) => unreachable!(),
-        Err(DeviceFault::Failed) => Err(Interruption::Failed),
-        Err(DeviceFault::PowerLost) => Err(Interruption::PowerLost),
+        Err(fault) => Err(stop_of(fault, line)),
     }
 }
 
@@ -92,8 +87,6 @@ pub fn load_line<L: Lines>(dev: &mut L, line: u64, out: &mut [u8]) -> Result<(),
             out.copy_from_slice(bytes);
             Ok(())
         }
-        Err(DeviceFault::Poisoned(_)) => unreachable!(),
-        Err(DeviceFault::Failed) => Err(Interruption::Failed),
-        Err(DeviceFault::PowerLost) => Err(Interruption::PowerLost),
+        Err(fault) => Err(stop_of(fault, line)),
     }
 }

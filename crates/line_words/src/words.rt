@@ -7,7 +7,8 @@ ghost use Rattle.line_words.specs.Words.{with_word};
 ghost use Rattle.line_words.specs.Ending.{ended};
 
 use crate::Interruption;
-use line_device::{DeviceFault, Lines};
+use crate::interruption::stop_of;
+use line_device::Lines;
 use nvm_base::LineNo;
 
 /// Word w of a line's bytes.
@@ -38,9 +39,7 @@ pub fn load_word<L: Lines>(dev: &mut L, place: u64) -> Result<u64, Interruption>
 {
     match dev.load(LineNo(place / 8)) {
         Ok(bytes) => Ok(word_in(bytes, place % 8)),
-        Err(DeviceFault::Poisoned(_)) => unreachable!(),
-        Err(DeviceFault::Failed) => Err(Interruption::Failed),
-        Err(DeviceFault::PowerLost) => Err(Interruption::PowerLost),
+        Err(fault) => Err(stop_of(fault, place / 8)),
     }
 }
 
@@ -55,8 +54,6 @@ pub fn store_word<L: Lines>(dev: &mut L, place: u64, value: u64) -> Result<(), I
 {
     match dev.store(LineNo(place / 8), 8 * (place % 8), &value.to_le_bytes()) {
         Ok(()) => Ok(()),
-        Err(DeviceFault::Poisoned(_)) => unreachable!(),
-        Err(DeviceFault::Failed) => Err(Interruption::Failed),
-        Err(DeviceFault::PowerLost) => Err(Interruption::PowerLost),
+        Err(fault) => Err(stop_of(fault, place / 8)),
     }
 }
