@@ -3,6 +3,7 @@
 
 mod interruption;
 mod lines;
+mod marks;
 mod renewal;
 #[cfg(test)]
 mod tests;
@@ -10,5 +11,6 @@ mod words;
 
 pub use interruption::{Interruption, stop_of};
 pub use lines::{clear_line, load_line, persist_line, persist_lines, store_line};
+pub use marks::{first_bad, first_weak};
 pub use renewal::{renew_line, renew_lines};
-pub use words::{load_word, store_word};
+pub use words::{load_word, load_words, store_word};

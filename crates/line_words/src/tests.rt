@@ -3,7 +3,8 @@ ghost use Rattle.std.specs.Prelude.{◌≡◌, ◌<◌, IsTrue};
 ghost use Rattle.line_words.specs.Words.{IsGoodLine};
 
 use crate::{
-    Interruption, load_line, load_word, persist_line, persist_lines, renew_lines, store_word,
+    Interruption, first_bad, first_weak, load_line, load_word, load_words, persist_line,
+    persist_lines, renew_lines, store_word,
 };
 use line_device::{Choice, LineDevice, LineState, Lines, Peek, Plain};
 use nvm_base::LineNo;
@@ -80,6 +81,46 @@ fn persisted_lines_survive_a_cut(rt: HostRuntime) -> Result<(), Fail> {
     let mut line = [0; 64];
     line[56..].copy_from_slice(&[8, 7, 6, 5, 4, 3, 2, 1]);
     assert_eq!(rt; out, line);
+    Ok(())
+}
+
+#[test]
+fn a_line_is_read_by_one_call(rt: HostRuntime) -> Result<(), Fail> {
+    let mut device = Plain::new(rt.alloc());
+    device.reset(3, 8)?;
+    for w in 0..8_u64 {
+        assert_eq!(rt;
+            store(&mut device, 8 + w, 0x0100_0000_0000_0000 + w),
+            Ok(())
+        );
+    }
+    let before = device.counts().calls;
+    assert!(rt; is_good(&device, 1));
+    let words = load_words(&mut device, 1);
+    assert_eq!(rt; device.counts().calls.checked_sub(before), Some(1));
+    assert_eq!(rt;
+        words,
+        Ok([0, 1, 2, 3, 4, 5, 6, 7].map(|w: u64| 0x0100_0000_0000_0000 + w))
+    );
+    Ok(())
+}
+
+#[test]
+fn the_lowest_bad_or_weak_line_is_found(rt: HostRuntime) -> Result<(), Fail> {
+    let mut device = Plain::new(rt.alloc());
+    device.reset(6, 8)?;
+    assert!(rt; device.lines() == 6);
+    for line in [1, 4, 5] {
+        device.poison(LineNo(line));
+        assert!(rt; device.lines() == 6);
+    }
+    device.weaken(LineNo(3))?;
+    assert!(rt; device.lines() == 6);
+    assert_eq!(rt; first_bad(&device, 2, 4), Some(2));
+    assert_eq!(rt; first_weak(&device, 2, 4), Some(1));
+    assert_eq!(rt; first_bad(&device, 2, 2), None);
+    assert_eq!(rt; first_weak(&device, 4, 2), None);
+    assert_eq!(rt; device.counts().calls, 0);
     Ok(())
 }
 

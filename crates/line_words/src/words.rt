@@ -1,5 +1,5 @@
-// Single words of lines that are neither bad nor weak. Each call here is one call of the device.
-ghost use Rattle.std.specs.Prelude.{◌≡◌, ◌+◌, ◌*◌, ◌/◌, ◌≤◌, IsTrue, IfOk, MatchResult, length};
+// The words of lines that are not bad. Each call here is one call of the device.
+ghost use Rattle.std.specs.Prelude.{◌≡◌, ◌+◌, ◌*◌, ◌/◌, ◌<◌, ◌≤◌, ℕ, IsTrue, IfOk, MatchResult, length, slice_index};
 ghost use Rattle.line_device.specs.Word.{word_at};
 ghost use Rattle.line_device.specs.Medium.{WritesBack, IsHealthy, last_image};
 ghost use Rattle.line_device.specs.Panel.{Runs};
@@ -8,25 +8,26 @@ ghost use Rattle.line_words.specs.Ending.{ended};
 
 use crate::Interruption;
 use crate::interruption::stop_of;
+use byteorder::{ByteOrder, LittleEndian};
 use line_device::Lines;
 use nvm_base::LineNo;
 
-/// Word w of a line's bytes.
+// Word w of a line's bytes.
 fn word_in(bytes: &[u8], w: u64) -> u64
     requires { 8 * w + 8 ≤ length bytes.now }
     ensures { result ≡ word_at bytes.now w }
 {
-    let at = 8 * w as usize;
-    u64::from_le_bytes([
-        bytes[at],
-        bytes[at + 1],
-        bytes[at + 2],
-        bytes[at + 3],
-        bytes[at + 4],
-        bytes[at + 5],
-        bytes[at + 6],
-        bytes[at + 7],
-    ])
+    LittleEndian::read_u64(&bytes[8 * w as usize..])
+}
+
+// All words of a line's bytes.
+fn words_in(bytes: &[u8]) -> [u64; 8]
+    requires { length bytes.now ≡ 64 }
+    ensures { (w : ℕ) → w < 8 → slice_index result w ≡ word_at bytes.now w }
+{
+    let mut words = [0; 8];
+    LittleEndian::read_u64_into(bytes, &mut words);
+    words
 }
 
 /// The word at a place, as last stored.
@@ -40,6 +41,20 @@ pub fn load_word<L: Lines>(dev: &mut L, place: u64) -> Result<u64, Interruption>
     match dev.load(LineNo(place / 8)) {
         Ok(bytes) => Ok(word_in(bytes, place % 8)),
         Err(fault) => Err(stop_of(fault, place / 8)),
+    }
+}
+
+/// The words of a line, as last stored, by one call.
+pub fn load_words<L: Lines>(dev: &mut L, line: u64) -> Result<[u64; 8], Interruption>
+    requires healthy { IsHealthy (L.state dev.old).medium line }
+    requires on { IsTrue (L.state dev.old).panel.power }
+    ensures words { IfOk result (λ words. (w : ℕ) → w < 8 → slice_index words w ≡ last_image (L.state dev.old).medium (8 * line + w)) }
+    ensures lines { WritesBack (L.state dev.old).medium (L.state dev.new).medium }
+    ensures runs { Runs 1 0 (ended result) (L.state dev.old).panel (L.state dev.new).panel }
+{
+    match dev.load(LineNo(line)) {
+        Ok(bytes) => Ok(words_in(bytes)),
+        Err(fault) => Err(stop_of(fault, line)),
     }
 }
 
