@@ -6,17 +6,17 @@ use Rattle.std.proofs.lemmas.Bool.{cases_lt}
 use Rattle.std.proofs.lemmas.Fmt.{decimal_digit, length-decimal-le_succ}
 use Rattle.std.specs.Fmt.{digits, digits_onto, digit_glyph}
 use Rattle.std.specs.List.{join_with_byte}
-use Rattle.nvm_base.specs.Data.{Run, size, onto, runs_in, run_text, data_text}
+use Rattle.nvm_base.specs.Data.{ByteRun, byte_count, onto, runs_in, run_text, data_text}
 
 -- the runs do not begin with that byte
-abbrev pub Apart : ℕ → List Run → Type 0
+abbrev pub Apart : ℕ → List ByteRun → Type 0
 Apart byte [] = Unit {0}
 Apart byte (r ∷ rs) = (byte == r.byte) ≡ false
 
 same : (n : ℕ) → (n == n) ≡ true
 same n = search (rules, tests)
 
-onto-apart : (byte : ℕ) (rs : List Run) → Apart byte rs → onto byte rs ≡ record { byte = byte; count = 1 } ∷ rs
+onto-apart : (byte : ℕ) (rs : List ByteRun) → Apart byte rs → onto byte rs ≡ record { byte = byte; count = 1 } ∷ rs
 onto-apart byte [] h = refl
 onto-apart byte (r ∷ rs) h = rw (h, onto) refl
 
@@ -28,13 +28,13 @@ runs_in-replicate (suc n) byte bytes h =
     ap (onto byte) (runs_in-replicate n byte bytes h) ∙ rw (same byte, onto) (ap (λ k. record { byte = byte; count = k } ∷ runs_in bytes) more)
 
 -- the first run of bytes has the first byte
-record Begins (byte : ℕ) (runs : List Run) : Type 0 where
-  pub first : Run
-  pub rest : List Run
+record Begins (byte : ℕ) (runs : List ByteRun) : Type 0 where
+  pub first : ByteRun
+  pub rest : List ByteRun
   pub is : runs ≡ first ∷ rest
   pub byte_is : first.byte ≡ byte
 
-Begins-onto : (byte : ℕ) (rs : List Run) → Begins byte (onto byte rs)
+Begins-onto : (byte : ℕ) (rs : List ByteRun) → Begins byte (onto byte rs)
 Begins-onto byte [] = record { first = record { byte = byte; count = 1 }; rest = []; is = refl; byte_is = refl }
 Begins-onto byte (r ∷ rs) = go (byte == r.byte) refl
   where
@@ -42,7 +42,7 @@ Begins-onto byte (r ∷ rs) = go (byte == r.byte) refl
     go true e = record { first = record r { count = r.count + 1 }; rest = rs; is = rw (e, onto) refl; byte_is = search (rules, tests) }
     go false e = record { first = record { byte = byte; count = 1 }; rest = r ∷ rs; is = rw (e, onto) refl; byte_is = refl }
 
-joined : (r : Run) (rs : List Run) (byte : ℕ) → Begins byte rs → join_with_byte 44 (map run_text (r ∷ rs)) ≡ run_text r ++ ((44 ∷ []) ++ join_with_byte 44 (map run_text rs))
+joined : (r : ByteRun) (rs : List ByteRun) (byte : ℕ) → Begins byte rs → join_with_byte 44 (map run_text (r ∷ rs)) ≡ run_text r ++ ((44 ∷ []) ++ join_with_byte 44 (map run_text rs))
 joined r rs byte b = rw b.is refl
 
 -- the text of bytes that begin with a whole run
@@ -80,11 +80,11 @@ data_text-none [] h = refl
 data_text-none (b ∷ bytes) h = absurd (omega arith)
 
 -- each run of bytes has one at least
-Counted : List Run → Type 0
+Counted : List ByteRun → Type 0
 Counted [] = Unit {0}
 Counted (r ∷ rs) = (1 ≤ r.count) × Counted rs
 
-Counted-onto : (byte : ℕ) (rs : List Run) → Counted rs → Counted (onto byte rs)
+Counted-onto : (byte : ℕ) (rs : List ByteRun) → Counted rs → Counted (onto byte rs)
 unfolding Counted
 Counted-onto byte [] h = (omega arith, tt)
 Counted-onto byte (r ∷ rs) h = go (byte == r.byte) refl
@@ -98,17 +98,17 @@ unfolding Counted
 Counted-runs_in [] = tt
 Counted-runs_in (b ∷ bytes) = Counted-onto b (runs_in bytes) (Counted-runs_in bytes)
 
-size-onto : (byte : ℕ) (rs : List Run) → size (onto byte rs) ≡ size rs + 1
-size-onto byte [] = refl
-size-onto byte (r ∷ rs) = go (byte == r.byte) refl
+byte_count-onto : (byte : ℕ) (rs : List ByteRun) → byte_count (onto byte rs) ≡ byte_count rs + 1
+byte_count-onto byte [] = refl
+byte_count-onto byte (r ∷ rs) = go (byte == r.byte) refl
   where
-    go : (b : Bool) → (byte == r.byte) ≡ b → size (onto byte (r ∷ rs)) ≡ size (r ∷ rs) + 1
+    go : (b : Bool) → (byte == r.byte) ≡ b → byte_count (onto byte (r ∷ rs)) ≡ byte_count (r ∷ rs) + 1
     go true e = rw (e, onto) (omega arith)
     go false e = rw (e, onto) (omega arith)
 
-size-runs_in : (bytes : List ℕ) → size (runs_in bytes) ≡ length bytes
-size-runs_in [] = refl
-size-runs_in (b ∷ bytes) = size-onto b (runs_in bytes) ∙ omega (arith, size-runs_in bytes)
+byte_count-runs_in : (bytes : List ℕ) → byte_count (runs_in bytes) ≡ length bytes
+byte_count-runs_in [] = refl
+byte_count-runs_in (b ∷ bytes) = byte_count-onto b (runs_in bytes) ∙ omega (arith, byte_count-runs_in bytes)
 
 length-digits_onto : (k n : ℕ) (ds : List ℕ) → length (digits_onto k 10 false n ds) ≤ k + length ds
 length-digits_onto zero n ds = omega arith
@@ -132,7 +132,7 @@ length-decimal n h =
     ]
 
 -- a run's text and a comma take at most three bytes for each of its own
-length-run_text : (r : Run) → 1 ≤ r.count → length (run_text r) + 1 ≤ 3 * r.count
+length-run_text : (r : ByteRun) → 1 ≤ r.count → length (run_text r) + 1 ≤ 3 * r.count
 length-run_text r some = go (r.count == 1) refl
   where
     go : (b : Bool) → (r.count == 1) ≡ b → length (run_text r) + 1 ≤ 3 * r.count
@@ -141,7 +141,7 @@ length-run_text r some = go (r.count == 1) refl
         let other : r.count ≢ 1 = search (rules, tests) in
         rw (e, run_text) (omega (arith, length-decimal r.count (omega arith)))
 
-length-joined : (rs : List Run) → Counted rs → length (join_with_byte 44 (map run_text rs)) ≤ 3 * size rs
+length-joined : (rs : List ByteRun) → Counted rs → length (join_with_byte 44 (map run_text rs)) ≤ 3 * byte_count rs
 unfolding Counted
 length-joined [] h = omega arith
 length-joined (r ∷ []) h = let l = length-run_text r h.0 in omega arith
@@ -153,6 +153,6 @@ length-joined (r ∷ q ∷ rs) h =
 pub length-data_text : (bytes : List ℕ) → length (data_text bytes) ≤ 3 * length bytes
 unfolding data_text
 length-data_text bytes =
-    let n = size-runs_in bytes in
+    let n = byte_count-runs_in bytes in
     let l = length-joined (runs_in bytes) (Counted-runs_in bytes) in
     omega arith

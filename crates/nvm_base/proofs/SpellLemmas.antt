@@ -5,19 +5,19 @@ use Rattle.std.specs.List.{slice_split}
 use Rattle.std.proofs.lemmas.List.Splits.{length-slice_split}
 use Rattle.nvm_base.specs.Numbers.{number_of}
 use Rattle.std.proofs.lemmas.List.{length-replicate}
-use Rattle.nvm_base.specs.Data.{Run, size, spelled, run, followed, pair_of, pairs_of, item_of, items_of, within, repeated, runs_of, data_within}
+use Rattle.nvm_base.specs.Data.{ByteRun, byte_count, spelled, run, followed, pair_of, pairs_of, item_of, items_of, within, repeated, runs_of, data_within}
 use Rattle.nvm_base.specs.Reading.{HasRead}
-use Rattle.nvm_base.proofs.ReadingLemmas.{size-append}
+use Rattle.nvm_base.proofs.ReadingLemmas.{byte_count-append}
 
 -- the runs, where there are some, have a byte
-pub Spells : Option (List Run) → Type 0
-Spells o = IfSome o (λ runs. 1 ≤ size runs)
+pub Spells : Option (List ByteRun) → Type 0
+Spells o = IfSome o (λ runs. 1 ≤ byte_count runs)
 
-Spells-followed : (o more : Option (List Run)) → Spells o → Spells (followed o more)
+Spells-followed : (o more : Option (List ByteRun)) → Spells o → Spells (followed o more)
 unfolding Spells
 Spells-followed None more h = tt
 Spells-followed (Some runs) None h = tt
-Spells-followed (Some runs) (Some more) h = omega (arith, size-append runs more)
+Spells-followed (Some runs) (Some more) h = omega (arith, byte_count-append runs more)
 
 Spells-pair : (o : Option ℕ) → Spells (option_map (λ byte. run byte 1) o)
 unfolding Spells
@@ -51,12 +51,12 @@ unfolding Spells
 Spells-items_of [] h = absurd (omega arith)
 Spells-items_of (item ∷ items) h = Spells-followed (item_of item) (items_of items) (Spells-item_of item)
 
-length-spelled : (runs : List Run) → length (spelled runs) ≡ size runs
+length-spelled : (runs : List ByteRun) → length (spelled runs) ≡ byte_count runs
 length-spelled [] = refl
 length-spelled (r ∷ runs) = omega (arith, length-append (replicate r.count r.byte) (spelled runs), length-replicate r.count r.byte, length-spelled runs)
 
 -- what is read has a byte at least
-pub read_some : (room : ℕ) (o : Option (List Run)) (bytes : List ℕ) (left : ℕ) → Spells o → IsSomeAnd o (λ runs. HasRead room runs bytes (Some left)) → 0 < length bytes
+pub read_some : (room : ℕ) (o : Option (List ByteRun)) (bytes : List ℕ) (left : ℕ) → Spells o → IsSomeAnd o (λ runs. HasRead room runs bytes (Some left)) → 0 < length bytes
 unfolding Spells
 read_some room None bytes left h r = absurd r
 read_some room (Some runs) bytes left h r = omega (arith, length-spelled runs, ap length r.1)
@@ -67,11 +67,11 @@ Spells-runs_of text =
     let items = slice_split (λ c. c == 44) text in
     Spells-items_of items (omega (arith, length-slice_split (λ c. c == 44) text))
 
-in_room : (room : ℕ) (runs : List Run) (bytes : List ℕ) (b : Bool) → nat_le (size runs) room ≡ b → within room (Some runs) ≡ Ok bytes → spelled runs ≡ bytes
+in_room : (room : ℕ) (runs : List ByteRun) (bytes : List ℕ) (b : Bool) → nat_le (byte_count runs) room ≡ b → within room (Some runs) ≡ Ok bytes → spelled runs ≡ bytes
 in_room room runs bytes true t e = let f = rw (t, within) at e in cc
 in_room room runs bytes false t e = let f = rw (t, within) at e in cc
 
-some_within : (room : ℕ) (o : Option (List Run)) (bytes : List ℕ) → Spells o → within room o ≡ Ok bytes → 0 < length bytes
+some_within : (room : ℕ) (o : Option (List ByteRun)) (bytes : List ℕ) → Spells o → within room o ≡ Ok bytes → 0 < length bytes
 unfolding Spells
 some_within room None bytes h e = absurd (cc)
 some_within room (Some runs) bytes h e =

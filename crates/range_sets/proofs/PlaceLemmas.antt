@@ -8,17 +8,17 @@ use Rattle.std.proofs.lemmas.List.Sums.{sum_by-cons}
 use Rattle.std.proofs.lemmas.Option.{same_Some, none-some}
 use Rattle.nvm_base.specs.declared.units.Span.{Span}
 use Rattle.nvm_base.specs.Units.{overlap, Holds}
-use Rattle.range_sets.specs.Ranges.{total_of, has_address, place, offset_of, is_disjoint}
+use Rattle.range_sets.specs.Ranges.{total_of, has_address, address_of, offset_of, is_disjoint}
 
 total_of-cons : (r : Span) (rs : List Span) → total_of (r ∷ rs) ≡ r.len + total_of rs
 total_of-cons r rs = sum_by-cons (λ (s : Span). s.len) r rs
 
 -- in the first range, or past it
-pub place_first : (r : Span) (rs : List Span) (offset : ℕ) → offset < r.len → place (r ∷ rs) offset ≡ Some (r.start + offset)
-place_first r rs offset within = ap (λ b. cond b (Some (r.start + offset)) (place rs (offset - r.len))) (lt-ltb offset r.len within)
+pub place_first : (r : Span) (rs : List Span) (offset : ℕ) → offset < r.len → address_of (r ∷ rs) offset ≡ Some (r.start + offset)
+place_first r rs offset within = ap (λ b. cond b (Some (r.start + offset)) (address_of rs (offset - r.len))) (lt-ltb offset r.len within)
 
-pub place_later : (r : Span) (rs : List Span) (offset : ℕ) → r.len ≤ offset → place (r ∷ rs) offset ≡ place rs (offset - r.len)
-place_later r rs offset past = ap (λ b. cond b (Some (r.start + offset)) (place rs (offset - r.len))) (le-ltb offset r.len past)
+pub place_later : (r : Span) (rs : List Span) (offset : ℕ) → r.len ≤ offset → address_of (r ∷ rs) offset ≡ address_of rs (offset - r.len)
+place_later r rs offset past = ap (λ b. cond b (Some (r.start + offset)) (address_of rs (offset - r.len))) (le-ltb offset r.len past)
 
 -- an address is in the range, or not
 pub has_from : (r : Span) (address : ℕ) → r.start ≤ address → address < r.start + r.len → has_address r address ≡ true
@@ -36,13 +36,13 @@ pub offset_later : (r : Span) (rs : List Span) (address : ℕ) → has_address r
 offset_later r rs address lacks = ap (λ b. cond b (Some (address - r.start)) (option_map (λ offset. r.len + offset) (offset_of rs address))) lacks
 
 -- a byte has an address exactly where it is one of the ranges'
-pub place_none : (ranges : List Span) (offset : ℕ) → total_of ranges ≤ offset → place ranges offset ≡ None
+pub place_none : (ranges : List Span) (offset : ℕ) → total_of ranges ≤ offset → address_of ranges offset ≡ None
 place_none [] offset past = refl
 place_none (r ∷ rs) offset past =
     let total = total_of-cons r rs in
     place_later r rs offset (omega arith) ∙ place_none rs (offset - r.len) (omega arith)
 
-pub place_some : (ranges : List Span) (offset : ℕ) → offset < total_of ranges → IsSome (place ranges offset)
+pub place_some : (ranges : List Span) (offset : ℕ) → offset < total_of ranges → IsSome (address_of ranges offset)
 place_some [] offset within = absurd (omega arith)
 place_some (r ∷ rs) offset within =
     let total = total_of-cons r rs in
@@ -52,7 +52,7 @@ place_some (r ∷ rs) offset within =
     ]
 
 -- the address of a byte is in one of the ranges
-pub place_in : (ranges : List Span) (offset address : ℕ) → place ranges offset ≡ Some address → All (λ r. has_address r address ≡ false) ranges → ⊥
+pub place_in : (ranges : List Span) (offset address : ℕ) → address_of ranges offset ≡ Some address → All (λ r. has_address r address ≡ false) ranges → ⊥
 place_in [] offset address found none = none-some address found
 place_in (r ∷ rs) offset address found none =
     elim (cases_lt offset r.len) [
@@ -69,7 +69,7 @@ offset_none (r ∷ rs) address none =
     offset_later r rs address (All-head (λ (s : Span). has_address s address ≡ false) r rs none)
     ∙ ap (option_map (λ offset. r.len + offset)) (offset_none rs address (All-tail (λ (s : Span). has_address s address ≡ false) r rs none))
 
-pub total_from_none : (ranges : List Span) (offset : ℕ) → place ranges offset ≡ None → total_of ranges ≤ offset
+pub total_from_none : (ranges : List Span) (offset : ℕ) → address_of ranges offset ≡ None → total_of ranges ≤ offset
 total_from_none ranges offset none =
     elim (cases_lt offset (total_of ranges)) [
       | inl within ↦ absurd (false≢true (sym (ap is_some none) ∙ place_some ranges offset within))
@@ -93,7 +93,7 @@ none_from_offset (r ∷ rs) address none =
     ]
 
 -- the byte at an address has that address
-pub place-offset_of : (ranges : List Span) (address offset : ℕ) → offset_of ranges address ≡ Some offset → place ranges offset ≡ Some address
+pub place-offset_of : (ranges : List Span) (address offset : ℕ) → offset_of ranges address ≡ Some offset → address_of ranges offset ≡ Some address
 place-offset_of [] address offset found = absurd (none-some offset found)
 place-offset_of (r ∷ rs) address offset found =
     elim (cases_Bool (has_address r address)) [
@@ -104,7 +104,7 @@ place-offset_of (r ∷ rs) address offset found =
       | inr lacks ↦
           let later = mapped_some (λ offset. r.len + offset) (offset_of rs address) offset (sym (offset_later r rs address lacks) ∙ found) in
           let rest : offset - r.len ≡ later.0 = omega (arith, later.2) in
-          place_later r rs offset (omega (arith, later.2)) ∙ ap (place rs) rest ∙ place-offset_of rs address later.0 later.1
+          place_later r rs offset (omega (arith, later.2)) ∙ ap (address_of rs) rest ∙ place-offset_of rs address later.0 later.1
     ]
 
 -- an address is in one range at most
@@ -128,7 +128,7 @@ disjoint_parts : (r : Span) (rs : List Span) → is_disjoint (r ∷ rs) ≡ true
 disjoint_parts r rs disjoint = and_parts (not (list_any (overlap r) rs)) (is_disjoint rs) disjoint
 
 -- the address of a byte leads back to it
-pub offset_of-place : (ranges : List Span) (offset address : ℕ) → is_disjoint ranges ≡ true → place ranges offset ≡ Some address → offset_of ranges address ≡ Some offset
+pub offset_of-place : (ranges : List Span) (offset address : ℕ) → is_disjoint ranges ≡ true → address_of ranges offset ≡ Some address → offset_of ranges address ≡ Some offset
 offset_of-place [] offset address apart found = absurd (none-some address found)
 offset_of-place (r ∷ rs) offset address apart found =
     elim (cases_lt offset r.len) [
@@ -156,11 +156,11 @@ not_held : (r : Span) (address : ℕ) → has_address r address ≡ false → ¬
 not_held r address lacks held = false≢true (sym lacks ∙ has_from r address held.from held.below)
 
 -- what the calls say of their answers
-pub place_is_none : (ranges : List Span) (offset : ℕ) (answer : Option ℕ) → answer ≡ place ranges offset → IsNone answer ↔ (total_of ranges ≤ offset)
+pub place_is_none : (ranges : List Span) (offset : ℕ) (answer : Option ℕ) → answer ≡ address_of ranges offset → IsNone answer ↔ (total_of ranges ≤ offset)
 place_is_none ranges offset None is = (λ _. total_from_none ranges offset (sym is), λ _. refl)
 place_is_none ranges offset (Some address) is = (λ none. absurd (false≢true (sym none)), λ past. absurd (none-some address (sym (is ∙ place_none ranges offset past))))
 
-pub place_leads_back : (ranges : List Span) (offset : ℕ) (answer : Option ℕ) → is_disjoint ranges ≡ true → answer ≡ place ranges offset → IfSome answer (λ address. offset_of ranges address ≡ Some offset)
+pub place_leads_back : (ranges : List Span) (offset : ℕ) (answer : Option ℕ) → is_disjoint ranges ≡ true → answer ≡ address_of ranges offset → IfSome answer (λ address. offset_of ranges address ≡ Some offset)
 place_leads_back ranges offset None disjoint is = tt
 place_leads_back ranges offset (Some address) disjoint is = offset_of-place ranges offset address disjoint (sym is)
 
@@ -168,6 +168,6 @@ pub offset_is_none : (ranges : List Span) (address : ℕ) (answer : Option ℕ) 
 offset_is_none ranges address None is = (λ _ k d within. not_held (get_or ranges k d) address (none_from_offset ranges address (sym is) k d within), λ _. refl)
 offset_is_none ranges address (Some offset) is = (λ none. absurd (false≢true (sym none)), λ lack. absurd (none-some offset (sym (is ∙ offset_none ranges address (λ k d within. lacks_from (get_or ranges k d) address (lack k d within))))))
 
-pub offset_leads_back : (ranges : List Span) (address : ℕ) (answer : Option ℕ) → answer ≡ offset_of ranges address → IfSome answer (λ offset. place ranges offset ≡ Some address)
+pub offset_leads_back : (ranges : List Span) (address : ℕ) (answer : Option ℕ) → answer ≡ offset_of ranges address → IfSome answer (λ offset. address_of ranges offset ≡ Some address)
 offset_leads_back ranges address None is = tt
 offset_leads_back ranges address (Some offset) is = place-offset_of ranges address offset (sym is)

@@ -15,7 +15,7 @@ pub record IsFirstOverlap (ranges : List Span) (index : ℕ) : Type 0 where
   pub with_it : is_disjoint (take (index + 1) ranges) ≡ false
 
 -- an empty range comes before any overlap; memory may always be short
-abbrev pub IsCause : List Span → RangeFault → Type 0
-IsCause ranges (Empty index) = first_empty ranges ≡ Some index
-IsCause ranges (Overlap index) = (first_empty ranges ≡ None) × IsFirstOverlap ranges index
-IsCause ranges Memory = Unit {0}
+abbrev pub IsRangeCause : List Span → RangeFault → Type 0
+IsRangeCause ranges (Empty index) = first_empty ranges ≡ Some index
+IsRangeCause ranges (Overlap index) = (first_empty ranges ≡ None) × IsFirstOverlap ranges index
+IsRangeCause ranges Memory = Unit {0}

@@ -22,9 +22,9 @@ abbrev pub has_address : Span → ℕ → Bool
 has_address range address = nat_le range.start address && nat_lt address (range.start + range.len)
 
 -- the address of a byte
-abbrev pub place : List Span → ℕ → Option ℕ
-place [] offset = None
-place (r ∷ rs) offset = if nat_lt offset r.len then Some (r.start + offset) else place rs (offset - r.len)
+abbrev pub address_of : List Span → ℕ → Option ℕ
+address_of [] offset = None
+address_of (r ∷ rs) offset = if nat_lt offset r.len then Some (r.start + offset) else address_of rs (offset - r.len)
 
 -- which byte is at an address
 abbrev pub offset_of : List Span → ℕ → Option ℕ

@@ -1,7 +1,7 @@
 ghost use Rattle.std.specs.Prelude.{◌≡◌, ◌^◌, ◌≤◌, ◌↔◌, All, IfErr, IfOk, IfSome, IsNone, None, OnOk, Some, true};
 ghost use Rattle.nvm_base.specs.Units.{Holds};
-ghost use Rattle.range_sets.specs.Faults.{IsCause, first_empty};
-ghost use Rattle.range_sets.specs.Ranges.{IsInReach, IsRangeSet, is_disjoint, offset_of, place, total_of};
+ghost use Rattle.range_sets.specs.Faults.{IsRangeCause, first_empty};
+ghost use Rattle.range_sets.specs.Ranges.{IsInReach, IsRangeSet, is_disjoint, offset_of, address_of, total_of};
 
 use crate::{faults, walk};
 use nvm_base::Span;
@@ -44,7 +44,7 @@ impl RangeSet {
         ensures ok { IfOk result (λ set. set ≡ ranges.now) }
         ensures set { IfOk result IsRangeSet }
         ensures right { OnOk result ((first_empty ranges.now ≡ None) × (is_disjoint ranges.now ≡ true)) }
-        ensures err { IfErr result (IsCause ranges.now) }
+        ensures err { IfErr result (IsRangeCause ranges.now) }
     {
         if let Some(index) = faults::first_empty(ranges) {
             return Err(RangeFault::Empty(index as u64));
@@ -78,7 +78,7 @@ impl RangeSet {
 
     /// The address of a byte.
     pub fn place(&self, offset: u64) -> Option<u64>
-        ensures place { result ≡ place self.now offset }
+        ensures place { result ≡ address_of self.now offset }
         ensures none { IsNone result ↔ (total_of self.now ≤ offset) }
         ensures inverse { IfSome result (λ address. offset_of self.now address ≡ Some offset) }
     {
@@ -89,7 +89,7 @@ impl RangeSet {
     pub fn offset_of(&self, address: u64) -> Option<u64>
         ensures offset { result ≡ offset_of self.now address }
         ensures none { IsNone result ↔ All (λ r. ¬ Holds r address) self.now }
-        ensures inverse { IfSome result (λ offset. place self.now offset ≡ Some address) }
+        ensures inverse { IfSome result (λ offset. address_of self.now offset ≡ Some address) }
     {
         walk::offset_of(self.ranges.as_slice(), address)
     }

@@ -1,6 +1,6 @@
 // Bytes and addresses, counted through ranges in their order.
 ghost use Rattle.std.specs.Prelude.{◌≡◌, ◌^◌, ◌≤◌, All};
-ghost use Rattle.range_sets.specs.Ranges.{IsInReach, offset_of, place, total_of};
+ghost use Rattle.range_sets.specs.Ranges.{IsInReach, offset_of, address_of, total_of};
 
 use nvm_base::Span;
 
@@ -14,7 +14,7 @@ pub fn total_of(ranges: &[Span]) -> u64
 
 pub(crate) fn place(ranges: &[Span], offset: u64) -> Option<u64>
     requires { All IsInReach ranges.now }
-    ensures { result ≡ place ranges.now offset }
+    ensures { result ≡ address_of ranges.now offset }
 {
     let mut rest = offset;
     for range in ranges {

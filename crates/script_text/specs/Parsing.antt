@@ -12,10 +12,10 @@ use Rattle.script_text.specs.Script.{Input, fitting, ranges_of, spans_of, with_r
 use Rattle.script_text.specs.Script.Input.{Skipped, Malformed, Asked}
 
 -- what came of words that ask for this
-abbrev pub Reads : {T : Type 0} → (T → Action) → Option Action → Result T LineFault → Type 0
-Reads of asks (Ok x) = asks ≡ Some (of x)
-Reads of asks (Err Syntax) = asks ≡ None
-Reads of asks (Err Memory) = Unit {0}
+abbrev pub ParsesAs : {T : Type 0} → (T → Action) → Option Action → Result T LineFault → Type 0
+ParsesAs of asks (Ok x) = asks ≡ Some (of x)
+ParsesAs of asks (Err Syntax) = asks ≡ None
+ParsesAs of asks (Err Memory) = Unit {0}
 
 -- what came of words that are pairs of numbers
 abbrev pub ReadsSpans : Option (List Span) → Result (Stock Span) LineFault → Type 0

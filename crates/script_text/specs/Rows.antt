@@ -9,7 +9,7 @@ use Rattle.script_text.specs.Script.Input.{Malformed, Asked}
 abbrev pub range : ℕ → ℕ → Span
 range start len = record { start = start; len = len }
 
-pub record Rows : Type 0 where
+pub record LineRows : Type 0 where
   pub one_range : line_input (codes "batomic 1 aa*512") ≡ Asked (BAtomic 1 (replicate 512 170))
   pub several_ranges : line_input (codes "bmulti 0 11*512 3 22*512")
       ≡ Asked (BMulti (range 0 512 ∷ range 3 512 ∷ []) (replicate 512 17 ++ replicate 512 34))

@@ -1,7 +1,7 @@
 ghost use Rattle.std.specs.Prelude.{◌≡◌, ℕ, List, IfErr, codes, option_map};
 ghost use Rattle.script_text.specs.Action.{Action, action_of};
 ghost use Rattle.script_text.specs.Action.Action.{BAtomic, BMulti, BScar, BWrite, Restart, VStore};
-ghost use Rattle.script_text.specs.Parsing.{IsLong, Reads};
+ghost use Rattle.script_text.specs.Parsing.{IsLong, ParsesAs};
 ghost use Rattle.script_text.specs.Script.{command_action, cut_action, data_action, number_action, plain_action, ranges_action, restart_action, span_action, spans_action, volume_action, words_of};
 
 use crate::LineFault;
@@ -34,7 +34,7 @@ pub enum Command {
 // The command of that name with those words after it.
 #[tactic(auto, unfolding(crate::specs::Script::command_action))]
 pub(crate) fn read_command(alloc: Global, name: &[u8], words: &[u8]) -> Result<Command, LineFault>
-    ensures command { Reads action_of (command_action name.now (words_of words.now)) result }
+    ensures command { ParsesAs action_of (command_action name.now (words_of words.now)) result }
     ensures memory { IfErr result (λ e. e ≡ LineFault.Memory → IsLong name.now) }
 {
     if name == b"bwrite".as_slice() {
@@ -87,7 +87,7 @@ fn read_volume(name: &[u8], words: &[u8]) -> Option<Command>
 }
 
 fn read_write(alloc: Global, words: &[u8]) -> Result<Command, LineFault>
-    ensures { Reads action_of (data_action BWrite (words_of words.now)) result }
+    ensures { ParsesAs action_of (data_action BWrite (words_of words.now)) result }
 {
     match read_data(alloc, words) {
         Ok((block, bytes)) => Ok(Command::BWrite { block, bytes }),
@@ -96,7 +96,7 @@ fn read_write(alloc: Global, words: &[u8]) -> Result<Command, LineFault>
 }
 
 fn read_store(alloc: Global, words: &[u8]) -> Result<Command, LineFault>
-    ensures { Reads action_of (data_action VStore (words_of words.now)) result }
+    ensures { ParsesAs action_of (data_action VStore (words_of words.now)) result }
 {
     match read_data(alloc, words) {
         Ok((offset, bytes)) => Ok(Command::VStore { offset, bytes }),
@@ -105,7 +105,7 @@ fn read_store(alloc: Global, words: &[u8]) -> Result<Command, LineFault>
 }
 
 fn read_scar(alloc: Global, words: &[u8]) -> Result<Command, LineFault>
-    ensures { Reads action_of (spans_action BScar (words_of words.now)) result }
+    ensures { ParsesAs action_of (spans_action BScar (words_of words.now)) result }
 {
     match read_spans(alloc, words) {
         Ok(ranges) => Ok(Command::BScar { ranges }),
@@ -114,7 +114,7 @@ fn read_scar(alloc: Global, words: &[u8]) -> Result<Command, LineFault>
 }
 
 fn read_atomic(alloc: Global, words: &[u8]) -> Result<Command, LineFault>
-    ensures { Reads action_of (data_action BAtomic (words_of words.now)) result }
+    ensures { ParsesAs action_of (data_action BAtomic (words_of words.now)) result }
 {
     match read_data(alloc, words) {
         Ok((block, bytes)) => Ok(Command::BAtomic { block, bytes }),
@@ -123,7 +123,7 @@ fn read_atomic(alloc: Global, words: &[u8]) -> Result<Command, LineFault>
 }
 
 fn read_multi(alloc: Global, words: &[u8]) -> Result<Command, LineFault>
-    ensures { Reads action_of (ranges_action BMulti (words_of words.now)) result }
+    ensures { ParsesAs action_of (ranges_action BMulti (words_of words.now)) result }
 {
     match read_ranges(alloc, words) {
         Ok((ranges, bytes)) => Ok(Command::BMulti { ranges, bytes }),
@@ -133,7 +133,7 @@ fn read_multi(alloc: Global, words: &[u8]) -> Result<Command, LineFault>
 
 // A number and DATA.
 fn read_data(alloc: Global, words: &[u8]) -> Result<(u64, Bytes), LineFault>
-    ensures { (make : ℕ → List ℕ → Action) → Reads (λ p. make p.0 p.1.items) (data_action make (words_of words.now)) result }
+    ensures { (make : ℕ → List ℕ → Action) → ParsesAs (λ p. make p.0 p.1.items) (data_action make (words_of words.now)) result }
 {
     let Some((number, text)) = two_words(words) else {
         return Err(LineFault::Syntax);

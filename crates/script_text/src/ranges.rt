@@ -2,7 +2,7 @@
 ghost use Rattle.std.specs.Prelude.{ℕ, ◌≤◌, List};
 ghost use Rattle.nvm_base.specs.declared.units.Span.{Span as Stretch};
 ghost use Rattle.script_text.specs.Action.{Action};
-ghost use Rattle.script_text.specs.Parsing.{FindsRange, Reads, ReadsRanges};
+ghost use Rattle.script_text.specs.Parsing.{FindsRange, ParsesAs, ReadsRanges};
 ghost use Rattle.script_text.specs.Script.{fitting, ranges_action, ranges_of, words_of};
 
 use crate::LineFault;
@@ -13,7 +13,7 @@ use std::alloc::Global;
 // At least one pair: the ranges with their lengths in bytes, and the bytes of all.
 pub(crate) fn read_ranges(alloc: Global, words: &[u8]) -> Result<(Spans, Bytes), LineFault>
     ensures { (make : List Stretch → List ℕ → Action)
-        → Reads (λ p. make p.0.items p.1.items) (ranges_action make (words_of words.now)) result }
+        → ParsesAs (λ p. make p.0.items p.1.items) (ranges_action make (words_of words.now)) result }
 {
     match next_word(words) {
         Some(_) => read_all_ranges(alloc, words),

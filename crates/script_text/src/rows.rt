@@ -1,6 +1,6 @@
-ghost use Rattle.script_text.specs.Rows.{Rows};
+ghost use Rattle.script_text.specs.Rows.{LineRows};
 
 /// What the worked lines ask for.
 pub fn worked_lines()
-    ensures { Rows }
+    ensures { LineRows }
 {}

@@ -2,7 +2,7 @@
 ghost use Rattle.std.specs.Prelude.{List};
 ghost use Rattle.nvm_base.specs.declared.units.Span.{Span as Stretch};
 ghost use Rattle.script_text.specs.Action.{Action};
-ghost use Rattle.script_text.specs.Parsing.{FindsSpan, Reads, ReadsSpans};
+ghost use Rattle.script_text.specs.Parsing.{FindsSpan, ParsesAs, ReadsSpans};
 ghost use Rattle.script_text.specs.Script.{spans_action, spans_of, words_of};
 
 use crate::LineFault;
@@ -12,7 +12,7 @@ use std::alloc::Global;
 
 // At least one pair.
 pub(crate) fn read_spans(alloc: Global, words: &[u8]) -> Result<Spans, LineFault>
-    ensures { (make : List Stretch → Action) → Reads (λ spans. make spans.items) (spans_action make (words_of words.now)) result }
+    ensures { (make : List Stretch → Action) → ParsesAs (λ spans. make spans.items) (spans_action make (words_of words.now)) result }
 {
     match next_word(words) {
         Some(_) => read_all_spans(alloc, words),

@@ -5,7 +5,7 @@ use Rattle.std.proofs.lemmas.Option.{none-some}
 use Rattle.word_tables.specs.declared.geometry.Geometry.{Geometry}
 use Rattle.word_tables.specs.Bounds.{IsValid}
 use Rattle.word_tables.specs.Layout.{meta_lines, total_lines}
-use Rattle.word_tables.specs.Superblock.{mark, superblock_word, geometry_of, is_within, first_wrong_word, IsSuperblock, IsTold}
+use Rattle.word_tables.specs.Superblock.{mark, superblock_word, geometry_of, is_within, first_wrong_word, IsSuperblock, TellsItsSizes}
 
 all_right : (a b c d e f g h : Bool) → a ≡ true → b ≡ true → c ≡ true → d ≡ true → e ≡ true → f ≡ true → g ≡ true → h ≡ true
     → position not (a ∷ b ∷ c ∷ d ∷ e ∷ f ∷ g ∷ h ∷ []) ≡ None
@@ -51,7 +51,7 @@ each_word word a b c d e (suc (suc (suc (suc (suc (suc zero)))))) lt = d
 each_word word a b c d e (suc (suc (suc (suc (suc (suc (suc zero))))))) lt = e
 each_word word a b c d e (suc (suc (suc (suc (suc (suc (suc (suc n)))))))) lt = absurd (omega arith)
 
-pub told : (geo : Geometry) → IsValid geo → IsTold geo
+pub told : (geo : Geometry) → IsValid geo → TellsItsSizes geo
 unfolding first_wrong_word
 told geo valid = record {
   sizes = refl;

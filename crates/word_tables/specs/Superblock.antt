@@ -40,6 +40,6 @@ pub record IsSuperblock (lines : ℕ) (word : ℕ → ℕ) : Type 0 where
   pub words : (w : ℕ) → w < 8 → word w ≡ superblock_word (geometry_of word) w
 
 -- the superblock of these sizes tells them, and is right on a medium of all its lines
-pub record IsTold (geo : Geometry) : Type 0 where
+pub record TellsItsSizes (geo : Geometry) : Type 0 where
   pub sizes : geometry_of (superblock_word geo) ≡ geo
   pub right : first_wrong_word (total_lines geo) (superblock_word geo) ≡ None

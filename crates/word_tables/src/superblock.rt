@@ -1,7 +1,7 @@
 // The superblock: the words of the first line, by which a mount knows the medium.
 ghost use Rattle.std.specs.Prelude.{◌≡◌, ◌↔◌, ℕ, None};
 ghost use Rattle.word_tables.specs.Bounds.{IsValid};
-ghost use Rattle.word_tables.specs.Superblock.{IsSuperblock, IsTold, first_wrong_word, superblock_words};
+ghost use Rattle.word_tables.specs.Superblock.{IsSuperblock, TellsItsSizes, first_wrong_word, superblock_words};
 
 use crate::Geometry;
 
@@ -35,6 +35,6 @@ impl Geometry {
 
 /// A law: a superblock tells its sizes, and words of which none is wrong are a superblock.
 pub fn superblocks_tell_their_sizes()
-    ensures told { (geo : Geometry) → IsValid geo → IsTold geo }
+    ensures told { (geo : Geometry) → IsValid geo → TellsItsSizes geo }
     ensures right { (lines : ℕ) (word : ℕ → ℕ) → first_wrong_word lines word ≡ None → IsSuperblock lines word }
 {}
