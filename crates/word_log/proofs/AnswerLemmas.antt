@@ -1,8 +1,10 @@
 -- Answers that are handed on.
 use Rattle.std.proofs.Common.{◌≡◌, ℕ, Option, Some, None, Result, Ok, Err, MatchOption, IsErrAnd, sym, ◌∙◌, ap, subst}
 use Rattle.word_log.specs.declared.fault.LogFault.{LogFault}
-use Rattle.word_log.specs.declared.fault.LogFault.TheVariants.{Poisoned, Bad, Failed, PowerLost, Memory}
-use Rattle.word_log.specs.Mount.{IsTold, Tells}
+use Rattle.line_words.specs.Told.{Told, IfRefused}
+use Rattle.line_words.specs.Told.Told.{Refuses, Stops, Starves}
+use Rattle.word_log.specs.Mount.{Finding, IsPlace, TellsPlace, says}
+use Rattle.word_log.specs.Mount.Finding.{bad_line, wrong_word}
 
 pub pair_same : (a b c d : ℕ) → a ≡ b → c ≡ d → ◌≡◌ {A = ℕ × ℕ} (a, c) (b, d)
 pair_same a b c d first second = ap (λ x. (x, c)) first ∙ ap (λ y. (b, y)) second
@@ -12,13 +14,12 @@ match_option-then None h none some = none h
 match_option-then (Some x) h none some = some x h
 
 -- a stop tells nothing, whatever is wrong
-told-stopped : (wrong : Option ℕ) (fault : LogFault) → IsTold None fault → IsTold wrong fault
-told-stopped wrong (Poisoned line) h = h
-told-stopped wrong (Bad place) h = cc
-told-stopped wrong Failed h = tt
-told-stopped wrong PowerLost h = tt
-told-stopped wrong Memory h = tt
+told-stopped : (wrong : Option ℕ) (told : Told Finding) → IfRefused told (IsPlace None) → IfRefused told (IsPlace wrong)
+told-stopped wrong (Refuses (bad_line line)) h = h
+told-stopped wrong (Refuses (wrong_word place)) h = cc
+told-stopped wrong (Stops stop) h = tt
+told-stopped wrong Starves h = tt
 
-pub tells-handed_on : {T : Type 0} (wrong : Option ℕ) (r : Result T LogFault) (fault : LogFault) → IsErrAnd r (λ e. e ≡ fault) → IsTold None fault → Tells wrong r
+pub tells-handed_on : {T : Type 0} (wrong : Option ℕ) (r : Result T LogFault) (fault : LogFault) → IsErrAnd r (λ e. e ≡ fault) → IfRefused (says fault) (IsPlace None) → TellsPlace wrong r
 tells-handed_on wrong (Ok x) fault is told = absurd is
-tells-handed_on wrong (Err e) fault is told = subst (IsTold wrong) (sym is) (told-stopped wrong fault told)
+tells-handed_on wrong (Err e) fault is told = subst (λ f. IfRefused (says f) (IsPlace wrong)) (sym is) (told-stopped wrong (says fault) told)

@@ -4,7 +4,6 @@ pub mod Replay
 pub mod Rest
 pub mod State
 pub mod Outcomes
-pub mod Stopped
 pub mod Mount
 pub mod Lists
 pub mod Examples

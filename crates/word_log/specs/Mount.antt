@@ -1,38 +1,51 @@
 -- What the answers of a mount say of the device as it was.
-use Rattle.std.specs.Prelude.{◌≡◌, ℕ, true, Option, Some, None, Result, Ok, Err}
+use Rattle.std.specs.Prelude.{◌≡◌, ℕ, true, Option, Some, None, Result}
 use Rattle.line_device.specs.Medium.{Medium, last_image}
+use Rattle.line_words.specs.declared.interruption.Interruption.TheVariants as stop
+use Rattle.line_words.specs.Told.{Told, Explains}
+use Rattle.line_words.specs.Told.Told.{Refuses, Stops, Starves}
 use Rattle.word_log.specs.declared.area.LogArea.{LogArea}
 use Rattle.word_log.specs.declared.fault.LogFault.{LogFault}
 use Rattle.word_log.specs.declared.fault.LogFault.TheVariants.{Poisoned, Bad, Failed, PowerLost, Memory}
 use Rattle.word_log.specs.Area.{IsLineOf, IsWhole}
 use Rattle.word_log.specs.Replay.{first_wrong}
 
--- this place is what is wrong with a log; a stop says nothing of it
-abbrev pub IsTold : Option ℕ → LogFault → Type 0
-IsTold wrong (Poisoned line) = ⊥
-IsTold wrong (Bad place) = wrong ≡ Some place
-IsTold wrong Failed = Unit {0}
-IsTold wrong PowerLost = Unit {0}
-IsTold wrong Memory = Unit {0}
+-- what keeps metadata from being used: a bad line, or a word that is not as it has to be
+pub data Finding : Type 0 where
+  bad_line : ℕ → Finding
+  wrong_word : ℕ → Finding
 
--- nothing is wrong with a log, or it is told what is
-abbrev pub Tells : {T : Type 0} → Option ℕ → Result T LogFault → Type 0
-Tells wrong (Ok x) = wrong ≡ None
-Tells wrong (Err fault) = IsTold wrong fault
+-- what a fault tells
+abbrev pub says : LogFault → Told Finding
+says (Poisoned line) = Refuses (bad_line line.0)
+says (Bad place) = Refuses (wrong_word place)
+says Failed = Stops stop.Failed
+says PowerLost = Stops stop.PowerLost
+says Memory = Starves
 
--- The lines are good and the log is valid, a line is bad, or the lines are good and this is the log's first wrong place.
-abbrev pub Finds : {T : Type 0} → LogArea → Medium → Result T LogFault → Type 0
-Finds a m (Ok x) = IsWhole a m × (first_wrong a (last_image m) ≡ None)
-Finds a m (Err (Poisoned line)) = IsLineOf a line.0 × (m.is_bad line.0 ≡ true)
-Finds a m (Err (Bad place)) = IsWhole a m × (first_wrong a (last_image m) ≡ Some place)
-Finds a m (Err Failed) = Unit {0}
-Finds a m (Err PowerLost) = Unit {0}
-Finds a m (Err Memory) = Unit {0}
+-- the finding is that place
+abbrev pub IsPlace : Option ℕ → Finding → Type 0
+IsPlace wrong (bad_line line) = ⊥
+IsPlace wrong (wrong_word place) = wrong ≡ Some place
+
+-- nothing is wrong with a log, or it is told which place is
+abbrev pub TellsPlace : {T : Type 0} → Option ℕ → Result T LogFault → Type 0
+TellsPlace wrong result = Explains says (wrong ≡ None) (IsPlace wrong) result
+
+-- so it is with log and home: the line is one of theirs and bad; or none is, and this is the log's first wrong place
+abbrev pub IsFound : LogArea → Medium → Finding → Type 0
+IsFound a m (bad_line line) = IsLineOf a line × (m.is_bad line ≡ true)
+IsFound a m (wrong_word place) = IsWhole a m × (first_wrong a (last_image m) ≡ Some place)
+
+-- the lines are good and the log is valid, or it is told what is wrong
+abbrev pub LogFinds : {T : Type 0} → LogArea → Medium → Result T LogFault → Type 0
+LogFinds a m result = Explains says (IsWhole a m × (first_wrong a (last_image m) ≡ None)) (IsFound a m) result
 
 -- the device did what it was asked, but there is no log to mount, or no memory
+abbrev pub IsUnstopped : Told Finding → Type 0
+IsUnstopped (Refuses finding) = Unit {0}
+IsUnstopped (Stops stop) = ⊥
+IsUnstopped Starves = Unit {0}
+
 abbrev pub IsRefusal : LogFault → Type 0
-IsRefusal (Poisoned line) = Unit {0}
-IsRefusal (Bad place) = Unit {0}
-IsRefusal Failed = ⊥
-IsRefusal PowerLost = ⊥
-IsRefusal Memory = Unit {0}
+IsRefusal fault = IsUnstopped (says fault)

@@ -20,12 +20,13 @@ pub enum LogFault {
 }
 
 impl From<Interruption> for LogFault {
-    ghost use Rattle.word_log.specs.Stopped.{as_log_fault};
+    ghost use Rattle.line_words.specs.Told.Told.{Stops};
+    ghost use Rattle.word_log.specs.Mount.{says};
 
-    ghost from_gives = { λ fault log. log ≡ as_log_fault fault };
+    ghost from_gives = { λ stop fault. says fault ≡ Stops stop };
 
-    fn from(fault: Interruption) -> LogFault {
-        match fault {
+    fn from(stop: Interruption) -> LogFault {
+        match stop {
             Interruption::Failed => LogFault::Failed,
             Interruption::PowerLost => LogFault::PowerLost,
         }

@@ -7,7 +7,7 @@ ghost use Rattle.word_log.specs.Replay.{listed, replayed, first_wrong, Replays};
 ghost use Rattle.line_words.specs.Words.{WritesBackOutside};
 ghost use Rattle.word_log.specs.Rest.{IsAtRest, IsReached, EachImage};
 ghost use Rattle.line_words.specs.Words.{IsOnly};
-ghost use Rattle.word_log.specs.Mount.{Finds, IsRefusal};
+ghost use Rattle.word_log.specs.Mount.{IsRefusal, LogFinds};
 ghost use Rattle.word_log.specs.Outcomes.{log_outcome};
 ghost use Rattle.line_words.specs.Ending.{ended};
 
@@ -53,7 +53,7 @@ pub fn mount<L: Lines>(alloc: Global, dev: &mut L, area: LogArea) -> Result<Log,
     ensures log { IfOk result (λ log. log ≡ record { area = area; settled = true }) }
     ensures ok { OnOk result (IsAtRest area (L.state dev.new).medium
         (replayed area (last_image (L.state dev.old).medium))) }
-    ensures finds { Finds area (L.state dev.old).medium result }
+    ensures finds { LogFinds area (L.state dev.old).medium result }
     ensures images { EachImage area (L.state dev.new).medium (IsReached area (L.state dev.old).medium) }
     ensures refused { IfErr result (λ fault. IsRefusal fault
         → WritesBack (L.state dev.old).medium (L.state dev.new).medium) }
@@ -75,7 +75,7 @@ pub fn mount<L: Lines>(alloc: Global, dev: &mut L, area: LogArea) -> Result<Log,
 pub fn inspect<L: Lines>(alloc: Global, dev: &mut L, area: LogArea) -> Result<(), LogFault>
     requires on { IsTrue (L.state dev.old).panel.power }
     requires fits { Fits area (L.state dev.old).medium }
-    ensures finds { Finds area (L.state dev.old).medium result }
+    ensures finds { LogFinds area (L.state dev.old).medium result }
     ensures lines { WritesBack (L.state dev.old).medium (L.state dev.new).medium }
     ensures runs { Runs (2 * area.cap + 2) 0 (log_outcome result) (L.state dev.old).panel (L.state dev.new).panel }
 {

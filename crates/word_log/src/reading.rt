@@ -5,7 +5,7 @@ ghost use Rattle.line_device.specs.Panel.{Runs};
 ghost use Rattle.word_log.specs.Area.{Fits, IsWhole, is_home, gate_place, count_place, entry_place};
 ghost use Rattle.word_log.specs.Changes.{lists};
 ghost use Rattle.word_log.specs.Replay.{entries, listed, wrong_entry, wrong_at, first_wrong};
-ghost use Rattle.word_log.specs.Mount.{Tells, Finds};
+ghost use Rattle.word_log.specs.Mount.{LogFinds, TellsPlace};
 ghost use Rattle.word_log.specs.Outcomes.{log_outcome};
 ghost use Rattle.line_words.specs.Ending.{ended};
 
@@ -48,7 +48,7 @@ fn read_entries<L: Lines>(
     requires fits { Fits area (L.state dev.old).medium }
     requires whole { IsWhole area (L.state dev.old).medium }
     requires on { IsTrue (L.state dev.old).panel.power }
-    ensures stops { Tells None result }
+    ensures stops { TellsPlace None result }
     ensures entries { IfOk result (λ changes. changes.items
         ≡ entries (last_image (L.state dev.old).medium) (entry_place area 0) count) }
     ensures lines { WritesBack (L.state dev.old).medium (L.state dev.new).medium }
@@ -94,7 +94,7 @@ fn read_open<L: Lines>(alloc: Global, dev: &mut L, area: LogArea) -> Result<Chan
     requires fits { Fits area (L.state dev.old).medium }
     requires whole { IsWhole area (L.state dev.old).medium }
     requires on { IsTrue (L.state dev.old).panel.power }
-    ensures tells { Tells (wrong_at 1 area (last_image (L.state dev.old).medium)) result }
+    ensures tells { TellsPlace (wrong_at 1 area (last_image (L.state dev.old).medium)) result }
     ensures changes { IfOk result (λ changes. changes.items ≡ entries (last_image (L.state dev.old).medium)
         (entry_place area 0) (last_image (L.state dev.old).medium (count_place area))) }
     ensures lines { WritesBack (L.state dev.old).medium (L.state dev.new).medium }
@@ -116,7 +116,7 @@ fn read_whole<L: Lines>(alloc: Global, dev: &mut L, area: LogArea) -> Result<Cha
     requires fits { Fits area (L.state dev.old).medium }
     requires whole { IsWhole area (L.state dev.old).medium }
     requires on { IsTrue (L.state dev.old).panel.power }
-    ensures tells { Tells (first_wrong area (last_image (L.state dev.old).medium)) result }
+    ensures tells { TellsPlace (first_wrong area (last_image (L.state dev.old).medium)) result }
     ensures changes { IfOk result (λ changes. changes.items ≡ listed area (last_image (L.state dev.old).medium)) }
     ensures lines { WritesBack (L.state dev.old).medium (L.state dev.new).medium }
     ensures runs { Runs (2 * area.cap + 2) 0 (log_outcome result) (L.state dev.old).panel (L.state dev.new).panel }
@@ -132,7 +132,7 @@ fn read_whole<L: Lines>(alloc: Global, dev: &mut L, area: LogArea) -> Result<Cha
 pub fn read_log<L: Lines>(alloc: Global, dev: &mut L, area: LogArea) -> Result<Changes, LogFault>
     requires fits { Fits area (L.state dev.old).medium }
     requires on { IsTrue (L.state dev.old).panel.power }
-    ensures finds { Finds area (L.state dev.old).medium result }
+    ensures finds { LogFinds area (L.state dev.old).medium result }
     ensures changes { IfOk result (λ changes. changes.items ≡ listed area (last_image (L.state dev.old).medium)) }
     ensures lines { WritesBack (L.state dev.old).medium (L.state dev.new).medium }
     ensures runs { Runs (2 * area.cap + 2) 0 (log_outcome result) (L.state dev.old).panel (L.state dev.new).panel }

@@ -153,7 +153,11 @@ fn a_commit_gives_its_words_their_values_together(rt: HostRuntime) -> Result<(),
 fn a_mount_replays_an_open_log(rt: HostRuntime) -> Result<(), Fail> {
     let mut dev = Plain::new(rt.alloc());
     dev.reset(3, 8)?;
+    assert!(rt; is_ready(&dev));
+    assert_eq!(rt; inspect(rt.alloc(), &mut dev, SMALL), Ok(()));
     assert!(rt; write(&mut dev, &OPEN));
+    assert!(rt; is_ready(&dev));
+    assert_eq!(rt; inspect(rt.alloc(), &mut dev, SMALL), Ok(()));
     let mounted = mount_until(rt.alloc(), &mut dev, Choice::Lasts, 1000);
     assert_eq!(rt; mounted, Ok(()));
     assert_eq!(rt; home(&dev), changed_line());

@@ -3,7 +3,7 @@ use Rattle.line_device.specs.Medium.{last_image}
 use Rattle.line_device.proofs.WriteBackLemmas.{write_back-trans}
 use Rattle.word_log.specs.Area.{gate_place, count_place, entry_place}
 use Rattle.word_log.specs.Replay.{wrong_at, entries}
-use Rattle.word_log.specs.Mount.{Tells}
+use Rattle.word_log.specs.Mount.{TellsPlace}
 use Rattle.line_words.proofs.FrameLemmas.{last_image-write_back}
 use Rattle.word_log.proofs.ReadLemmas.{first_wrong-gate, wrong_at-other, listed-closed, listed-open}
 use Rattle.word_log.proofs.reading.read_whole.Goals as goal
@@ -24,7 +24,7 @@ pub returns-in-1-clause-tells : goal.returns-in-1-clause-tells
 returns-in-1-clause-tells g c =
     let old = last_image (g.L.Lines.state c.args.dev.now).medium in
     let gate : old (gate_place c.args.area) ≡ 1 = ap old (sym c.gate_place.ensures) ∙ sym c.in_ok-load_word.ensures.value ∙ c.in-1.is in
-    subst (λ wrong. Tells wrong c.read_open.result)
+    subst (λ wrong. TellsPlace wrong c.read_open.result)
     (ap (wrong_at 1 c.args.area) (last_image-write_back _ _ c.in_ok-load_word.ensures.lines) ∙ sym (first_wrong-gate c.args.area old 1 gate))
     c.read_open.ensures.tells
 
