@@ -11,7 +11,7 @@ use Rattle.nvm_model.specs.Blocks.{first_there, first_obstacle, look}
 use Rattle.nvm_model.proofs.NumberedLemmas.{length-list_from}
 use Rattle.block_device.specs.Area.{IsBlockLine}
 use Rattle.block_device.specs.Object.{BlocksState, blocks_of}
-use Rattle.block_device.specs.Object.{Serves as ServesBlocks}
+use Rattle.block_device.specs.Object.{BlocksServe as ServesBlocks}
 use Rattle.block_device.specs.Images.{EachReads}
 use Rattle.block_device.specs.Refusals.{told, Answers, OnRefused, OnWorked, block_outcome, is_done, bytes_refusal, read_refusal, where_}
 use Rattle.block_device.specs.Refusals.Refusal.{Range, Length, Unreadable}

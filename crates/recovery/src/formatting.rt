@@ -17,6 +17,7 @@ pub fn format<D: LineDevice>(device: &mut D, geo: Geometry) -> Result<(), ResetF
     requires { IsValid geo }
     ensures ok { OnOk result (IsFresh geo (D.state device.new).medium) }
     ensures on { OnOk result (IsTrue (D.state device.new).panel.power) }
+    ensures stays_on { IsTrue (D.state device.old).panel.power → IsTrue (D.state device.new).panel.power }
     ensures sets_up { SetsUp (setup_outcome result) (D.state device.old).panel (D.state device.new).panel }
 {
     device.reset(geo.total_lines(), 8)?;
