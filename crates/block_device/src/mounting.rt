@@ -15,7 +15,7 @@ ghost use Rattle.nvm_model.specs.Numbered.{list_from};
 ghost use Rattle.block_device.specs.Area.{block_area};
 ghost use Rattle.block_device.specs.Reading.{states_read, blocks_read};
 ghost use Rattle.block_device.specs.Object.{BlocksServe, IsInStep, AreDurable, HasStrongMetadata, blocks_of};
-ghost use Rattle.block_device.specs.Mounting.{Finds, IsStop, IsTableCause, mount_outcome};
+ghost use Rattle.block_device.specs.Mounting.{Finds, IsStop, IsTableCause, mount_outcome, wrong_place};
 ghost use Rattle.block_device.specs.Images.{KeepsReads};
 
 use crate::area::block_area;
@@ -37,7 +37,8 @@ impl Blocks {
         requires valid { IsValid geo }
         requires lines { (L.state dev.old).medium.count ≡ total_lines geo }
         requires strong { HasStrongMetadata geo (L.state dev.old).medium }
-        requires durable { AreDurable geo (L.state dev.old).medium (states_read geo (last_image (L.state dev.old).medium)) }
+        requires durable { wrong_place geo (last_image (L.state dev.old).medium) ≡ None
+            → AreDurable geo (L.state dev.old).medium (states_read geo (last_image (L.state dev.old).medium)) }
         requires on { IsTrue (L.state dev.old).panel.power }
         ensures ok { IfOk result (λ blocks. (blocks.geo ≡ geo) × (blocks_of blocks (L.state dev.new).medium
             ≡ blocks_read geo (L.state dev.old).medium.is_bad (last_image (L.state dev.old).medium))) }

@@ -1,8 +1,7 @@
 -- What a host and its device stand for, after a call on the blocks.
-use Rattle.std.proofs.Common.{◌≡◌, ◌≢◌, ◌⊎◌, ◌/◌, ℕ, true, IsTrue, nat_lt, Option, Some, None, option_map, Result, Ok, Err, OnOk, List, [], ◌∷◌, length, inl, inr, refl, sym, ap, ap₂, subst, ◌∙◌, arith}
+use Rattle.std.proofs.Common.{◌≡◌, ◌≢◌, ◌⊎◌, ◌/◌, ◌≤◌, ℕ, true, IsTrue, nat_lt, Option, Some, None, option_map, Result, Ok, Err, OnOk, List, [], ◌∷◌, length, inl, inr, refl, sym, ap, ap₂, subst, ◌∙◌, arith}
 use Rattle.line_device.specs.Medium.{Medium}
 use Rattle.line_device.specs.Panel.{Runs}
-use Rattle.line_device.specs.Panel.Outcome.{went}
 use Rattle.line_device.specs.Device.{Device}
 use Rattle.line_words.specs.Words.{WritesBackBeside}
 use Rattle.line_words.specs.Ending.{ended}
@@ -14,7 +13,7 @@ use Rattle.nvm_model.proofs.StandLemmas.{stand-loaded}
 use Rattle.block_device.specs.Area.{IsBlockLine}
 use Rattle.block_device.specs.Object.{BlocksState, HasGoodMetadata, blocks_of}
 use Rattle.block_device.specs.Object as object
-use Rattle.block_device.specs.Images.{EachReads, AreReadable}
+use Rattle.block_device.specs.Images.{EachReads}
 use Rattle.block_device.specs.Refusals.{Refusal, told, Answers, OnRefused, OnWorked, block_outcome, is_done}
 use Rattle.block_device.specs.Refusals.Refusal.{Range, Length, Limit, Overlap, Meta, Unreadable}
 use Rattle.nvm_model.specs.Blocks.Obstacle.{scar, bad_line}
@@ -29,19 +28,22 @@ use Rattle.nvm_model.specs.Blocks.{first_there}
 use Rattle.script_text.specs.Action.{Action}
 use Rattle.script_text.specs.Action.Action.{BWrite, BAtomic, BMulti}
 use Rattle.reply_text.specs.Answer.{Answer}
-use Rattle.word_tables.specs.Layout.{first_line, meta_lines, total_lines}
+use Rattle.reply_text.specs.Answer.Answer.{Done}
+use Rattle.reply_text.specs.Room.{most_of}
+use Rattle.machine_host.specs.Costs.{most_calls, most_persists}
+use Rattle.machine_host.specs.Responding.{Answered, longest}
+use Rattle.word_tables.specs.Layout.{meta_lines}
 use Rattle.word_tables.specs.declared.geometry.Geometry.{Geometry}
 use Rattle.machine_host.specs.declared.mode.Mode.TheVariants.{On}
 use Rattle.machine_host.specs.Machine.{Machine, block_refusal, done, effect, meta_refusal, unless, refusal_answer}
 use Rattle.machine_host.specs.Machine.Fate.{Gives, Works}
-use Rattle.machine_host.specs.Interrupted.{MayLeaveBlocks, MayLeaveVolume, interrupted_answer, interrupted_mode}
-use Rattle.machine_host.specs.Run.{answered}
+use Rattle.machine_host.specs.Interrupted.{MayLeaveBlocks, MayLeaveVolume, interrupted_answer, interrupted_mode, stop_in}
+use Rattle.machine_host.specs.Run.{answered, worked}
 use Rattle.machine_host.specs.Volume.{HasLayout, volume_of}
-use Rattle.machine_host.specs.Stands.{HostState, Serves, AreMounted, Stands, Comes, is_powered}
+use Rattle.machine_host.specs.Stands.{HostState, HostServes, MetadataStands, AreMounted, Stands, Comes, is_powered}
 use Rattle.machine_host.specs.Faults.{answer_after, fault_answer, fault_mode, mode_after}
 use Rattle.machine_host.proofs.ElsewhereLemmas.{first_not_blocks, layout-beside, write_back_volume-beside}
-use Rattle.recovery.specs.Fresh.{HasSuperblock}
-use Rattle.recovery.proofs.SuperblockLemmas.{superblock-beside}
+use Rattle.machine_host.proofs.MetadataLemmas.{good_metadata, metadata-beside, nothing_bad}
 use Rattle.machine_host.proofs.VolumeLemmas.{volume_intact}
 use Rattle.machine_host.proofs.StepLemmas.{comes_of_interruption, is_whole, pages_left, stands_whole, tells_nothing, tells_work, whole_length, whole_pages}
 
@@ -93,32 +95,42 @@ told_stays (fault.Poison block line) w e = refl
 told_stays fault.Device w e = absurd (cc)
 told_stays fault.PowerLost w e = absurd (cc)
 
-pub good_metadata : (geo : Geometry) (m : Medium) → HasLayout geo m → HasGoodMetadata geo m
-unfolding first_line total_lines
-good_metadata geo m layout n below = (layout.intact n (omega (arith, layout.lines, below))).0
+-- an answer to a refusal tells of no interruption
+pub no_stop : (w : Refusal) → stop_in (refusal_answer w) ≡ None
+no_stop Range = refl
+no_stop Length = refl
+no_stop Limit = refl
+no_stop Overlap = refl
+no_stop (Meta line) = refl
+no_stop (Unreadable (scar block)) = refl
+no_stop (Unreadable (bad_line block line)) = refl
+
+-- what a call is answered that gives no bytes is short
+pub short_after : (r : Result (Unit {0}) BlockFault) → most_of (answer_after Done r) ≤ 64
+short_after (Ok x) = omega arith
+short_after (Err fault.Range) = omega arith
+short_after (Err fault.Length) = omega arith
+short_after (Err fault.Limit) = omega arith
+short_after (Err fault.Overlap) = omega arith
+short_after (Err (fault.Meta line)) = omega arith
+short_after (Err (fault.Scarred block)) = omega arith
+short_after (Err (fault.Poison block line)) = omega arith
+short_after (Err fault.Device) = omega arith
+short_after (Err fault.PowerLost) = omega arith
 
 -- the host after the call
 abbrev pub host_after : {T : Type 0} → HostState → BlocksState → Result T BlockFault → HostState
 host_after host s r = record { geometry = host.geometry; mode = mode_after r; blocks = s }
 
-module _ (host : HostState) (s : BlocksState) (P : List Block → Type 0) (calls persists : ℕ) (old new : Device) (on : host.mode ≡ On) (serves : Serves host old) where
+module _ (host : HostState) (s : BlocksState) (P : List Block → Type 0) (calls persists : ℕ) (old new : Device) (on : host.mode ≡ On) (serves : HostServes host old) where
   mounted : AreMounted host.geometry host.blocks old.medium
   mounted = serves.mounted on
 
   power_was : old.panel.power ≡ true
   power_was = serves.power ∙ ap is_powered on
 
-  -- what each image reads as is enough to mount the blocks again
-  readable : EachReads host.blocks.geo new.medium P → AreReadable host.geometry new.medium
-  readable each =
-      subst (λ geo. AreReadable geo new.medium) mounted.geometry
-      (each_reads-then host.blocks.geo new.medium P (λ bs. Unit {0}) (λ bs x. tt) each)
-
   pub layout_after : WritesBackBeside (IsBlockLine host.blocks.geo) old.medium new.medium → HasLayout host.geometry new.medium
   layout_after x = layout-beside host.geometry (IsBlockLine host.blocks.geo) old.medium new.medium serves.layout x
-
-  superblock_after : WritesBackBeside (IsBlockLine host.blocks.geo) old.medium new.medium → HasSuperblock host.geometry new.medium
-  superblock_after x = superblock-beside host.geometry (IsBlockLine host.blocks.geo) old.medium new.medium x (first_not_blocks host.blocks.geo) serves.superblock
 
   mounted_after : s.geo ≡ host.blocks.geo → IsTrue s.settled → object.BlocksServe s new.medium → AreMounted host.geometry s new.medium
   mounted_after geo settled served = record { geometry = geo ∙ mounted.geometry; settled = settled; serves = served }
@@ -129,44 +141,41 @@ module _ (host : HostState) (s : BlocksState) (P : List Block → Type 0) (calls
       subst (λ g. EachReads g new.medium (λ bs. bs ≡ blocks_of s new.medium)) same
       (served_reads s new.medium (subst (λ g. HasGoodMetadata g new.medium) (sym same) (good_metadata host.geometry new.medium layout)) served)
 
-  pub serves_called : {T : Type 0} (r : Result T BlockFault) → Called host s r P calls persists old new → Serves (host_after host s r) new
+  pub serves_called : {T : Type 0} (r : Result T BlockFault) → Called host s r P calls persists old new → HostServes (host_after host s r) new
   serves_called (Ok x) c =
-      let layout = layout_after c.outside in
       let served = c.serves c.object.1 in
       record {
-        layout = layout;
-        superblock = superblock_after c.outside;
+        layout = layout_after c.outside;
         power = c.runs.cause.0 ∙ power_was;
-        readable = each_reads-then host.geometry new.medium (λ bs. bs ≡ blocks_of s new.medium) (λ bs. Unit {0}) (λ bs x. tt) (served_after served c.object.0 layout);
         mounted = λ _. mounted_after c.object.0 c.object.1 served;
       }
-  serves_called {T} (Err f) c = elim (refuses_or_stops f) as (λ _. Serves (host_after {T = T} host s (Err f)) new) [
+  serves_called {T} (Err f) c = elim (refuses_or_stops f) as (λ _. HostServes (host_after {T = T} host s (Err f)) new) [
     | inl refuses ↦ refused refuses (c.untouched refuses.told)
-    | inr stops ↦ elim stops as (λ _. Serves (host_after {T = T} host s (Err f)) new) [
+    | inr stops ↦ elim stops as (λ _. HostServes (host_after {T = T} host s (Err f)) new) [
       | inl is ↦ failed_ is (subst (λ g. Called {T = T} host s (Err g) P calls persists old new) is c)
       | inr is ↦ lost_ is (subst (λ g. Called {T = T} host s (Err g) P calls persists old new) is c)
     ]
   ]
     where
-      refused : Refuses f → (s ≡ host.blocks) × (new ≡ old) → Serves (record { geometry = host.geometry; mode = fault_mode On f; blocks = s }) new
+      refused : Refuses f → (s ≡ host.blocks) × (new ≡ old) → HostServes (record { geometry = host.geometry; mode = fault_mode On f; blocks = s }) new
       refused refuses same =
-          subst (λ m. Serves (record { geometry = host.geometry; mode = m; blocks = s }) new) (on ∙ sym refuses.mode)
-          (subst (λ d. Serves (record { geometry = host.geometry; mode = host.mode; blocks = s }) d) (sym same.1)
-          (subst (λ b. Serves (record { geometry = host.geometry; mode = host.mode; blocks = b }) old) (sym same.0) serves))
+          subst (λ m. HostServes (record { geometry = host.geometry; mode = m; blocks = s }) new) (on ∙ sym refuses.mode)
+          (subst (λ d. HostServes (record { geometry = host.geometry; mode = host.mode; blocks = s }) d) (sym same.1)
+          (subst (λ b. HostServes (record { geometry = host.geometry; mode = host.mode; blocks = b }) old) (sym same.0) serves))
 
-      failed_ : f ≡ fault.Device → Called {T = T} host s (Err fault.Device) P calls persists old new → Serves (record { geometry = host.geometry; mode = fault_mode On f; blocks = s }) new
+      failed_ : f ≡ fault.Device → Called {T = T} host s (Err fault.Device) P calls persists old new → HostServes (record { geometry = host.geometry; mode = fault_mode On f; blocks = s }) new
       failed_ is c =
-          subst (λ g. Serves (record { geometry = host.geometry; mode = fault_mode On g; blocks = s }) new) (sym is)
-          (record { layout = layout_after c.outside; superblock = superblock_after c.outside; power = c.runs.cause.0 ∙ power_was; readable = readable (c.images refl); mounted = λ e. cc })
+          subst (λ g. HostServes (record { geometry = host.geometry; mode = fault_mode On g; blocks = s }) new) (sym is)
+          (record { layout = layout_after c.outside; power = c.runs.cause.0 ∙ power_was; mounted = λ e. cc })
 
-      lost_ : f ≡ fault.PowerLost → Called {T = T} host s (Err fault.PowerLost) P calls persists old new → Serves (record { geometry = host.geometry; mode = fault_mode On f; blocks = s }) new
+      lost_ : f ≡ fault.PowerLost → Called {T = T} host s (Err fault.PowerLost) P calls persists old new → HostServes (record { geometry = host.geometry; mode = fault_mode On f; blocks = s }) new
       lost_ is c =
-          subst (λ g. Serves (record { geometry = host.geometry; mode = fault_mode On g; blocks = s }) new) (sym is)
-          (record { layout = layout_after c.outside; superblock = superblock_after c.outside; power = c.runs.cause.0; readable = readable (c.images refl); mounted = λ e. cc })
+          subst (λ g. HostServes (record { geometry = host.geometry; mode = fault_mode On g; blocks = s }) new) (sym is)
+          (record { layout = layout_after c.outside; power = c.runs.cause.0; mounted = λ e. cc })
 
 -- A call on the blocks comes to what the machine makes of it: done, refused, or interrupted.
-module _ (host : HostState) (s : BlocksState) (action : Action) (calls persists : ℕ) (old new : Device) (on : host.mode ≡ On) (serves : Serves host old)
-    (h : Machine) (stands : Stands host old h) (f : List Block → List Block) where
+module _ (host : HostState) (s : BlocksState) (action : Action) (calls persists : ℕ) (few : calls ≤ most_calls action) (few_persists : persists ≤ most_persists action)
+    (old new : Device) (on : host.mode ≡ On) (serves : HostServes host old) (h : Machine) (stands : Stands host old h) (f : List Block → List Block) where
   -- what a call may leave
   abbrev may : List Block → Type 0
   may = MayLeaveBlocks (Some action) (blocks_of host.blocks old.medium)
@@ -178,6 +187,12 @@ module _ (host : HostState) (s : BlocksState) (action : Action) (calls persists 
       stand-loaded (volume_of host.geometry old.medium) (volume_of host.geometry new.medium) host.geometry.vpages h.volume
       (whole_pages host old h stands (is_whole host old h stands on)) (volume_intact host.geometry old.medium serves.layout)
       (write_back_volume-beside host.geometry (IsBlockLine host.blocks.geo) old.medium new.medium serves.layout.valid (λ n at. subst (λ g. IsBlockLine g n) geo_is at) outside)
+
+  -- the metadata
+  metadata_beside : WritesBackBeside (IsBlockLine host.blocks.geo) old.medium new.medium → MetadataStands h.geometry new.medium h.bad_meta
+  metadata_beside outside =
+      metadata-beside h.geometry h.bad_meta old.medium new.medium stands.device.metadata (IsBlockLine host.blocks.geo)
+      (subst (λ g. HasLayout g old.medium) stands.geometry serves.layout) outside (first_not_blocks host.blocks.geo)
 
   -- the state after a call that went well
   stands_called : Called {T = Unit {0}} host s (Ok tt) may calls persists old new → blocks_of s new.medium ≡ f (blocks_of host.blocks old.medium)
@@ -195,12 +210,12 @@ module _ (host : HostState) (s : BlocksState) (action : Action) (calls persists 
         mode = sym on ∙ stands.mode;
         blocks = λ _. now;
         device = record {
+          metadata = metadata_beside c.outside;
           blocks = subst (λ interrupted. EachReads h.geometry new.medium (MayLeaveBlocks interrupted (f h.blocks))) (sym whole) reads;
           volume = stands_whole host new h h.volume stands.geometry (whole_length host old h stands whole) (pages_beside c.outside) h.interrupted whole;
           power = c.runs.cause.0 ∙ stands.device.power;
           cut_armed = c.runs.cause.2 ∙ stands.device.cut_armed;
           fail_armed = c.runs.cause.3 ∙ stands.device.fail_armed;
-          good_meta = stands.device.good_meta;
           whole = stands.device.whole;
         };
       }
@@ -220,23 +235,23 @@ module _ (host : HostState) (s : BlocksState) (action : Action) (calls persists 
       → Comes h action (Works good (record h { blocks = f h.blocks })) (interrupted_answer by) (record { geometry = host.geometry; mode = interrupted_mode by; blocks = s }) old new
   comes_of_stop by good left runs each outside =
       comes_of_interruption host old new h action stands serves on (record { geometry = host.geometry; mode = interrupted_mode by; blocks = s }) good (record h { blocks = f h.blocks })
-      by calls persists refl refl runs (blocks_interrupted each)
+      by calls persists few few_persists refl refl runs (metadata_beside outside) (blocks_interrupted each)
       (pages_left host old new h action stands serves on h.volume (Some action) left refl (pages_beside outside))
 
-  pub comes_of_change : (good : Answer) (r : Result (Unit {0}) BlockFault) (why : Option Refusal) → MayLeaveVolume (Some action) h.volume h.volume → block_refusal h action ≡ why
+  pub comes_of_change : (good : Answer) (r : Result (Unit {0}) BlockFault) (why : Option Refusal) → stop_in good ≡ None → MayLeaveVolume (Some action) h.volume h.volume → block_refusal h action ≡ why
       → done h action ≡ Works good (record h { blocks = f h.blocks }) → Answers why r → OnOk r (blocks_of s new.medium ≡ f (blocks_of host.blocks old.medium))
       → Called host s r may calls persists old new → Comes h action (effect h action) (answer_after good r) (host_after host s r) old new
-  comes_of_change good (Ok tt) None left why_is done_is answers ok c =
+  comes_of_change good (Ok tt) None quiet left why_is done_is answers ok c =
       subst (λ fate. Comes h action fate good (host_after {T = Unit {0}} host s (Ok tt)) old new) (sym (ap (λ w. unless h w (done h action)) why_is ∙ done_is)) (record {
-        said = answered good;
+        said = worked action good;
         next = record h { blocks = f h.blocks };
         answers = refl;
         takes = (good, refl, inl (refl, refl));
-        tells = tells_work calls persists went good old.panel new.panel c.runs;
+        tells = tells_work action calls persists few few_persists old.panel new.panel good quiet c.runs;
         stands = stands_called c ok;
       })
-  comes_of_change good (Ok tt) (Some w) left why_is done_is answers ok c = absurd answers
-  comes_of_change good (Err e) (Some w) left why_is done_is answers ok c =
+  comes_of_change good (Ok tt) (Some w) quiet left why_is done_is answers ok c = absurd answers
+  comes_of_change good (Err e) (Some w) quiet left why_is done_is answers ok c =
       subst (λ fate. Comes h action fate (fault_answer e) (host_after {T = Unit {0}} host s (Err e)) old new) (sym (ap (λ w. unless h w (done h action)) why_is))
       (refused_here (c.untouched (λ none. cc)))
     where
@@ -253,10 +268,10 @@ module _ (host : HostState) (s : BlocksState) (action : Action) (calls persists 
             next = h;
             answers = refl;
             takes = (refl, refl);
-            tells = tells_nothing (refusal_answer w) old.panel;
+            tells = tells_nothing (refusal_answer w) (no_stop w) old.panel;
             stands = stands;
           }))))
-  comes_of_change good (Err e) None left why_is done_is answers ok c =
+  comes_of_change good (Err e) None quiet left why_is done_is answers ok c =
       subst (λ fate. Comes h action fate (fault_answer e) (host_after {T = Unit {0}} host s (Err e)) old new) (sym (ap (λ w. unless h w (done h action)) why_is ∙ done_is))
       (elim (refuses_or_stops e) as (λ _. Stopped good e) [
         | inl refuses ↦ absurd (refuses.told answers)
@@ -292,7 +307,7 @@ pub no_meta : (geo : Geometry) (m : Medium) → HasLayout geo m → blocks.meta_
 no_meta geo m layout = ap (option_map Meta) (none_below m.is_bad (meta_lines geo) (good_metadata geo m layout))
 
 -- of a state that the host stands for, the refusals of the blocks are the machine's
-module _ (host : HostState) (old : Device) (h : Machine) (serves : Serves host old) (stands : Stands host old h) (on : host.mode ≡ On) where
+module _ (host : HostState) (old : Device) (h : Machine) (serves : HostServes host old) (stands : Stands host old h) (on : host.mode ≡ On) where
   blocks_there : host.blocks.geo.blocks ≡ h.geometry.blocks
   blocks_there = ap (λ g. g.blocks) ((serves.mounted on).geometry ∙ stands.geometry)
 
@@ -300,7 +315,7 @@ module _ (host : HostState) (old : Device) (h : Machine) (serves : Serves host o
   meta_none = subst (λ g. blocks.meta_refusal g old.medium ≡ None) (sym (serves.mounted on).geometry) (no_meta host.geometry old.medium serves.layout)
 
   machine_meta_none : meta_refusal h.bad_meta ≡ None
-  machine_meta_none = ap meta_refusal stands.device.good_meta
+  machine_meta_none = ap meta_refusal (nothing_bad h.geometry old.medium h.bad_meta (subst (λ g. HasLayout g old.medium) stands.geometry serves.layout) stands.device.metadata)
 
   pub refused_write : (block : ℕ) (bytes : List ℕ) → block_refusal h (BWrite block bytes) ≡ blocks.write_refusal host.blocks old.medium block (length bytes)
   refused_write block bytes =
@@ -322,24 +337,35 @@ module _ (host : HostState) (old : Device) (h : Machine) (serves : Serves host o
 
 -- The same of a host behind a reference: `host` is what is inside `now`, and `after` what the answer leaves.
 module _ (now host after : HostState) (s : BlocksState) (r : Result (Unit {0}) BlockFault) (calls persists : ℕ) (old new : Device)
-    (inside : host ≡ now) (state : after ≡ host_after host s r) (on : now.mode ≡ On) (serves : Serves now old) (action : Action)
+    (inside : host ≡ now) (state : after ≡ host_after host s r) (on : now.mode ≡ On) (serves : HostServes now old) (action : Action)
+    (few : calls ≤ most_calls action) (few_persists : persists ≤ most_persists action)
     (call : Called host s r (MayLeaveBlocks (Some action) (blocks_of host.blocks old.medium)) calls persists old new) where
   on_inside : host.mode ≡ On
   on_inside = ap (λ k. k.mode) inside ∙ on
 
-  serves_inside : Serves host old
-  serves_inside = subst (λ k. Serves k old) (sym inside) serves
+  serves_inside : HostServes host old
+  serves_inside = subst (λ k. HostServes k old) (sym inside) serves
 
-  pub change_serves : Serves after new
+  pub change_serves : HostServes after new
   change_serves =
-      subst (λ k. Serves k new) (sym state)
+      subst (λ k. HostServes k new) (sym state)
       (serves_called host s (MayLeaveBlocks (Some action) (blocks_of host.blocks old.medium)) calls persists old new on_inside serves_inside r call)
 
-  pub change_comes : (h : Machine) (good answer : Answer) (why : BlocksState → Option Refusal) (f : List Block → List Block) → Stands now old h → MayLeaveVolume (Some action) h.volume h.volume
-      → (Serves host old → Stands host old h → host.mode ≡ On → block_refusal h action ≡ why host.blocks) → done h action ≡ Works good (record h { blocks = f h.blocks })
+  pub change_comes : (h : Machine) (good answer : Answer) (why : BlocksState → Option Refusal) (f : List Block → List Block) → stop_in good ≡ None → Stands now old h → MayLeaveVolume (Some action) h.volume h.volume
+      → (HostServes host old → Stands host old h → host.mode ≡ On → block_refusal h action ≡ why host.blocks) → done h action ≡ Works good (record h { blocks = f h.blocks })
       → Answers (why host.blocks) r → OnOk r (blocks_of s new.medium ≡ f (blocks_of host.blocks old.medium)) → answer ≡ answer_after good r → Comes h action (effect h action) answer after old new
-  change_comes h good answer why f stands left refusal done_is refused ok answer_is =
+  change_comes h good answer why f quiet stands left refusal done_is refused ok answer_is =
       let stands_inside = subst (λ k. Stands k old h) (sym inside) stands in
       subst (λ a. Comes h action (effect h action) a after old new) (sym answer_is)
       (subst (λ k. Comes h action (effect h action) (answer_after good r) k old new) (sym state)
-      (comes_of_change host s action calls persists old new on_inside serves_inside h stands_inside f good r (why host.blocks) left (refusal serves_inside stands_inside on_inside) done_is refused ok call))
+      (comes_of_change host s action calls persists few few_persists old new on_inside serves_inside h stands_inside f good r (why host.blocks) quiet left (refusal serves_inside stands_inside on_inside) done_is refused ok call))
+
+  -- one that gives no bytes is answered
+  pub change_answered : (answer : Answer) (why : BlocksState → Option Refusal) (f : List Block → List Block) → 64 ≤ longest action → ((h : Machine) → MayLeaveVolume (Some action) h.volume h.volume)
+      → ((h : Machine) → HostServes host old → Stands host old h → host.mode ≡ On → block_refusal h action ≡ why host.blocks) → ((h : Machine) → done h action ≡ Works Done (record h { blocks = f h.blocks }))
+      → Answers (why host.blocks) r → OnOk r (blocks_of s new.medium ≡ f (blocks_of host.blocks old.medium)) → answer ≡ answer_after Done r → Answered action answer now after old new
+  change_answered answer why f long left refusal done_is refused ok answer_is = record {
+    step = λ h stands. change_comes h Done answer why f refl stands (left h) (refusal h) (done_is h) refused ok answer_is;
+    room = let short = subst (λ a. most_of a ≤ 64) (sym answer_is) (short_after r) in omega (arith, short, long);
+    serves = change_serves;
+  }

@@ -27,9 +27,12 @@ use Rattle.machine_host.specs.declared.mode.Mode.TheVariants.{On}
 use Rattle.machine_host.specs.Machine.{Machine, block_refusal}
 use Rattle.machine_host.specs.Interrupted.{MayLeaveBlocks}
 use Rattle.machine_host.specs.Volume.{HasLayout}
-use Rattle.machine_host.specs.Stands.{HostState, Serves, Stands, Performed}
-use Rattle.machine_host.specs.Faults.{answer_after}
-use Rattle.machine_host.proofs.BlockLemmas.{Called, host_after, good_metadata, change_serves, change_comes}
+use Rattle.machine_host.specs.Stands.{HostState, HostServes, Stands, Performed}
+use Rattle.machine_host.specs.Faults.{answer_after, fault_answer}
+use Rattle.machine_host.specs.Responding.{Answered, longest}
+use Rattle.reply_text.specs.Room.{most_of}
+use Rattle.machine_host.proofs.BlockLemmas.{Called, host_after, change_serves, change_comes, short_after}
+use Rattle.machine_host.proofs.MetadataLemmas.{good_metadata}
 
 -- a buffer that a call filled
 pub refilled : (items out : List ℕ) → length out ≡ length items → take (length items) (out ++ drop (length out) items) ≡ out
@@ -82,7 +85,7 @@ whole_blocks blocks block count some within =
     nonzero n some = ne_eqb n 0 (λ e. omega arith)
 
 module _ (now host after : HostState) (s : BlocksState) (r : Result (Unit {0}) BlockFault) (block count len calls : ℕ) (Q : Type 0) (old new : Device)
-    (inside : host ≡ now) (state : after ≡ host_after host s r) (on : now.mode ≡ On) (serves : Serves now old) (size : len ≡ 512 * count)
+    (inside : host ≡ now) (state : after ≡ host_after host s r) (on : now.mode ≡ On) (serves : HostServes now old) (few : calls ≤ 8 * count) (size : len ≡ 512 * count)
     (untouched : OnRefused r (Q × (new ≡ old))) (lines : WritesBack old.medium new.medium) (served : ServesBlocks s new.medium)
     (object : s ≡ record host.blocks { settled = is_done (block_outcome r) }) (runs : Runs calls 0 (block_outcome r) old.panel new.panel) where
   settled_was : host.blocks.settled ≡ true
@@ -121,9 +124,6 @@ module _ (now host after : HostState) (s : BlocksState) (r : Result (Unit {0}) B
     runs = runs;
   }
 
-  pub read_serves : Serves after new
-  read_serves = change_serves now host after s r calls 0 old new inside state on serves (BRead block count) call
-
   blocks_stay : blocks_of s new.medium ≡ blocks_of host.blocks old.medium
   blocks_stay = ap (λ k. blocks_of k new.medium) object ∙ map_read-write_back host.blocks.geo host.blocks.map old.medium new.medium lines
 
@@ -131,7 +131,7 @@ module _ (now host after : HostState) (s : BlocksState) (r : Result (Unit {0}) B
   on_ok (Ok x) p = p
   on_ok (Err f) p = tt
 
-  pub read_comes : (h : Machine) (answer : Answer) → Stands now old h → 1 ≤ count → block + count ≤ now.geometry.blocks
+  read_comes : (h : Machine) (answer : Answer) → Stands now old h → 1 ≤ count → block + count ≤ now.geometry.blocks
       → Answers (read_refusal host.blocks old.medium block len) r → (host.mode ≡ On → blocks_of host.blocks old.medium ≡ h.blocks → answer ≡ answer_after (Bytes (look h.blocks block count)) r)
       → Performed h (BRead block count) answer after old new
   read_comes h answer stands some within refused answer_is =
@@ -142,6 +142,19 @@ module _ (now host after : HostState) (s : BlocksState) (r : Result (Unit {0}) B
       ap (λ o. first_there o (option_map Unreadable (first_obstacle (blocks_of host.blocks old.medium) block (512 * count / 512)))) none
       ∙ ap (λ n. option_map Unreadable (first_obstacle (blocks_of host.blocks old.medium) block n)) many
       ∙ ap (λ bs. option_map Unreadable (first_obstacle bs block count)) stays in
-      change_comes now host after s r calls 0 old new inside state on serves (BRead block count) call h (Bytes (look h.blocks block count)) answer
-      (λ b. read_refusal b old.medium block (512 * count)) (λ bs. bs) stands refl (λ _ _ _. sym why) refl
+      change_comes now host after s r calls 0 old new inside state on serves (BRead block count) few (omega arith) call h (Bytes (look h.blocks block count)) answer
+      (λ b. read_refusal b old.medium block (512 * count)) (λ bs. bs) refl stands refl (λ _ _ _. sym why) refl
       (subst (λ n. Answers (read_refusal host.blocks old.medium block n) r) size refused) (on_ok r blocks_stay) (answer_is (ap (λ k. k.mode) inside ∙ on) stays)
+
+  pub read_answered : (answer : Answer) → 1 ≤ count → block + count ≤ now.geometry.blocks → Answers (read_refusal host.blocks old.medium block len) r
+      → ((h : Machine) → blocks_of host.blocks old.medium ≡ h.blocks → answer ≡ answer_after (Bytes (look h.blocks block count)) r) → most_of answer ≤ longest (BRead block count)
+      → Answered (BRead block count) answer now after old new
+  read_answered answer some within refused answer_is room = record {
+    step = λ h stands. read_comes h answer stands some within refused (λ _. answer_is h);
+    room = room;
+    serves = change_serves now host after s r calls 0 old new inside state on serves (BRead block count) few (omega arith) call;
+  }
+
+-- the answer of a fault is short
+pub room_of_fault : (f : BlockFault) (answer : Answer) (count : ℕ) → answer ≡ fault_answer f → most_of answer ≤ 64 + 3 * (512 * count)
+room_of_fault f answer count is = let short = subst (λ a. most_of a ≤ 64) (sym is) (short_after (Err f)) in omega (arith, short)

@@ -15,17 +15,17 @@ use Rattle.nvm_model.specs.Page.{fill, put, persist, look, read_pages}
 use Rattle.nvm_model.specs.Blocks.{write, look as look_blocks}
 use Rattle.word_log.specs.Replay.{listed}
 use Rattle.block_device.specs.Reading.{states_read, blocks_read}
-use Rattle.reply_text.specs.Answer.{Answer, answer_line}
+use Rattle.reply_text.specs.Answer.{answer_line}
 use Rattle.reply_text.specs.Answer.Answer.{Done, Bytes, PowerLost, Refused}
 use Rattle.reply_text.specs.declared.reply.Why.TheVariants.{Off}
 use Rattle.script_text.specs.Action.{Action}
-use Rattle.script_text.specs.Action.Action.{BRead, BAtomic, CutIn, Restart, VStore}
+use Rattle.script_text.specs.Action.Action.{BRead, BAtomic, CutIn, Restart, VLoad, VStore, VSync}
 use Rattle.script_text.specs.Script.{inputs, lines_of, words_of, command_action, line_input}
 use Rattle.script_text.specs.Script.Input.{Asked}
 use Rattle.machine_host.specs.declared.mode.Mode.TheVariants as modes
 use Rattle.machine_host.specs.Machine.{Machine, refusal, while_interrupted}
 use Rattle.machine_host.specs.Restarting.{Keeps, reading, fresh, restarted, restart_answer}
-use Rattle.machine_host.specs.Run.{Transcript, Hears, Run, answered, silence, with_order, with_start}
+use Rattle.machine_host.specs.Run.{Transcript, Hears, Run, answered, followed_by, silence, with_order, with_start, worked}
 use Rattle.machine_host.specs.Rows.{small, leaving}
 use Rattle.machine_host.specs.Volume.{volume_image}
 use Rattle.machine_host.specs.Performing.{perform}
@@ -33,10 +33,6 @@ use Rattle.machine_host.proofs.RunLemmas.{run_performed}
 use Rattle.nvm_model.proofs.InterruptedLemmas.{stored_below, may_store-below}
 use Rattle.machine_host.specs.CutRows.{MayWrite, leaving_first, with_cut_write, cut_write_lines, with_late_cut, late_cut_lines, with_cut_store, cut_store_lines}
 use Rattle.machine_host.proofs.LastLemmas.{keeps-last}
-
--- what was said from some point on, with no more orders
-abbrev saying : List Start → List Answer → Transcript
-saying starts answers = record { starts = starts; orders = []; answers = answers }
 
 -- the write of two blocks, and the machine as the cut is armed and once it came
 abbrev pub two_blocks : List ℕ
@@ -54,44 +50,47 @@ struck = record (while_interrupted armed the_write) { mode = modes.Off; cut_arme
 abbrev back : Start → Machine
 back start = restarted struck start.image
 
--- it may come back with what its start keeps, and reads it
+-- what is said from the last read on, and so back to the order; it may come back with what its start keeps, and reads it
+abbrev read_back : List ℕ → Transcript
+read_back read = followed_by (worked (BRead 0 2) (Bytes read)) silence
+
+abbrev come_back : Start → List ℕ → Transcript
+come_back start read = followed_by (with_start (Restart Firsts) start (restart_answer struck start.image)) (read_back read)
+
 abbrev told_of_write : Start → List ℕ → Transcript
-told_of_write start read = record {
-  starts = start ∷ [];
-  orders = ForCut 1 ∷ [];
-  answers = Done ∷ PowerLost ∷ Refused Off ∷ restart_answer struck start.image ∷ Bytes read ∷ [];
-}
+told_of_write start read =
+    followed_by (with_order (ForCut 1) Done) (followed_by (worked the_write PowerLost) (followed_by (answered (Refused Off)) (come_back start read)))
 
 run_of_write : (start : Start) (read : List ℕ) → start.choice ≡ Firsts → Keeps Firsts start.image struck
-    → Hears (back start) (Asked (BRead 0 2)) (answered (Bytes read)) (back start)
+    → Hears (back start) (Asked (BRead 0 2)) (worked (BRead 0 2) (Bytes read)) (back start)
     → Run (fresh small) (Asked (CutIn 1) ∷ Asked the_write ∷ Asked (BRead 0 1) ∷ Asked (Restart Firsts) ∷ Asked (BRead 0 2) ∷ []) (told_of_write start read) (back start)
 unfolding refusal reading
 run_of_write start read chosen keeps reads =
     let all = restart_answer struck start.image in (
       with_order (ForCut 1) Done,
-      saying (start ∷ []) (PowerLost ∷ Refused Off ∷ all ∷ Bytes read ∷ []),
+      followed_by (worked the_write PowerLost) (followed_by (answered (Refused Off)) (come_back start read)),
       armed,
       refl,
       (refl, refl),
       (
-        answered PowerLost,
-        saying (start ∷ []) (Refused Off ∷ all ∷ Bytes read ∷ []),
+        worked the_write PowerLost,
+        followed_by (answered (Refused Off)) (come_back start read),
         struck,
         refl,
         (PowerLost, refl, inr (Lost, refl, record { armed = refl; state = refl; cut = λ c. absurd (false≢true c); fail = λ f. f })),
         (
           answered (Refused Off),
-          saying (start ∷ []) (all ∷ Bytes read ∷ []),
+          come_back start read,
           struck,
           refl,
           (refl, refl),
           (
-            with_start start all,
-            saying [] (Bytes read ∷ []),
+            with_start (Restart Firsts) start all,
+            read_back read,
             back start,
             refl,
             (start, all, refl, chosen, keeps, inl (refl, refl)),
-            (answered (Bytes read), silence, back start, refl, reads, (refl, refl)),
+            (worked (BRead 0 2) (Bytes read), silence, back start, refl, reads, (refl, refl)),
           ),
         ),
       ),
@@ -165,36 +164,41 @@ store_in_part =
     let read = replicate 4 255 ++ replicate 4 0 in
     let all = restart_answer halted start.image in
     let left = stored_below 1 60 (replicate 8 255) durable.volume in
+    let shown = followed_by (worked (VLoad 60 8) (Bytes read)) silence in
+    let came = followed_by (with_start (Restart Lasts) start all) shown in
+    let stored = followed_by (worked the_store PowerLost) came in
+    let ordered = followed_by (with_order (ForCut 2) Done) stored in
+    let synced = followed_by (worked (VSync 0 64) Done) ordered in
     record {
-      said = record { starts = start ∷ []; orders = ForCut 2 ∷ []; answers = Done ∷ Done ∷ Done ∷ PowerLost ∷ all ∷ Bytes read ∷ [] };
+      said = followed_by (worked (VStore 0 (replicate 64 0)) Done) synced;
       end = restarted halted start.image;
       run = (
-        answered Done,
-        record { starts = start ∷ []; orders = ForCut 2 ∷ []; answers = Done ∷ Done ∷ PowerLost ∷ all ∷ Bytes read ∷ [] },
+        worked (VStore 0 (replicate 64 0)) Done,
+        synced,
         zeros,
         refl,
         (Done, refl, inl (refl, refl)),
         (
-          answered Done,
-          record { starts = start ∷ []; orders = ForCut 2 ∷ []; answers = Done ∷ PowerLost ∷ all ∷ Bytes read ∷ [] },
+          worked (VSync 0 64) Done,
+          ordered,
           durable,
           refl,
           (Done, refl, inl (refl, refl)),
           (
             with_order (ForCut 2) Done,
-            saying (start ∷ []) (PowerLost ∷ all ∷ Bytes read ∷ []),
+            stored,
             ready,
             refl,
             (refl, refl),
             (
-              answered PowerLost,
-              saying (start ∷ []) (all ∷ Bytes read ∷ []),
+              worked the_store PowerLost,
+              came,
               halted,
               refl,
               (PowerLost, refl, inr (Lost, refl, record { armed = refl; state = refl; cut = λ c. absurd (false≢true c); fail = λ f. f })),
               (
-                with_start start all,
-                saying [] (Bytes read ∷ []),
+                with_start (Restart Lasts) start all,
+                shown,
                 restarted halted start.image,
                 refl,
                 (
@@ -210,7 +214,7 @@ store_in_part =
                   },
                   inl (refl, refl),
                 ),
-                (answered (Bytes read), silence, restarted halted start.image, refl, (Bytes read, refl, inl (refl, refl)), (refl, refl)),
+                (worked (VLoad 60 8) (Bytes read), silence, restarted halted start.image, refl, (Bytes read, refl, inl (refl, refl)), (refl, refl)),
               ),
             ),
           ),

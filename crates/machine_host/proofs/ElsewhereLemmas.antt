@@ -1,13 +1,12 @@
 -- Volume and blocks lie apart: work on the one leaves the other.
-use Rattle.std.proofs.Common.{◌≡◌, ◌⊎◌, ℕ, ◌+◌, ◌-◌, ◌/◌, ◌<◌, ◌≤◌, Bool, nat_lt, Err, if◌then◌else◌, inl, inr, refl, sym, ◌∙◌, ap, subst, arith}
-use Rattle.std.proofs.lemmas.Bool.{cases_lt, lt-ltb, le-ltb}
+use Rattle.std.proofs.Common.{◌≡◌, ℕ, ◌/◌, ◌<◌, ◌≤◌, Err, inl, inr, refl, sym, ◌∙◌, ap, subst, arith}
 use Rattle.line_device.specs.History.{WordWritesBack}
 use Rattle.line_device.specs.Medium.{Medium, WritesBack}
 use Rattle.line_words.proofs.FrameLemmas.{outside-write_back}
 use Rattle.line_words.specs.Words.{WritesBackOutside, WritesBackBeside}
 use Rattle.word_tables.specs.declared.geometry.Geometry.{Geometry}
 use Rattle.word_tables.specs.Bounds.{IsValid}
-use Rattle.word_tables.specs.Layout.{first_range, second_range, first_line, size, volume_line, HasLine, IsVolumeLine}
+use Rattle.word_tables.specs.Layout.{second_range, first_line, size, volume_line, IsVolumeLine}
 use Rattle.block_device.specs.Area.{IsBlockLine}
 use Rattle.line_device.specs.Device.{Device}
 use Rattle.block_device.specs.Area.{IsBlockPlace}
@@ -15,10 +14,9 @@ use Rattle.block_device.specs.Object.{BlocksState, blocks_of}
 use Rattle.block_device.proofs.ReadLemmas.{map_read-outside}
 use Rattle.block_device.proofs.PlaceLemmas.{area_is_block, named_is_data}
 use Rattle.block_device.proofs.ServesLemmas.{serves-outside}
-use Rattle.block_device.proofs.FrameLemmas.{each_reads-outside}
 use Rattle.machine_host.specs.declared.mode.Mode.{Mode}
 use Rattle.machine_host.specs.declared.mode.Mode.TheVariants.{On, Off, Unsettled}
-use Rattle.machine_host.specs.Stands.{HostState, Serves, AreMounted, is_powered}
+use Rattle.machine_host.specs.Stands.{HostState, HostServes, AreMounted, is_powered}
 use Rattle.machine_host.specs.Interrupted.{interrupted_mode}
 use Rattle.line_device.specs.Panel.{Runs}
 use Rattle.line_device.specs.Panel.Outcome.{went}
@@ -26,8 +24,7 @@ use Rattle.line_words.specs.declared.interruption.Interruption.{Interruption}
 use Rattle.line_words.specs.declared.interruption.Interruption.TheVariants as stops
 use Rattle.line_words.specs.Ending.{ended}
 use Rattle.machine_host.specs.Volume.{volume_of, volume_place, IsVolumePlace, HasLayout}
-use Rattle.recovery.proofs.SuperblockLemmas.{superblock-outside}
-use Rattle.machine_host.proofs.VolumeLemmas.{has_layout-outside}
+use Rattle.machine_host.proofs.VolumeLemmas.{has_layout-outside, volume_line_lies}
 
 -- no line of the volume is the blocks'
 pub volume_apart : (geo : Geometry) (n : ℕ) → IsValid geo → IsVolumeLine geo n → IsBlockLine geo n → ⊥
@@ -45,7 +42,7 @@ volume_apart geo n valid of_volume of_blocks =
     ]
 
 -- the first line is neither the volume's nor the blocks'
-first_not_volume : (geo : Geometry) (p : ℕ) → p < 8 → IsVolumePlace geo p → ⊥
+pub first_not_volume : (geo : Geometry) (p : ℕ) → p < 8 → IsVolumePlace geo p → ⊥
 unfolding first_line
 first_not_volume geo p below of = elim of as (λ _. ⊥) [ inl first ↦ omega (arith, first) | inr second ↦ omega (arith, second) ]
 
@@ -58,7 +55,7 @@ pub layout-beside : (geo : Geometry) (lines : ℕ → Type 0) (old new : Medium)
 layout-beside geo lines old new layout x = record {
   valid = layout.valid;
   lines = x.count ∙ layout.lines;
-  intact = λ n below. let was = layout.intact n (subst (λ c. n < c) x.count below) in (x.stays_good n was.0, x.stays_strong n was.1);
+  intact = λ n below. let was = layout.intact n (subst (λ c. n < c) x.count below) in (x.stays_good n was.0, λ behind. x.stays_strong n (was.1 behind));
 }
 
 -- mounted blocks stay so, and stand for the same
@@ -80,32 +77,17 @@ blocks_of-outside geo s inside old new apart x mounted =
     (λ p named. apart p (subst (λ g. IsBlockPlace g p) mounted.geometry (inr (inr (named_is_data s.geo mounted.serves.valid s.map (p / 8) mounted.serves.all mounted.serves.is_map named)))))
 
 -- The host serves a device whose volume alone was worked on, in the same mode or in one without blocks.
-pub serves-volume : (host : HostState) (mode : Mode) (old new : Device) → Serves host old → WritesBackOutside (IsVolumePlace host.geometry) old.medium new.medium
-    → new.panel.power ≡ is_powered mode → (mode ≡ On → host.mode ≡ On) → Serves (record host { mode = mode }) new
+pub serves-volume : (host : HostState) (mode : Mode) (old new : Device) → HostServes host old → WritesBackOutside (IsVolumePlace host.geometry) old.medium new.medium
+    → new.panel.power ≡ is_powered mode → (mode ≡ On → host.mode ≡ On) → HostServes (record host { mode = mode }) new
 serves-volume host mode old new serves x power was_on =
     let geo = host.geometry in
     let valid = serves.layout.valid in
     let apart : (p : ℕ) → IsBlockPlace geo p → IsVolumePlace geo p → ⊥ = λ p of_blocks of_volume. volume_apart geo (p / 8) valid of_volume of_blocks in
     record {
       layout = has_layout-outside geo (IsVolumePlace geo) old.medium new.medium serves.layout x;
-      superblock = superblock-outside geo (IsVolumePlace geo) old.medium new.medium x (first_not_volume geo) serves.superblock;
       power = power;
-      readable = each_reads-outside geo (IsVolumePlace geo) old.medium new.medium (λ bs. Unit {0}) valid apart x serves.readable;
       mounted = λ on. mounted-outside geo host.blocks (IsVolumePlace geo) old.medium new.medium apart x (serves.mounted (was_on on));
     }
-
--- a line of the volume is in the first range, or it comes after the blocks
-volume_line_lies : (geo : Geometry) (n : ℕ) → HasLine geo first_range (volume_line geo n) ⊎ (first_line geo second_range ≤ volume_line geo n)
-unfolding volume_line
-volume_line_lies geo n =
-    let first = first_line geo first_range in
-    let second = first_line geo second_range in
-    let len = size geo first_range in
-    let line : Bool → ℕ = λ b. if b then first + n else second + (n - len) in
-    elim (cases_lt n len) as (λ _. ((first ≤ line (nat_lt n len)) × (line (nat_lt n len) < first + len)) ⊎ (second ≤ line (nat_lt n len))) [
-      | inl below ↦ let is = ap line (lt-ltb n len below) in inl (omega (arith, is), omega (arith, is))
-      | inr past ↦ let is = ap line (le-ltb n len past) in inr (omega (arith, is))
-    ]
 
 -- so it is not the first line
 pub volume_line_some : (geo : Geometry) (n : ℕ) → 1 ≤ volume_line geo n
@@ -144,23 +126,23 @@ write_back_volume-beside geo lines old new valid of x =
     }
 
 -- work on the volume that went well, or was stopped, of a host behind a reference
-pub serves_worked : (now : HostState) (geo : Geometry) (a b : ℕ) (old new : Device) → geo ≡ now.geometry → Serves now old → WritesBackOutside (IsVolumePlace geo) old.medium new.medium
-    → Runs a b went old.panel new.panel → Serves now new
+pub serves_worked : (now : HostState) (geo : Geometry) (a b : ℕ) (old new : Device) → geo ≡ now.geometry → HostServes now old → WritesBackOutside (IsVolumePlace geo) old.medium new.medium
+    → Runs a b went old.panel new.panel → HostServes now new
 serves_worked now geo a b old new same serves x runs =
     serves-volume now now.mode old new serves (subst (λ g. WritesBackOutside (IsVolumePlace g) old.medium new.medium) same x) (runs.cause.0 ∙ serves.power) (λ on. on)
 
-pub serves_stopped : (now after : HostState) (geo : Geometry) (a b : ℕ) (old new : Device) (stop : Interruption) → geo ≡ now.geometry → after ≡ record now { mode = interrupted_mode stop } → now.mode ≡ On → Serves now old
-    → WritesBackOutside (IsVolumePlace geo) old.medium new.medium → Runs a b (ended {T = Unit {0}} (Err stop)) old.panel new.panel → Serves after new
-serves_stopped now after geo a b old new stop same state on serves x runs = subst (λ k. Serves k new) (sym state) (by_stop stop runs)
+pub serves_stopped : (now after : HostState) (geo : Geometry) (a b : ℕ) (old new : Device) (stop : Interruption) → geo ≡ now.geometry → after ≡ record now { mode = interrupted_mode stop } → now.mode ≡ On → HostServes now old
+    → WritesBackOutside (IsVolumePlace geo) old.medium new.medium → Runs a b (ended {T = Unit {0}} (Err stop)) old.panel new.panel → HostServes after new
+serves_stopped now after geo a b old new stop same state on serves x runs = subst (λ k. HostServes k new) (sym state) (by_stop stop runs)
   where
     moved : WritesBackOutside (IsVolumePlace now.geometry) old.medium new.medium
     moved = subst (λ g. WritesBackOutside (IsVolumePlace g) old.medium new.medium) same x
 
-    by_stop : (stop : Interruption) → Runs a b (ended {T = Unit {0}} (Err stop)) old.panel new.panel → Serves (record now { mode = interrupted_mode stop }) new
+    by_stop : (stop : Interruption) → Runs a b (ended {T = Unit {0}} (Err stop)) old.panel new.panel → HostServes (record now { mode = interrupted_mode stop }) new
     by_stop stops.Failed runs = serves-volume now Unsettled old new serves moved (runs.cause.0 ∙ serves.power ∙ ap is_powered on) (λ e. cc)
     by_stop stops.PowerLost runs = serves-volume now Off old new serves moved runs.cause.0 (λ e. cc)
 
 -- an order to the device leaves its lines, but for write-back, and the power
-pub serves_ordered : (host : HostState) (old new : Device) → Serves host old → WritesBack old.medium new.medium → new.panel.power ≡ old.panel.power → Serves host new
+pub serves_ordered : (host : HostState) (old new : Device) → HostServes host old → WritesBack old.medium new.medium → new.panel.power ≡ old.panel.power → HostServes host new
 serves_ordered host old new serves x power =
     serves-volume host host.mode old new serves (outside-write_back (IsVolumePlace host.geometry) old.medium new.medium x) (power ∙ serves.power) (λ on. on)

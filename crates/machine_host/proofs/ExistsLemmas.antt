@@ -17,8 +17,9 @@ use Rattle.reply_text.specs.declared.reply.Why.TheVariants as because
 use Rattle.machine_host.specs.declared.mode.Mode.TheVariants.{On}
 use Rattle.machine_host.specs.Machine.{Machine, unless, effect}
 use Rattle.machine_host.specs.Machine.Fate.{Gives}
-use Rattle.machine_host.specs.Stands.{HostState, Serves, Stands, Comes, Performed}
+use Rattle.machine_host.specs.Stands.{HostState, HostServes, Stands, Comes, Performed}
 use Rattle.machine_host.specs.Run.{answered}
+use Rattle.machine_host.specs.Interrupted.{stop_in}
 use Rattle.machine_host.proofs.StepLemmas.{tells_nothing}
 
 -- a block that is read is there where its state is not absent
@@ -37,18 +38,22 @@ there_in_map geo bad word (s ∷ ss) zero there below told = there_by_state geo 
 there_in_map geo bad word (s ∷ ss) (suc block) there below told = there_in_map geo bad word ss block there (omega arith) told
 
 -- nothing changes, and this is answered
-same_state : (host : HostState) (d : Device) (h : Machine) (block : ℕ) (answer : Answer) → Stands host d h → Comes h (BExists block) (Gives answer h) answer host d d
-same_state host d h block answer stands =
-    record { said = answered answer; next = h; answers = refl; takes = (refl, refl); tells = tells_nothing answer d.panel; stands = stands }
+same_state : (host : HostState) (d : Device) (h : Machine) (block : ℕ) (answer : Answer) → stop_in answer ≡ None → Stands host d h → Comes h (BExists block) (Gives answer h) answer host d d
+same_state host d h block answer quiet stands =
+    record { said = answered answer; next = h; answers = refl; takes = (refl, refl); tells = tells_nothing answer quiet d.panel; stands = stands }
 
 module _ (now host : HostState) (d : Device) (h : Machine) (block : ℕ) where
-  blocks_there : host ≡ now → Serves now d → Stands now d h → now.mode ≡ On → host.blocks.geo.blocks ≡ h.geometry.blocks
+  blocks_there : host ≡ now → HostServes now d → Stands now d h → now.mode ≡ On → host.blocks.geo.blocks ≡ h.geometry.blocks
   blocks_there inside serves stands on = ap (λ k. k.blocks.geo.blocks) inside ∙ ap (λ g. g.blocks) ((serves.mounted on).geometry ∙ stands.geometry)
 
   abbrev said : Bool → Answer
   said there = if there then Yes else No
 
-  pub comes_of_exists : (test there : Bool) → test ≡ there → host ≡ now → Serves now d → Stands now d h → now.mode ≡ On
+  by_there : (there : Bool) → stop_in (said there) ≡ None
+  by_there true = refl
+  by_there false = refl
+
+  pub comes_of_exists : (test there : Bool) → test ≡ there → host ≡ now → HostServes now d → Stands now d h → now.mode ≡ On
       → (block < host.blocks.geo.blocks) × (IsTrue test ↔ (slice_get host.blocks.map block ≢ Some state.Absent)) → Performed h (BExists block) (said there) now d d
   comes_of_exists test there is inside serves stands on told =
       let mounted = serves.mounted on in
@@ -61,11 +66,11 @@ module _ (now host : HostState) (d : Device) (h : Machine) (block : ℕ) where
       let gives : effect h (BExists block) ≡ Gives (said there) h =
       ap (λ b. unless h (if b then None else Some Range) (Gives (if is_there (nth h.blocks block) then Yes else No) h)) (lt-ltb block h.geometry.blocks within)
       ∙ ap (λ b. Gives (if b then Yes else No) h) seen in
-      subst (λ fate. Comes h (BExists block) fate (said there) now d d) (sym gives) (same_state now d h block (said there) stands)
+      subst (λ fate. Comes h (BExists block) fate (said there) now d d) (sym gives) (same_state now d h block (said there) (by_there there) stands)
 
-  pub comes_of_no_such : host ≡ now → Serves now d → Stands now d h → now.mode ≡ On → host.blocks.geo.blocks ≤ block → Performed h (BExists block) (Refused because.Range) now d d
+  pub comes_of_no_such : host ≡ now → HostServes now d → Stands now d h → now.mode ≡ On → host.blocks.geo.blocks ≤ block → Performed h (BExists block) (Refused because.Range) now d d
   comes_of_no_such inside serves stands on past =
       let beyond : h.geometry.blocks ≤ block = omega (arith, past, blocks_there inside serves stands on) in
       let gives : effect h (BExists block) ≡ Gives (Refused because.Range) h =
       ap (λ b. unless h (if b then None else Some Range) (Gives (if is_there (nth h.blocks block) then Yes else No) h)) (le-ltb block h.geometry.blocks beyond) in
-      subst (λ fate. Comes h (BExists block) fate (Refused because.Range) now d d) (sym gives) (same_state now d h block (Refused because.Range) stands)
+      subst (λ fate. Comes h (BExists block) fate (Refused because.Range) now d d) (sym gives) (same_state now d h block (Refused because.Range) refl stands)

@@ -10,6 +10,7 @@ pub mod BlockLemmas
 pub mod DepictedLemmas
 pub mod RestartLemmas
 pub mod ExistsLemmas
+pub mod MetadataLemmas
 pub mod MountLemmas
 pub mod BlockReadLemmas
 pub mod LastLemmas

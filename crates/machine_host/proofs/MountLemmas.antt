@@ -1,92 +1,166 @@
--- What a mount of the blocks asks of a medium, and what it leaves.
-use Rattle.std.proofs.Common.{◌≡◌, ℕ, ◌+◌, ◌*◌, ◌/◌, ◌<◌, ◌≤◌, Option, Some, None, option_map, Result, Ok, Err, refl, sym, ap, subst, ◌∙◌, arith}
+-- What a mount finds, and what it leaves.
+use Rattle.std.proofs.Common.{◌≡◌, ℕ, ◌+◌, ◌*◌, ◌/◌, ◌<◌, ◌≤◌, false, Option, Some, None, option_map, List, [], map, Result, Ok, Err, inl, inr, refl, sym, ap, subst, ◌∙◌, arith}
 use Rattle.std.specs.Prelude.{IfErr}
 use Rattle.std.proofs.Math.Nat.{min-le_right}
-use Rattle.line_device.specs.Medium.{Medium, IsSound, last_image}
+use Rattle.std.proofs.lemmas.Bool.{cases_Bool, cases_lt}
+use Rattle.line_device.specs.History.{newest, IsIn}
+use Rattle.line_device.specs.Medium.{Medium, IsSound, Survivors, last_image}
 use Rattle.line_device.specs.Panel.{Panel, Outcome, Runs}
-use Rattle.line_device.specs.Device.{Device}
+use Rattle.line_device.specs.declared.line.Choice.{Choice}
+use Rattle.line_device.proofs.HistoryLemmas.{is_in-one}
 use Rattle.line_device.proofs.PanelLemmas.{runs_within}
-use Rattle.line_words.specs.Words.{WritesBackOutside}
+use Rattle.line_words.specs.Words.{IsOnly, WritesBackOutside}
 use Rattle.word_tables.specs.declared.geometry.Geometry.{Geometry}
-use Rattle.word_tables.specs.Layout.{first_range, meta_lines, total_lines}
-use Rattle.word_tables.proofs.LayoutLemmas.{areas_laid_out}
+use Rattle.word_tables.specs.Bounds.{IsValid}
+use Rattle.word_tables.specs.Layout.{meta_lines}
+use Rattle.word_tables.specs.Words.{place, of_block}
 use Rattle.word_log.specs.Area.{IsOf}
+use Rattle.word_log.specs.Replay.{first_wrong}
+use Rattle.block_map.specs.States.{IsMap, word_of}
+use Rattle.block_map.specs.Wrong as table
 use Rattle.nvm_model.specs.Blocks.{first_there}
 use Rattle.nvm_model.specs.Lines.{IsIntact}
-use Rattle.block_device.specs.Area.{block_area}
-use Rattle.block_device.specs.Object.{AreDurable}
+use Rattle.block_device.specs.Area.{block_area, IsBlockLine}
+use Rattle.block_device.specs.Object.{HasStrongMetadata}
 use Rattle.block_device.specs.Reading.{states_read}
-use Rattle.block_device.specs.Images.{AreReadable, KeepsReads}
+use Rattle.block_device.specs.Images.{AreReadable}
 use Rattle.block_device.specs.Mounting.{wrong_place}
-use Rattle.recovery.specs.Fresh.{HasSuperblock}
-use Rattle.recovery.specs.Findings.{Finding, geometry_told, early_finding, first_finding}
+use Rattle.block_device.proofs.FrameLemmas.{length-states_read}
+use Rattle.block_device.proofs.MountedLemmas.{map_from_right}
+use Rattle.block_device.proofs.PlaceLemmas.{area_is_block, data_on_device, named_is_data}
+use Rattle.block_device.proofs.ReachLemmas.{reads_right}
+use Rattle.block_device.proofs.RestartLemmas.{block_image-last, is_only-none}
+use Rattle.recovery.specs.Fresh.{IsFresh, fresh_word}
+use Rattle.recovery.specs.Findings.{geometry_told, early_finding, first_finding}
 use Rattle.recovery.specs.Findings.Finding.{wrong_word}
-use Rattle.recovery.specs.Mounting.{Finds, HasDurableBlocks, IsMountable, blocks_told}
+use Rattle.recovery.specs.Mounting.{Finds, HasDurableBlocks, IsInOrder, blocks_told}
 use Rattle.recovery.specs.declared.fault.MountFault.{MountFault}
 use Rattle.recovery.specs.declared.fault.MountFault.TheVariants as fault
-use Rattle.recovery.proofs.FindingLemmas.{early_none as both_none, first_late, is_superblock}
-use Rattle.recovery.proofs.SuperblockLemmas.{early_none, superblock_found, superblock_told, superblock-outside}
-use Rattle.block_device.specs.Area.{IsBlockLine}
-use Rattle.block_device.proofs.PlaceLemmas.{area_is_block}
-use Rattle.block_device.proofs.RestartLemmas.{block_image-last}
-use Rattle.block_device.proofs.ReachLemmas.{reads_right, each_reads-kept}
-use Rattle.machine_host.specs.declared.mode.Mode.TheVariants as modes
-use Rattle.machine_host.specs.Volume.{HasLayout}
-use Rattle.machine_host.specs.Stands.{HostState, Serves, AreMounted, is_powered}
+use Rattle.recovery.proofs.FindingLemmas.{early_none as both_none, first_late, is_superblock, nothing_early}
+use Rattle.recovery.proofs.SuperblockLemmas.{early_none, some_lines, superblock_told, superblock-outside}
+use Rattle.machine_host.specs.Volume.{HasGoodData, HasLayout}
+use Rattle.machine_host.specs.Stands.{IsFlushed, MetadataStands}
 use Rattle.machine_host.specs.Costs.{mount_calls, mount_persists}
-use Rattle.machine_host.specs.Faults.{IsStop}
-use Rattle.machine_host.proofs.VolumeLemmas.{has_layout-outside}
+use Rattle.machine_host.proofs.MetadataLemmas.{good_metadata, none_bad}
 use Rattle.machine_host.proofs.ElsewhereLemmas.{first_not_blocks}
-
--- a line of metadata is on the device
-metadata_there : (geo : Geometry) (m : Medium) (n : ℕ) → HasLayout geo m → n < meta_lines geo → n < m.count
-metadata_there geo m n layout below =
-    let ends = (areas_laid_out geo layout.valid).within first_range in
-    omega (arith, below, ends, layout.lines)
-
-some_lines : (geo : Geometry) → 1 ≤ total_lines geo
-unfolding total_lines
-some_lines geo = omega arith
 
 -- there is a first line
 pub line_zero : (geo : Geometry) (m : Medium) → HasLayout geo m → 1 ≤ m.count
 line_zero geo m layout = omega (arith, layout.lines, some_lines geo)
 
--- what the map of the last values names is durable
-pub durable_last : (geo : Geometry) (m : Medium) → HasLayout geo m → IsSound m → AreReadable geo m → AreDurable geo m (states_read geo (last_image m))
-durable_last geo m layout sound readable = (readable (last_image m) (block_image-last geo layout.valid m sound layout.lines)).durable
+-- no line is bad or weak, where none of metadata is weak
+pub all_intact : (geo : Geometry) (m : Medium) → HasLayout geo m → HasStrongMetadata geo m → IsIntact m
+all_intact geo m layout strong n there =
+    let line = layout.intact n there in
+    (line.0, elim (cases_lt n (meta_lines geo)) as (λ _. m.is_weak n ≡ false) [ inl below ↦ strong n below | inr behind ↦ line.1 behind ])
 
-none_wrong : (geo : Geometry) (m : Medium) → HasLayout geo m → IsSound m → AreReadable geo m → wrong_place geo (last_image m) ≡ None
-none_wrong geo m layout sound readable =
-    reads_right geo m (λ _. Unit {0}) (last_image m) (readable (last_image m) (block_image-last geo layout.valid m sound layout.lines))
+-- each word has one value after a restart
+pub flushed-restarted : (choice : Choice) (old new : Medium) → IsSound old → Survivors choice old new → IsFlushed new
+flushed-restarted choice old new sound x p there = elim (cases_Bool (old.is_bad (p / 8))) as (λ _. IsOnly (last_image new p) (new.history p)) [
+  | inl bad ↦ is_only-none (last_image new p) (new.history p) (x.lost p (sound.lost p bad))
+  | inr good ↦
+      let word = x.words p (subst (λ c. p / 8 < c) x.count there, good) in
+      let one = word.1.one in
+      λ v at. is_in-one v word.0 (subst (IsIn v) one at) ∙ sym (ap newest one)
+]
 
--- of a device that a host serves, as a mount sees it: its sizes, and that nothing is found before the log
+-- and on a device that was made anew
+pub fresh_flushed : (geo : Geometry) (m : Medium) → IsFresh geo m → IsFlushed m
+fresh_flushed geo m is p there =
+    let one = is.words p there in
+    λ v at. is_in-one v (fresh_word geo p) (subst (IsIn v) one at) ∙ sym (ap newest one)
+
+not_mapped : {A B : Type 0} (f : A → B) (o : Option A) → option_map f o ≡ None → o ≡ None
+not_mapped f None none = refl
+not_mapped f (Some x) none = cc none
+
+-- where nothing is found, the map is one
+found_map : (m : Medium) → first_finding m ≡ None → IsMap (states_read (geometry_told m) (last_image m))
+found_map m none = by_log (first_wrong (block_area geo) (last_image m)) right
+  where
+    geo : Geometry
+    geo = geometry_told m
+
+    right : wrong_place geo (last_image m) ≡ None
+    right = not_mapped wrong_word (wrong_place geo (last_image m)) (sym (first_late m (nothing_early m none)) ∙ none)
+
+    by_log : (o : Option ℕ) → first_there o (option_map (λ b. place geo (of_block b)) (table.first_wrong (map word_of (states_read geo (last_image m))))) ≡ None
+        → IsMap (states_read geo (last_image m))
+    by_log None is =
+        map_from_right (states_read geo (last_image m)) _ refl (not_mapped (λ b. place geo (of_block b)) (table.first_wrong (map word_of (states_read geo (last_image m)))) is)
+    by_log (Some at) is = cc is
+
+-- so what it names is on the device, and durable with all words
+pub durable_flushed : (m : Medium) → IsFlushed m → HasDurableBlocks m
+durable_flushed m flushed none block unit at p from to =
+    let geo = geometry_told m in
+    let states = states_read geo (last_image m) in
+    let is = is_superblock m (both_none m (nothing_early m none)).0 in
+    let unit_line = named_is_data geo is.valid states (p / 8) (length-states_read geo (last_image m)) (found_map m none) (record { block = block; unit = unit; at = at; from = from; to = to }) in
+    flushed p (subst (λ c. p / 8 < c) (sym is.count) (data_on_device geo is.valid (p / 8) unit_line))
+
+first_place : (p : ℕ) → p < 8 → p / 8 ≡ 0
+first_place p below = omega arith
+
+-- the first line has no word of log and map
+pub first_not_area : (geo : Geometry) → IsValid geo → (p : ℕ) → p < 8 → IsOf (block_area geo) p → ⊥
+first_not_area geo valid p below of = first_not_blocks geo (subst (IsBlockLine geo) (first_place p below) (area_is_block geo valid p of))
+
+-- of a device in order whose first line was durable, its metadata after a mount
+pub metadata_mounted : (old new : Medium) → 1 ≤ old.count → IsFlushed old → first_finding old ≡ None → WritesBackOutside (IsOf (block_area (geometry_told old))) old new
+    → IsInOrder (geometry_told old) new → MetadataStands (geometry_told old) new []
+metadata_mounted old new some flushed none x order =
+    let geo = geometry_told old in
+    let is = is_superblock old (both_none old (nothing_early old none)).0 in
+    record {
+      lines = order.count;
+      bad = none_bad geo new order.good;
+      strong = order.strong;
+      superblock = superblock-outside geo (IsOf (block_area geo)) old new x (first_not_area geo is.valid)
+          (λ p below. subst (λ v. IsOnly v (old.history p)) (is.words p below) (flushed p (omega (arith, first_place p below, some))));
+    }
+
+-- and its layout, where the lines behind were good
+pub layout_mounted : (geo : Geometry) (inside : ℕ → Type 0) (old new : Medium) → IsInOrder geo new → WritesBackOutside inside old new → HasGoodData geo old → HasLayout geo new
+layout_mounted geo inside old new order x good = record {
+  valid = order.valid;
+  lines = order.count;
+  intact = λ n there. elim (cases_lt n (meta_lines geo)) as (λ _. (new.is_bad n ≡ false) × (meta_lines geo ≤ n → new.is_weak n ≡ false)) [
+    | inl below ↦ (order.good n below, λ behind. absurd (omega (arith, below, behind)))
+    | inr behind ↦ let was = good n behind (subst (λ c. n < c) x.count there) in (x.bad n ∙ was.0, λ _. x.weak n ∙ was.1)
+  ];
+}
+
+-- of a device that stands for a state, as a mount sees it: its sizes, and that nothing is found before the log
 pub record IsTold (geo : Geometry) (m : Medium) : Type 0 where
   pub sizes : geometry_told m ≡ geo
   pub early : early_finding m ≡ None
 
-pub is_told : (geo : Geometry) (m : Medium) → HasLayout geo m → HasSuperblock geo m → IsSound m → IsTold geo m
-is_told geo m layout superblock sound =
+pub is_told : (geo : Geometry) (m : Medium) (bad_meta : List ℕ) → HasLayout geo m → MetadataStands geo m bad_meta → IsSound m → IsTold geo m
+is_told geo m bad_meta layout stands sound =
     let some = line_zero geo m layout in
     record {
-      sizes = superblock_told geo m sound some (layout.intact 0 some).0 superblock layout.valid;
-      early = early_none geo m sound layout.valid layout.lines (λ n below. (layout.intact n (metadata_there geo m n layout below)).0)
-          (λ n below. (layout.intact n (metadata_there geo m n layout below)).1) superblock;
+      sizes = superblock_told geo m sound some (layout.intact 0 some).0 stands.superblock layout.valid;
+      early = early_none geo m sound layout.valid layout.lines (good_metadata geo m layout) stands.strong stands.superblock;
     }
 
-pub durable_told : (geo : Geometry) (m : Medium) → HasLayout geo m → HasSuperblock geo m → IsSound m → AreReadable geo m → HasDurableBlocks m
-durable_told geo m layout superblock sound readable early =
-    subst (λ g. AreDurable g m (states_read g (last_image m))) (sym (is_told geo m layout superblock sound).sizes) (durable_last geo m layout sound readable)
+-- a mount that was stopped, or had no memory
+abbrev pub IsStop : MountFault → Type 0
+IsStop (fault.Meta line) = ⊥
+IsStop (fault.Layout place) = ⊥
+IsStop fault.Device = Unit {0}
+IsStop fault.PowerLost = Unit {0}
+IsStop fault.Memory = Unit {0}
 
--- Of such a medium a mount is refused by nothing but device, power and memory.
-pub only_stops : {T : Type 0} → (geo : Geometry) (m : Medium) (r : Result T MountFault) → HasLayout geo m → HasSuperblock geo m → IsSound m → AreReadable geo m → Finds (first_finding m) r → IfErr r IsStop
-only_stops {T} geo m r layout superblock sound readable finds = by_answer r (subst (λ found. Finds found r) nothing finds)
+-- Of such a device a mount is refused by nothing but device, power and memory.
+pub only_stops : {T : Type 0} → (geo : Geometry) (m : Medium) (r : Result T MountFault) → HasLayout geo m → IsTold geo m → IsSound m → AreReadable geo m → Finds (first_finding m) r → IfErr r IsStop
+only_stops {T} geo m r layout told sound readable finds = by_answer r (subst (λ found. Finds found r) nothing finds)
   where
-    told : IsTold geo m
-    told = is_told geo m layout superblock sound
+    none_wrong : wrong_place geo (last_image m) ≡ None
+    none_wrong = reads_right geo m (λ _. Unit {0}) (last_image m) (readable (last_image m) (block_image-last geo layout.valid m sound layout.lines))
 
     nothing : first_finding m ≡ None
-    nothing = first_late m told.early ∙ ap (option_map wrong_word) (ap (λ g. wrong_place g (last_image m)) told.sizes ∙ none_wrong geo m layout sound readable)
+    nothing = first_late m told.early ∙ ap (option_map wrong_word) (ap (λ g. wrong_place g (last_image m)) told.sizes ∙ none_wrong)
 
     by_answer : (q : Result T MountFault) → Finds None q → IfErr q IsStop
     by_answer (Ok x) f = tt
@@ -100,46 +174,3 @@ pub mount_within : (m : Medium) (e : Outcome) (p q : Panel) → Runs (2 * blocks
 mount_within m e p q runs =
     let most : blocks_told m ≤ 4096 = min-le_right (geometry_told m).blocks 4096 in
     runs_within (2 * blocks_told m + 287) (blocks_told m / 8 + 84) mount_calls mount_persists e p q runs (omega (arith, most)) (omega (arith, most))
-
--- a host serves the device after a mount, whether blocks are mounted or not
-pub serves_mounted : (host : HostState) (old new : Device) → HasLayout host.geometry old.medium → HasSuperblock host.geometry old.medium → AreReadable host.geometry old.medium
-    → WritesBackOutside (IsOf (block_area host.geometry)) old.medium new.medium → KeepsReads host.geometry old.medium new.medium
-    → new.panel.power ≡ is_powered host.mode → (host.mode ≡ modes.On → AreMounted host.geometry host.blocks new.medium) → Serves host new
-serves_mounted host old new layout superblock readable outside reads power mounted =
-    let geo = host.geometry in
-    record {
-      layout = has_layout-outside geo (IsOf (block_area geo)) old.medium new.medium layout outside;
-      superblock = superblock-outside geo (IsOf (block_area geo)) old.medium new.medium outside
-          (λ p below of. first_not_blocks geo (subst (IsBlockLine geo) (first_place p below) (area_is_block geo layout.valid p of))) superblock;
-      power = power;
-      readable = each_reads-kept geo old.medium new.medium (λ _. Unit {0}) reads readable;
-      mounted = mounted;
-    }
-  where
-    first_place : (p : ℕ) → p < 8 → p / 8 ≡ 0
-    first_place p below = omega arith
-
-nothing_early : (m : Medium) → first_finding m ≡ None → early_finding m ≡ None
-unfolding first_finding
-nothing_early m none = by_first (early_finding m) refl none
-  where
-    by_first : (found : Option Finding) → early_finding m ≡ found
-        → first_there found (option_map wrong_word (wrong_place (geometry_told m) (last_image m))) ≡ None → early_finding m ≡ None
-    by_first None is none = is
-    by_first (Some f) is none = cc none
-
--- the same of a device that was mounted for the first time
-pub serves_found : (host : HostState) (old new : Device) → IsMountable old.medium → IsIntact old.medium → first_finding old.medium ≡ None → host.geometry ≡ geometry_told old.medium
-    → WritesBackOutside (IsOf (block_area (geometry_told old.medium))) old.medium new.medium
-    → (early_finding old.medium ≡ None → KeepsReads (geometry_told old.medium) old.medium new.medium) → new.panel.power ≡ is_powered host.mode
-    → (host.mode ≡ modes.On → AreMounted host.geometry host.blocks new.medium) → Serves host new
-serves_found host old new mountable intact nothing same outside reads power mounted =
-    let early = nothing_early old.medium nothing in
-    let found = is_superblock old.medium (both_none old.medium early).0 in
-    serves_mounted host old new
-    (subst (λ g. HasLayout g old.medium) (sym same) (record { valid = found.valid; lines = found.count; intact = intact }))
-    (subst (λ g. HasSuperblock g old.medium) (sym same) (superblock_found old.medium early mountable))
-    (subst (λ g. AreReadable g old.medium) (sym same) (mountable.readable early))
-    (subst (λ g. WritesBackOutside (IsOf (block_area g)) old.medium new.medium) (sym same) outside)
-    (subst (λ g. KeepsReads g old.medium new.medium) (sym same) (reads early))
-    power mounted

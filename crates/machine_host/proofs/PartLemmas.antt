@@ -34,7 +34,7 @@ use Rattle.machine_host.specs.Machine.{Machine, fate, unless, refusal, while_int
 use Rattle.machine_host.specs.Machine.Fate.{Gives, Works, Orders, Restarts}
 use Rattle.machine_host.specs.Interrupted.{interrupted_answer}
 use Rattle.machine_host.specs.Restarting.{Keeps, reading, fresh, restarted, restart_answer, zero_image}
-use Rattle.machine_host.specs.Run.{Transcript, Run, Takes, Ends}
+use Rattle.machine_host.specs.Run.{Transcript, Run, Takes, Ends, followed_by}
 use Rattle.machine_host.specs.Rows.{small, text}
 use Rattle.machine_host.specs.CutRows.{MayWrite, with_cut_write, cut_write_lines}
 use Rattle.machine_host.proofs.CutLemmas.{armed, the_write}
@@ -45,7 +45,7 @@ Later h inputs answers = (said : Transcript) × (end : Machine) × (said.answers
 
 -- what a run begins with, by what comes of its first command
 module _ (h : Machine) (action : Action) (inputs : List Input) (answers : List Answer) (later : Later h (Asked action ∷ inputs) answers) where
-  answers_of : (first rest : Transcript) (answer : Answer) → later.0 ≡ record { starts = first.starts ++ rest.starts; orders = first.orders ++ rest.orders; answers = first.answers ++ rest.answers }
+  answers_of : (first rest : Transcript) (answer : Answer) → later.0 ≡ followed_by first rest
       → first.answers ≡ answer ∷ [] → answers ≡ answer ∷ rest.answers
   answers_of first rest answer is one = sym later.2 ∙ ap (λ (t : Transcript). t.answers) is ∙ ap (λ xs. xs ++ rest.answers) one
 

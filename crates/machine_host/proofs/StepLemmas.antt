@@ -1,5 +1,5 @@
 -- What a host and its device stand for, after work on the volume.
-use Rattle.std.proofs.Common.{◌≡◌, ℕ, ◌⊎◌, ◌+◌, ◌*◌, ◌/◌, ◌≤◌, inl, inr, true, false, IsTrue, Option, Some, None, Err, List, length, refl, sym, ap, subst, ◌∙◌}
+use Rattle.std.proofs.Common.{◌≡◌, ℕ, ◌⊎◌, ◌+◌, ◌*◌, ◌/◌, ◌≤◌, inl, inr, true, false, IsTrue, Option, Some, None, Err, List, length, refl, sym, ap, subst, ◌∙◌, arith}
 use Rattle.line_device.specs.Medium.{WritesBack, word_stored}
 use Rattle.line_device.specs.Panel.{Panel, Runs, after_arm_cut, after_power_off}
 use Rattle.line_device.specs.declared.order.Order.TheVariants.{Cut as ForCut}
@@ -17,15 +17,19 @@ use Rattle.script_text.specs.Action.Action.{Cut, CutIn, VLoad, VStore, VSync}
 use Rattle.reply_text.specs.Answer.{Answer}
 use Rattle.reply_text.specs.Answer.Answer.{Done, Bytes, Refused}
 use Rattle.reply_text.specs.declared.reply.Why.{Why}
-use Rattle.machine_host.specs.Machine.{Machine, Fate, refusal, fate_of, fate, while_interrupted}
-use Rattle.machine_host.specs.Machine.Fate.{Gives, Works, Orders}
-use Rattle.machine_host.specs.Interrupted.{MayLeaveBlocks, MayLeaveVolume, Interrupts, may_come, interrupted_answer, interrupted_mode}
-use Rattle.machine_host.specs.Run.{answered, with_order}
+use Rattle.machine_host.specs.Machine.{Machine, refusal, fate_of, fate, while_interrupted}
+use Rattle.machine_host.specs.Machine.Fate.{Gives, Works, Orders, Cuts}
+use Rattle.machine_host.specs.Interrupted.{MayLeaveBlocks, MayLeaveVolume, Interrupts, may_come, interrupted_answer, interrupted_mode, stop_in}
+use Rattle.machine_host.specs.Costs.{lines_touched, most_calls, most_persists}
+use Rattle.machine_host.specs.Run.{answered, with_cut, with_order, worked}
+use Rattle.machine_host.specs.Telling.{Tells, cuts_after, faults_after}
 use Rattle.machine_host.specs.declared.mode.Mode.TheVariants as modes
 use Rattle.nvm_model.specs.Lines.{span_shown}
 use Rattle.machine_host.specs.Volume.{volume_of, HasLayout, IsVolumePlace}
 use Rattle.machine_host.proofs.VolumeLemmas.{write_back-volume, volume_intact}
-use Rattle.machine_host.specs.Stands.{HostState, Serves, VolumeStands, Stands, Tells, Comes, is_powered}
+use Rattle.machine_host.specs.Stands.{HostState, HostServes, MetadataStands, VolumeStands, Stands, Comes, Performed, is_powered}
+use Rattle.machine_host.specs.Responding.{Answered, longest}
+use Rattle.reply_text.specs.Room.{most_of}
 use Rattle.line_words.specs.Words.{WritesBackOutside}
 use Rattle.line_words.proofs.FrameLemmas.{outside-write_back}
 use Rattle.block_device.specs.Area.{IsBlockPlace}
@@ -33,7 +37,8 @@ use Rattle.block_device.specs.Object.{blocks_of}
 use Rattle.block_device.specs.Images.{EachReads}
 use Rattle.block_device.proofs.FrameLemmas.{each_reads-outside}
 use Rattle.block_device.proofs.ImageLemmas.{each_reads-then}
-use Rattle.machine_host.proofs.ElsewhereLemmas.{volume_apart, blocks_of-outside}
+use Rattle.machine_host.proofs.ElsewhereLemmas.{first_not_volume, volume_apart, blocks_of-outside}
+use Rattle.machine_host.proofs.MetadataLemmas.{metadata-outside}
 
 -- the state after an interruption, with what is armed then
 abbrev pub struck : Machine → Interruption → Panel → Machine
@@ -60,21 +65,65 @@ module _ (by : Interruption) (h : Machine) (a b : ℕ) (p q : Panel) (runs : Run
       by_cause Failed r = r.cause.0 ∙ on
       by_cause PowerLost r = r.cause.0
 
+-- and the count of it rose
+pub risen_faults : (by : Interruption) {a b : ℕ} (p q : Panel) → Runs a b (ended {T = Unit {0}} (Err by)) p q → faults_after (stop_in (interrupted_answer by)) p.counts.faults ≤ q.counts.faults
+risen_faults Failed p q runs = runs.cause.3
+risen_faults PowerLost p q runs = runs.faults
+
+pub risen_cuts : (by : Interruption) {a b : ℕ} (p q : Panel) → Runs a b (ended {T = Unit {0}} (Err by)) p q → cuts_after (stop_in (interrupted_answer by)) p.counts.cuts ≤ q.counts.cuts
+risen_cuts Failed p q runs = runs.cuts
+risen_cuts PowerLost p q runs = runs.cause.2
+
 pub never_on : (by : Interruption) → interrupted_mode by ≡ modes.On → ⊥
 never_on Failed on = cc on
 never_on PowerLost on = cc on
 
--- work gives no order and restarts nothing
-pub tells_work : (a b : ℕ) (e : _) (answer : Answer) (p q : Panel) → Runs a b e p q → Tells (answered answer) p q
-tells_work a b e answer p q runs = record {
-  starts = runs.orders.starts;
-  restarts = runs.orders.restarts;
-  orders = runs.orders.last_order;
-  arms = runs.orders.arms;
-}
+-- what the panel tells of work that went well, or was interrupted, within what the action may spend
+module _ (action : Action) (a b : ℕ) (few : a ≤ most_calls action) (few_persists : b ≤ most_persists action) (p q : Panel) where
+  pub tells_work : (answer : Answer) → stop_in answer ≡ None → Runs a b went p q → Tells (worked action answer) p q
+  tells_work answer quiet runs = record {
+    starts = runs.orders.starts;
+    restarts = runs.orders.restarts;
+    orders = runs.orders.last_order;
+    arms = runs.orders.arms;
+    offs = omega (arith, runs.orders.offs);
+    faults = subst (λ o. faults_after o p.counts.faults ≤ q.counts.faults) (sym quiet) runs.faults;
+    cuts = subst (λ o. cuts_after o p.counts.cuts ≤ q.counts.cuts) (sym quiet) runs.cuts;
+    calls = omega (arith, runs.few_calls, few);
+    persists = omega (arith, runs.few_persists, few_persists);
+    evicts = runs.orders.evicts;
+    disarms = runs.orders.disarms;
+  }
 
-pub tells_nothing : (answer : Answer) (p : Panel) → Tells (answered answer) p p
-tells_nothing answer p = record { starts = refl; restarts = refl; orders = refl; arms = refl }
+  pub tells_interrupted : (by : Interruption) → Runs a b (ended {T = Unit {0}} (Err by)) p q → Tells (worked action (interrupted_answer by)) p q
+  tells_interrupted by runs = record {
+    starts = runs.orders.starts;
+    restarts = runs.orders.restarts;
+    orders = runs.orders.last_order;
+    arms = runs.orders.arms;
+    offs = omega (arith, runs.orders.offs);
+    faults = risen_faults by p q runs;
+    cuts = risen_cuts by p q runs;
+    calls = omega (arith, runs.few_calls, few);
+    persists = omega (arith, runs.few_persists, few_persists);
+    evicts = runs.orders.evicts;
+    disarms = runs.orders.disarms;
+  }
+
+pub tells_nothing : (answer : Answer) → stop_in answer ≡ None → (p : Panel) → Tells (answered answer) p p
+tells_nothing answer quiet p = record {
+  starts = refl;
+  restarts = refl;
+  orders = refl;
+  arms = refl;
+  offs = omega arith;
+  faults = subst (λ o. faults_after o p.counts.faults ≤ p.counts.faults) (sym quiet) (omega arith);
+  cuts = subst (λ o. cuts_after o p.counts.cuts ≤ p.counts.cuts) (sym quiet) (omega arith);
+  calls = omega arith;
+  persists = omega arith;
+  evicts = refl;
+  disarms = refl;
+}
 
 -- of a state that is whole, what blocks and volume stand for
 module _ (host : HostState) (d : Device) (h : Machine) (stands : Stands host d h) where
@@ -108,7 +157,7 @@ stands_whole host d h pages same size stand interrupted whole = subst (λ t. Vol
 })
 
 -- blocks stay for what they are, while the volume is worked on
-pub blocks_elsewhere : (host : HostState) (old new : Device) (h : Machine) → Stands host old h → Serves host old → WritesBackOutside (IsVolumePlace host.geometry) old.medium new.medium
+pub blocks_elsewhere : (host : HostState) (old new : Device) (h : Machine) → Stands host old h → HostServes host old → WritesBackOutside (IsVolumePlace host.geometry) old.medium new.medium
     → (EachReads h.geometry new.medium (MayLeaveBlocks h.interrupted h.blocks)) × (host.mode ≡ modes.On → blocks_of host.blocks new.medium ≡ h.blocks)
 blocks_elsewhere host old new h stands serves x =
     let geo = host.geometry in
@@ -121,7 +170,7 @@ blocks_elsewhere host old new h stands serves x =
     )
 
 -- the volume stays for what it is, where all were only written back
-pub volume_written_back : (host : HostState) (old new : Device) (h : Machine) → Stands host old h → Serves host old → WritesBack old.medium new.medium → VolumeStands h.geometry new.medium h.interrupted h.volume
+pub volume_written_back : (host : HostState) (old new : Device) (h : Machine) → Stands host old h → HostServes host old → WritesBack old.medium new.medium → VolumeStands h.geometry new.medium h.interrupted h.volume
 volume_written_back host old new h stands serves write_back =
     let v = stands.device.volume in
     let geo = h.geometry in
@@ -133,42 +182,46 @@ volume_written_back host old new h stands serves write_back =
       stand = stand-loaded (volume_of geo old.medium) (volume_of geo new.medium) geo.vpages v.pages v.stand (volume_intact geo old.medium layout) (write_back-volume geo old.medium new.medium write_back);
     }
 
-module _ (host : HostState) (old new : Device) (h : Machine) (action : Action) (stands : Stands host old h) (serves : Serves host old) (on : host.mode ≡ modes.On) where
+-- the metadata stays, while the volume is worked on
+metadata_elsewhere : (host : HostState) (old new : Device) (h : Machine) → Stands host old h → WritesBackOutside (IsVolumePlace host.geometry) old.medium new.medium → MetadataStands h.geometry new.medium h.bad_meta
+metadata_elsewhere host old new h stands x = metadata-outside h.geometry h.bad_meta old.medium new.medium stands.device.metadata (IsVolumePlace host.geometry) x (first_not_volume host.geometry)
+
+module _ (host : HostState) (old new : Device) (h : Machine) (action : Action) (stands : Stands host old h) (serves : HostServes host old) (on : host.mode ≡ modes.On) where
   -- Work on the volume that went well comes to its answer and its state.
-  pub comes_of_work : (pages : List Page) (answer : Answer) (a b : ℕ) → Runs a b went old.panel new.panel → WritesBackOutside (IsVolumePlace host.geometry) old.medium new.medium
+  pub comes_of_work : (pages : List Page) (answer : Answer) (a b : ℕ) → stop_in answer ≡ None → a ≤ most_calls action → b ≤ most_persists action → Runs a b went old.panel new.panel → WritesBackOutside (IsVolumePlace host.geometry) old.medium new.medium
       → length pages ≡ length h.volume → PagesStand (volume_of host.geometry new.medium) host.geometry.vpages pages
       → Comes h action (Works answer (record h { volume = pages })) answer host old new
-  comes_of_work pages answer a b runs outside size stand =
+  comes_of_work pages answer a b quiet few few_persists runs outside size stand =
       let whole = is_whole host old h stands on in
       let kept = blocks_elsewhere host old new h stands serves outside in
       record {
-        said = answered answer;
+        said = worked action answer;
         next = record h { volume = pages };
         answers = refl;
         takes = (answer, refl, inl (refl, refl));
-        tells = tells_work a b went answer old.panel new.panel runs;
+        tells = tells_work action a b few few_persists old.panel new.panel answer quiet runs;
         stands = record {
           geometry = stands.geometry;
           mode = stands.mode;
           blocks = kept.1;
           device = record {
+            metadata = metadata_elsewhere host old new h stands outside;
             blocks = kept.0;
             volume = stands_whole host new h pages stands.geometry (size ∙ whole_length host old h stands whole) stand h.interrupted whole;
             power = runs.cause.0 ∙ stands.device.power;
             cut_armed = runs.cause.2 ∙ stands.device.cut_armed;
             fail_armed = runs.cause.3 ∙ stands.device.fail_armed;
-            good_meta = stands.device.good_meta;
             whole = stands.device.whole;
           };
         };
       }
 
   -- Work that was interrupted comes to what stopped it, in a state that knows it interrupted.
-  pub comes_of_interruption : (after : HostState) (good : Answer) (to : Machine) (by : Interruption) (a b : ℕ) → after.geometry ≡ host.geometry → after.mode ≡ interrupted_mode by
-      → Runs a b (ended {T = Unit {0}} (Err by)) old.panel new.panel → EachReads h.geometry new.medium (MayLeaveBlocks (Some action) h.blocks)
+  pub comes_of_interruption : (after : HostState) (good : Answer) (to : Machine) (by : Interruption) (a b : ℕ) → a ≤ most_calls action → b ≤ most_persists action → after.geometry ≡ host.geometry → after.mode ≡ interrupted_mode by
+      → Runs a b (ended {T = Unit {0}} (Err by)) old.panel new.panel → MetadataStands h.geometry new.medium h.bad_meta → EachReads h.geometry new.medium (MayLeaveBlocks (Some action) h.blocks)
       → VolumeStands h.geometry new.medium (Some action) h.volume → Comes h action (Works good to) (interrupted_answer by) after old new
-  comes_of_interruption after good to by a b same mode runs blocks volume = record {
-    said = answered (interrupted_answer by);
+  comes_of_interruption after good to by a b few few_persists same mode runs metadata blocks volume = record {
+    said = worked action (interrupted_answer by);
     next = struck (while_interrupted h action) by new.panel;
     answers = refl;
     takes = (
@@ -176,18 +229,18 @@ module _ (host : HostState) (old new : Device) (h : Machine) (action : Action) (
       refl,
       inr (by, refl, interrupts by (while_interrupted h action) a b old.panel new.panel runs stands.device.cut_armed stands.device.fail_armed),
     );
-    tells = tells_work a b (ended {T = Unit {0}} (Err by)) (interrupted_answer by) old.panel new.panel runs;
+    tells = tells_interrupted action a b few few_persists old.panel new.panel by runs;
     stands = record {
       geometry = same ∙ stands.geometry;
       mode = mode;
       blocks = λ is_on. absurd (never_on by (sym mode ∙ is_on));
       device = record {
+        metadata = metadata;
         blocks = blocks;
         volume = volume;
         power = power_struck by h a b old.panel new.panel runs (stands.device.power ∙ ap is_powered (sym stands.mode ∙ on));
         cut_armed = refl;
         fail_armed = refl;
-        good_meta = stands.device.good_meta;
         whole = λ is_on. absurd (never_on by is_on);
       };
     };
@@ -217,22 +270,31 @@ module _ (host : HostState) (old new : Device) (h : Machine) (action : Action) (
       (volume_intact geo old.medium serves.layout) (write_back-volume geo old.medium new.medium write_back)
 
 -- the same as a host answers it
-pub interrupted : (now after : HostState) (by : Interruption) (answer : Answer) (h : Machine) (action : Action) (fate : Fate) (old new : Device) → after ≡ record now { mode = interrupted_mode by }
-    → answer ≡ interrupted_answer by → Comes h action fate (interrupted_answer by) (record now { mode = interrupted_mode by }) old new → Comes h action fate answer after old new
-interrupted now after by answer h action fate old new state is comes =
-    subst (λ a. Comes h action fate a after old new) (sym is) (subst (λ k. Comes h action fate (interrupted_answer by) k old new) (sym state) comes)
+pub answered_interrupted : (now after : HostState) (by : Interruption) (answer : Answer) (action : Action) (old new : Device) → after ≡ record now { mode = interrupted_mode by } → answer ≡ interrupted_answer by
+    → 64 ≤ longest action → ((h : Machine) → Stands now old h → Performed h action (interrupted_answer by) (record now { mode = interrupted_mode by }) old new) → HostServes after new
+    → Answered action answer now after old new
+answered_interrupted now after by answer action old new state is long comes serves =
+    subst (λ a. Answered action a now after old new) (sym is) (record {
+      step = λ h stands. subst (λ k. Performed h action (interrupted_answer by) k old new) (sym state) (comes h stands);
+      room = short by;
+      serves = serves;
+    })
+  where
+    short : (by : Interruption) → most_of (interrupted_answer by) ≤ longest action
+    short Failed = long
+    short PowerLost = long
 
 -- A load comes to the bytes that the machine sees, or to what stopped it.
-module _ (host : HostState) (old new : Device) (h : Machine) (offset len : ℕ) (stands : Stands host old h) (serves : Serves host old) (on : host.mode ≡ modes.On)
+module _ (host : HostState) (old new : Device) (h : Machine) (offset len : ℕ) (stands : Stands host old h) (serves : HostServes host old) (on : host.mode ≡ modes.On)
     (write_back : WritesBack old.medium new.medium) where
-  pub comes_of_load : (bytes : List ℕ) (a b : ℕ) → Runs a b went old.panel new.panel → offset + len ≤ 4096 * host.geometry.vpages
+  pub comes_of_load : (bytes : List ℕ) → Runs (lines_touched offset len) 0 went old.panel new.panel → offset + len ≤ 4096 * host.geometry.vpages
       → bytes ≡ span_shown (volume_of host.geometry old.medium) offset len → Comes h (VLoad offset len) (Works (Bytes (look h.volume offset len)) h) (Bytes bytes) host old new
   unfolding comes_of_work
-  comes_of_load bytes a b runs within shown =
+  comes_of_load bytes runs within shown =
       let geo = host.geometry in
       let intact = volume_intact geo old.medium serves.layout in
       let seen = look-stand (volume_of geo old.medium) geo.vpages h.volume offset len (whole_pages host old h stands (is_whole host old h stands on)) intact within in
-      let comes = comes_of_work host old new h (VLoad offset len) stands serves on h.volume (Bytes bytes) a b runs (outside-write_back (IsVolumePlace geo) old.medium new.medium write_back) refl
+      let comes = comes_of_work host old new h (VLoad offset len) stands serves on h.volume (Bytes bytes) (lines_touched offset len) 0 refl (omega arith) (omega arith) runs (outside-write_back (IsVolumePlace geo) old.medium new.medium write_back) refl
       (pages_written_back host old new h (VLoad offset len) stands serves on write_back) in
       record {
         said = comes.said;
@@ -243,24 +305,27 @@ module _ (host : HostState) (old new : Device) (h : Machine) (offset len : ℕ) 
         stands = comes.stands;
       }
 
-  pub comes_of_interrupted_load : (by : Interruption) (a b : ℕ) → Runs a b (ended {T = Unit {0}} (Err by)) old.panel new.panel
+  pub comes_of_interrupted_load : (by : Interruption) → Runs (lines_touched offset len) 0 (ended {T = Unit {0}} (Err by)) old.panel new.panel
       → Comes h (VLoad offset len) (Works (Bytes (look h.volume offset len)) h) (interrupted_answer by) (record host { mode = interrupted_mode by }) old new
-  comes_of_interrupted_load by a b runs =
+  comes_of_interrupted_load by runs =
       let action = VLoad offset len in
-      comes_of_interruption host old new h action stands serves on (record host { mode = interrupted_mode by }) _ h by a b refl refl runs
-      (blocks_left host old new h action stands serves on (outside-write_back (IsVolumePlace host.geometry) old.medium new.medium write_back))
+      let outside = outside-write_back (IsVolumePlace host.geometry) old.medium new.medium write_back in
+      comes_of_interruption host old new h action stands serves on (record host { mode = interrupted_mode by }) _ h by (lines_touched offset len) 0 (omega arith) (omega arith) refl refl runs
+      (metadata_elsewhere host old new h stands outside)
+      (blocks_left host old new h action stands serves on outside)
       (pages_left host old new h action stands serves on h.volume (Some action) refl refl (pages_written_back host old new h action stands serves on write_back))
 
 -- A store that was interrupted got to some line.
-pub comes_of_interrupted_store : (host : HostState) (old new : Device) (h : Machine) (offset : ℕ) (bytes : List ℕ) (good : Answer) (to : Machine) (by : Interruption) (a b line : ℕ)
-    → Stands host old h → Serves host old → host.mode ≡ modes.On → Runs a b (ended {T = Unit {0}} (Err by)) old.panel new.panel
+pub comes_of_interrupted_store : (host : HostState) (old new : Device) (h : Machine) (offset : ℕ) (bytes : List ℕ) (good : Answer) (to : Machine) (by : Interruption) (line : ℕ)
+    → Stands host old h → HostServes host old → host.mode ≡ modes.On → Runs (lines_touched offset (length bytes)) 0 (ended {T = Unit {0}} (Err by)) old.panel new.panel
     → WritesBackOutside (IsVolumePlace host.geometry) old.medium new.medium
     → WritesBack (each (volume_of host.geometry old.medium) (below line (word_stored offset bytes))) (volume_of host.geometry new.medium)
     → Comes h (VStore offset bytes) (Works good to) (interrupted_answer by) (record host { mode = interrupted_mode by }) old new
-comes_of_interrupted_store host old new h offset bytes good to by a b line stands serves on runs outside write_back =
+comes_of_interrupted_store host old new h offset bytes good to by line stands serves on runs outside write_back =
     let geo = host.geometry in
     let action = VStore offset bytes in
-    comes_of_interruption host old new h action stands serves on (record host { mode = interrupted_mode by }) good to by a b refl refl runs
+    comes_of_interruption host old new h action stands serves on (record host { mode = interrupted_mode by }) good to by (lines_touched offset (length bytes)) 0 (omega arith) (omega arith) refl refl runs
+    (metadata_elsewhere host old new h stands outside)
     (blocks_left host old new h action stands serves on outside)
     (pages_left host old new h action stands serves on (stored_below line offset bytes h.volume) (Some action) (may_store-below line offset bytes h.volume)
     (length-stored_below line offset bytes h.volume)
@@ -268,58 +333,68 @@ comes_of_interrupted_store host old new h offset bytes good to by a b line stand
     (volume_intact geo old.medium serves.layout) write_back))
 
 -- A sync that was interrupted leaves what was there: the lines that it got to were only written back.
-pub comes_of_interrupted_sync : (host : HostState) (old new : Device) (h : Machine) (offset len : ℕ) (good : Answer) (to : Machine) (by : Interruption) (a b : ℕ)
-    → Stands host old h → Serves host old → host.mode ≡ modes.On → Runs a b (ended {T = Unit {0}} (Err by)) old.panel new.panel → WritesBack old.medium new.medium
+pub comes_of_interrupted_sync : (host : HostState) (old new : Device) (h : Machine) (offset len : ℕ) (good : Answer) (to : Machine) (by : Interruption)
+    → Stands host old h → HostServes host old → host.mode ≡ modes.On → Runs (lines_touched offset len) (lines_touched offset len) (ended {T = Unit {0}} (Err by)) old.panel new.panel → WritesBack old.medium new.medium
     → Comes h (VSync offset len) (Works good to) (interrupted_answer by) (record host { mode = interrupted_mode by }) old new
-comes_of_interrupted_sync host old new h offset len good to by a b stands serves on runs write_back =
+comes_of_interrupted_sync host old new h offset len good to by stands serves on runs write_back =
     let action = VSync offset len in
-    comes_of_interruption host old new h action stands serves on (record host { mode = interrupted_mode by }) good to by a b refl refl runs
-    (blocks_left host old new h action stands serves on (outside-write_back (IsVolumePlace host.geometry) old.medium new.medium write_back))
+    let outside = outside-write_back (IsVolumePlace host.geometry) old.medium new.medium write_back in
+    comes_of_interruption host old new h action stands serves on (record host { mode = interrupted_mode by }) good to by (lines_touched offset len) (lines_touched offset len) (omega arith) (omega arith) refl refl runs
+    (metadata_elsewhere host old new h stands outside)
+    (blocks_left host old new h action stands serves on outside)
     (pages_left host old new h action stands serves on h.volume (Some action) (may_sync-none offset len h.volume) refl (pages_written_back host old new h action stands serves on write_back))
 
 -- what stands while all is only written back, in another mode and with other flags
-written_back : (host : HostState) (old new : Device) (h next : Machine) → Stands host old h → Serves host old → WritesBack old.medium new.medium → (next ≡ record h { mode = next.mode; cut_armed = next.cut_armed; fail_armed = next.fail_armed })
+written_back : (host : HostState) (old new : Device) (h next : Machine) → Stands host old h → HostServes host old → WritesBack old.medium new.medium → (next ≡ record h { mode = next.mode; cut_armed = next.cut_armed; fail_armed = next.fail_armed })
     → new.panel.power ≡ is_powered next.mode → new.panel.cut_armed ≡ next.cut_armed → new.panel.fail_armed ≡ next.fail_armed → (next.mode ≡ modes.On → h.mode ≡ modes.On)
     → Stands (record host { mode = next.mode }) new next
 written_back host old new h next stands serves write_back is power cut fail mode =
-    let kept = blocks_elsewhere host old new h stands serves (outside-write_back (IsVolumePlace host.geometry) old.medium new.medium write_back) in
+    let outside = outside-write_back (IsVolumePlace host.geometry) old.medium new.medium write_back in
+    let kept = blocks_elsewhere host old new h stands serves outside in
     subst (λ n. Stands (record host { mode = next.mode }) new n) (sym is) (record {
       geometry = stands.geometry;
       mode = refl;
       blocks = λ on. kept.1 (stands.mode ∙ mode on);
       device = record {
+        metadata = metadata_elsewhere host old new h stands outside;
         blocks = kept.0;
         volume = volume_written_back host old new h stands serves write_back;
         power = power;
         cut_armed = cut;
         fail_armed = fail;
-        good_meta = stands.device.good_meta;
         whole = λ on. stands.device.whole (mode on);
       };
     })
 
 -- A cut comes to the state without power.
-pub comes_of_cut : (host : HostState) (old new : Device) (h : Machine) → Stands host old h → Serves host old → WritesBack old.medium new.medium
+pub comes_of_cut : (host : HostState) (old new : Device) (h : Machine) → Stands host old h → HostServes host old → WritesBack old.medium new.medium
     → new.panel ≡ after_power_off old.panel
-    → Comes h Cut (Gives Done (record h { mode = modes.Off; cut_armed = false; fail_armed = false })) Done (record host { mode = modes.Off }) old new
+    → Comes h Cut (Cuts (record h { mode = modes.Off; cut_armed = false; fail_armed = false })) Done (record host { mode = modes.Off }) old new
 comes_of_cut host old new h stands serves write_back panel =
     let next = record h { mode = modes.Off; cut_armed = false; fail_armed = false } in
     record {
-      said = answered Done;
+      said = with_cut Done;
       next = next;
       answers = refl;
       takes = (refl, refl);
-      tells = record {
-        starts = ap (λ p. p.starts) panel;
-        restarts = ap (λ p. p.counts.restarts) panel;
-        orders = ap (λ p. p.last_order) panel;
-        arms = ap (λ p. p.counts.arms) panel;
-      };
+      tells = subst (Tells (with_cut Done) old.panel) (sym panel) (record {
+        starts = refl;
+        restarts = refl;
+        orders = refl;
+        arms = refl;
+        offs = omega arith;
+        faults = omega arith;
+        cuts = omega arith;
+        calls = omega arith;
+        persists = omega arith;
+        evicts = refl;
+        disarms = refl;
+      });
       stands = written_back host old new h next stands serves write_back refl (ap (λ p. p.power) panel) (ap (λ p. p.cut_armed) panel) (ap (λ p. p.fail_armed) panel) (λ on. cc);
     }
 
 -- An order to cut comes to the state where a cut is armed.
-pub comes_of_cut_in : (host : HostState) (old new : Device) (h : Machine) (calls : ℕ) → Stands host old h → Serves host old → WritesBack old.medium new.medium
+pub comes_of_cut_in : (host : HostState) (old new : Device) (h : Machine) (calls : ℕ) → Stands host old h → HostServes host old → WritesBack old.medium new.medium
     → new.panel ≡ after_arm_cut old.panel calls → Comes h (CutIn calls) (Orders (ForCut calls) (record h { cut_armed = true })) Done host old new
 comes_of_cut_in host old new h calls stands serves write_back panel =
     let next = record h { cut_armed = true } in
@@ -328,12 +403,19 @@ comes_of_cut_in host old new h calls stands serves write_back panel =
       next = next;
       answers = refl;
       takes = (refl, refl);
-      tells = record {
-        starts = ap (λ p. p.starts) panel;
-        restarts = ap (λ p. p.counts.restarts) panel;
-        orders = ap (λ p. p.last_order) panel;
-        arms = ap (λ p. p.counts.arms) panel;
-      };
+      tells = subst (Tells (with_order (ForCut calls) Done) old.panel) (sym panel) (record {
+        starts = refl;
+        restarts = refl;
+        orders = refl;
+        arms = refl;
+        offs = omega arith;
+        faults = omega arith;
+        cuts = omega arith;
+        calls = omega arith;
+        persists = omega arith;
+        evicts = refl;
+        disarms = refl;
+      });
       stands = subst (λ (s : HostState). Stands s new next) (ap (λ m. record host { mode = m }) (sym stands.mode))
           (written_back host old new h next stands serves write_back refl (ap (λ p. p.power) panel ∙ stands.device.power) (ap (λ p. p.cut_armed) panel) (ap (λ p. p.fail_armed) panel ∙ stands.device.fail_armed) (λ on. on));
     }
@@ -347,4 +429,4 @@ comes_of_refusal host d h action why stands is = subst (λ r. Comes h action (fa
     there = sym is ∙ ap (λ m. refusal m host.geometry action) stands.mode ∙ ap (λ geo. refusal h.mode geo action) stands.geometry
 
     comes : Comes h action (Gives (Refused why) h) (Refused why) host d d
-    comes = record { said = answered (Refused why); next = h; answers = refl; takes = (refl, refl); tells = tells_nothing (Refused why) d.panel; stands = stands }
+    comes = record { said = answered (Refused why); next = h; answers = refl; takes = (refl, refl); tells = tells_nothing (Refused why) refl d.panel; stands = stands }

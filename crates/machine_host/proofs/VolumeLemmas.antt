@@ -1,6 +1,6 @@
 -- The volume's lines on the device: what is done to one is done to the other.
-use Rattle.std.proofs.Common.{◌≡◌, inl, inr, ℕ, ◌+◌, ◌*◌, ◌/◌, ◌%◌, ◌<◌, List, Result, Ok, Err, MatchResult, OnOk, refl, sym, ap, ap₂, subst, ◌∙◌, arith}
-use Rattle.std.proofs.lemmas.Bool.{cases_eq}
+use Rattle.std.proofs.Common.{◌≡◌, ◌⊎◌, inl, inr, ℕ, ◌+◌, ◌-◌, ◌*◌, ◌/◌, ◌%◌, ◌<◌, ◌≤◌, Bool, nat_lt, if◌then◌else◌, List, Result, Ok, Err, MatchResult, OnOk, refl, sym, ap, ap₂, subst, ◌∙◌, arith}
+use Rattle.std.proofs.lemmas.Bool.{cases_eq, cases_lt, lt-ltb, le-ltb}
 use Rattle.line_device.specs.History.{latest, newest, WordWritesBack}
 use Rattle.line_device.specs.Medium.{Medium, WritesBack, Survivors, Survives, IsHealthy, IsLine, on_line, flushed}
 use Rattle.line_device.specs.Panel.{Image}
@@ -10,10 +10,28 @@ use Rattle.line_device.proofs.WriteBackLemmas.{on_line-in, on_line-out}
 use Rattle.line_words.specs.Words.{WritesBackOutside}
 use Rattle.line_words.proofs.FrameLemmas.{outside-write_back}
 use Rattle.word_tables.specs.declared.geometry.Geometry.{Geometry}
-use Rattle.word_tables.specs.Layout.{volume_line, total_lines, IsVolumeLine}
+use Rattle.word_tables.specs.Layout.{first_range, second_range, first_line, size, volume_line, meta_lines, total_lines, HasLine, IsVolumeLine}
 use Rattle.word_tables.proofs.LayoutLemmas.{volume_line-distinct, volume_line-in, volume_line-within}
 use Rattle.nvm_model.specs.Lines.{AreIntact}
 use Rattle.machine_host.specs.Volume.{volume_place, volume_of, volume_image, IsVolumePlace, HasLayout}
+
+-- a line of the volume is in the first range, or it comes after the blocks
+pub volume_line_lies : (geo : Geometry) (n : ℕ) → HasLine geo first_range (volume_line geo n) ⊎ (first_line geo second_range ≤ volume_line geo n)
+unfolding volume_line
+volume_line_lies geo n =
+    let first = first_line geo first_range in
+    let second = first_line geo second_range in
+    let len = size geo first_range in
+    let line : Bool → ℕ = λ b. if b then first + n else second + (n - len) in
+    elim (cases_lt n len) as (λ _. ((first ≤ line (nat_lt n len)) × (line (nat_lt n len) < first + len)) ⊎ (second ≤ line (nat_lt n len))) [
+      | inl below ↦ let is = ap line (lt-ltb n len below) in inl (omega (arith, is), omega (arith, is))
+      | inr past ↦ let is = ap line (le-ltb n len past) in inr (omega (arith, is))
+    ]
+
+-- so it lies behind the metadata
+pub volume_behind : (geo : Geometry) (n : ℕ) → meta_lines geo ≤ volume_line geo n
+unfolding first_line size
+volume_behind geo n = elim (volume_line_lies geo n) as (λ _. meta_lines geo ≤ volume_line geo n) [ inl first ↦ first.0 | inr after ↦ omega (arith, after) ]
 
 -- the same lines with the words of one changed
 abbrev changed : Medium → ℕ → (ℕ → List ℕ → List ℕ) → Medium
@@ -93,7 +111,7 @@ module _ (geo : Geometry) where
   has_layout-outside inside a b layout w = record {
     valid = layout.valid;
     lines = w.count ∙ layout.lines;
-    intact = λ n lt. let was = layout.intact n (subst (λ c. n < c) w.count lt) in (w.bad n ∙ was.0, w.weak n ∙ was.1);
+    intact = λ n lt. let was = layout.intact n (subst (λ c. n < c) w.count lt) in (w.bad n ∙ was.0, λ behind. w.weak n ∙ was.1 behind);
   }
 
   pub has_layout-write_back : (a b : Medium) → HasLayout geo a → WritesBack a b → HasLayout geo b
@@ -104,7 +122,7 @@ module _ (geo : Geometry) where
 
   -- the volume's lines are neither bad nor weak
   pub volume_intact : (m : Medium) → HasLayout geo m → AreIntact (volume_of geo m) (64 * geo.vpages)
-  volume_intact m layout n lt = layout.intact (volume_line geo n) (line_there m n layout.lines lt)
+  volume_intact m layout n lt = let line = layout.intact (volume_line geo n) (line_there m n layout.lines lt) in (line.0, line.1 (volume_behind geo n))
 
   healthy-place : (m : Medium) (p : ℕ) → m.count ≡ total_lines geo → IsHealthy (volume_of geo m) (p / 8) → IsHealthy m (volume_place geo p / 8)
   healthy-place m p lines healthy = subst (IsHealthy m) (sym (place-line p)) (line_there m (p / 8) lines healthy.0, healthy.1)

@@ -1,13 +1,23 @@
--- What commands do to the counts of a device, at most.
-use Rattle.std.specs.Prelude.{◌≡◌, ◌+◌, ◌*◌, ◌/◌, ◌≤◌, ℕ, List, [], ◌∷◌, length}
-use Rattle.line_device.specs.Panel.{Panel, ArmsNothing}
+-- What commands and mounts do to the counts of a device, at most.
+use Rattle.std.specs.Prelude.{◌+◌, ◌*◌, ◌/◌, ◌≤◌, ℕ, length}
+use Rattle.line_device.specs.Panel.{Panel, ArmsNothing, SameOrders}
 use Rattle.nvm_base.specs.Units.{units_of}
 use Rattle.script_text.specs.Action.{Action}
 use Rattle.script_text.specs.Action.Action.{BRead, BWrite, BAtomic, BMulti, BDiscard, BDiscardIf, BExists, BScar, VLoad, VStore, VSync, Cut, CutIn, Restart}
-use Rattle.script_text.specs.Script.{Input}
-use Rattle.script_text.specs.Script.Input.{Skipped, Malformed, Asked}
 
--- how many counted calls a command makes at most, and how many persists: one for each line that its span touches
+-- counted calls and persists
+pub record Spending : Type 0 where
+  pub calls : ℕ
+  pub persists : ℕ
+
+abbrev pub no_spending : Spending
+no_spending = record { calls = 0; persists = 0 }
+
+-- one and another
+abbrev pub spent_with : Spending → Spending → Spending
+spent_with one other = record { calls = one.calls + other.calls; persists = one.persists + other.persists }
+
+-- lines that a span touches
 abbrev pub lines_touched : ℕ → ℕ → ℕ
 lines_touched start len = (units_of 64 (record { start = start; len = len })).len
 
@@ -46,49 +56,13 @@ most_persists (Restart choice) = mount_persists
 most_persists (VSync offset len) = lines_touched offset len
 most_persists _ = 0
 
--- only `cut in` arms anything
-abbrev pub most_arms : Action → ℕ
-most_arms (CutIn calls) = 1
-most_arms _ = 0
+-- what a command may spend that works on the device
+abbrev pub spending : Action → Spending
+spending action = record { calls = most_calls action; persists = most_persists action }
 
--- only a cut takes the power, and only a restart brings it back
-abbrev pub most_offs : Action → ℕ
-most_offs Cut = 1
-most_offs _ = 0
-
-abbrev pub most_restarts : Action → ℕ
-most_restarts (Restart choice) = 1
-most_restarts _ = 0
-
--- What is done to the device's counts: no more counted calls, persists, orders to arm, cuts of the power and restarts than these,
--- and no other order.
-pub record SpendsAtMost (most_calls most_persists most_arms most_offs most_restarts : ℕ) (old new : Panel) : Type 0 where
-  pub calls : new.counts.calls ≤ old.counts.calls + most_calls
-  pub persists : new.counts.persists ≤ old.counts.persists + most_persists
-  pub arms : new.counts.arms ≤ old.counts.arms + most_arms
-  pub offs : new.counts.offs ≤ old.counts.offs + most_offs
-  pub restarts : new.counts.restarts ≤ old.counts.restarts + most_restarts
-  pub evicts : new.counts.evicts ≡ old.counts.evicts
-  pub disarms : new.counts.disarms ≡ old.counts.disarms
-  pub last_order : most_arms ≡ 0 → new.last_order ≡ old.last_order
-  pub armed : most_arms ≡ 0 → ArmsNothing old new
-
--- what a command does to them
-abbrev pub Costs : Action → Panel → Panel → Type 0
-Costs action = SpendsAtMost (most_calls action) (most_persists action) (most_arms action) (most_offs action) (most_restarts action)
-
--- a cost of each command, over all inputs
-abbrev pub total : (Action → ℕ) → List Input → ℕ
-total most [] = 0
-total most (Asked action ∷ inputs) = most action + total most inputs
-total most (Skipped ∷ inputs) = total most inputs
-total most (Malformed ∷ inputs) = total most inputs
-
--- what the commands of some inputs do to them
-abbrev pub Spends : List Input → Panel → Panel → Type 0
-Spends inputs =
-    SpendsAtMost (total most_calls inputs) (total most_persists inputs) (total most_arms inputs) (total most_offs inputs) (total most_restarts inputs)
-
--- what a mount does to them
-abbrev pub Opens : Panel → Panel → Type 0
-Opens = SpendsAtMost mount_calls mount_persists 0 0 0
+-- What a mount does to a device's counts: no more counted calls and persists than these, and no order.
+pub record Opens (old new : Panel) : Type 0 where
+  pub calls : new.counts.calls ≤ old.counts.calls + mount_calls
+  pub persists : new.counts.persists ≤ old.counts.persists + mount_persists
+  pub armed : ArmsNothing old new
+  pub orders : SameOrders old new

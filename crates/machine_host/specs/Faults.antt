@@ -1,47 +1,43 @@
 -- How faults of the layers below are answered, and what want of memory leaves.
-use Rattle.std.specs.Prelude.{◌≡◌, ◌+◌, ◌*◌, ◌⊎◌, ℕ, Result, Ok, Err}
+use Rattle.std.specs.Prelude.{◌≡◌, ◌⊎◌, Result, Ok, Err}
 use Rattle.line_device.specs.Panel.{Start}
 use Rattle.line_device.specs.Device.{Device, Restarted, Waited}
 use Rattle.line_device.specs.declared.line.Choice.{Choice}
-use Rattle.line_words.specs.Words.{WritesBackOutside}
-use Rattle.word_log.specs.Area.{IsOf}
-use Rattle.block_device.specs.Images.{KeepsReads}
-use Rattle.block_device.specs.Area.{block_area}
 use Rattle.machine_host.specs.declared.mode.Mode.{Mode}
 use Rattle.machine_host.specs.declared.mode.Mode.TheVariants as modes
 use Rattle.script_text.specs.Action.{Action}
-use Rattle.script_text.specs.Action.Action.{BRead, VLoad, Restart}
+use Rattle.script_text.specs.Action.Action.{Restart}
 use Rattle.reply_text.specs.declared.reply.Why.TheVariants as because
 use Rattle.reply_text.specs.Answer.{Answer}
-use Rattle.reply_text.specs.Answer.Answer.{PoisonBlock, PowerLost, Refused, RefusedMeta, Scarred}
+use Rattle.reply_text.specs.Answer.Answer.{DeviceFailed, PoisonBlock, PowerLost, Refused, RefusedMeta, Scarred}
 use Rattle.block_device.specs.declared.fault.BlockFault.{BlockFault}
 use Rattle.block_device.specs.declared.fault.BlockFault.TheVariants as fault
 use Rattle.recovery.specs.declared.fault.MountFault.{MountFault}
 use Rattle.recovery.specs.declared.fault.MountFault.TheVariants as mount
-use Rattle.machine_host.specs.Stands.{HostState}
+use Rattle.machine_host.specs.Machine.{Machine}
+use Rattle.machine_host.specs.Restarting.{Keeps, restarted}
+use Rattle.machine_host.specs.Costs.{Opens}
+use Rattle.machine_host.specs.Stands.{HostState, Stands}
 
--- A restart that was done, after which there was no memory to mount the blocks. Their log may be replayed since, so that each
--- image reads as one did before; all other words were only written back.
+-- host and device stand for what a restart of this state left, with nothing mounted
+pub record StandsUnmounted (choice : Choice) (start : Start) (h : Machine) (host : HostState) (d : Device) : Type 0 where
+  pub keeps : Keeps choice start.image h
+  pub stands : Stands host d (record (restarted h start.image) { mode = modes.Unsettled })
+
+-- A restart that was done, after which there was no memory to mount the blocks.
 pub record LeftUnmounted (choice : Choice) (host after : HostState) (old new : Device) : Type 0 where
   pub between : Device
   pub start : Start
   pub restarted : Restarted choice old between start
-  pub outside : WritesBackOutside (IsOf (block_area host.geometry)) between.medium new.medium
-  pub reads : KeepsReads host.geometry between.medium new.medium
-  pub starts : new.panel.starts ≡ between.panel.starts
+  pub opens : Opens between.panel new.panel
   pub unsettled : after ≡ record host { mode = modes.Unsettled }
+  pub stands : (h : Machine) → Stands host old h → StandsUnmounted choice start h after new
 
 -- What a command that ran out of memory leaves of host and device: all as it was, but that a restart may have been refused, or
 -- done without a mount.
 abbrev pub Leaves : Action → HostState → HostState → Device → Device → Type 0
 Leaves (Restart choice) host after old new = (after ≡ host) × ((new ≡ old) ⊎ Waited old new) ⊎ LeftUnmounted choice host after old new
 Leaves _ host after old new = (after ≡ host) × (new ≡ old)
-
--- room for the reply's line, before the data is known
-abbrev pub longest : Action → ℕ
-longest (BRead block count) = 64 + 3 * (512 * count)
-longest (VLoad offset len) = 64 + 3 * len
-longest _ = 64
 
 -- the mode after a fault of the blocks, and what it is answered
 abbrev pub fault_mode : Mode → BlockFault → Mode
@@ -57,7 +53,7 @@ fault_answer fault.Overlap = Refused because.Overlap
 fault_answer (fault.Meta line) = RefusedMeta line.0
 fault_answer (fault.Scarred block) = Scarred block
 fault_answer (fault.Poison block line) = PoisonBlock block line
-fault_answer fault.Device = Refused because.Device
+fault_answer fault.Device = DeviceFailed
 fault_answer fault.PowerLost = PowerLost
 
 -- the mode after a call on the blocks, and what it is answered where it gives this at Ok
@@ -69,18 +65,10 @@ abbrev pub answer_after : {T : Type 0} → Answer → Result T BlockFault → An
 answer_after good (Ok x) = good
 answer_after good (Err f) = fault_answer f
 
--- a mount that was stopped, or had no memory; where nothing is bad, it isn't refused
-abbrev pub IsStop : MountFault → Type 0
-IsStop (mount.Meta line) = ⊥
-IsStop (mount.Layout place) = ⊥
-IsStop mount.Device = Unit {0}
-IsStop mount.PowerLost = Unit {0}
-IsStop mount.Memory = Unit {0}
-
--- what a restart is answered after such a mount, and the mode
+-- what a restart is answered after a mount that was not done, and the mode
 abbrev pub unmounted_answer : MountFault → Answer
 unmounted_answer mount.PowerLost = PowerLost
-unmounted_answer _ = Refused because.Device
+unmounted_answer _ = DeviceFailed
 
 abbrev pub unmounted_mode : MountFault → Mode
 unmounted_mode mount.PowerLost = modes.Off

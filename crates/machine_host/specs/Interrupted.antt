@@ -9,9 +9,8 @@ use Rattle.line_words.specs.declared.interruption.Interruption.{Interruption}
 use Rattle.line_words.specs.declared.interruption.Interruption.TheVariants.{Failed, PowerLost as Lost}
 use Rattle.script_text.specs.Action.{Action}
 use Rattle.script_text.specs.Action.Action.{BWrite, BDiscardIf, VStore, VSync}
-use Rattle.reply_text.specs.declared.reply.Why.TheVariants as because
 use Rattle.reply_text.specs.Answer.{Answer}
-use Rattle.reply_text.specs.Answer.Answer.{PowerLost, Refused}
+use Rattle.reply_text.specs.Answer.Answer.{DeviceFailed, PowerLost}
 use Rattle.machine_host.specs.declared.mode.Mode.{Mode}
 use Rattle.machine_host.specs.declared.mode.Mode.TheVariants as modes
 use Rattle.machine_host.specs.Machine.{Machine, blocks_after}
@@ -31,12 +30,18 @@ MayLeaveVolume _ old new = new ≡ old
 
 -- what an interruption is answered, and the mode after it
 abbrev pub interrupted_answer : Interruption → Answer
-interrupted_answer Failed = Refused because.Device
+interrupted_answer Failed = DeviceFailed
 interrupted_answer Lost = PowerLost
 
 abbrev pub interrupted_mode : Interruption → Mode
 interrupted_mode Failed = modes.Unsettled
 interrupted_mode Lost = modes.Off
+
+-- and which interruption an answer tells of
+abbrev pub stop_in : Answer → Option Interruption
+stop_in DeviceFailed = Some Failed
+stop_in PowerLost = Some Lost
+stop_in _ = None
 
 -- whether it may come: a failure where one is armed, a loss of power where a cut is
 abbrev pub may_come : Interruption → Machine → Bool

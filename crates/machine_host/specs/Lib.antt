@@ -2,11 +2,13 @@ pub mod Volume
 pub mod Machine
 pub mod Interrupted
 pub mod Restarting
+pub mod Costs
 pub mod Run
 pub mod Performing
+pub mod Telling
 pub mod Stands
-pub mod Costs
 pub mod Faults
+pub mod Responding
 pub mod Rows
 pub mod BlockRows
 pub mod CutRows

@@ -79,11 +79,12 @@ unfoldable pub refusal : Mode → Geometry → Action → Option Why
 refusal mode geo action = first_refusal (mode_refusal mode action) (place_refusal geo action)
 
 -- What comes of a command: an answer and a state, where it is refused or needs no counted call of the device; the same of work
--- on the device, which may be interrupted; an order to the device; or a restart, whose state the medium decides.
+-- on the device, which may be interrupted; an order to the device; a cut of the power; or a restart, whose state the medium decides.
 pub data Fate : Type 0 where
   Gives : Answer → Machine → Fate
   Works : Answer → Machine → Fate
   Orders : Order → Machine → Fate
+  Cuts : Machine → Fate
   Restarts : Choice → Fate
 
 -- how a refusal by the blocks is answered
@@ -147,7 +148,7 @@ abbrev pub done : Machine → Action → Fate
 done h (BRead block count) = Works (Bytes (look_blocks h.blocks block count)) h
 done h (BExists block) = Gives (if is_there (nth h.blocks block) then Yes else No) h
 done h (VLoad offset len) = Works (Bytes (look h.volume offset len)) h
-done h Cut = Gives Done (record h { mode = modes.Off; cut_armed = false; fail_armed = false })
+done h Cut = Cuts (record h { mode = modes.Off; cut_armed = false; fail_armed = false })
 done h (CutIn calls) = Orders (ForCut calls) (record h { cut_armed = true })
 done h (Restart choice) = Restarts choice
 done h action = Works Done (after_work h action)

@@ -1,5 +1,5 @@
 -- What comes of a command, and of a script.
-use Rattle.std.specs.Prelude.{◌≡◌, ◌⊎◌, List, [], ◌∷◌, ◌++◌}
+use Rattle.std.specs.Prelude.{◌≡◌, ◌⊎◌, ◌+◌, ℕ, List, [], ◌∷◌, ◌++◌}
 use Rattle.line_device.specs.Panel.{Start}
 use Rattle.line_device.specs.declared.order.Order.{Order}
 use Rattle.line_words.specs.declared.interruption.Interruption.{Interruption}
@@ -9,8 +9,9 @@ use Rattle.reply_text.specs.Answer.Answer.{Done, Refused}
 use Rattle.script_text.specs.Action.{Action}
 use Rattle.script_text.specs.Script.{Input}
 use Rattle.script_text.specs.Script.Input.{Skipped, Malformed, Asked}
+use Rattle.machine_host.specs.Costs.{Spending, no_spending, spending, spent_with}
 use Rattle.machine_host.specs.Machine.{Machine, Fate, fate, while_interrupted}
-use Rattle.machine_host.specs.Machine.Fate.{Gives, Works, Orders, Restarts}
+use Rattle.machine_host.specs.Machine.Fate.{Gives, Works, Orders, Cuts, Restarts}
 use Rattle.machine_host.specs.Interrupted.{Interrupts, interrupted_answer}
 use Rattle.machine_host.specs.Restarting.{Keeps, restarted, restart_answer}
 
@@ -19,10 +20,13 @@ abbrev pub Ends : Answer → Machine → Machine → Answer → Machine → Type
 Ends good to interrupted answer next =
     ((answer ≡ good) × (next ≡ to)) ⊎ ((by : Interruption) × (answer ≡ interrupted_answer by) × Interrupts by interrupted next)
 
--- what was said between script and device: what each restart left, the orders that the device got, and the answers
+-- What was said between script and device: what each restart left, the orders that the device got, how often its power was cut,
+-- what it was asked for at most, and the answers.
 pub record Transcript : Type 0 where
   pub starts : List Start
   pub orders : List Order
+  pub cuts : ℕ
+  pub spent : Spending
   pub answers : List Answer
 
 -- one after another
@@ -30,29 +34,40 @@ abbrev pub followed_by : Transcript → Transcript → Transcript
 followed_by one other = record {
   starts = one.starts ++ other.starts;
   orders = one.orders ++ other.orders;
+  cuts = one.cuts + other.cuts;
+  spent = spent_with one.spent other.spent;
   answers = one.answers ++ other.answers;
 }
 
--- nothing was said, or an answer alone, or besides an order or what a restart left
+-- nothing was said
 abbrev pub silence : Transcript
-silence = record { starts = []; orders = []; answers = [] }
+silence = record { starts = []; orders = []; cuts = 0; spent = no_spending; answers = [] }
 
+-- an answer alone, or after work
 abbrev pub answered : Answer → Transcript
-answered answer = record { starts = []; orders = []; answers = answer ∷ [] }
+answered answer = record silence { answers = answer ∷ [] }
 
+abbrev pub worked : Action → Answer → Transcript
+worked action answer = record silence { spent = spending action; answers = answer ∷ [] }
+
+-- an answer after an order, a cut of the power, or a restart that left this
 abbrev pub with_order : Order → Answer → Transcript
-with_order order answer = record { starts = []; orders = order ∷ []; answers = answer ∷ [] }
+with_order order answer = record silence { orders = order ∷ []; answers = answer ∷ [] }
 
-abbrev pub with_start : Start → Answer → Transcript
-with_start start answer = record { starts = start ∷ []; orders = []; answers = answer ∷ [] }
+abbrev pub with_cut : Answer → Transcript
+with_cut answer = record silence { cuts = 1; answers = answer ∷ [] }
+
+abbrev pub with_start : Action → Start → Answer → Transcript
+with_start action start answer = record silence { starts = start ∷ []; spent = spending action; answers = answer ∷ [] }
 
 -- what comes of a command in h
 abbrev pub Takes : Machine → Action → Fate → Transcript → Machine → Type 0
 Takes h action (Gives good to) said next = (said ≡ answered good) × (next ≡ to)
-Takes h action (Works good to) said next = (answer : Answer) × (said ≡ answered answer) × Ends good to (while_interrupted h action) answer next
+Takes h action (Works good to) said next = (answer : Answer) × (said ≡ worked action answer) × Ends good to (while_interrupted h action) answer next
 Takes h action (Orders order to) said next = (said ≡ with_order order Done) × (next ≡ to)
+Takes h action (Cuts to) said next = (said ≡ with_cut Done) × (next ≡ to)
 Takes h action (Restarts choice) said next =
-    (start : Start) × (answer : Answer) × (said ≡ with_start start answer) × (start.choice ≡ choice) × Keeps choice start.image h
+    (start : Start) × (answer : Answer) × (said ≡ with_start action start answer) × (start.choice ≡ choice) × Keeps choice start.image h
     × Ends (restart_answer h start.image) (restarted h start.image) (restarted h start.image) answer next
 
 -- what comes of an input

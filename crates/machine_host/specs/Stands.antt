@@ -1,23 +1,23 @@
 -- When a host and its device stand for a state of the machine, and what one step is.
-use Rattle.std.specs.Prelude.{◌≡◌, ◌++◌, ℕ, Bool, true, false, IsTrue, List, [], ◌∷◌, length, Option, None}
-use Rattle.nvm_base.specs.Counts.{raised}
-use Rattle.line_device.specs.Panel.{Panel, ordered, told}
-use Rattle.line_device.specs.declared.order.Order.{Order}
-use Rattle.line_device.specs.Medium.{Medium}
+use Rattle.std.specs.Prelude.{◌≡◌, ◌/◌, ◌<◌, ◌++◌, ℕ, Bool, true, false, IsTrue, List, [], ◌∷◌, filter, length, Option, None}
+use Rattle.std.specs.List.{range_with_len}
+use Rattle.line_device.specs.Medium.{Medium, last_image}
 use Rattle.line_device.specs.Device.{Device}
-use Rattle.nvm_model.specs.Page.{Page, PagesStand}
-use Rattle.block_device.specs.Object.{BlocksState, blocks_of}
-use Rattle.block_device.specs.Object as blocks
-use Rattle.block_device.specs.Images.{EachReads, AreReadable}
-use Rattle.machine_host.specs.declared.mode.Mode.{Mode}
-use Rattle.machine_host.specs.declared.mode.Mode.TheVariants as modes
+use Rattle.line_words.specs.Words.{IsOnly}
 use Rattle.word_tables.specs.declared.geometry.Geometry.{Geometry}
+use Rattle.word_tables.specs.Layout.{meta_lines, total_lines}
+use Rattle.nvm_model.specs.Page.{Page, PagesStand}
+use Rattle.block_device.specs.Object.{BlocksState, BlocksServe, HasStrongMetadata, blocks_of}
+use Rattle.block_device.specs.Images.{EachReads}
+use Rattle.recovery.specs.Fresh.{HasSuperblock}
 use Rattle.script_text.specs.Action.{Action}
 use Rattle.reply_text.specs.Answer.{Answer, answer_line}
-use Rattle.recovery.specs.Fresh.{HasSuperblock}
+use Rattle.machine_host.specs.declared.mode.Mode.{Mode}
+use Rattle.machine_host.specs.declared.mode.Mode.TheVariants as modes
 use Rattle.machine_host.specs.Machine.{Machine, Fate, effect, fate}
 use Rattle.machine_host.specs.Interrupted.{MayLeaveBlocks, MayLeaveVolume}
 use Rattle.machine_host.specs.Run.{Transcript, Takes}
+use Rattle.machine_host.specs.Telling.{Tells}
 use Rattle.machine_host.specs.Volume.{volume_of, HasLayout}
 
 -- what callers see of a host: the sizes of its medium, its mode, and the blocks that it mounted last
@@ -36,16 +36,26 @@ is_powered modes.Unsettled = true
 pub record AreMounted (geo : Geometry) (s : BlocksState) (m : Medium) : Type 0 where
   pub geometry : s.geo ≡ geo
   pub settled : IsTrue s.settled
-  pub serves : blocks.BlocksServe s m
+  pub serves : BlocksServe s m
 
--- The device is the one that the host mounted: it has the lines of the whole layout, none bad or weak, and its superblock tells
--- the sizes; each image of its blocks is one, and in mode On they are mounted; and its power is off exactly in mode Off.
-pub record Serves (host : HostState) (d : Device) : Type 0 where
+-- The host may command the device: it has the lines of the host's sizes, its power is off exactly in mode Off, and in mode On
+-- the blocks are mounted.
+pub record HostServes (host : HostState) (d : Device) : Type 0 where
   pub layout : HasLayout host.geometry d.medium
-  pub superblock : HasSuperblock host.geometry d.medium
   pub power : d.panel.power ≡ is_powered host.mode
-  pub readable : AreReadable host.geometry d.medium
   pub mounted : host.mode ≡ modes.On → AreMounted host.geometry host.blocks d.medium
+
+-- each word of the device has one value, as where the power just came back
+abbrev pub IsFlushed : Medium → Type 0
+IsFlushed m = (p : ℕ) → p / 8 < m.count → IsOnly (last_image m p) (m.history p)
+
+-- The device has the lines of these sizes. Of those of metadata these are bad, none is weak, and the first one is the superblock
+-- in each image, where it is not bad.
+pub record MetadataStands (geo : Geometry) (m : Medium) (bad_meta : List ℕ) : Type 0 where
+  pub lines : m.count ≡ total_lines geo
+  pub bad : filter m.is_bad (range_with_len 0 (meta_lines geo)) ≡ bad_meta
+  pub strong : HasStrongMetadata geo m
+  pub superblock : HasSuperblock geo m
 
 -- the volume's lines stand for pages that an interrupted action may have left of these
 pub record VolumeStands (geo : Geometry) (m : Medium) (interrupted : Option Action) (volume : List Page) : Type 0 where
@@ -54,15 +64,15 @@ pub record VolumeStands (geo : Geometry) (m : Medium) (interrupted : Option Acti
   pub length : length pages ≡ geo.vpages
   pub stand : PagesStand (volume_of geo m) geo.vpages pages
 
--- The device stands for the state: its blocks in each image, each line of the volume for its cell, and what is armed. Where an
--- action was interrupted, blocks and volume are as it may have left them. What is not built yet is not there.
+-- The device stands for the state: its metadata, its blocks in each image, each line of the volume for its cell, and what is
+-- armed. Where an action was interrupted, blocks and volume are as it may have left them. What is not built yet is not there.
 pub record DeviceStands (d : Device) (h : Machine) : Type 0 where
+  pub metadata : MetadataStands h.geometry d.medium h.bad_meta
   pub blocks : EachReads h.geometry d.medium (MayLeaveBlocks h.interrupted h.blocks)
   pub volume : VolumeStands h.geometry d.medium h.interrupted h.volume
   pub power : d.panel.power ≡ is_powered h.mode
   pub cut_armed : d.panel.cut_armed ≡ h.cut_armed
   pub fail_armed : d.panel.fail_armed ≡ h.fail_armed
-  pub good_meta : h.bad_meta ≡ []
   pub whole : h.mode ≡ modes.On → h.interrupted ≡ None
 
 -- and the host is in its mode, and sees its blocks
@@ -71,23 +81,6 @@ pub record Stands (host : HostState) (d : Device) (h : Machine) : Type 0 where
   pub mode : host.mode ≡ h.mode
   pub blocks : host.mode ≡ modes.On → blocks_of host.blocks d.medium ≡ h.blocks
   pub device : DeviceStands d h
-
--- a count after one more for each of these
-abbrev pub bumped_by : {A : Type 0} → List A → ℕ → ℕ
-bumped_by [] count = count
-bumped_by (x ∷ xs) count = bumped_by xs (raised count)
-
--- the last order, after these
-abbrev pub last_of : List Order → Option (Option Order) → Option (Option Order)
-last_of [] before = before
-last_of (order ∷ orders) before = last_of orders (ordered before order)
-
--- The device tells what was said to it: the starts, in how many restarts, and the orders.
-pub record Tells (said : Transcript) (old new : Panel) : Type 0 where
-  pub starts : new.starts ≡ told old.starts said.starts
-  pub restarts : new.counts.restarts ≡ bumped_by said.starts old.counts.restarts
-  pub orders : new.last_order ≡ last_of said.orders old.last_order
-  pub arms : new.counts.arms ≡ bumped_by said.orders old.counts.arms
 
 -- The command came to this in h: the device tells what was said, and stands for the state after.
 pub record Comes (h : Machine) (action : Action) (fate : Fate) (answer : Answer) (host : HostState) (old new : Device) : Type 0 where

@@ -1,14 +1,13 @@
 -- The volume on the lines of a device: its byte i lies in its line i / 64, and its lines lie in two ranges.
-use Rattle.std.specs.Prelude.{◌≡◌, ◌+◌, ◌-◌, ◌*◌, ◌/◌, ◌%◌, ◌<◌, ◌≤◌, ℕ, min, max, List}
+use Rattle.std.specs.Prelude.{◌≡◌, ◌+◌, ◌-◌, ◌*◌, ◌/◌, ◌%◌, ◌<◌, ◌≤◌, ℕ, false, min, max, List}
 use Rattle.std.specs.Int.{byte_at}
 use Rattle.line_device.specs.Word.{word_at}
 use Rattle.line_device.specs.Medium.{Medium}
 use Rattle.line_device.specs.Panel.{Image}
 use Rattle.nvm_base.specs.declared.units.Span.{Span}
-use Rattle.nvm_model.specs.Lines.{IsIntact}
 use Rattle.word_tables.specs.declared.geometry.Geometry.{Geometry}
 use Rattle.word_tables.specs.Bounds.{IsValid}
-use Rattle.word_tables.specs.Layout.{volume_line, total_lines, IsVolumeLine}
+use Rattle.word_tables.specs.Layout.{volume_line, meta_lines, total_lines, IsVolumeLine}
 
 -- where word p of the volume lies on the device
 abbrev pub volume_place : Geometry → ℕ → ℕ
@@ -36,11 +35,15 @@ volume_image geo image = record {
 abbrev pub IsVolumePlace : Geometry → ℕ → Type 0
 IsVolumePlace geo p = IsVolumeLine geo (p / 8)
 
--- The medium has the lines of the whole layout, none bad or weak.
+-- no line behind the metadata is bad or weak
+abbrev pub HasGoodData : Geometry → Medium → Type 0
+HasGoodData geo m = (n : ℕ) → meta_lines geo ≤ n → n < m.count → (m.is_bad n ≡ false) × (m.is_weak n ≡ false)
+
+-- The medium has the lines of the whole layout. None is bad, and none of those behind the metadata is weak.
 pub record HasLayout (geo : Geometry) (m : Medium) : Type 0 where
   pub valid : IsValid geo
   pub lines : m.count ≡ total_lines geo
-  pub intact : IsIntact m
+  pub intact : (n : ℕ) → n < m.count → (m.is_bad n ≡ false) × (meta_lines geo ≤ n → m.is_weak n ≡ false)
 
 -- bytes of a line, word by word
 abbrev pub line_byte : List ℕ → ℕ → ℕ

@@ -36,30 +36,31 @@ impl Model for Host {
 }
 
 impl Host {
-    ghost use Rattle.std.specs.Prelude.{◌≡◌, ◌≤◌, ◌+◌, ◌*◌, None, IsTrue, IfOk, OnOk, OnErr};
+    ghost use Rattle.std.specs.Prelude.{◌≡◌, ◌≤◌, [], None, IsTrue, IfOk, OnOk, OnErr};
     ghost use Rattle.machine_host.specs.declared.mode.Mode.TheVariants as modes;
     ghost use Rattle.script_text.specs.Action.{action_of};
-    ghost use Rattle.machine_host.specs.Machine.{Machine, refusal};
-    ghost use Rattle.machine_host.specs.Stands.{Serves, Stands, Steps};
-    ghost use Rattle.machine_host.specs.Costs.{Costs, mount_calls, mount_persists};
-    ghost use Rattle.machine_host.specs.Faults.{Leaves};
     ghost use Rattle.script_text.specs.Parsing.{InBounds};
     ghost use Rattle.line_device.specs.Medium.{last_image};
     ghost use Rattle.line_device.specs.Panel.{Runs};
     ghost use Rattle.line_words.specs.Words.{WritesBackOutside};
+    ghost use Rattle.word_tables.specs.Layout.{meta_lines};
     ghost use Rattle.word_log.specs.Area.{IsOf};
     ghost use Rattle.block_device.specs.Area.{block_area};
     ghost use Rattle.block_device.specs.Reading.{blocks_read};
     ghost use Rattle.block_device.specs.Object.{blocks_of};
     ghost use Rattle.block_device.specs.Images.{KeepsReads};
-    ghost use Rattle.nvm_model.specs.Lines.{IsIntact};
     ghost use Rattle.recovery.specs.Findings.{geometry_told, early_finding, first_finding};
-    ghost use Rattle.recovery.specs.Mounting.{Finds, IsMountable, mount_outcome};
+    ghost use Rattle.recovery.specs.Mounting.{Finds, mount_outcome};
+    ghost use Rattle.machine_host.specs.Machine.{Machine};
+    ghost use Rattle.machine_host.specs.Stands.{HostServes, IsFlushed, MetadataStands, Stands, Steps};
+    ghost use Rattle.machine_host.specs.Volume.{HasGoodData};
+    ghost use Rattle.machine_host.specs.Costs.{mount_calls, mount_persists};
+    ghost use Rattle.machine_host.specs.Faults.{Leaves};
 
     /// The host of a device, of the sizes that its superblock tells. It mounts the device.
     pub fn mount<D: LineDevice>(alloc: Global, device: &mut D) -> Result<Self, MountFault>
-        requires mountable { IsMountable (D.state device.old).medium }
-        requires intact { IsIntact (D.state device.old).medium }
+        requires some { 1 ≤ (D.state device.old).medium.count }
+        requires flushed { IsFlushed (D.state device.old).medium }
         requires on { IsTrue (D.state device.old).panel.power }
         ensures ok { IfOk result (λ host. (host.geometry ≡ geometry_told (D.state device.old).medium) × (host.mode ≡ modes.On)
             × (blocks_of host.blocks (D.state device.new).medium
@@ -70,7 +71,9 @@ impl Host {
             (D.state device.old).medium (D.state device.new).medium }
         ensures reads { early_finding (D.state device.old).medium ≡ None
             → KeepsReads (geometry_told (D.state device.old).medium) (D.state device.old).medium (D.state device.new).medium }
-        ensures serves { IfOk result (λ host. Serves host (D.state device.new)) }
+        ensures metadata { IfOk result (λ host. MetadataStands host.geometry (D.state device.new).medium []) }
+        ensures serves { HasGoodData (geometry_told (D.state device.old).medium) (D.state device.old).medium
+            → IfOk result (λ host. HostServes host (D.state device.new)) }
         ensures runs { Runs mount_calls mount_persists (mount_outcome result) (D.state device.old).panel (D.state device.new).panel }
     {
         let mounted = recovery::mount(alloc, device)?;
@@ -95,7 +98,7 @@ impl Host {
         command: &Command,
         out: &mut Bytes,
     ) -> Result<(), AllocError>
-        requires serves { Serves self.old (D.state device.old) }
+        requires serves { HostServes self.old (D.state device.old) }
         requires bounded { InBounds (action_of command.now) }
 
         // It is one step of the machine, whichever state host and device stand for and whatever is armed.
@@ -103,8 +106,7 @@ impl Host {
             → Steps h (action_of command.now) out.old.items out.new.items self.new (D.state device.old) (D.state device.new)) }
         ensures memory { OnErr result ((out.new.items ≡ out.old.items)
             × Leaves (action_of command.now) self.old self.new (D.state device.old) (D.state device.new)) }
-        ensures serves { Serves self.new (D.state device.new) }
-        ensures costs { Costs (action_of command.now) (D.state device.old).panel (D.state device.new).panel }
+        ensures serves { HostServes self.new (D.state device.new) }
     {
         if let Some(why) = self.refusal(command) {
             return print(&Reply::Refused(why), out);

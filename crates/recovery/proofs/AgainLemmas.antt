@@ -22,7 +22,7 @@ use Rattle.block_device.proofs.RestartLemmas.{block_image-last, each_reads-resta
 use Rattle.recovery.specs.Findings.{geometry_told, superblock_finding, meta_finding, early_finding}
 use Rattle.recovery.specs.Findings.Finding.{bad_line, wrong_word}
 use Rattle.recovery.specs.Mounting.{HasDurableBlocks, IsMountable, GoesOn}
-use Rattle.recovery.proofs.FindingLemmas.{early_none, is_superblock, words_alone}
+use Rattle.recovery.proofs.FindingLemmas.{early_none, is_superblock, nothing_early, words_alone}
 
 -- the first line lies before the log
 not_first : (geo : Geometry) (p : ℕ) → p < 8 → IsOf (block_area geo) p → ⊥
@@ -153,6 +153,7 @@ goes_on-waited old new may x =
 
 -- blocks that can be read after any cut are durable
 pub durable_blocks : (m : Medium) → IsSound m → IsMountable m → HasDurableBlocks m
-durable_blocks m sound may early =
+durable_blocks m sound may none =
+    let early = nothing_early m none in
     let is = told m early in
     (may.readable early (last_image m) (block_image-last (geometry_told m) is.valid m sound is.count)).durable

@@ -144,6 +144,11 @@ finds_early geo old new r is x none h =
     finds_second (superblock_finding old) (meta_finding (geometry_told old) old) r none
     (subst (λ o. Finds o r) (meta-write_back geo old new x ∙ ap (λ g. meta_finding g old) is) h)
 
+-- where nothing is found at all, nothing is found before the log
+pub nothing_early : (m : Medium) → first_finding m ≡ None → early_finding m ≡ None
+unfolding first_finding
+nothing_early m none = (first_none (early_finding m) (option_map wrong_word (wrong_place (geometry_told m) (last_image m))) none).0
+
 -- and once nothing is found before the log
 pub first_late : (m : Medium) → early_finding m ≡ None → first_finding m ≡ option_map wrong_word (wrong_place (geometry_told m) (last_image m))
 unfolding first_finding

@@ -38,12 +38,6 @@ module _ (old now : Medium) (geo : Geometry) (is : geo ≡ geometry_told old) (x
   place_same : wrong_place geo (last_image now) ≡ wrong_place (geometry_told old) (last_image old)
   place_same = ap₂ wrong_place is (last_image-write_back old now x)
 
-  -- what was durable is so after the look
-  pub durable_now : HasDurableBlocks old → AreDurable geo now (states_read geo (last_image now))
-  durable_now durable =
-      let told = subst (λ g. AreDurable g old (states_read g (last_image old))) (sym is) (durable early) in
-      subst (λ (word : ℕ → ℕ). AreDurable geo now (states_read geo word)) (sym (last_image-write_back old now x)) (durable-write_back geo (states_read geo (last_image old)) old now x told)
-
   -- and the blocks are the same
   pub blocks_same : blocks_read geo now.is_bad (last_image now) ≡ blocks_read (geometry_told old) old.is_bad (last_image old)
   blocks_same =
@@ -52,6 +46,12 @@ module _ (old now : Medium) (geo : Geometry) (is : geo ≡ geometry_told old) (x
   -- nothing is wrong with the blocks, or it is the first finding
   pub finds_right : wrong_place geo (last_image now) ≡ None → first_finding old ≡ None
   finds_right none = first_late old early ∙ ap (option_map wrong_word) (sym place_same ∙ none)
+
+  -- what was durable is so after the look
+  pub durable_now : HasDurableBlocks old → wrong_place geo (last_image now) ≡ None → AreDurable geo now (states_read geo (last_image now))
+  durable_now durable none =
+      let told = subst (λ g. AreDurable g old (states_read g (last_image old))) (sym is) (durable (finds_right none)) in
+      subst (λ (word : ℕ → ℕ). AreDurable geo now (states_read geo word)) (sym (last_image-write_back old now x)) (durable-write_back geo (states_read geo (last_image old)) old now x told)
 
   pub finds_blocks : (T U : Type 0) (f : below.MountFault) → IsValid geo → HasGoodMetadata geo now → below_mount.Finds {T = U} geo now (Err f) → Finds {T = T} (first_finding old) (Err (of_block_fault f))
   finds_blocks T U (blocks.Poisoned line) valid good h =

@@ -12,11 +12,11 @@ use Rattle.block_device.specs.Reading.{states_read}
 use Rattle.block_device.specs.Object.{AreDurable, HasStrongMetadata, HasGoodMetadata}
 use Rattle.recovery.specs.declared.fault.MountFault.{MountFault}
 use Rattle.recovery.specs.declared.fault.MountFault.TheVariants.{Meta, Layout, Device, PowerLost, Memory}
-use Rattle.recovery.specs.Findings.{Finding, bad_line, wrong_word, geometry_told, early_finding}
+use Rattle.recovery.specs.Findings.{Finding, bad_line, wrong_word, geometry_told, early_finding, first_finding}
 
--- what the block map names is durable, where nothing is found before it
+-- what the block map names is durable, where nothing is found
 abbrev pub HasDurableBlocks : Medium → Type 0
-HasDurableBlocks m = early_finding m ≡ None → AreDurable (geometry_told m) m (states_read (geometry_told m) (last_image m))
+HasDurableBlocks m = first_finding m ≡ None → AreDurable (geometry_told m) m (states_read (geometry_told m) (last_image m))
 
 -- An answer tells this finding and no other. It is Ok only where there is none, and device, power and memory may stop it.
 abbrev pub Finds : {T : Type 0} → Option Finding → Result T MountFault → Type 0

@@ -4,9 +4,9 @@ use Rattle.std.proofs.lemmas.Fmt.{length-decimal-le}
 use Rattle.std.specs.Prelude.{codes, decimal}
 use Rattle.std.specs.Fmt.{digits}
 use Rattle.reply_text.specs.declared.reply.Why.{Why}
-use Rattle.reply_text.specs.declared.reply.Why.TheVariants.{Syntax, Off, On, Recover, Range, Length, Limit, Overlap, Device}
+use Rattle.reply_text.specs.declared.reply.Why.TheVariants.{Syntax, Off, On, Recover, Range, Length, Limit, Overlap}
 use Rattle.reply_text.specs.Answer.{answer_line}
-use Rattle.reply_text.specs.Answer.Answer.{Done, DoneBad, Bytes, Yes, No, Scarred, PoisonBlock, PowerLost, Refused, RefusedMeta}
+use Rattle.reply_text.specs.Answer.Answer.{Done, DoneBad, Bytes, Yes, No, Scarred, PoisonBlock, DeviceFailed, PowerLost, Refused, RefusedMeta}
 use Rattle.nvm_base.specs.Data.{data_text}
 use Rattle.nvm_base.proofs.RunLemmas.{length-data_text}
 
@@ -21,6 +21,10 @@ short-yes = lit≤ tt
 pub short-no : length (answer_line No) ≤ 64
 unfolding answer_line
 short-no = lit≤ tt
+
+pub short-failed : length (answer_line DeviceFailed) ≤ 64
+unfolding answer_line
+short-failed = lit≤ tt
 
 pub short-lost : length (answer_line PowerLost) ≤ 64
 unfolding answer_line
@@ -40,7 +44,6 @@ short-refused Range = lit≤ tt
 short-refused Length = lit≤ tt
 short-refused Limit = lit≤ tt
 short-refused Overlap = lit≤ tt
-short-refused Device = lit≤ tt
 
 -- with a number of 64 bits
 twenty : (n : ℕ) → n < 2 ^ 64 → length (decimal n) ≤ 20

@@ -2,7 +2,7 @@
 use Rattle.std.specs.Prelude.{ℕ, List, [], ◌∷◌, ◌++◌, codes, decimal}
 use Rattle.nvm_base.specs.Data.{data_text}
 use Rattle.reply_text.specs.declared.reply.Why.{Why}
-use Rattle.reply_text.specs.declared.reply.Why.TheVariants.{Syntax, Off, On, Recover, Range, Length, Limit, Overlap, Device}
+use Rattle.reply_text.specs.declared.reply.Why.TheVariants.{Syntax, Off, On, Recover, Range, Length, Limit, Overlap}
 use Rattle.reply_text.specs.declared.reply.Reply.{Reply}
 use Rattle.reply_text.specs.declared.reply.Reply.TheVariants as reply
 
@@ -14,6 +14,7 @@ pub data Answer : Type 0 where
   No : Answer
   Scarred : ℕ → Answer
   PoisonBlock : ℕ → ℕ → Answer
+  DeviceFailed : Answer
   PowerLost : Answer
   Refused : Why → Answer
   RefusedMeta : ℕ → Answer
@@ -27,6 +28,7 @@ answer_of reply.Yes = Yes
 answer_of reply.No = No
 answer_of (reply.Scarred block) = Scarred block
 answer_of (reply.PoisonBlock block line) = PoisonBlock block line
+answer_of reply.DeviceFailed = DeviceFailed
 answer_of reply.PowerLost = PowerLost
 answer_of (reply.Refused why) = Refused why
 answer_of (reply.RefusedMeta line) = RefusedMeta line
@@ -41,7 +43,6 @@ why_text Range = codes "range"
 why_text Length = codes "length"
 why_text Limit = codes "limit"
 why_text Overlap = codes "overlap"
-why_text Device = codes "device"
 
 -- an answer as printed
 abbrev pub answer_text : Answer → List ℕ
@@ -52,6 +53,7 @@ answer_text Yes = codes "yes"
 answer_text No = codes "no"
 answer_text (Scarred block) = codes "scarred " ++ decimal block
 answer_text (PoisonBlock block line) = codes "poison block " ++ decimal block ++ 32 ∷ decimal line
+answer_text DeviceFailed = codes "refused device"
 answer_text PowerLost = codes "power lost"
 answer_text (Refused why) = codes "refused " ++ why_text why
 answer_text (RefusedMeta line) = codes "refused meta " ++ decimal line

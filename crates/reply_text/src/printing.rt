@@ -13,7 +13,7 @@ use std::alloc::AllocError;
 pub fn print(reply: &Reply, out: &mut Bytes) -> Result<(), AllocError>
     ensures ok { OnOk result (out.new.items ≡ out.old.items ++ answer_line (answer_of reply.now)) }
     ensures err { OnErr result (out.new.items ≡ out.old.items) }
-    ensures succeeds { length (answer_line (answer_of reply.now)) ≤ out.old.spare → IsOk result }
+    ensures succeeds { most_of (answer_of reply.now) ≤ out.old.spare → IsOk result }
     ensures room { out.old.spare + length out.old.items ≤ out.new.spare + length out.new.items }
     ensures short { length (answer_line (answer_of reply.now)) ≤ most_of (answer_of reply.now) }
 {
@@ -48,6 +48,7 @@ fn print_text(reply: &Reply, out: &mut Bytes) -> Result<(), AllocError>
         Reply::No => out.extend(b"no"),
         Reply::Scarred(block) => print_counted(b"scarred ", *block, out),
         Reply::PoisonBlock(block, line) => print_poison(*block, *line, out),
+        Reply::DeviceFailed => out.extend(b"refused device"),
         Reply::PowerLost => out.extend(b"power lost"),
         Reply::Refused(why) => {
             out.extend(b"refused ")?;
@@ -86,6 +87,5 @@ fn word_of(why: Why) -> &'static [u8]
         Why::Length => b"length",
         Why::Limit => b"limit",
         Why::Overlap => b"overlap",
-        Why::Device => b"device",
     }
 }

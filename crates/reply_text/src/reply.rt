@@ -11,7 +11,6 @@ pub enum Why {
     Length,
     Limit,
     Overlap,
-    Device,
 }
 
 /// What a command is answered.
@@ -27,6 +26,8 @@ pub enum Reply {
     Scarred(u64),
     /// In this block that line is bad.
     PoisonBlock(u64, u64),
+    /// A call of the device failed.
+    DeviceFailed,
     PowerLost,
     Refused(Why),
     /// This line of metadata is bad.

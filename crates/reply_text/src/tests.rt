@@ -13,13 +13,14 @@ fn each_reply_has_its_line(rt: HostRuntime) -> Result<(), AllocError> {
     print(&Reply::Scarred(4095), &mut out)?;
     print(&Reply::PoisonBlock(10, 7), &mut out)?;
     print(&Reply::RefusedMeta(2303), &mut out)?;
+    print(&Reply::DeviceFailed, &mut out)?;
     print(&Reply::PowerLost, &mut out)?;
     let mut bytes = Bytes::new(rt.alloc());
     bytes.extend(&[7, 7, 255])?;
     print(&Reply::Bytes(bytes), &mut out)?;
     assert_eq!(rt;
         out.as_slice(),
-        b"ok\nok bad 0\nok bad 118016\nyes\nno\nscarred 4095\npoison block 10 7\nrefused meta 2303\npower lost\ndata 07*2,ff\n".as_slice()
+        b"ok\nok bad 0\nok bad 118016\nyes\nno\nscarred 4095\npoison block 10 7\nrefused meta 2303\nrefused device\npower lost\ndata 07*2,ff\n".as_slice()
     );
     Ok(())
 }
@@ -35,7 +36,6 @@ fn each_refusal_has_its_word(rt: HostRuntime) -> Result<(), AllocError> {
         (Why::Length, "refused length\n"),
         (Why::Limit, "refused limit\n"),
         (Why::Overlap, "refused overlap\n"),
-        (Why::Device, "refused device\n"),
     ] {
         let mut out = Bytes::new(rt.alloc());
         print(&Reply::Refused(why), &mut out)?;

@@ -1,14 +1,13 @@
 // Commands on blocks.
-ghost use Rattle.std.specs.Prelude.{◌≡◌, ◌≤◌, ◌<◌, ◌*◌, ◌+◌, IfOk, OnErr, length, sum_by};
+ghost use Rattle.std.specs.Prelude.{◌≡◌, ◌≤◌, ◌<◌, ◌+◌, length, sum_by};
 ghost use Rattle.nvm_base.specs.declared.units.Span.{Span as Stretch};
 ghost use Rattle.machine_host.specs.declared.mode.Mode.TheVariants.{On};
 ghost use Rattle.script_text.specs.Action.Action.{BRead, BWrite, BAtomic, BMulti, BDiscard, BDiscardIf, BExists, BScar};
-ghost use Rattle.reply_text.specs.Answer.{answer_of, answer_line};
-ghost use Rattle.reply_text.specs.Answer.Answer.{Done, PoisonBlock, RefusedMeta, Scarred};
-ghost use Rattle.machine_host.specs.Machine.{Machine};
-ghost use Rattle.machine_host.specs.Stands.{Serves, Stands, Performed};
-ghost use Rattle.machine_host.specs.Costs.{Costs};
-ghost use Rattle.machine_host.specs.Faults.{longest, answer_after, fault_answer, fault_mode, mode_after};
+ghost use Rattle.reply_text.specs.Answer.{answer_of};
+ghost use Rattle.reply_text.specs.Answer.Answer.{Done};
+ghost use Rattle.machine_host.specs.Stands.{HostServes};
+ghost use Rattle.machine_host.specs.Faults.{answer_after, fault_answer, fault_mode, mode_after};
+ghost use Rattle.machine_host.specs.Responding.{Answered, Responds};
 
 use super::Host;
 use block_device::BlockFault;
@@ -25,17 +24,12 @@ impl Host {
         block: u64,
         count: u64,
     ) -> Result<Reply, AllocError>
-        requires serves { Serves self.old (D.state device.old) }
+        requires serves { HostServes self.old (D.state device.old) }
         requires on { self.old.mode ≡ On }
         requires some { 1 ≤ count }
         requires few { count ≤ 128 }
         requires within { block + count ≤ self.old.geometry.blocks }
-        ensures step { IfOk result (λ reply. (h : Machine) → Stands self.old (D.state device.old) h
-            → Performed h (BRead block count) (answer_of reply) self.new (D.state device.old) (D.state device.new)) }
-        ensures short { IfOk result (λ reply. length (answer_line (answer_of reply)) ≤ longest (BRead block count)) }
-        ensures memory { OnErr result ((self.new ≡ self.old) × (D.state device.new ≡ D.state device.old)) }
-        ensures serves { Serves self.new (D.state device.new) }
-        ensures costs { Costs (BRead block count) (D.state device.old).panel (D.state device.new).panel }
+        ensures { Responds (BRead block count) result self.old self.new (D.state device.old) (D.state device.new) }
     {
         let mut bytes = Bytes::new(self.alloc);
         bytes.repeat(0, BLOCK * count)?;
@@ -51,13 +45,9 @@ impl Host {
         block: u64,
         bytes: &[u8],
     ) -> Reply
-        requires serves { Serves self.old (D.state device.old) }
+        requires serves { HostServes self.old (D.state device.old) }
         requires on { self.old.mode ≡ On }
-        ensures step { (h : Machine) → Stands self.old (D.state device.old) h
-            → Performed h (BWrite block bytes.now) (answer_of result) self.new (D.state device.old) (D.state device.new) }
-        ensures short { length (answer_line (answer_of result)) ≤ 64 }
-        ensures serves { Serves self.new (D.state device.new) }
-        ensures costs { Costs (BWrite block bytes.now) (D.state device.old).panel (D.state device.new).panel }
+        ensures { Answered (BWrite block bytes.now) (answer_of result) self.old self.new (D.state device.old) (D.state device.new) }
     {
         let call = self.blocks.write(device, block, bytes);
         self.answer(call)
@@ -69,13 +59,9 @@ impl Host {
         block: u64,
         bytes: &[u8],
     ) -> Reply
-        requires serves { Serves self.old (D.state device.old) }
+        requires serves { HostServes self.old (D.state device.old) }
         requires on { self.old.mode ≡ On }
-        ensures step { (h : Machine) → Stands self.old (D.state device.old) h
-            → Performed h (BAtomic block bytes.now) (answer_of result) self.new (D.state device.old) (D.state device.new) }
-        ensures short { length (answer_line (answer_of result)) ≤ 64 }
-        ensures serves { Serves self.new (D.state device.new) }
-        ensures costs { Costs (BAtomic block bytes.now) (D.state device.old).panel (D.state device.new).panel }
+        ensures { Answered (BAtomic block bytes.now) (answer_of result) self.old self.new (D.state device.old) (D.state device.new) }
     {
         let call = self.blocks.atomic_write(device, block, bytes);
         self.answer(call)
@@ -87,15 +73,11 @@ impl Host {
         ranges: &[Span],
         bytes: &[u8],
     ) -> Reply
-        requires serves { Serves self.old (D.state device.old) }
+        requires serves { HostServes self.old (D.state device.old) }
         requires on { self.old.mode ≡ On }
         requires some { 0 < length ranges.now }
         requires bytes { length bytes.now ≡ sum_by (λ (r : Stretch). r.len) ranges.now }
-        ensures step { (h : Machine) → Stands self.old (D.state device.old) h
-            → Performed h (BMulti ranges.now bytes.now) (answer_of result) self.new (D.state device.old) (D.state device.new) }
-        ensures short { length (answer_line (answer_of result)) ≤ 64 }
-        ensures serves { Serves self.new (D.state device.new) }
-        ensures costs { Costs (BMulti ranges.now bytes.now) (D.state device.old).panel (D.state device.new).panel }
+        ensures { Answered (BMulti ranges.now bytes.now) (answer_of result) self.old self.new (D.state device.old) (D.state device.new) }
     {
         let call = self.blocks.atomic_multiwrite(device, ranges, bytes);
         self.answer(call)
@@ -107,13 +89,9 @@ impl Host {
         block: u64,
         count: u64,
     ) -> Reply
-        requires serves { Serves self.old (D.state device.old) }
+        requires serves { HostServes self.old (D.state device.old) }
         requires on { self.old.mode ≡ On }
-        ensures step { (h : Machine) → Stands self.old (D.state device.old) h
-            → Performed h (BDiscard block count) (answer_of result) self.new (D.state device.old) (D.state device.new) }
-        ensures short { length (answer_line (answer_of result)) ≤ 64 }
-        ensures serves { Serves self.new (D.state device.new) }
-        ensures costs { Costs (BDiscard block count) (D.state device.old).panel (D.state device.new).panel }
+        ensures { Answered (BDiscard block count) (answer_of result) self.old self.new (D.state device.old) (D.state device.new) }
     {
         let span = Span {
             start: block,
@@ -129,13 +107,9 @@ impl Host {
         block: u64,
         count: u64,
     ) -> Reply
-        requires serves { Serves self.old (D.state device.old) }
+        requires serves { HostServes self.old (D.state device.old) }
         requires on { self.old.mode ≡ On }
-        ensures step { (h : Machine) → Stands self.old (D.state device.old) h
-            → Performed h (BDiscardIf block count) (answer_of result) self.new (D.state device.old) (D.state device.new) }
-        ensures short { length (answer_line (answer_of result)) ≤ 64 }
-        ensures serves { Serves self.new (D.state device.new) }
-        ensures costs { Costs (BDiscardIf block count) (D.state device.old).panel (D.state device.new).panel }
+        ensures { Answered (BDiscardIf block count) (answer_of result) self.old self.new (D.state device.old) (D.state device.new) }
     {
         let span = Span {
             start: block,
@@ -146,25 +120,19 @@ impl Host {
     }
 
     pub(super) fn bscar<D: LineDevice>(&mut self, device: &mut D, spans: &[Span]) -> Reply
-        requires serves { Serves self.old (D.state device.old) }
+        requires serves { HostServes self.old (D.state device.old) }
         requires on { self.old.mode ≡ On }
         requires some { 0 < length spans.now }
-        ensures step { (h : Machine) → Stands self.old (D.state device.old) h
-            → Performed h (BScar spans.now) (answer_of result) self.new (D.state device.old) (D.state device.new) }
-        ensures short { length (answer_line (answer_of result)) ≤ 64 }
-        ensures serves { Serves self.new (D.state device.new) }
-        ensures costs { Costs (BScar spans.now) (D.state device.old).panel (D.state device.new).panel }
+        ensures { Answered (BScar spans.now) (answer_of result) self.old self.new (D.state device.old) (D.state device.new) }
     {
         let call = self.blocks.scar(device, spans);
         self.answer(call)
     }
 
     pub(super) fn bexists<D: LineDevice>(&self, device: &D, block: u64) -> Reply
-        requires serves { Serves self.now (D.state device.now) }
+        requires serves { HostServes self.now (D.state device.now) }
         requires on { self.now.mode ≡ On }
-        ensures step { (h : Machine) → Stands self.now (D.state device.now) h
-            → Performed h (BExists block) (answer_of result) self.now (D.state device.now) (D.state device.now) }
-        ensures short { length (answer_line (answer_of result)) ≤ 64 }
+        ensures { Answered (BExists block) (answer_of result) self.now self.now (D.state device.now) (D.state device.now) }
     {
         match self.blocks.exists(block) {
             Ok(true) => Reply::Yes,
@@ -178,7 +146,6 @@ impl Host {
         requires on { self.old.mode ≡ On }
         ensures state { self.new ≡ record self.old { mode = mode_after call } }
         ensures answer { answer_of result ≡ answer_after Done call }
-        ensures short { length (answer_line (answer_of result)) ≤ 64 }
     {
         match call {
             Ok(()) => Reply::Done,
@@ -190,39 +157,17 @@ impl Host {
     fn fault(&mut self, fault: BlockFault) -> Reply
         ensures state { self.new ≡ record self.old { mode = fault_mode self.old.mode fault } }
         ensures answer { answer_of result ≡ fault_answer fault }
-        ensures short { length (answer_line (answer_of result)) ≤ 64 }
     {
         match fault {
             BlockFault::Range => Reply::Refused(Why::Range),
             BlockFault::Length => Reply::Refused(Why::Length),
             BlockFault::Limit => Reply::Refused(Why::Limit),
             BlockFault::Overlap => Reply::Refused(Why::Overlap),
-            BlockFault::Meta(line) => bad_meta(line.0),
-            BlockFault::Scarred(block) => scarred(block),
-            BlockFault::Poison(block, line) => poisoned(block, line),
+            BlockFault::Meta(line) => Reply::RefusedMeta(line.0),
+            BlockFault::Scarred(block) => Reply::Scarred(block),
+            BlockFault::Poison(block, line) => Reply::PoisonBlock(block, line),
             BlockFault::Device => self.interrupt(Interruption::Failed),
             BlockFault::PowerLost => self.interrupt(Interruption::PowerLost),
         }
     }
-}
-
-fn bad_meta(line: u64) -> Reply
-    ensures answer { answer_of result ≡ RefusedMeta line }
-    ensures short { length (answer_line (answer_of result)) ≤ 64 }
-{
-    Reply::RefusedMeta(line)
-}
-
-fn scarred(block: u64) -> Reply
-    ensures answer { answer_of result ≡ Scarred block }
-    ensures short { length (answer_line (answer_of result)) ≤ 64 }
-{
-    Reply::Scarred(block)
-}
-
-fn poisoned(block: u64, line: u64) -> Reply
-    ensures answer { answer_of result ≡ PoisonBlock block line }
-    ensures short { length (answer_line (answer_of result)) ≤ 64 }
-{
-    Reply::PoisonBlock(block, line)
 }

@@ -1,15 +1,13 @@
 // Each command on the device, once nothing refuses it.
-ghost use Rattle.std.specs.Prelude.{◌≡◌, ◌≤◌, ◌+◌, ◌*◌, None, length, IfOk, OnErr};
-ghost use Rattle.line_device.specs.Panel.{Runs};
-ghost use Rattle.machine_host.specs.declared.mode.Mode.TheVariants.{On, Off};
+ghost use Rattle.std.specs.Prelude.{◌≡◌, ◌≤◌, ◌+◌, ◌*◌, None, length};
+ghost use Rattle.machine_host.specs.declared.mode.Mode.TheVariants.{On};
 ghost use Rattle.script_text.specs.Action.{action_of};
-ghost use Rattle.script_text.specs.Action.Action.{VLoad, VStore, VSync, Cut, Restart};
-ghost use Rattle.reply_text.specs.Answer.{answer_of, answer_line};
-ghost use Rattle.machine_host.specs.Machine.{Machine, refusal};
+ghost use Rattle.script_text.specs.Action.Action.{VLoad, VStore, VSync};
 ghost use Rattle.script_text.specs.Parsing.{InBounds};
-ghost use Rattle.machine_host.specs.Stands.{Serves, Stands, Performed};
-ghost use Rattle.machine_host.specs.Costs.{Costs};
-ghost use Rattle.machine_host.specs.Faults.{Leaves, longest};
+ghost use Rattle.reply_text.specs.Answer.{answer_of};
+ghost use Rattle.machine_host.specs.Machine.{refusal};
+ghost use Rattle.machine_host.specs.Stands.{HostServes};
+ghost use Rattle.machine_host.specs.Responding.{Answered, Responds, longest};
 
 use super::Host;
 use crate::Mode;
@@ -39,15 +37,10 @@ impl Host {
         device: &mut D,
         command: &Command,
     ) -> Result<Reply, AllocError>
-        requires serves { Serves self.old (D.state device.old) }
+        requires serves { HostServes self.old (D.state device.old) }
         requires bounded { InBounds (action_of command.now) }
         requires allowed { refusal self.old.mode self.old.geometry (action_of command.now) ≡ None }
-        ensures step { IfOk result (λ reply. (h : Machine) → Stands self.old (D.state device.old) h
-            → Performed h (action_of command.now) (answer_of reply) self.new (D.state device.old) (D.state device.new)) }
-        ensures short { IfOk result (λ reply. length (answer_line (answer_of reply)) ≤ longest (action_of command.now)) }
-        ensures memory { OnErr result (Leaves (action_of command.now) self.old self.new (D.state device.old) (D.state device.new)) }
-        ensures serves { Serves self.new (D.state device.new) }
-        ensures costs { Costs (action_of command.now) (D.state device.old).panel (D.state device.new).panel }
+        ensures { Responds (action_of command.now) result self.old self.new (D.state device.old) (D.state device.new) }
     {
         match command {
             Command::BRead { block, count } => self.bread(device, *block, *count),
@@ -75,16 +68,11 @@ impl Host {
         offset: u64,
         len: u64,
     ) -> Result<Reply, AllocError>
-        requires serves { Serves self.old (D.state device.old) }
+        requires serves { HostServes self.old (D.state device.old) }
         requires on { self.old.mode ≡ On }
         requires some { 1 ≤ len }
         requires within { offset + len ≤ 4096 * self.old.geometry.vpages }
-        ensures step { IfOk result (λ reply. (h : Machine) → Stands self.old (D.state device.old) h
-            → Performed h (VLoad offset len) (answer_of reply) self.new (D.state device.old) (D.state device.new)) }
-        ensures short { IfOk result (λ reply. length (answer_line (answer_of reply)) ≤ longest (VLoad offset len)) }
-        ensures memory { OnErr result ((self.new ≡ self.old) × (D.state device.new ≡ D.state device.old)) }
-        ensures serves { Serves self.new (D.state device.new) }
-        ensures costs { Costs (VLoad offset len) (D.state device.old).panel (D.state device.new).panel }
+        ensures { Responds (VLoad offset len) result self.old self.new (D.state device.old) (D.state device.new) }
     {
         let mut bytes = Bytes::new(self.alloc);
         bytes.reserve(len)?;
@@ -96,15 +84,11 @@ impl Host {
     }
 
     fn vstore<D: LineDevice>(&mut self, device: &mut D, offset: u64, bytes: &[u8]) -> Reply
-        requires serves { Serves self.old (D.state device.old) }
+        requires serves { HostServes self.old (D.state device.old) }
         requires on { self.old.mode ≡ On }
         requires some { 1 ≤ length bytes.now }
         requires within { offset + length bytes.now ≤ 4096 * self.old.geometry.vpages }
-        ensures step { (h : Machine) → Stands self.old (D.state device.old) h
-            → Performed h (VStore offset bytes.now) (answer_of result) self.new (D.state device.old) (D.state device.new) }
-        ensures short { length (answer_line (answer_of result)) ≤ 64 }
-        ensures serves { Serves self.new (D.state device.new) }
-        ensures costs { Costs (VStore offset bytes.now) (D.state device.old).panel (D.state device.new).panel }
+        ensures { Answered (VStore offset bytes.now) (answer_of result) self.old self.new (D.state device.old) (D.state device.new) }
     {
         match store_span(device, self.geometry, offset, bytes) {
             Ok(()) => Reply::Done,
@@ -113,15 +97,11 @@ impl Host {
     }
 
     fn vsync<D: LineDevice>(&mut self, device: &mut D, offset: u64, len: u64) -> Reply
-        requires serves { Serves self.old (D.state device.old) }
+        requires serves { HostServes self.old (D.state device.old) }
         requires on { self.old.mode ≡ On }
         requires some { 1 ≤ len }
         requires within { offset + len ≤ 4096 * self.old.geometry.vpages }
-        ensures step { (h : Machine) → Stands self.old (D.state device.old) h
-            → Performed h (VSync offset len) (answer_of result) self.new (D.state device.old) (D.state device.new) }
-        ensures short { length (answer_line (answer_of result)) ≤ 64 }
-        ensures serves { Serves self.new (D.state device.new) }
-        ensures costs { Costs (VSync offset len) (D.state device.old).panel (D.state device.new).panel }
+        ensures { Answered (VSync offset len) (answer_of result) self.old self.new (D.state device.old) (D.state device.new) }
     {
         match persist_span(device, self.geometry, Span { start: offset, len }) {
             Ok(()) => Reply::Done,

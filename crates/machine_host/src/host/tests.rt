@@ -1,7 +1,7 @@
 // Stories of a host of eight blocks and two volume pages over a device of memory.
 ghost use Rattle.std.specs.Prelude.{IfOk};
 ghost use Rattle.line_device.specs.Plain.{device_of};
-ghost use Rattle.machine_host.specs.Stands.{Serves};
+ghost use Rattle.machine_host.specs.Stands.{HostServes};
 
 use crate::{Host, Mode};
 use line_device::{LineDevice, Order, Plain};
@@ -13,7 +13,7 @@ use word_tables::Geometry;
 
 // A fresh device, and its host.
 fn set_up(alloc: Global) -> Result<(Host, Plain), Fail>
-    ensures { IfOk result (λ both. Serves both.0 (device_of both.1)) }
+    ensures { IfOk result (λ both. HostServes both.0 (device_of both.1)) }
 {
     let geometry = Geometry {
         blocks: 8,
@@ -34,8 +34,8 @@ fn tell(
     line: &str,
     out: &mut Bytes,
 ) -> Result<(), AllocError>
-    requires { Serves host.old (device_of device.old) }
-    ensures { Serves host.new (device_of device.new) }
+    requires { HostServes host.old (device_of device.old) }
+    ensures { HostServes host.new (device_of device.new) }
 {
     match parse(alloc, line.as_bytes()) {
         Ok(Some(command)) => host.step(device, &command, out),
@@ -45,8 +45,8 @@ fn tell(
 
 // Arms a cut or a failure at so many counted calls from now on.
 fn arm(host: &Host, device: &mut Plain, order: Order)
-    requires { Serves host.now (device_of device.old) }
-    ensures { Serves host.now (device_of device.new) }
+    requires { HostServes host.now (device_of device.old) }
+    ensures { HostServes host.now (device_of device.new) }
 {
     match order {
         Order::Cut(calls) => device.arm_cut(calls.max(1)),

@@ -202,7 +202,7 @@ returns-clause-serves g c =
     let read = mounted_words geo c.requires.valid old now c.requires.lines whole outside rest words (g.met.L.Lines.sound c.mount.new.dev) (c.as_slice.ensures ∙ c.in_ok-words.ensures.words) in
     let is = states_same c.in_ok-map.map (states_read geo (last_image old)) (c.in_ok-map.ensures.ok ∙ read) in
     let is_map = map_from_right c.in_ok-map.map words c.in_ok-map.ensures.ok c.in_ok-map.ensures.right in
-    mounted_serves geo c.requires.valid old now c.requires.lines whole outside rest new c.in_ok-words.ensures.lines c.in_ok-map.map is is_map _ refl refl c.requires.strong c.requires.durable
+    mounted_serves geo c.requires.valid old now c.requires.lines whole outside rest new c.in_ok-words.ensures.lines c.in_ok-map.map is is_map _ refl refl c.requires.strong (c.requires.durable (right_map geo old words none read c.in_ok-map.ensures.right))
 
 pub invariant_of-result : goal.invariant_of-result
 invariant_of-result g c =

@@ -1,21 +1,14 @@
-use Rattle.std.proofs.Common.{refl}
+use Rattle.std.proofs.Common.{refl, arith}
 use Rattle.nvm_model.specs.Blocks.{write_ranges}
 use Rattle.block_device.specs.Refusals.{multiwrite_refusal}
 use Rattle.script_text.specs.Action.Action.{BMulti}
-use Rattle.reply_text.specs.Answer.Answer.{Done}
-use Rattle.machine_host.proofs.BlockLemmas.{called, change_serves, change_comes, refused_multi}
+use Rattle.machine_host.proofs.BlockLemmas.{called, change_answered, refused_multi}
 use Rattle.machine_host.proofs.host.Host.bmulti.Goals as goal
 
-pub returns-clause-serves : goal.returns-clause-serves
-returns-clause-serves g c =
-    let said = c.atomic_multiwrite-call.ensures in
-    change_serves _ _ _ _ c.atomic_multiwrite-call.result _ _ _ _ c.self.view_is c.answer.ensures.state c.requires.on c.requires.serves (BMulti c.args.ranges.now c.args.bytes.now)
-    (called g.D.Lines.state _ _ c.atomic_multiwrite-call.result _ _ _ _ _ said.untouched said.images said.outside said.serves said.object said.runs)
-
-pub returns-clause-step : goal.returns-clause-step
-returns-clause-step g c h stands =
+pub returns : goal.returns
+returns g c =
     let said = c.atomic_multiwrite-call.ensures in
     let old = g.D.Lines.state c.args.device.now in
-    change_comes _ _ _ _ c.atomic_multiwrite-call.result _ _ _ _ c.self.view_is c.answer.ensures.state c.requires.on c.requires.serves (BMulti c.args.ranges.now c.args.bytes.now)
+    change_answered _ _ _ _ c.atomic_multiwrite-call.result _ _ _ _ c.self.view_is c.answer.ensures.state c.requires.on c.requires.serves (BMulti c.args.ranges.now c.args.bytes.now) (omega arith) (omega arith)
     (called g.D.Lines.state _ _ c.atomic_multiwrite-call.result _ _ _ _ _ said.untouched said.images said.outside said.serves said.object said.runs)
-    h Done _ (λ s. multiwrite_refusal s old.medium c.args.ranges.now) (write_ranges c.args.ranges.now c.args.bytes.now) stands refl (λ serves stands on. refused_multi _ old h serves stands on c.args.ranges.now c.args.bytes.now) refl said.refused said.ok c.answer.ensures.answer
+    _ (λ s. multiwrite_refusal s old.medium c.args.ranges.now) (write_ranges c.args.ranges.now c.args.bytes.now) (omega arith) (λ h. refl) (λ h serves stands on. refused_multi _ old h serves stands on c.args.ranges.now c.args.bytes.now) (λ h. refl) said.refused said.ok c.answer.ensures.answer

@@ -1,16 +1,28 @@
-use Rattle.std.proofs.Common.{sym, ◌∙◌}
-use Rattle.recovery.proofs.AgainLemmas.{durable_blocks}
-use Rattle.machine_host.specs.declared.mode.Mode.TheVariants.{On}
-use Rattle.machine_host.proofs.MountLemmas.{serves_found}
+use Rattle.std.proofs.Common.{[], sym, subst, ◌∙◌}
+use Rattle.recovery.specs.Mounting.{IsInOrder}
+use Rattle.machine_host.specs.Stands.{MetadataStands}
+use Rattle.machine_host.specs.Volume.{HasGoodData}
+use Rattle.machine_host.proofs.MountLemmas.{durable_flushed, layout_mounted, metadata_mounted}
 use Rattle.machine_host.proofs.host.Host.mount.Goals as goal
 
 pub mount-requires-clause-durable : goal.mount-requires-clause-durable
-mount-requires-clause-durable g c = durable_blocks _ (g.met.D.Lines.sound c.args.device.now) c.requires.mountable
+mount-requires-clause-durable g c = durable_flushed _ c.requires.flushed
+
+pub returns-clause-metadata : goal.returns-clause-metadata
+returns-clause-metadata g c =
+    let old = (g.D.Lines.state c.args.device.now).medium in
+    let new = (g.D.Lines.state c.mount.new.dev).medium in
+    let x = c.in_ok-mounted.ensures in
+    subst (λ geo. MetadataStands geo new []) (sym x.ok.0)
+    (metadata_mounted old new c.requires.some c.requires.flushed x.finds x.outside (subst (λ geo. IsInOrder geo new) x.ok.0 x.order))
 
 pub returns-clause-serves : goal.returns-clause-serves
-returns-clause-serves g c =
+returns-clause-serves g c = λ good.
+    let old = (g.D.Lines.state c.args.device.now).medium in
+    let new = (g.D.Lines.state c.mount.new.dev).medium in
     let x = c.in_ok-mounted.ensures in
-    let mounted = c.in_ok-mounted.mounted in
-    serves_found (record { geometry = mounted.geo; mode = On; blocks = mounted.blocks }) (g.D.Lines.state c.args.device.now) (g.D.Lines.state c.mount.new.dev)
-    c.requires.mountable c.requires.intact x.finds x.ok.0 x.outside x.reads (x.runs.cause.0 ∙ c.requires.on)
-    (λ _. record { geometry = x.ok.1 ∙ sym x.ok.0; settled = x.settled; serves = x.serves })
+    record {
+      layout = layout_mounted c.in_ok-mounted.mounted.geo _ old new x.order x.outside (subst (λ geo. HasGoodData geo old) (sym x.ok.0) good);
+      power = x.runs.cause.0 ∙ c.requires.on;
+      mounted = λ _. record { geometry = x.ok.1 ∙ sym x.ok.0; settled = x.settled; serves = x.serves };
+    }

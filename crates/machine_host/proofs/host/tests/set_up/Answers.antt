@@ -1,8 +1,8 @@
-use Rattle.std.proofs.Common.{refl, lit≤}
+use Rattle.std.proofs.Common.{refl, lit≤, arith}
 use Rattle.word_tables.specs.declared.geometry.Geometry.{Geometry}
 use Rattle.word_tables.specs.Bounds.{IsValid}
-use Rattle.recovery.proofs.FreshLemmas.{fresh_mountable}
-use Rattle.line_device.specs.PlainSound.{is_sound-plain}
+use Rattle.recovery.proofs.SuperblockLemmas.{some_lines}
+use Rattle.machine_host.proofs.MountLemmas.{fresh_flushed}
 use Rattle.machine_host.proofs.host.tests.set_up.Goals as goal
 
 abbrev sizes : Geometry
@@ -19,8 +19,11 @@ sizes_are_valid = record {
   most_fpages = lit≤ tt;
 }
 
-pub mount-requires-clause-mountable : goal.mount-requires-clause-mountable
-mount-requires-clause-mountable c = fresh_mountable sizes _ c.in_ok-format.ensures.ok (is_sound-plain c.format.new.device)
+pub mount-requires-clause-some : goal.mount-requires-clause-some
+mount-requires-clause-some c = omega (arith, c.in_ok-format.ensures.ok.count, some_lines sizes)
 
-pub mount-requires-clause-intact : goal.mount-requires-clause-intact
-mount-requires-clause-intact c n below = (c.in_ok-format.ensures.ok.good n, c.in_ok-format.ensures.ok.strong n)
+pub mount-requires-clause-flushed : goal.mount-requires-clause-flushed
+mount-requires-clause-flushed c p there = fresh_flushed sizes _ c.in_ok-format.ensures.ok p there
+
+pub returns : goal.returns
+returns c = c.in_ok-host.ensures.serves (λ n behind there. (c.in_ok-format.ensures.ok.good n, c.in_ok-format.ensures.ok.strong n))
