@@ -10,7 +10,7 @@ opens-none p = record {
   calls = omega arith;
   persists = omega arith;
   armed = arms_nothing-refl p;
-  orders = record { offs = refl; arms = refl; evicts = refl; restarts = refl; disarms = refl; starts = refl; last_order = refl };
+  orders = record { offs = refl; arms = refl; evicts = refl; restarts = refl; disarms = refl; starts = refl; last_order = refl; loans = refl };
 }
 
 pub opens-runs : (end : Outcome) (p q : Panel) → Runs mount_calls mount_persists end p q → Opens p q
