@@ -26,18 +26,20 @@ use Rattle.block_device.proofs.ImageLemmas.{each_reads-then, served_reads}
 use Rattle.nvm_base.specs.declared.units.Span.{Span}
 use Rattle.nvm_model.specs.Blocks.{first_there}
 use Rattle.script_text.specs.Action.{Action}
-use Rattle.script_text.specs.Action.Action.{BWrite, BAtomic, BMulti}
 use Rattle.reply_text.specs.Answer.{Answer}
 use Rattle.reply_text.specs.Answer.Answer.{Done}
 use Rattle.reply_text.specs.Room.{most_of}
-use Rattle.machine_host.specs.Costs.{most_calls, most_persists}
-use Rattle.machine_host.specs.Responding.{Answered, longest}
+use Rattle.machine_host.specs.Responding.{Answered}
+use Rattle.machine_host.proofs.RefusalLemmas.{fate_changing, first_alone}
 use Rattle.word_tables.specs.Layout.{meta_lines}
 use Rattle.word_tables.specs.declared.geometry.Geometry.{Geometry}
 use Rattle.machine_host.specs.declared.mode.Mode.TheVariants.{On}
-use Rattle.machine_host.specs.Machine.{Machine, block_refusal, done, effect, meta_refusal, unless, refusal_answer}
+use Rattle.machine_host.specs.Machine.{Machine, Fate}
+use Rattle.machine_host.specs.Meaning.{BlocksLeft}
+use Rattle.machine_host.specs.OnBlocks.{changing, refusal_answer}
 use Rattle.machine_host.specs.Machine.Fate.{Gives, Works}
-use Rattle.machine_host.specs.Interrupted.{MayLeaveBlocks, MayLeaveVolume, interrupted_answer, interrupted_mode, stop_in}
+use Rattle.machine_host.specs.Commands.{MayLeaveBlocks, MayLeaveVolume, fate, meaning, spending, unless_refused}
+use Rattle.machine_host.specs.Interrupted.{interrupted_answer, interrupted_mode, stop_in}
 use Rattle.machine_host.specs.Run.{answered, worked}
 use Rattle.machine_host.specs.Volume.{HasLayout, volume_of}
 use Rattle.machine_host.specs.Stands.{HostState, HostServes, MetadataStands, AreMounted, Stands, Comes, is_powered}
@@ -174,8 +176,8 @@ module _ (host : HostState) (s : BlocksState) (P : List Block → Type 0) (calls
           (record { layout = layout_after c.outside; power = c.runs.cause.0; mounted = λ e. cc })
 
 -- A call on the blocks comes to what the machine makes of it: done, refused, or interrupted.
-module _ (host : HostState) (s : BlocksState) (action : Action) (calls persists : ℕ) (few : calls ≤ most_calls action) (few_persists : persists ≤ most_persists action)
-    (old new : Device) (on : host.mode ≡ On) (serves : HostServes host old) (h : Machine) (stands : Stands host old h) (f : List Block → List Block) where
+module _ (host : HostState) (s : BlocksState) (action : Action) (calls persists : ℕ) (h : Machine) (few : calls ≤ (spending h action).calls) (few_persists : persists ≤ (spending h action).persists)
+    (old new : Device) (on : host.mode ≡ On) (serves : HostServes host old) (stands : Stands host old h) (f : List Block → List Block) where
   -- what a call may leave
   abbrev may : List Block → Type 0
   may = MayLeaveBlocks (Some action) (blocks_of host.blocks old.medium)
@@ -238,22 +240,23 @@ module _ (host : HostState) (s : BlocksState) (action : Action) (calls persists 
       by calls persists few few_persists refl refl runs (metadata_beside outside) (blocks_interrupted each)
       (pages_left host old new h action stands serves on h.volume (Some action) left refl (pages_beside outside))
 
-  pub comes_of_change : (good : Answer) (r : Result (Unit {0}) BlockFault) (why : Option Refusal) → stop_in good ≡ None → MayLeaveVolume (Some action) h.volume h.volume → block_refusal h action ≡ why
-      → done h action ≡ Works good (record h { blocks = f h.blocks }) → Answers why r → OnOk r (blocks_of s new.medium ≡ f (blocks_of host.blocks old.medium))
-      → Called host s r may calls persists old new → Comes h action (effect h action) (answer_after good r) (host_after host s r) old new
-  comes_of_change good (Ok tt) None quiet left why_is done_is answers ok c =
-      subst (λ fate. Comes h action fate good (host_after {T = Unit {0}} host s (Ok tt)) old new) (sym (ap (λ w. unless h w (done h action)) why_is ∙ done_is)) (record {
-        said = worked action good;
-        next = record h { blocks = f h.blocks };
-        answers = refl;
-        takes = (good, refl, inl (refl, refl));
-        tells = tells_work action calls persists few few_persists old.panel new.panel good quiet c.runs;
-        stands = stands_called c ok;
-      })
-  comes_of_change good (Ok tt) (Some w) quiet left why_is done_is answers ok c = absurd answers
-  comes_of_change good (Err e) (Some w) quiet left why_is done_is answers ok c =
-      subst (λ fate. Comes h action fate (fault_answer e) (host_after {T = Unit {0}} host s (Err e)) old new) (sym (ap (λ w. unless h w (done h action)) why_is))
-      (refused_here (c.untouched (λ none. cc)))
+  -- what comes of it where this refuses it, or nothing
+  abbrev Wants : Answer → Option Refusal → Fate
+  Wants good why = unless_refused h (option_map refusal_answer why) (Works good (record h { blocks = f h.blocks }))
+
+  pub comes_of_change : (good : Answer) (r : Result (Unit {0}) BlockFault) (why : Option Refusal) → stop_in good ≡ None → MayLeaveVolume (Some action) h.volume h.volume
+      → Answers why r → OnOk r (blocks_of s new.medium ≡ f (blocks_of host.blocks old.medium))
+      → Called host s r may calls persists old new → Comes h action (Wants good why) (answer_after good r) (host_after host s r) old new
+  comes_of_change good (Ok tt) None quiet left answers ok c = record {
+    said = worked (spending h action) good;
+    next = record h { blocks = f h.blocks };
+    answers = refl;
+    takes = (good, refl, inl (refl, refl));
+    tells = tells_work (spending h action) calls persists few few_persists old.panel new.panel good quiet c.runs;
+    stands = stands_called c ok;
+  }
+  comes_of_change good (Ok tt) (Some w) quiet left answers ok c = absurd answers
+  comes_of_change good (Err e) (Some w) quiet left answers ok c = refused_here (c.untouched (λ none. cc))
     where
       mode_stays : fault_mode On e ≡ host.mode
       mode_stays = told_stays e w answers ∙ sym on
@@ -271,17 +274,15 @@ module _ (host : HostState) (s : BlocksState) (action : Action) (calls persists 
             tells = tells_nothing (refusal_answer w) (no_stop w) old.panel;
             stands = stands;
           }))))
-  comes_of_change good (Err e) None quiet left why_is done_is answers ok c =
-      subst (λ fate. Comes h action fate (fault_answer e) (host_after {T = Unit {0}} host s (Err e)) old new) (sym (ap (λ w. unless h w (done h action)) why_is ∙ done_is))
-      (elim (refuses_or_stops e) as (λ _. Stopped good e) [
-        | inl refuses ↦ absurd (refuses.told answers)
-        | inr stops ↦ elim stops as (λ _. Stopped good e) [
-          | inl is ↦ subst (Stopped good) (sym is)
-              (comes_of_stop Failed good left (subst (λ g. Runs calls persists (block_outcome {T = Unit {0}} (Err g)) old.panel new.panel) is c.runs) (c.images answers) c.outside)
-          | inr is ↦ subst (Stopped good) (sym is)
-              (comes_of_stop PowerLost good left (subst (λ g. Runs calls persists (block_outcome {T = Unit {0}} (Err g)) old.panel new.panel) is c.runs) (c.images answers) c.outside)
-        ]
-      ])
+  comes_of_change good (Err e) None quiet left answers ok c = elim (refuses_or_stops e) as (λ _. Stopped good e) [
+    | inl refuses ↦ absurd (refuses.told answers)
+    | inr stops ↦ elim stops as (λ _. Stopped good e) [
+      | inl is ↦ subst (Stopped good) (sym is)
+          (comes_of_stop Failed good left (subst (λ g. Runs calls persists (block_outcome {T = Unit {0}} (Err g)) old.panel new.panel) is c.runs) (c.images answers) c.outside)
+      | inr is ↦ subst (Stopped good) (sym is)
+          (comes_of_stop PowerLost good left (subst (λ g. Runs calls persists (block_outcome {T = Unit {0}} (Err g)) old.panel new.panel) is c.runs) (c.images answers) c.outside)
+    ]
+  ]
 
 on_refused-then : {T P Q : Type 0} (r : Result T BlockFault) → (P → Q) → OnRefused r P → OnRefused r Q
 on_refused-then (Ok x) then_ p = tt
@@ -314,31 +315,33 @@ module _ (host : HostState) (old : Device) (h : Machine) (serves : HostServes ho
   meta_none : blocks.meta_refusal host.blocks.geo old.medium ≡ None
   meta_none = subst (λ g. blocks.meta_refusal g old.medium ≡ None) (sym (serves.mounted on).geometry) (no_meta host.geometry old.medium serves.layout)
 
-  machine_meta_none : meta_refusal h.bad_meta ≡ None
-  machine_meta_none = ap meta_refusal (nothing_bad h.geometry old.medium h.bad_meta (subst (λ g. HasLayout g old.medium) stands.geometry serves.layout) stands.device.metadata)
+  -- no line of metadata of the state is bad
+  pub good_state : h.bad_meta ≡ []
+  good_state = nothing_bad h.geometry old.medium h.bad_meta (subst (λ g. HasLayout g old.medium) stands.geometry serves.layout) stands.device.metadata
 
-  pub refused_write : (block : ℕ) (bytes : List ℕ) → block_refusal h (BWrite block bytes) ≡ blocks.write_refusal host.blocks old.medium block (length bytes)
-  refused_write block bytes =
-      ap₂ first_there (ap (λ n. blocks.bytes_refusal n block (length bytes)) (sym blocks_there)) (machine_meta_none ∙ sym meta_none)
+  with_meta : (o : Option Refusal) → o ≡ first_there o (blocks.meta_refusal host.blocks.geo old.medium)
+  with_meta o = sym (first_alone o) ∙ ap (first_there o) (sym meta_none)
 
-  pub refused_atomic : (block : ℕ) (bytes : List ℕ) → block_refusal h (BAtomic block bytes) ≡ blocks.atomic_refusal host.blocks old.medium block (length bytes)
-  refused_atomic block bytes =
-      ap₂ first_there (ap (λ n. blocks.bytes_refusal n block (length bytes)) (sym blocks_there))
-      (ap (first_there (blocks.where_ (nat_lt 64 (length bytes / 512)) Limit)) (machine_meta_none ∙ sym meta_none))
+  pub refused_write : (block len : ℕ) → blocks.bytes_refusal h.geometry.blocks block len ≡ blocks.write_refusal host.blocks old.medium block len
+  refused_write block len = ap (λ n. blocks.bytes_refusal n block len) (sym blocks_there) ∙ with_meta (blocks.bytes_refusal host.blocks.geo.blocks block len)
 
-  pub refused_multi : (ranges : List Span) (bytes : List ℕ) → block_refusal h (BMulti ranges bytes) ≡ blocks.multiwrite_refusal host.blocks old.medium ranges
-  refused_multi ranges bytes = ap₂ first_there (ap (λ n. blocks.ranges_refusal n ranges) (sym blocks_there)) (machine_meta_none ∙ sym meta_none)
+  pub refused_atomic : (block len : ℕ) → first_there (blocks.bytes_refusal h.geometry.blocks block len) (blocks.where_ (nat_lt 64 (len / 512)) Limit) ≡ blocks.atomic_refusal host.blocks old.medium block len
+  refused_atomic block len =
+      ap₂ first_there (ap (λ n. blocks.bytes_refusal n block len) (sym blocks_there)) (with_meta (blocks.where_ (nat_lt 64 (len / 512)) Limit))
 
-  pub refused_change : (spans : List Span) → first_there (blocks.together_refusal h.geometry.blocks spans) (meta_refusal h.bad_meta) ≡ blocks.change_refusal host.blocks old.medium spans
-  refused_change spans = ap₂ first_there (ap (λ n. blocks.together_refusal n spans) (sym blocks_there)) (machine_meta_none ∙ sym meta_none)
+  pub refused_multi : (ranges : List Span) → blocks.ranges_refusal h.geometry.blocks ranges ≡ blocks.multiwrite_refusal host.blocks old.medium ranges
+  refused_multi ranges = ap (λ n. blocks.ranges_refusal n ranges) (sym blocks_there) ∙ with_meta (blocks.ranges_refusal host.blocks.geo.blocks ranges)
 
-  pub refused_hint : (span : Span) → first_there (blocks.spans_refusal h.geometry.blocks (span ∷ [])) (meta_refusal h.bad_meta) ≡ blocks.hint_refusal host.blocks old.medium span
-  refused_hint span = ap₂ first_there (ap (λ n. blocks.spans_refusal n (span ∷ [])) (sym blocks_there)) (machine_meta_none ∙ sym meta_none)
+  pub refused_change : (spans : List Span) → blocks.together_refusal h.geometry.blocks spans ≡ blocks.change_refusal host.blocks old.medium spans
+  refused_change spans = ap (λ n. blocks.together_refusal n spans) (sym blocks_there) ∙ with_meta (blocks.together_refusal host.blocks.geo.blocks spans)
+
+  pub refused_hint : (span : Span) → blocks.spans_refusal h.geometry.blocks (span ∷ []) ≡ blocks.hint_refusal host.blocks old.medium span
+  refused_hint span = ap (λ n. blocks.spans_refusal n (span ∷ [])) (sym blocks_there) ∙ with_meta (blocks.spans_refusal host.blocks.geo.blocks (span ∷ []))
 
 -- The same of a host behind a reference: `host` is what is inside `now`, and `after` what the answer leaves.
 module _ (now host after : HostState) (s : BlocksState) (r : Result (Unit {0}) BlockFault) (calls persists : ℕ) (old new : Device)
     (inside : host ≡ now) (state : after ≡ host_after host s r) (on : now.mode ≡ On) (serves : HostServes now old) (action : Action)
-    (few : calls ≤ most_calls action) (few_persists : persists ≤ most_persists action)
+    (few : (h : Machine) → calls ≤ (spending h action).calls) (few_persists : (h : Machine) → persists ≤ (spending h action).persists)
     (call : Called host s r (MayLeaveBlocks (Some action) (blocks_of host.blocks old.medium)) calls persists old new) where
   on_inside : host.mode ≡ On
   on_inside = ap (λ k. k.mode) inside ∙ on
@@ -351,21 +354,26 @@ module _ (now host after : HostState) (s : BlocksState) (r : Result (Unit {0}) B
       subst (λ k. HostServes k new) (sym state)
       (serves_called host s (MayLeaveBlocks (Some action) (blocks_of host.blocks old.medium)) calls persists old new on_inside serves_inside r call)
 
-  pub change_comes : (h : Machine) (good answer : Answer) (why : BlocksState → Option Refusal) (f : List Block → List Block) → stop_in good ≡ None → Stands now old h → MayLeaveVolume (Some action) h.volume h.volume
-      → (HostServes host old → Stands host old h → host.mode ≡ On → block_refusal h action ≡ why host.blocks) → done h action ≡ Works good (record h { blocks = f h.blocks })
-      → Answers (why host.blocks) r → OnOk r (blocks_of s new.medium ≡ f (blocks_of host.blocks old.medium)) → answer ≡ answer_after good r → Comes h action (effect h action) answer after old new
-  change_comes h good answer why f quiet stands left refusal done_is refused ok answer_is =
+  pub change_comes : (h : Machine) (good answer : Answer) (why : Option Refusal) (f : List Block → List Block) → stop_in good ≡ None → Stands now old h → MayLeaveVolume (Some action) h.volume h.volume
+      → (HostServes host old → Stands host old h → host.mode ≡ On → fate h action ≡ unless_refused h (option_map refusal_answer why) (Works good (record h { blocks = f h.blocks })))
+      → Answers why r → OnOk r (blocks_of s new.medium ≡ f (blocks_of host.blocks old.medium)) → answer ≡ answer_after good r → Comes h action (fate h action) answer after old new
+  change_comes h good answer why f quiet stands left fate_is refused ok answer_is =
       let stands_inside = subst (λ k. Stands k old h) (sym inside) stands in
-      subst (λ a. Comes h action (effect h action) a after old new) (sym answer_is)
-      (subst (λ k. Comes h action (effect h action) (answer_after good r) k old new) (sym state)
-      (comes_of_change host s action calls persists few few_persists old new on_inside serves_inside h stands_inside f good r (why host.blocks) quiet left (refusal serves_inside stands_inside on_inside) done_is refused ok call))
+      subst (λ a. Comes h action (fate h action) a after old new) (sym answer_is)
+      (subst (λ k. Comes h action (fate h action) (answer_after good r) k old new) (sym state)
+      (subst (λ fate. Comes h action fate (answer_after good r) (host_after host s r) old new) (sym (fate_is serves_inside stands_inside on_inside))
+      (comes_of_change host s action calls persists h (few h) (few_persists h) old new on_inside serves_inside stands_inside f good r why quiet left refused ok call)))
 
-  -- one that gives no bytes is answered
-  pub change_answered : (answer : Answer) (why : BlocksState → Option Refusal) (f : List Block → List Block) → 64 ≤ longest action → ((h : Machine) → MayLeaveVolume (Some action) h.volume h.volume)
-      → ((h : Machine) → HostServes host old → Stands host old h → host.mode ≡ On → block_refusal h action ≡ why host.blocks) → ((h : Machine) → done h action ≡ Works Done (record h { blocks = f h.blocks }))
+  -- a change of the blocks, by its row, is answered
+  pub change_answered : (answer : Answer) (why : BlocksState → Option Refusal) (places : ℕ → Option Refusal) (f : List Block → List Block) (left : BlocksLeft) (a b : ℕ) → meaning action ≡ changing places f left a b
+      → ((h : Machine) → MayLeaveVolume (Some action) h.volume h.volume)
+      → ((h : Machine) → HostServes host old → Stands host old h → host.mode ≡ On → places h.geometry.blocks ≡ why host.blocks)
       → Answers (why host.blocks) r → OnOk r (blocks_of s new.medium ≡ f (blocks_of host.blocks old.medium)) → answer ≡ answer_after Done r → Answered action answer now after old new
-  change_answered answer why f long left refusal done_is refused ok answer_is = record {
-    step = λ h stands. change_comes h Done answer why f refl stands (left h) (refusal h) (done_is h) refused ok answer_is;
-    room = let short = subst (λ a. most_of a ≤ 64) (sym answer_is) (short_after r) in omega (arith, short, long);
+  change_answered answer why places f left a b row kept refusal refused ok answer_is = record {
+    step = λ h stands. change_comes h Done answer (why host.blocks) f refl stands (kept h)
+        (λ serves stands on. fate_changing h action places f left a b row (sym stands.mode ∙ on) (good_state host old h serves stands on)
+        ∙ ap (λ o. unless_refused h (option_map refusal_answer o) (Works Done (record h { blocks = f h.blocks }))) (refusal h serves stands on))
+        refused ok answer_is;
+    room = let short = subst (λ a. most_of a ≤ 64) (sym answer_is) (short_after r) in subst (λ m. most_of answer ≤ m.room) (sym row) short;
     serves = change_serves;
   }

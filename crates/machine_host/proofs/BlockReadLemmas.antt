@@ -24,12 +24,13 @@ use Rattle.script_text.specs.Action.Action.{BRead}
 use Rattle.reply_text.specs.Answer.{Answer}
 use Rattle.reply_text.specs.Answer.Answer.{Bytes}
 use Rattle.machine_host.specs.declared.mode.Mode.TheVariants.{On}
-use Rattle.machine_host.specs.Machine.{Machine, block_refusal}
-use Rattle.machine_host.specs.Interrupted.{MayLeaveBlocks}
+use Rattle.machine_host.specs.Machine.{Machine}
+use Rattle.machine_host.specs.Commands.{MayLeaveBlocks, fate, longest}
 use Rattle.machine_host.specs.Volume.{HasLayout}
-use Rattle.machine_host.specs.Stands.{HostState, HostServes, Stands, Performed}
+use Rattle.machine_host.specs.Stands.{HostState, HostServes, Stands, Comes}
+use Rattle.machine_host.proofs.RefusalLemmas.{fate_read}
 use Rattle.machine_host.specs.Faults.{answer_after, fault_answer}
-use Rattle.machine_host.specs.Responding.{Answered, longest}
+use Rattle.machine_host.specs.Responding.{Answered}
 use Rattle.reply_text.specs.Room.{most_of}
 use Rattle.machine_host.proofs.BlockLemmas.{Called, host_after, change_serves, change_comes, short_after}
 use Rattle.machine_host.proofs.MetadataLemmas.{good_metadata}
@@ -111,7 +112,7 @@ module _ (now host after : HostState) (s : BlocksState) (r : Result (Unit {0}) B
       let layout = subst (λ g. HasLayout g old.medium) geo_was serves.layout in
       let served_was = subst (λ k. ServesBlocks k.blocks old.medium) (sym inside) (serves.mounted on).serves in
       each_reads-write_back host.blocks.geo old.medium new.medium may layout.valid lines
-      (each_reads-then host.blocks.geo old.medium (λ bs. bs ≡ blocks_of host.blocks old.medium) may (λ bs e. inl e)
+      (each_reads-then host.blocks.geo old.medium (λ bs. bs ≡ blocks_of host.blocks old.medium) may (λ bs e. e)
       (served_reads host.blocks old.medium (good_metadata host.blocks.geo old.medium layout) served_was))
 
   call : Called host s r may calls 0 old new
@@ -131,28 +132,29 @@ module _ (now host after : HostState) (s : BlocksState) (r : Result (Unit {0}) B
   on_ok (Ok x) p = p
   on_ok (Err f) p = tt
 
-  read_comes : (h : Machine) (answer : Answer) → Stands now old h → 1 ≤ count → block + count ≤ now.geometry.blocks
-      → Answers (read_refusal host.blocks old.medium block len) r → (host.mode ≡ On → blocks_of host.blocks old.medium ≡ h.blocks → answer ≡ answer_after (Bytes (look h.blocks block count)) r)
-      → Performed h (BRead block count) answer after old new
-  read_comes h answer stands some within refused answer_is =
+  read_comes : (h : Machine) (answer : Answer) → Stands now old h → 1 ≤ count → count ≤ 128 → block + count ≤ now.geometry.blocks
+      → Answers (read_refusal host.blocks old.medium block len) r → (blocks_of host.blocks old.medium ≡ h.blocks → answer ≡ answer_after (Bytes (look h.blocks block count)) r)
+      → Comes h (BRead block count) (fate h (BRead block count)) answer after old new
+  read_comes h answer stands some most within refused answer_is =
       let stays : blocks_of host.blocks old.medium ≡ h.blocks = ap (λ k. blocks_of k.blocks old.medium) inside ∙ stands.blocks on in
       let many : 512 * count / 512 ≡ count = omega arith in
       let none : bytes_refusal host.blocks.geo.blocks block (512 * count) ≡ None = whole_blocks host.blocks.geo.blocks block count some (subst (λ g. block + count ≤ g.blocks) geo_was within) in
-      let why : read_refusal host.blocks old.medium block (512 * count) ≡ block_refusal h (BRead block count) =
+      let why : read_refusal host.blocks old.medium block (512 * count) ≡ option_map Unreadable (first_obstacle h.blocks block count) =
       ap (λ o. first_there o (option_map Unreadable (first_obstacle (blocks_of host.blocks old.medium) block (512 * count / 512)))) none
       ∙ ap (λ n. option_map Unreadable (first_obstacle (blocks_of host.blocks old.medium) block n)) many
       ∙ ap (λ bs. option_map Unreadable (first_obstacle bs block count)) stays in
-      change_comes now host after s r calls 0 old new inside state on serves (BRead block count) few (omega arith) call h (Bytes (look h.blocks block count)) answer
-      (λ b. read_refusal b old.medium block (512 * count)) (λ bs. bs) refl stands refl (λ _ _ _. sym why) refl
-      (subst (λ n. Answers (read_refusal host.blocks old.medium block n) r) size refused) (on_ok r blocks_stay) (answer_is (ap (λ k. k.mode) inside ∙ on) stays)
+      change_comes now host after s r calls 0 old new inside state on serves (BRead block count) (λ _. few) (λ _. omega arith) call h (Bytes (look h.blocks block count)) answer
+      (option_map Unreadable (first_obstacle h.blocks block count)) (λ bs. bs) refl stands refl
+      (λ serves stands on. fate_read h block count (sym stands.mode ∙ on) some (subst (λ g. block + count ≤ g.blocks) (sym (ap (λ k. k.geometry) inside) ∙ stands.geometry) within) most)
+      (subst (λ o. Answers o r) why (subst (λ n. Answers (read_refusal host.blocks old.medium block n) r) size refused)) (on_ok r blocks_stay) (answer_is stays)
 
-  pub read_answered : (answer : Answer) → 1 ≤ count → block + count ≤ now.geometry.blocks → Answers (read_refusal host.blocks old.medium block len) r
+  pub read_answered : (answer : Answer) → 1 ≤ count → count ≤ 128 → block + count ≤ now.geometry.blocks → Answers (read_refusal host.blocks old.medium block len) r
       → ((h : Machine) → blocks_of host.blocks old.medium ≡ h.blocks → answer ≡ answer_after (Bytes (look h.blocks block count)) r) → most_of answer ≤ longest (BRead block count)
       → Answered (BRead block count) answer now after old new
-  read_answered answer some within refused answer_is room = record {
-    step = λ h stands. read_comes h answer stands some within refused (λ _. answer_is h);
+  read_answered answer some most within refused answer_is room = record {
+    step = λ h stands. read_comes h answer stands some most within refused (answer_is h);
     room = room;
-    serves = change_serves now host after s r calls 0 old new inside state on serves (BRead block count) few (omega arith) call;
+    serves = change_serves now host after s r calls 0 old new inside state on serves (BRead block count) (λ _. few) (λ _. omega arith) call;
   }
 
 -- the answer of a fault is short

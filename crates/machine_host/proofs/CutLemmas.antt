@@ -23,7 +23,8 @@ use Rattle.script_text.specs.Action.Action.{BRead, BAtomic, CutIn, Restart, VLoa
 use Rattle.script_text.specs.Script.{inputs, lines_of, words_of, command_action, line_input}
 use Rattle.script_text.specs.Script.Input.{Asked}
 use Rattle.machine_host.specs.declared.mode.Mode.TheVariants as modes
-use Rattle.machine_host.specs.Machine.{Machine, refusal, while_interrupted}
+use Rattle.machine_host.specs.Machine.{Machine}
+use Rattle.machine_host.specs.Commands.{refusal, spending, while_interrupted}
 use Rattle.machine_host.specs.Restarting.{Keeps, reading, fresh, restarted, restart_answer}
 use Rattle.machine_host.specs.Run.{Transcript, Hears, Run, answered, followed_by, silence, with_order, with_start, worked}
 use Rattle.machine_host.specs.Rows.{small, leaving}
@@ -52,28 +53,28 @@ back start = restarted struck start.image
 
 -- what is said from the last read on, and so back to the order; it may come back with what its start keeps, and reads it
 abbrev read_back : List ℕ → Transcript
-read_back read = followed_by (worked (BRead 0 2) (Bytes read)) silence
+read_back read = followed_by (worked (spending armed (BRead 0 2)) (Bytes read)) silence
 
 abbrev come_back : Start → List ℕ → Transcript
-come_back start read = followed_by (with_start (Restart Firsts) start (restart_answer struck start.image)) (read_back read)
+come_back start read = followed_by (with_start (spending armed (Restart Firsts)) start (restart_answer struck start.image)) (read_back read)
 
 abbrev told_of_write : Start → List ℕ → Transcript
 told_of_write start read =
-    followed_by (with_order (ForCut 1) Done) (followed_by (worked the_write PowerLost) (followed_by (answered (Refused Off)) (come_back start read)))
+    followed_by (with_order (ForCut 1) Done) (followed_by (worked (spending armed the_write) PowerLost) (followed_by (answered (Refused Off)) (come_back start read)))
 
 run_of_write : (start : Start) (read : List ℕ) → start.choice ≡ Firsts → Keeps Firsts start.image struck
-    → Hears (back start) (Asked (BRead 0 2)) (worked (BRead 0 2) (Bytes read)) (back start)
+    → Hears (back start) (Asked (BRead 0 2)) (worked (spending armed (BRead 0 2)) (Bytes read)) (back start)
     → Run (fresh small) (Asked (CutIn 1) ∷ Asked the_write ∷ Asked (BRead 0 1) ∷ Asked (Restart Firsts) ∷ Asked (BRead 0 2) ∷ []) (told_of_write start read) (back start)
 unfolding refusal reading
 run_of_write start read chosen keeps reads =
     let all = restart_answer struck start.image in (
       with_order (ForCut 1) Done,
-      followed_by (worked the_write PowerLost) (followed_by (answered (Refused Off)) (come_back start read)),
+      followed_by (worked (spending armed the_write) PowerLost) (followed_by (answered (Refused Off)) (come_back start read)),
       armed,
       refl,
       (refl, refl),
       (
-        worked the_write PowerLost,
+        worked (spending armed the_write) PowerLost,
         followed_by (answered (Refused Off)) (come_back start read),
         struck,
         refl,
@@ -85,12 +86,12 @@ run_of_write start read chosen keeps reads =
           refl,
           (refl, refl),
           (
-            with_start (Restart Firsts) start all,
+            with_start (spending armed (Restart Firsts)) start all,
             read_back read,
             back start,
             refl,
             (start, all, refl, chosen, keeps, inl (refl, refl)),
-            (worked (BRead 0 2) (Bytes read), silence, back start, refl, reads, (refl, refl)),
+            (worked (spending armed (BRead 0 2)) (Bytes read), silence, back start, refl, reads, (refl, refl)),
           ),
         ),
       ),
@@ -164,22 +165,22 @@ store_in_part =
     let read = replicate 4 255 ++ replicate 4 0 in
     let all = restart_answer halted start.image in
     let left = stored_below 1 60 (replicate 8 255) durable.volume in
-    let shown = followed_by (worked (VLoad 60 8) (Bytes read)) silence in
-    let came = followed_by (with_start (Restart Lasts) start all) shown in
-    let stored = followed_by (worked the_store PowerLost) came in
+    let shown = followed_by (worked (spending armed (VLoad 60 8)) (Bytes read)) silence in
+    let came = followed_by (with_start (spending armed (Restart Lasts)) start all) shown in
+    let stored = followed_by (worked (spending armed the_store) PowerLost) came in
     let ordered = followed_by (with_order (ForCut 2) Done) stored in
-    let synced = followed_by (worked (VSync 0 64) Done) ordered in
+    let synced = followed_by (worked (spending armed (VSync 0 64)) Done) ordered in
     record {
-      said = followed_by (worked (VStore 0 (replicate 64 0)) Done) synced;
+      said = followed_by (worked (spending armed (VStore 0 (replicate 64 0))) Done) synced;
       end = restarted halted start.image;
       run = (
-        worked (VStore 0 (replicate 64 0)) Done,
+        worked (spending armed (VStore 0 (replicate 64 0))) Done,
         synced,
         zeros,
         refl,
         (Done, refl, inl (refl, refl)),
         (
-          worked (VSync 0 64) Done,
+          worked (spending armed (VSync 0 64)) Done,
           ordered,
           durable,
           refl,
@@ -191,13 +192,13 @@ store_in_part =
             refl,
             (refl, refl),
             (
-              worked the_store PowerLost,
+              worked (spending armed the_store) PowerLost,
               came,
               halted,
               refl,
               (PowerLost, refl, inr (Lost, refl, record { armed = refl; state = refl; cut = λ c. absurd (false≢true c); fail = λ f. f })),
               (
-                with_start (Restart Lasts) start all,
+                with_start (spending armed (Restart Lasts)) start all,
                 shown,
                 restarted halted start.image,
                 refl,
@@ -207,14 +208,14 @@ store_in_part =
                   refl,
                   refl,
                   record {
-                    blocks = inl refl;
+                    blocks = refl;
                     left = left;
                     may = may_store-below 1 60 (replicate 8 255) durable.volume;
                     volume = keeps-last Lasts (volume_image small start.image) left refl;
                   },
                   inl (refl, refl),
                 ),
-                (worked (VLoad 60 8) (Bytes read), silence, restarted halted start.image, refl, (Bytes read, refl, inl (refl, refl)), (refl, refl)),
+                (worked (spending armed (VLoad 60 8)) (Bytes read), silence, restarted halted start.image, refl, (Bytes read, refl, inl (refl, refl)), (refl, refl)),
               ),
             ),
           ),

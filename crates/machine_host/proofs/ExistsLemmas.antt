@@ -1,5 +1,5 @@
 -- Whether a block is there, as the host and as the machine see it.
-use Rattle.std.proofs.Common.{◌≡◌, ◌≢◌, ◌↔◌, ℕ, zero, suc, ◌<◌, ◌≤◌, Bool, true, false, IsTrue, Some, None, List, [], ◌∷◌, length, slice_get, if◌then◌else◌, refl, sym, ap, subst, ◌∙◌, arith}
+use Rattle.std.proofs.Common.{◌≡◌, ◌≢◌, ◌↔◌, ℕ, zero, suc, ◌<◌, ◌≤◌, Bool, true, false, IsTrue, Some, None, List, [], ◌∷◌, length, slice_get, nat_lt, if◌then◌else◌, refl, sym, ap, subst, ◌∙◌, arith}
 use Rattle.std.proofs.lemmas.Bool.{false≢true, lt-ltb, le-ltb}
 use Rattle.line_device.specs.Medium.{last_image}
 use Rattle.line_device.specs.Device.{Device}
@@ -15,9 +15,13 @@ use Rattle.reply_text.specs.Answer.{Answer}
 use Rattle.reply_text.specs.Answer.Answer.{Yes, No, Refused}
 use Rattle.reply_text.specs.declared.reply.Why.TheVariants as because
 use Rattle.machine_host.specs.declared.mode.Mode.TheVariants.{On}
-use Rattle.machine_host.specs.Machine.{Machine, unless, effect}
+use Rattle.machine_host.specs.Machine.{Machine, Fate}
+use Rattle.machine_host.specs.Meaning.{first_reason, mode_refusal, no_reasons}
+use Rattle.machine_host.specs.Meaning.Needs.{Usable}
+use Rattle.machine_host.specs.Commands.{fate, refusal, unless_refused}
 use Rattle.machine_host.specs.Machine.Fate.{Gives}
-use Rattle.machine_host.specs.Stands.{HostState, HostServes, Stands, Comes, Performed}
+use Rattle.machine_host.proofs.RefusalLemmas.{first_alone}
+use Rattle.machine_host.specs.Stands.{HostState, HostServes, Stands, Comes}
 use Rattle.machine_host.specs.Run.{answered}
 use Rattle.machine_host.specs.Interrupted.{stop_in}
 use Rattle.machine_host.proofs.StepLemmas.{tells_nothing}
@@ -53,8 +57,18 @@ module _ (now host : HostState) (d : Device) (h : Machine) (block : ℕ) where
   by_there true = refl
   by_there false = refl
 
+  -- what comes of it, by whether there is such a block
+  fate_exists : h.mode ≡ On → (there : Bool) → nat_lt block h.geometry.blocks ≡ there
+      → fate h (BExists block) ≡ unless_refused h (if there then None else Some (Refused because.Range)) (Gives (said (is_there (nth h.blocks block))) h)
+  unfolding refusal
+  fate_exists on there is =
+      let comes : Fate = Gives (said (is_there (nth h.blocks block))) h in
+      ap (λ mode. unless_refused h (first_reason (mode_refusal mode Usable) h.bad_meta (record no_reasons { places = if nat_lt block h.geometry.blocks then None else Some (Refused because.Range) })) comes) on
+      ∙ ap (λ b. unless_refused h (first_reason None h.bad_meta (record no_reasons { places = if b then None else Some (Refused because.Range) })) comes) is
+      ∙ ap (λ o. unless_refused h o comes) (first_alone (if there then None else Some (Refused because.Range)))
+
   pub comes_of_exists : (test there : Bool) → test ≡ there → host ≡ now → HostServes now d → Stands now d h → now.mode ≡ On
-      → (block < host.blocks.geo.blocks) × (IsTrue test ↔ (slice_get host.blocks.map block ≢ Some state.Absent)) → Performed h (BExists block) (said there) now d d
+      → (block < host.blocks.geo.blocks) × (IsTrue test ↔ (slice_get host.blocks.map block ≢ Some state.Absent)) → Comes h (BExists block) (fate h (BExists block)) (said there) now d d
   comes_of_exists test there is inside serves stands on told =
       let mounted = serves.mounted on in
       let within : block < h.geometry.blocks = omega (arith, told.0, blocks_there inside serves stands on) in
@@ -63,14 +77,12 @@ module _ (now host : HostState) (d : Device) (h : Machine) (block : ℕ) where
       ap (λ bs. is_there (nth bs block)) (sym (stands.blocks on))
       ∙ ap (λ s. is_there (nth (blocks_of s d.medium) block)) (sym (ap (λ k. k.blocks) inside))
       ∙ there_in_map host.blocks.geo d.medium.is_bad (last_image d.medium) host.blocks.map block test (omega (arith, told.0, all)) told.1 ∙ is in
-      let gives : effect h (BExists block) ≡ Gives (said there) h =
-      ap (λ b. unless h (if b then None else Some Range) (Gives (if is_there (nth h.blocks block) then Yes else No) h)) (lt-ltb block h.geometry.blocks within)
-      ∙ ap (λ b. Gives (if b then Yes else No) h) seen in
+      let gives : fate h (BExists block) ≡ Gives (said there) h =
+      fate_exists (sym stands.mode ∙ on) true (lt-ltb block h.geometry.blocks within) ∙ ap (λ b. Gives (said b) h) seen in
       subst (λ fate. Comes h (BExists block) fate (said there) now d d) (sym gives) (same_state now d h block (said there) (by_there there) stands)
 
-  pub comes_of_no_such : host ≡ now → HostServes now d → Stands now d h → now.mode ≡ On → host.blocks.geo.blocks ≤ block → Performed h (BExists block) (Refused because.Range) now d d
+  pub comes_of_no_such : host ≡ now → HostServes now d → Stands now d h → now.mode ≡ On → host.blocks.geo.blocks ≤ block → Comes h (BExists block) (fate h (BExists block)) (Refused because.Range) now d d
   comes_of_no_such inside serves stands on past =
       let beyond : h.geometry.blocks ≤ block = omega (arith, past, blocks_there inside serves stands on) in
-      let gives : effect h (BExists block) ≡ Gives (Refused because.Range) h =
-      ap (λ b. unless h (if b then None else Some Range) (Gives (if is_there (nth h.blocks block) then Yes else No) h)) (le-ltb block h.geometry.blocks beyond) in
+      let gives : fate h (BExists block) ≡ Gives (Refused because.Range) h = fate_exists (sym stands.mode ∙ on) false (le-ltb block h.geometry.blocks beyond) in
       subst (λ fate. Comes h (BExists block) fate (Refused because.Range) now d d) (sym gives) (same_state now d h block (Refused because.Range) refl stands)

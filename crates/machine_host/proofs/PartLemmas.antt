@@ -30,7 +30,9 @@ use Rattle.script_text.specs.Script.{Input, lines_of, words_of, command_action, 
 use Rattle.script_text.specs.Script.Input.{Asked}
 use Rattle.machine_host.specs.declared.mode.Mode.TheVariants as modes
 use Rattle.machine_host.specs.Volume.{volume_image}
-use Rattle.machine_host.specs.Machine.{Machine, fate, unless, refusal, while_interrupted, after_work}
+use Rattle.machine_host.specs.Machine.{Machine}
+use Rattle.machine_host.specs.OnBlocks.{refusal_answer}
+use Rattle.machine_host.specs.Commands.{fate, meaning, refusal, unless_refused, while_interrupted}
 use Rattle.machine_host.specs.Machine.Fate.{Gives, Works, Orders, Restarts}
 use Rattle.machine_host.specs.Interrupted.{interrupted_answer}
 use Rattle.machine_host.specs.Restarting.{Keeps, reading, fresh, restarted, restart_answer, zero_image}
@@ -102,6 +104,10 @@ unfolding answer_line
 never_stopped Failed rest c t below e = let first : 114 ≡ c = ap (λ (s : List ℕ). slice_index s 0) e in omega arith
 never_stopped Lost rest c t below e = let first : 112 ≡ c = ap (λ (s : List ℕ). slice_index s 0) e in omega arith
 
+-- the state after the write
+abbrev written : Machine → Machine
+written h = record h { blocks = (meaning the_write).blocks h.blocks }
+
 -- a line of data
 abbrev line : List ℕ → List ℕ
 line shown = codes "data " ++ shown
@@ -126,7 +132,7 @@ old_shows : Shows (fresh small).blocks (codes "00*1024")
 unfolding digits data_text answer_line size first_line reading states_read blocks_read listed look
 old_shows = record { free = refl; whole = refl; shows = refl }
 
-new_shows : Shows (after_work (fresh small) the_write).blocks (codes "11*1024")
+new_shows : Shows (written (fresh small)).blocks (codes "11*1024")
 unfolding digits data_text answer_line size first_line reading states_read blocks_read listed write look
 new_shows = record { free = refl; whole = refl; shows = refl }
 
@@ -146,8 +152,8 @@ module _ (shown : List ℕ) (image : Image) (cut fail : Bool) (blocks : List Blo
       by_end one.0 one.1 one.2 one.4 (nothing_more one.1 one.2 one.5) (sym (ap reply_text one.3) ∙ wrote)
     where
       came : fate back (BRead 0 2) ≡ Works (Bytes (look blocks 0 2)) back
-      came = ap (λ b. unless back (option_map Unreadable (first_obstacle b 0 2)) (Works (Bytes (look b 0 2)) back)) is
-          ∙ ap (λ o. unless back (option_map Unreadable o) (Works (Bytes (look blocks 0 2)) back)) good_blocks.free
+      came = ap (λ b. unless_refused back (option_map (λ o. refusal_answer (Unreadable o)) (first_obstacle b 0 2)) (Works (Bytes (look b 0 2)) back)) is
+          ∙ ap (λ o. unless_refused back (option_map (λ o. refusal_answer (Unreadable o)) o) (Works (Bytes (look blocks 0 2)) back)) good_blocks.free
 
       by_end : (answer : Answer) (next : Machine) (rest : List Answer) → Ends (Bytes (look blocks 0 2)) back (while_interrupted back (BRead 0 2)) answer next
           → rest ≡ [] → reply_text (answer ∷ rest) ≡ text (line shown ∷ []) → shown ≡ seen
@@ -183,20 +189,20 @@ back_shows shown cut fail answers later wrote =
     by_blocks : (image : Image) (answer : Answer) (next : Machine) (rest : List Answer) → Keeps Firsts image (struck cut fail)
         → Ends (restart_answer (struck cut fail) image) (restarted (struck cut fail) image) (restarted (struck cut fail) image) answer next
         → Later next (Asked (BRead 0 2) ∷ []) rest
-        → IsEither (fresh small).blocks (after_work (fresh small) the_write).blocks (blocks_read small image.is_bad image.word)
+        → IsEither (fresh small).blocks (written (fresh small)).blocks (blocks_read small image.is_bad image.word)
         → reply_text (answer ∷ rest) ≡ text (codes "ok bad 0" ∷ line shown ∷ []) → Whole shown
     by_blocks image answer next rest keeps ends later (inl old) e =
         inl (restart_shows shown image cut fail (fresh small).blocks old (codes "00*1024") old_shows answer next rest
         (no_bad_line Firsts image (subst (KeepsPages Firsts (volume_image small image)) keeps.may keeps.volume)) ends later e)
     by_blocks image answer next rest keeps ends later (inr new) e =
-        inr (restart_shows shown image cut fail (after_work (fresh small) the_write).blocks new (codes "11*1024") new_shows answer next rest
+        inr (restart_shows shown image cut fail (written (fresh small)).blocks new (codes "11*1024") new_shows answer next rest
         (no_bad_line Firsts image (subst (KeepsPages Firsts (volume_image small image)) keeps.may keeps.volume)) ends later e)
 
 struck_shows : (shown : List ℕ) (answers : List Answer) → Later armed (Asked the_write ∷ Asked (BRead 0 1) ∷ Asked (Restart Firsts) ∷ Asked (BRead 0 2) ∷ []) answers
     → reply_text answers ≡ text (codes "power lost" ∷ codes "refused off" ∷ codes "ok bad 0" ∷ line shown ∷ []) → Whole shown
 unfolding refusal reading answer_line
 struck_shows shown answers later wrote =
-    let one = began_working armed the_write (Asked (BRead 0 1) ∷ Asked (Restart Firsts) ∷ Asked (BRead 0 2) ∷ []) answers later Done (after_work armed the_write) refl in
+    let one = began_working armed the_write (Asked (BRead 0 1) ∷ Asked (Restart Firsts) ∷ Asked (BRead 0 2) ∷ []) answers later Done (written armed) refl in
     by_end one.0 one.1 one.2 one.4 one.5 (sym (ap reply_text one.3) ∙ wrote)
   where
     by_rest : (cut fail : Bool) (rest : List Answer) → Later (struck cut fail) (Asked (BRead 0 1) ∷ Asked (Restart Firsts) ∷ Asked (BRead 0 2) ∷ []) rest
@@ -205,7 +211,7 @@ struck_shows shown answers later wrote =
         let one = began_giving (struck cut fail) (BRead 0 1) (Asked (Restart Firsts) ∷ Asked (BRead 0 2) ∷ []) rest later (Refused Off) (struck cut fail) refl in
         back_shows shown cut fail one.0 one.2 (ap (drop 12) (sym (ap reply_text one.1) ∙ e))
 
-    by_end : (answer : Answer) (next : Machine) (rest : List Answer) → Ends Done (after_work armed the_write) (while_interrupted armed the_write) answer next
+    by_end : (answer : Answer) (next : Machine) (rest : List Answer) → Ends Done (written armed) (while_interrupted armed the_write) answer next
         → Later next (Asked (BRead 0 1) ∷ Asked (Restart Firsts) ∷ Asked (BRead 0 2) ∷ []) rest
         → reply_text (answer ∷ rest) ≡ text (codes "power lost" ∷ codes "refused off" ∷ codes "ok bad 0" ∷ line shown ∷ []) → Whole shown
     by_end answer next rest (inl good) later e =

@@ -1,17 +1,66 @@
--- What is known of a command that nothing refuses.
-use Rattle.std.proofs.Common.{◌≡◌, ℕ, ◌+◌, ◌*◌, ◌≤◌, Bool, true, false, cond, ltb, eqb, Option, Some, None, List, length, refl, arith}
+-- What is known of a command that nothing refuses, and what comes of it.
+use Rattle.std.proofs.Common.{◌≡◌, ◌≢◌, ℕ, ◌+◌, ◌*◌, ◌≤◌, Bool, true, false, cond, ltb, eqb, Option, Some, None, option_map, List, [], length, refl, sym, ap, subst, ◌∙◌, arith}
+use Rattle.std.proofs.lemmas.Bool.{le-ltb, ne_eqb}
 use Rattle.std.proofs.lemmas.Bool.Decides.{nat_tests}
 use Rattle.word_tables.specs.declared.geometry.Geometry.{Geometry}
-use Rattle.machine_host.specs.declared.mode.Mode.{Mode}
-use Rattle.machine_host.specs.declared.mode.Mode.TheVariants.{On, Off, Unsettled}
+use Rattle.nvm_model.specs.Blocks.{Obstacle, first_there, first_obstacle, look}
+use Rattle.nvm_model.specs.Storage.{Block}
+use Rattle.block_device.specs.Refusals.{Refusal}
+use Rattle.block_device.specs.Refusals.Refusal.{Unreadable}
+use Rattle.script_text.specs.Action.{Action}
+use Rattle.script_text.specs.Action.Action.{BRead, BWrite, BAtomic, BMulti, BDiscard, BDiscardIf, BExists, BScar, VLoad, VStore, VSync, Cut, CutIn, Restart}
 use Rattle.reply_text.specs.declared.reply.Why.{Why}
 use Rattle.reply_text.specs.declared.reply.Why.TheVariants.{Range, Length, Limit}
-use Rattle.line_device.specs.declared.line.Choice.{Choice}
-use Rattle.script_text.specs.Action.Action.{BRead, BWrite, BAtomic, BMulti, BDiscard, BDiscardIf, BExists, BScar, VLoad, VStore, VSync, Cut, CutIn, Restart}
-use Rattle.machine_host.specs.Machine.{first_refusal, read_refusal, refusal, span_refusal}
-use Rattle.nvm_base.specs.declared.units.Span.{Span}
+use Rattle.reply_text.specs.Answer.{Answer}
+use Rattle.reply_text.specs.Answer.Answer.{Done, Bytes, Refused}
+use Rattle.machine_host.specs.declared.mode.Mode.{Mode}
+use Rattle.machine_host.specs.declared.mode.Mode.TheVariants.{On, Off, Unsettled}
+use Rattle.machine_host.specs.Machine.{Machine, Fate}
+use Rattle.machine_host.specs.Machine.Fate.{Works}
+use Rattle.machine_host.specs.Meaning.{BlocksLeft, Needs, first_reason, mode_refusal, no_reasons, span_refusal}
+use Rattle.machine_host.specs.Meaning.Needs.{Usable, Powered, Unpowered}
+use Rattle.machine_host.specs.OnBlocks.{changing, read_refusal, refusal_answer}
+use Rattle.machine_host.specs.Commands.{early_refusal, fate, meaning, refusal, unless_refused}
 
-span_allowed : (size offset len : ℕ) → span_refusal size offset len ≡ None → (1 ≤ len) × (offset + len ≤ size)
+-- the mode of what is not refused
+needs_on : (mode : Mode) (needs : Needs) → needs ≡ Usable → mode_refusal mode needs ≡ None → mode ≡ On
+needs_on On needs is none = refl
+needs_on Off needs is none = cc (is, none)
+needs_on Unsettled needs is none = cc (is, none)
+
+needs_off : (mode : Mode) (needs : Needs) → needs ≡ Unpowered → mode_refusal mode needs ≡ None → mode ≡ Off
+needs_off On needs is none = cc (is, none)
+needs_off Off needs is none = refl
+needs_off Unsettled needs is none = cc (is, none)
+
+needs_power : (mode : Mode) (needs : Needs) → needs ≡ Powered → mode_refusal mode needs ≡ None → mode ≡ Off → ⊥
+needs_power On needs is none off = cc off
+needs_power Off needs is none off = cc (is, none)
+needs_power Unsettled needs is none off = cc off
+
+both_pass : (a b : Option Why) → first_there a b ≡ None → (a ≡ None) × (b ≡ None)
+both_pass None b none = (refl, none)
+both_pass (Some why) b none = cc none
+
+module _ (mode : Mode) (geo : Geometry) (action : Action) (none : early_refusal mode geo action ≡ None) where
+  passed : (mode_refusal mode (meaning action).needs ≡ None) × ((meaning action).checked geo ≡ None)
+  unfolding early_refusal
+  passed = both_pass (mode_refusal mode (meaning action).needs) ((meaning action).checked geo) none
+
+  pub is_on : (meaning action).needs ≡ Usable → mode ≡ On
+  is_on needs = needs_on mode (meaning action).needs needs passed.0
+
+  pub is_off : (meaning action).needs ≡ Unpowered → mode ≡ Off
+  is_off needs = needs_off mode (meaning action).needs needs passed.0
+
+  pub is_powered : (meaning action).needs ≡ Powered → mode ≡ Off → ⊥
+  is_powered needs = needs_power mode (meaning action).needs needs passed.0
+
+  pub places_right : (meaning action).checked geo ≡ None
+  places_right = passed.1
+
+-- the places of what is not refused
+pub span_allowed : (size offset len : ℕ) → span_refusal size offset len ≡ None → (1 ≤ len) × (offset + len ≤ size)
 span_allowed size offset len = by_tests (ltb size (offset + len)) (eqb len 0) refl refl
   where
     by_tests : (past empty : Bool) → ltb size (offset + len) ≡ past → eqb len 0 ≡ empty
@@ -20,116 +69,125 @@ span_allowed size offset len = by_tests (ltb size (offset + len)) (eqb len 0) re
     by_tests false true e f none = cc
     by_tests false false e f none = (grind (arith, nat_tests), grind (arith, nat_tests))
 
-pub load_allowed : (mode : Mode) (geo : Geometry) (offset len : ℕ) → refusal mode geo (VLoad offset len) ≡ None
-    → (mode ≡ On) × (1 ≤ len) × (offset + len ≤ 4096 * geo.vpages)
-unfolding refusal
-load_allowed On geo offset len none = let places = span_allowed (4096 * geo.vpages) offset len none in (refl, places.0, places.1)
-load_allowed Off geo offset len none = cc
-load_allowed Unsettled geo offset len none = cc
-
-pub sync_allowed : (mode : Mode) (geo : Geometry) (offset len : ℕ) → refusal mode geo (VSync offset len) ≡ None
-    → (mode ≡ On) × (1 ≤ len) × (offset + len ≤ 4096 * geo.vpages)
-unfolding refusal
-sync_allowed On geo offset len none = let places = span_allowed (4096 * geo.vpages) offset len none in (refl, places.0, places.1)
-sync_allowed Off geo offset len none = cc
-sync_allowed Unsettled geo offset len none = cc
-
-store_within : (size end : ℕ) → cond (ltb size end) (Some Range) None ≡ None → end ≤ size
+pub store_within : (size end : ℕ) → cond (ltb size end) (Some Range) None ≡ None → end ≤ size
 store_within size end = by_test (ltb size end) refl
   where
     by_test : (past : Bool) → ltb size end ≡ past → cond past (Some Range) None ≡ None → end ≤ size
     by_test true e none = cc
     by_test false e none = grind (arith, nat_tests)
 
-pub store_allowed : (mode : Mode) (geo : Geometry) (offset : ℕ) (bytes : List ℕ) → refusal mode geo (VStore offset bytes) ≡ None
-    → (mode ≡ On) × (offset + length bytes ≤ 4096 * geo.vpages)
-unfolding refusal
-store_allowed On geo offset bytes none = (refl, store_within (4096 * geo.vpages) (offset + length bytes) none)
-store_allowed Off geo offset bytes none = cc
-store_allowed Unsettled geo offset bytes none = cc
-
-pub cut_allowed : (mode : Mode) (geo : Geometry) → refusal mode geo Cut ≡ None → mode ≡ Off → ⊥
-unfolding refusal
-cut_allowed On geo none off = cc
-cut_allowed Off geo none off = cc
-cut_allowed Unsettled geo none off = cc
-
-cut_in_some : (calls : ℕ) → cond (eqb calls 0) (Some Range) None ≡ None → 1 ≤ calls
+pub cut_in_some : (calls : ℕ) → cond (eqb calls 0) (Some Range) None ≡ None → 1 ≤ calls
 cut_in_some calls = by_test (eqb calls 0) refl
   where
     by_test : (none : Bool) → eqb calls 0 ≡ none → cond none (Some Range) None ≡ None → 1 ≤ calls
     by_test true e none = cc
     by_test false e none = grind (arith, nat_tests)
 
-pub cut_in_allowed : (mode : Mode) (geo : Geometry) (calls : ℕ) → refusal mode geo (CutIn calls) ≡ None → (mode ≡ Off → ⊥) × (1 ≤ calls)
-unfolding refusal
-cut_in_allowed On geo calls none = (λ off. cc, cut_in_some calls none)
-cut_in_allowed Off geo calls none = cc
-cut_in_allowed Unsettled geo calls none = (λ off. cc, cut_in_some calls none)
-
-pub restart_allowed : (mode : Mode) (geo : Geometry) (choice : Choice) → refusal mode geo (Restart choice) ≡ None → mode ≡ Off
-unfolding refusal
-restart_allowed On geo choice none = cc
-restart_allowed Off geo choice none = refl
-restart_allowed Unsettled geo choice none = cc
-
--- what is done on blocks is done with the power on
-pub write_allowed : (mode : Mode) (geo : Geometry) (block : ℕ) (bytes : List ℕ) → refusal mode geo (BWrite block bytes) ≡ None → mode ≡ On
-unfolding refusal
-write_allowed On geo block bytes none = refl
-write_allowed Off geo block bytes none = cc
-write_allowed Unsettled geo block bytes none = cc
-
-pub atomic_allowed : (mode : Mode) (geo : Geometry) (block : ℕ) (bytes : List ℕ) → refusal mode geo (BAtomic block bytes) ≡ None → mode ≡ On
-unfolding refusal
-atomic_allowed On geo block bytes none = refl
-atomic_allowed Off geo block bytes none = cc
-atomic_allowed Unsettled geo block bytes none = cc
-
-pub multi_allowed : (mode : Mode) (geo : Geometry) (ranges : List Span) (bytes : List ℕ) → refusal mode geo (BMulti ranges bytes) ≡ None → mode ≡ On
-unfolding refusal
-multi_allowed On geo ranges bytes none = refl
-multi_allowed Off geo ranges bytes none = cc
-multi_allowed Unsettled geo ranges bytes none = cc
-
-pub discard_allowed : (mode : Mode) (geo : Geometry) (block count : ℕ) → refusal mode geo (BDiscard block count) ≡ None → mode ≡ On
-unfolding refusal
-discard_allowed On geo block count none = refl
-discard_allowed Off geo block count none = cc
-discard_allowed Unsettled geo block count none = cc
-
-pub hint_allowed : (mode : Mode) (geo : Geometry) (block count : ℕ) → refusal mode geo (BDiscardIf block count) ≡ None → mode ≡ On
-unfolding refusal
-hint_allowed On geo block count none = refl
-hint_allowed Off geo block count none = cc
-hint_allowed Unsettled geo block count none = cc
-
-pub exists_allowed : (mode : Mode) (geo : Geometry) (block : ℕ) → refusal mode geo (BExists block) ≡ None → mode ≡ On
-unfolding refusal
-exists_allowed On geo block none = refl
-exists_allowed Off geo block none = cc
-exists_allowed Unsettled geo block none = cc
-
-pub scar_allowed : (mode : Mode) (geo : Geometry) (spans : List Span) → refusal mode geo (BScar spans) ≡ None → mode ≡ On
-unfolding refusal
-scar_allowed On geo spans none = refl
-scar_allowed Off geo spans none = cc
-scar_allowed Unsettled geo spans none = cc
-
-read_within : (blocks block count : ℕ) → read_refusal blocks block count ≡ None → (1 ≤ count) × (block + count ≤ blocks) × (count ≤ 128)
+pub read_within : (blocks block count : ℕ) → read_refusal blocks block count ≡ None → (1 ≤ count) × (block + count ≤ blocks) × (count ≤ 128)
 read_within blocks block count none = by_span (span_refusal blocks block count) refl none
   where
     by_limit : (over : Bool) → ltb 128 count ≡ over → cond over (Some Limit) None ≡ None → count ≤ 128
     by_limit true e none = cc
     by_limit false e none = grind (arith, nat_tests)
 
-    by_span : (o : Option Why) → span_refusal blocks block count ≡ o → first_refusal o (cond (ltb 128 count) (Some Limit) None) ≡ None → (1 ≤ count) × (block + count ≤ blocks) × (count ≤ 128)
+    by_span : (o : Option Why) → span_refusal blocks block count ≡ o → first_there o (cond (ltb 128 count) (Some Limit) None) ≡ None → (1 ≤ count) × (block + count ≤ blocks) × (count ≤ 128)
     by_span None e none = let places = span_allowed blocks block count e in (places.0, places.1, by_limit (ltb 128 count) refl none)
     by_span (Some why) e none = cc
 
-pub read_allowed : (mode : Mode) (geo : Geometry) (block count : ℕ) → refusal mode geo (BRead block count) ≡ None
-    → (mode ≡ On) × (1 ≤ count) × (block + count ≤ geo.blocks) × (count ≤ 128)
+-- and places that are right
+pub span_right : (size offset len : ℕ) → 1 ≤ len → offset + len ≤ size → span_refusal size offset len ≡ None
+span_right size offset len some within =
+    ap (λ b. cond b (Some Range) (cond (eqb len 0) (Some Length) None)) (le-ltb size (offset + len) within)
+    ∙ ap (λ b. cond b (Some Length) None) (ne_eqb len 0 (λ e. omega arith))
+
+pub end_right : (size end : ℕ) → end ≤ size → cond (ltb size end) (Some Range) None ≡ None
+end_right size end within = ap (λ b. cond b (Some Range) None) (le-ltb size end within)
+
+pub calls_right : (calls : ℕ) → 1 ≤ calls → cond (eqb calls 0) (Some Range) None ≡ None
+calls_right calls some = ap (λ b. cond b (Some Range) None) (ne_eqb calls 0 (λ e. omega arith))
+
+pub read_right : (blocks block count : ℕ) → 1 ≤ count → block + count ≤ blocks → count ≤ 128 → read_refusal blocks block count ≡ None
+read_right blocks block count some within few =
+    ap (λ o. first_there o (cond (ltb 128 count) (Some Limit) None)) (span_right blocks block count some within)
+    ∙ ap (λ b. cond b (Some Limit) None) (le-ltb 128 count few)
+
+pub first_alone : {A : Type 0} (o : Option A) → first_there o None ≡ o
+first_alone None = refl
+first_alone (Some x) = refl
+
+-- where the host finds wrong places, they are the reason
+places_refused : (h : Machine) (action : Action) (why : Why) → (meaning action).checked h.geometry ≡ Some why
+    → (((meaning action).reasons h).named ≡ None) × (((meaning action).reasons h).places ≡ Some (Refused why))
+places_refused h (BRead block count) why is = (refl, ap (option_map Refused) is)
+places_refused h (BWrite block bytes) why is = cc is
+places_refused h (BAtomic block bytes) why is = cc is
+places_refused h (BMulti ranges bytes) why is = cc is
+places_refused h (BDiscard block count) why is = cc is
+places_refused h (BDiscardIf block count) why is = cc is
+places_refused h (BExists block) why is = cc is
+places_refused h (BScar ranges) why is = cc is
+places_refused h (VLoad offset len) why is = (refl, ap (option_map Refused) is)
+places_refused h (VStore offset bytes) why is = (refl, ap (option_map Refused) is)
+places_refused h (VSync offset len) why is = (refl, ap (option_map Refused) is)
+places_refused h Cut why is = cc is
+places_refused h (CutIn calls) why is = (refl, ap (option_map Refused) is)
+places_refused h (Restart choice) why is = cc is
+
+-- so what the host refuses by itself, the machine refuses for the same reason
+pub early_first : (h : Machine) (action : Action) (why : Why) → early_refusal h.mode h.geometry action ≡ Some why → refusal h action ≡ Some (Refused why)
+unfolding early_refusal refusal
+early_first h action why = by_mode (mode_refusal h.mode (meaning action).needs)
+  where
+    by_mode : (o : Option Why) → first_there o ((meaning action).checked h.geometry) ≡ Some why → first_reason o h.bad_meta ((meaning action).reasons h) ≡ Some (Refused why)
+    by_mode None is =
+        let r = (meaning action).reasons h in
+        let wrong = places_refused h action why is in
+        ap (λ n. first_reason None h.bad_meta (record r { named = n })) wrong.0 ∙ ap (λ p. first_reason None h.bad_meta (record r { named = None; places = p })) wrong.1
+    by_mode (Some first) is = ap (λ w. first_reason w h.bad_meta ((meaning action).reasons h)) is
+
+-- What comes of a command whose places the host looks at, where mode and places are right.
+pub fate_placed : (h : Machine) (action : Action) → mode_refusal h.mode (meaning action).needs ≡ None
+    → (meaning action).reasons h ≡ record no_reasons { places = option_map Refused ((meaning action).checked h.geometry) } → (meaning action).checked h.geometry ≡ None
+    → fate h action ≡ (meaning action).comes h
 unfolding refusal
-read_allowed On geo block count none = let places = read_within geo.blocks block count none in (refl, places.0, places.1, places.2)
-read_allowed Off geo block count none = cc
-read_allowed Unsettled geo block count none = cc
+fate_placed h action mode reasons places =
+    let comes = (meaning action).comes h in
+    ap (λ m. unless_refused h (first_reason m h.bad_meta ((meaning action).reasons h)) comes) mode
+    ∙ ap (λ r. unless_refused h (first_reason None h.bad_meta r) comes) reasons
+    ∙ ap (λ o. unless_refused h (first_reason None h.bad_meta (record no_reasons { places = option_map Refused o })) comes) places
+
+pub on_allowed : {mode : Mode} → mode ≡ On → mode_refusal mode Usable ≡ None
+on_allowed on = ap (λ m. mode_refusal m Usable) on
+
+pub power_allows : (mode : Mode) → (mode ≡ Off → ⊥) → mode_refusal mode Powered ≡ None
+power_allows On powered = refl
+power_allows Off powered = absurd (powered refl)
+power_allows Unsettled powered = refl
+
+-- and of a change of the blocks, with the power on and no line of metadata bad
+pub fate_changing : (h : Machine) (action : Action) (places : ℕ → Option Refusal) (to : List Block → List Block) (left : BlocksLeft) (calls persists : ℕ)
+    → meaning action ≡ changing places to left calls persists → h.mode ≡ On → h.bad_meta ≡ []
+    → fate h action ≡ unless_refused h (option_map refusal_answer (places h.geometry.blocks)) (Works Done (record h { blocks = to h.blocks }))
+unfolding refusal
+fate_changing h action places to left calls persists row on good =
+    let row_of = changing places to left calls persists in
+    let comes : Fate = Works Done (record h { blocks = to h.blocks }) in
+    ap (λ m. unless_refused h (first_reason (mode_refusal h.mode m.needs) h.bad_meta (m.reasons h)) (m.comes h)) row
+    ∙ ap (λ mode. unless_refused h (first_reason (mode_refusal mode Usable) h.bad_meta (row_of.reasons h)) comes) on
+    ∙ ap (λ bad. unless_refused h (first_reason None bad (row_of.reasons h)) comes) good
+    ∙ ap (λ o. unless_refused h o comes) (first_alone (option_map refusal_answer (places h.geometry.blocks)))
+
+-- a read of blocks that are there is refused by what can't be read alone
+pub fate_read : (h : Machine) (block count : ℕ) → h.mode ≡ On → 1 ≤ count → block + count ≤ h.geometry.blocks → count ≤ 128
+    → fate h (BRead block count) ≡ unless_refused h (option_map refusal_answer (option_map Unreadable (first_obstacle h.blocks block count))) (Works (Bytes (look h.blocks block count)) h)
+unfolding refusal
+fate_read h block count on some within few =
+    let r = (meaning (BRead block count)).reasons h in
+    let comes : Fate = Works (Bytes (look h.blocks block count)) h in
+    ap (λ mode. unless_refused h (first_reason (mode_refusal mode Usable) h.bad_meta r) comes) on
+    ∙ ap (λ o. unless_refused h (first_reason None h.bad_meta (record r { places = option_map Refused o })) comes) (read_right h.geometry.blocks block count some within few)
+    ∙ ap (λ o. unless_refused h o comes) (mapped_twice (first_obstacle h.blocks block count))
+  where
+    mapped_twice : (o : Option Obstacle) → option_map (λ obstacle. refusal_answer (Unreadable obstacle)) o ≡ option_map refusal_answer (option_map Unreadable o)
+    mapped_twice None = refl
+    mapped_twice (Some obstacle) = refl

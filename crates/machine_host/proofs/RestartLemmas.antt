@@ -31,7 +31,6 @@ use Rattle.recovery.specs.Mounting.{Finds, mount_outcome}
 use Rattle.recovery.specs.declared.Mounted.{Mounted}
 use Rattle.recovery.specs.declared.fault.MountFault.{MountFault}
 use Rattle.recovery.specs.declared.fault.MountFault.TheVariants as fault
-use Rattle.script_text.specs.Action.{Action}
 use Rattle.script_text.specs.Action.Action.{Restart}
 use Rattle.reply_text.specs.Answer.{Answer, answer_of}
 use Rattle.reply_text.specs.Answer.Answer.{DeviceFailed, DoneBad}
@@ -41,9 +40,10 @@ use Rattle.machine_host.specs.declared.mode.Mode.{Mode}
 use Rattle.machine_host.specs.declared.mode.Mode.TheVariants as modes
 use Rattle.machine_host.specs.Machine.{Machine}
 use Rattle.machine_host.specs.Machine.Fate.{Restarts}
-use Rattle.machine_host.specs.Interrupted.{MayLeaveBlocks, interrupted_answer, interrupted_mode}
+use Rattle.machine_host.specs.Commands.{MayLeaveBlocks, fate, meaning, spending}
+use Rattle.machine_host.specs.Interrupted.{interrupted_answer, interrupted_mode}
 use Rattle.machine_host.specs.Restarting.{Keeps, reading, restarted}
-use Rattle.machine_host.specs.Costs.{mount_calls, mount_persists}
+use Rattle.machine_host.specs.Costs.{Spending, mount_calls, mount_persists}
 use Rattle.machine_host.specs.Run.{with_start, worked}
 use Rattle.machine_host.specs.Telling.{Tells}
 use Rattle.machine_host.specs.Volume.{volume_of, volume_image, HasLayout}
@@ -56,6 +56,9 @@ use Rattle.machine_host.proofs.ElsewhereLemmas.{write_back_volume-beside}
 use Rattle.machine_host.proofs.MetadataLemmas.{metadata-outside, metadata-restarted, nothing_bad}
 use Rattle.machine_host.proofs.StepLemmas.{interrupts, never_on, power_struck, struck, tells_interrupted, tells_work}
 use Rattle.machine_host.proofs.DepictedLemmas.{blocks_depicted, reads_remounted}
+use Rattle.machine_host.specs.Meaning.{mode_refusal}
+use Rattle.machine_host.specs.Meaning.Needs.{Unpowered}
+use Rattle.machine_host.proofs.RefusalLemmas.{fate_placed}
 use Rattle.machine_host.proofs.MountLemmas.{IsStop, IsTold, all_intact, first_not_area, is_told, only_stops}
 
 -- the layout after a restart, and after one that was refused
@@ -94,8 +97,8 @@ pub record IsMount (mid new : Device) : Type 0 where
   pub reads : early_finding mid.medium ≡ None → KeepsReads (geometry_told mid.medium) mid.medium new.medium
 
 -- the panel from before the restart, by what it tells of the work after it
-tells_back : (action : Action) (start : Start) (old mid new : Panel) → mid ≡ after_restart old start → (answer : Answer) → Tells (worked action answer) mid new → Tells (with_start action start answer) old new
-tells_back action start old mid new panel answer = subst (λ p. Tells (worked action answer) p new → Tells (with_start action start answer) old new) (sym panel) (λ t. record {
+tells_back : (spent : Spending) (start : Start) (old mid new : Panel) → mid ≡ after_restart old start → (answer : Answer) → Tells (worked spent answer) mid new → Tells (with_start spent start answer) old new
+tells_back spent start old mid new panel answer = subst (λ p. Tells (worked spent answer) p new → Tells (with_start spent start answer) old new) (sym panel) (λ t. record {
   starts = t.starts;
   restarts = t.restarts;
   orders = t.orders;
@@ -224,11 +227,11 @@ module _ (host : HostState) (choice : Choice) (old mid new : Device) (h : Machin
       let last = block_image-last geo was.valid mid.medium sound layout.lines in
       let answer_is = ap (λ n. DoneBad n) (sym no_bad_lines) in
       record {
-        said = with_start (Restart choice) start (DoneBad 0);
+        said = with_start (spending h (Restart choice)) start (DoneBad 0);
         next = restarted h start.image;
         answers = refl;
         takes = (start, DoneBad 0, refl, left.asked, keeps, inl (answer_is, refl));
-        tells = tells_back (Restart choice) start old.panel mid.panel new.panel left.panel (DoneBad 0) (tells_work (Restart choice) mount_calls mount_persists (omega arith) (omega arith) mid.panel new.panel (DoneBad 0) refl runs);
+        tells = tells_back (spending h (Restart choice)) start old.panel mid.panel new.panel left.panel (DoneBad 0) (tells_work (spending h (Restart choice)) mount_calls mount_persists (omega arith) (omega arith) mid.panel new.panel (DoneBad 0) refl runs);
         stands = record {
           geometry = stands.geometry;
           mode = refl;
@@ -245,7 +248,7 @@ module _ (host : HostState) (choice : Choice) (old mid new : Device) (h : Machin
   unfolding reading
   comes_of_stopped_restart after by is runs x =
       subst (λ k. Comes h (Restart choice) (Restarts choice) (interrupted_answer by) k old new) (sym is) (record {
-        said = with_start (Restart choice) start (interrupted_answer by);
+        said = with_start (spending h (Restart choice)) start (interrupted_answer by);
         next = struck (restarted h start.image) by new.panel;
         answers = refl;
         takes = (
@@ -256,7 +259,7 @@ module _ (host : HostState) (choice : Choice) (old mid new : Device) (h : Machin
           keeps,
           inr (by, refl, interrupts by (restarted h start.image) mount_calls mount_persists mid.panel new.panel runs cut_was fail_was),
         );
-        tells = tells_back (Restart choice) start old.panel mid.panel new.panel left.panel (interrupted_answer by) (tells_interrupted (Restart choice) mount_calls mount_persists (omega arith) (omega arith) mid.panel new.panel by runs);
+        tells = tells_back (spending h (Restart choice)) start old.panel mid.panel new.panel left.panel (interrupted_answer by) (tells_interrupted (spending h (Restart choice)) mount_calls mount_persists (omega arith) (omega arith) mid.panel new.panel by runs);
         stands = record {
           geometry = stands.geometry;
           mode = refl;
@@ -317,9 +320,13 @@ room_unmounted fault.Memory = omega arith
 
 -- A restart of a host behind a reference, by its mount: `host` is what is inside `now`, and `after` what the answer leaves.
 module _ (now host after : HostState) (choice : Choice) (old mid new : Device) (start : Start) (inside : host ≡ now) (serves : HostServes now old)
-    (left : Restarted choice old mid start) (sound_old : IsSound old.medium) (sound : IsSound mid.medium) (x : IsMount mid new) where
+    (left : Restarted choice old mid start) (sound_old : IsSound old.medium) (sound : IsSound mid.medium) (x : IsMount mid new) (off : now.mode ≡ modes.Off) where
   back_on : mid.panel.power ≡ true
   back_on = ap (λ p. p.power) left.panel
+
+  -- it is not refused
+  back_done : (h : Machine) → Stands now old h → fate h (Restart choice) ≡ Restarts choice
+  back_done h stands = fate_placed h (Restart choice) (ap (λ m. mode_refusal m Unpowered) (sym stands.mode ∙ off)) refl refl
 
   -- the mount was done, and its sizes are the host's or others
   pub restart_mounted : (found : Geometry) (s : BlocksState) (answer : Answer) → Runs mount_calls mount_persists went mid.panel new.panel → found ≡ geometry_told mid.medium
@@ -332,7 +339,7 @@ module _ (now host after : HostState) (choice : Choice) (old mid new : Device) (
       let here : s.geo ≡ now.geometry = geo ∙ sym told ∙ same.0 ∙ ap (λ k. k.geometry) inside in
       subst (λ a. Answered (Restart choice) a now after old new) (sym same.2)
       (subst (λ k. Answered (Restart choice) (DoneBad 0) now k old new) (sym is) (record {
-        step = λ h stands. comes_of_restart now choice old mid new h start serves stands left sound_old sound s runs x blocks;
+        step = λ h stands. subst (λ f. Comes h (Restart choice) f (DoneBad 0) next old new) (sym (back_done h stands)) (comes_of_restart now choice old mid new h start serves stands left sound_old sound s runs x blocks);
         room = omega arith;
         serves = serves_remounted now next choice old mid new start _ serves left refl x.outside (runs.cause.0 ∙ back_on) (λ _. record { geometry = here; settled = settled; serves = served });
       }))
@@ -372,7 +379,7 @@ module _ (now host after : HostState) (choice : Choice) (old mid new : Device) (
 
       by_answer : (r : Result Reply E) → MatchResult r (λ reply. (f ≡ fault.Memory → ⊥) × (answer_of reply ≡ unmounted_answer f)) (λ _. f ≡ fault.Memory) → Responds (Restart choice) r now after old new
       by_answer (Ok reply) said =
-          subst (λ a. Answered (Restart choice) a now after old new) (sym said.1) (record { step = comes said.0; room = room_unmounted f; serves = goes_on })
+          subst (λ a. Answered (Restart choice) a now after old new) (sym said.1) (record { step = λ h stands. subst (λ fate. Comes h (Restart choice) fate (unmounted_answer f) after old new) (sym (back_done h stands)) (comes said.0 h stands); room = room_unmounted f; serves = goes_on })
       by_answer (Err e) memory =
           let went_on = subst (λ (f : MountFault). Runs mount_calls mount_persists (mount_outcome {T = Mounted} (Err f)) mid.panel new.panel) memory runs in
           let unsettled : after ≡ record now { mode = modes.Unsettled } = is ∙ ap (λ (f : MountFault). record now { mode = unmounted_mode f }) memory in

@@ -9,7 +9,8 @@ use Rattle.reply_text.specs.Answer.{Answer, answer_line, reply_text}
 use Rattle.reply_text.specs.Answer.Answer.{Done, Refused}
 use Rattle.script_text.specs.Script.{Input}
 use Rattle.script_text.specs.Script.Input.{Skipped, Malformed, Asked}
-use Rattle.machine_host.specs.Machine.{Machine, Fate, fate}
+use Rattle.machine_host.specs.Machine.{Machine, Fate}
+use Rattle.machine_host.specs.Commands.{fate, spending}
 use Rattle.machine_host.specs.Machine.Fate.{Gives, Works, Orders, Cuts, Restarts}
 use Rattle.machine_host.specs.Restarting.{Keeps, restarted, restart_answer}
 use Rattle.machine_host.specs.Run.{Transcript, Hears, Run, Takes, answered, followed_by, silence, with_cut, with_order, with_start, worked}
@@ -57,7 +58,7 @@ run_of_one h next input said hears = (said, silence, next, sym (followed_by-nil 
 abbrev gone_on : Machine → Action → List Input → List Start → Performance
 gone_on h action inputs starts = elim starts [
   | [] ↦ record { said = silence; state = h }
-  | start ∷ others ↦ after (with_start action start (restart_answer h start.image)) (perform (restarted h start.image) inputs others)
+  | start ∷ others ↦ after (with_start (spending h action) start (restart_answer h start.image)) (perform (restarted h start.image) inputs others)
 ]
 
 abbrev allows_on : Machine → List Input → Choice → List Start → Type 0
@@ -70,7 +71,7 @@ allows_on h inputs choice starts = elim starts as (λ _. Type 0) [
 abbrev performed : Machine → Action → Fate → List Input → List Start → Performance
 performed h action f inputs starts = elim f [
   | Gives answer next ↦ after (answered answer) (perform next inputs starts)
-  | Works answer next ↦ after (worked action answer) (perform next inputs starts)
+  | Works answer next ↦ after (worked (spending h action) answer) (perform next inputs starts)
   | Orders order next ↦ after (with_order order Done) (perform next inputs starts)
   | Cuts next ↦ after (with_cut Done) (perform next inputs starts)
   | Restarts choice ↦ gone_on h action inputs starts
@@ -99,11 +100,11 @@ run_performed h (Asked action ∷ inputs) starts ok = by_fate (λ k others. run_
         → Run h (Asked action ∷ inputs) (gone_on h action inputs all).said (gone_on h action inputs all).state
     by_start rest choice [] is ok = absurd ok
     by_start rest choice (start ∷ others) is ok = (
-      with_start action start (restart_answer h start.image),
+      with_start (spending h action) start (restart_answer h start.image),
       (perform (restarted h start.image) inputs others).said,
       restarted h start.image,
       refl,
-      subst (λ f. Takes h action f (with_start action start (restart_answer h start.image)) (restarted h start.image)) (sym is)
+      subst (λ f. Takes h action f (with_start (spending h action) start (restart_answer h start.image)) (restarted h start.image)) (sym is)
           (start, restart_answer h start.image, refl, ok.0, ok.1, inl (refl, refl)),
       rest (restarted h start.image) others ok.2,
     )
@@ -113,11 +114,11 @@ run_performed h (Asked action ∷ inputs) starts ok = by_fate (λ k others. run_
     by_fate rest (Gives answer next) is ok =
         (answered answer, (perform next inputs starts).said, next, refl, subst (λ f. Takes h action f (answered answer) next) (sym is) (refl, refl), rest next starts ok)
     by_fate rest (Works answer next) is ok = (
-      worked action answer,
+      worked (spending h action) answer,
       (perform next inputs starts).said,
       next,
       refl,
-      subst (λ f. Takes h action f (worked action answer) next) (sym is) (answer, refl, inl (refl, refl)),
+      subst (λ f. Takes h action f (worked (spending h action) answer) next) (sym is) (answer, refl, inl (refl, refl)),
       rest next starts ok,
     )
     by_fate rest (Orders order next) is ok =

@@ -1,5 +1,5 @@
 -- What a host and its device stand for, after work on the volume.
-use Rattle.std.proofs.Common.{◌≡◌, ℕ, ◌⊎◌, ◌+◌, ◌*◌, ◌/◌, ◌≤◌, inl, inr, true, false, IsTrue, Option, Some, None, Err, List, length, refl, sym, ap, subst, ◌∙◌, arith}
+use Rattle.std.proofs.Common.{◌≡◌, ℕ, ◌⊎◌, ◌+◌, ◌*◌, ◌/◌, ◌≤◌, inl, inr, true, false, IsTrue, Option, Some, None, option_map, Err, List, length, refl, sym, ap, subst, ◌∙◌, arith}
 use Rattle.line_device.specs.Medium.{WritesBack, word_stored}
 use Rattle.line_device.specs.Panel.{Panel, Runs, after_arm_cut, after_power_off}
 use Rattle.line_device.specs.declared.order.Order.TheVariants.{Cut as ForCut}
@@ -17,18 +17,19 @@ use Rattle.script_text.specs.Action.Action.{Cut, CutIn, VLoad, VStore, VSync}
 use Rattle.reply_text.specs.Answer.{Answer}
 use Rattle.reply_text.specs.Answer.Answer.{Done, Bytes, Refused}
 use Rattle.reply_text.specs.declared.reply.Why.{Why}
-use Rattle.machine_host.specs.Machine.{Machine, refusal, fate_of, fate, while_interrupted}
+use Rattle.machine_host.specs.Machine.{Machine, Fate}
+use Rattle.machine_host.specs.Commands.{MayLeaveBlocks, MayLeaveVolume, early_refusal, fate, longest, meaning, spending, unless_refused, while_interrupted}
 use Rattle.machine_host.specs.Machine.Fate.{Gives, Works, Orders, Cuts}
-use Rattle.machine_host.specs.Interrupted.{MayLeaveBlocks, MayLeaveVolume, Interrupts, may_come, interrupted_answer, interrupted_mode, stop_in}
-use Rattle.machine_host.specs.Costs.{lines_touched, most_calls, most_persists}
+use Rattle.machine_host.specs.Interrupted.{Interrupts, may_come, interrupted_answer, interrupted_mode, stop_in}
+use Rattle.machine_host.specs.Costs.{Spending, lines_touched}
 use Rattle.machine_host.specs.Run.{answered, with_cut, with_order, worked}
 use Rattle.machine_host.specs.Telling.{Tells, cuts_after, faults_after}
 use Rattle.machine_host.specs.declared.mode.Mode.TheVariants as modes
 use Rattle.nvm_model.specs.Lines.{span_shown}
 use Rattle.machine_host.specs.Volume.{volume_of, HasLayout, IsVolumePlace}
 use Rattle.machine_host.proofs.VolumeLemmas.{write_back-volume, volume_intact}
-use Rattle.machine_host.specs.Stands.{HostState, HostServes, MetadataStands, VolumeStands, Stands, Comes, Performed, is_powered}
-use Rattle.machine_host.specs.Responding.{Answered, longest}
+use Rattle.machine_host.specs.Stands.{HostState, HostServes, MetadataStands, VolumeStands, Stands, Comes, is_powered}
+use Rattle.machine_host.specs.Responding.{Answered}
 use Rattle.reply_text.specs.Room.{most_of}
 use Rattle.line_words.specs.Words.{WritesBackOutside}
 use Rattle.line_words.proofs.FrameLemmas.{outside-write_back}
@@ -39,6 +40,8 @@ use Rattle.block_device.proofs.FrameLemmas.{each_reads-outside}
 use Rattle.block_device.proofs.ImageLemmas.{each_reads-then}
 use Rattle.machine_host.proofs.ElsewhereLemmas.{first_not_volume, volume_apart, blocks_of-outside}
 use Rattle.machine_host.proofs.MetadataLemmas.{metadata-outside}
+use Rattle.machine_host.proofs.RefusalLemmas.{early_first, fate_placed}
+use Rattle.machine_host.specs.Meaning.{mode_refusal, no_reasons}
 
 -- the state after an interruption, with what is armed then
 abbrev pub struck : Machine → Interruption → Panel → Machine
@@ -78,9 +81,9 @@ pub never_on : (by : Interruption) → interrupted_mode by ≡ modes.On → ⊥
 never_on Failed on = cc on
 never_on PowerLost on = cc on
 
--- what the panel tells of work that went well, or was interrupted, within what the action may spend
-module _ (action : Action) (a b : ℕ) (few : a ≤ most_calls action) (few_persists : b ≤ most_persists action) (p q : Panel) where
-  pub tells_work : (answer : Answer) → stop_in answer ≡ None → Runs a b went p q → Tells (worked action answer) p q
+-- what the panel tells of work that went well, or was interrupted, within what may be spent
+module _ (spent : Spending) (a b : ℕ) (few : a ≤ spent.calls) (few_persists : b ≤ spent.persists) (p q : Panel) where
+  pub tells_work : (answer : Answer) → stop_in answer ≡ None → Runs a b went p q → Tells (worked spent answer) p q
   tells_work answer quiet runs = record {
     starts = runs.orders.starts;
     restarts = runs.orders.restarts;
@@ -95,7 +98,7 @@ module _ (action : Action) (a b : ℕ) (few : a ≤ most_calls action) (few_pers
     disarms = runs.orders.disarms;
   }
 
-  pub tells_interrupted : (by : Interruption) → Runs a b (ended {T = Unit {0}} (Err by)) p q → Tells (worked action (interrupted_answer by)) p q
+  pub tells_interrupted : (by : Interruption) → Runs a b (ended {T = Unit {0}} (Err by)) p q → Tells (worked spent (interrupted_answer by)) p q
   tells_interrupted by runs = record {
     starts = runs.orders.starts;
     restarts = runs.orders.restarts;
@@ -188,18 +191,18 @@ metadata_elsewhere host old new h stands x = metadata-outside h.geometry h.bad_m
 
 module _ (host : HostState) (old new : Device) (h : Machine) (action : Action) (stands : Stands host old h) (serves : HostServes host old) (on : host.mode ≡ modes.On) where
   -- Work on the volume that went well comes to its answer and its state.
-  pub comes_of_work : (pages : List Page) (answer : Answer) (a b : ℕ) → stop_in answer ≡ None → a ≤ most_calls action → b ≤ most_persists action → Runs a b went old.panel new.panel → WritesBackOutside (IsVolumePlace host.geometry) old.medium new.medium
+  pub comes_of_work : (pages : List Page) (answer : Answer) (a b : ℕ) → stop_in answer ≡ None → a ≤ (spending h action).calls → b ≤ (spending h action).persists → Runs a b went old.panel new.panel → WritesBackOutside (IsVolumePlace host.geometry) old.medium new.medium
       → length pages ≡ length h.volume → PagesStand (volume_of host.geometry new.medium) host.geometry.vpages pages
       → Comes h action (Works answer (record h { volume = pages })) answer host old new
   comes_of_work pages answer a b quiet few few_persists runs outside size stand =
       let whole = is_whole host old h stands on in
       let kept = blocks_elsewhere host old new h stands serves outside in
       record {
-        said = worked action answer;
+        said = worked (spending h action) answer;
         next = record h { volume = pages };
         answers = refl;
         takes = (answer, refl, inl (refl, refl));
-        tells = tells_work action a b few few_persists old.panel new.panel answer quiet runs;
+        tells = tells_work (spending h action) a b few few_persists old.panel new.panel answer quiet runs;
         stands = record {
           geometry = stands.geometry;
           mode = stands.mode;
@@ -217,11 +220,11 @@ module _ (host : HostState) (old new : Device) (h : Machine) (action : Action) (
       }
 
   -- Work that was interrupted comes to what stopped it, in a state that knows it interrupted.
-  pub comes_of_interruption : (after : HostState) (good : Answer) (to : Machine) (by : Interruption) (a b : ℕ) → a ≤ most_calls action → b ≤ most_persists action → after.geometry ≡ host.geometry → after.mode ≡ interrupted_mode by
+  pub comes_of_interruption : (after : HostState) (good : Answer) (to : Machine) (by : Interruption) (a b : ℕ) → a ≤ (spending h action).calls → b ≤ (spending h action).persists → after.geometry ≡ host.geometry → after.mode ≡ interrupted_mode by
       → Runs a b (ended {T = Unit {0}} (Err by)) old.panel new.panel → MetadataStands h.geometry new.medium h.bad_meta → EachReads h.geometry new.medium (MayLeaveBlocks (Some action) h.blocks)
       → VolumeStands h.geometry new.medium (Some action) h.volume → Comes h action (Works good to) (interrupted_answer by) after old new
   comes_of_interruption after good to by a b few few_persists same mode runs metadata blocks volume = record {
-    said = worked action (interrupted_answer by);
+    said = worked (spending h action) (interrupted_answer by);
     next = struck (while_interrupted h action) by new.panel;
     answers = refl;
     takes = (
@@ -229,7 +232,7 @@ module _ (host : HostState) (old new : Device) (h : Machine) (action : Action) (
       refl,
       inr (by, refl, interrupts by (while_interrupted h action) a b old.panel new.panel runs stands.device.cut_armed stands.device.fail_armed),
     );
-    tells = tells_interrupted action a b few few_persists old.panel new.panel by runs;
+    tells = tells_interrupted (spending h action) a b few few_persists old.panel new.panel by runs;
     stands = record {
       geometry = same ∙ stands.geometry;
       mode = mode;
@@ -247,9 +250,8 @@ module _ (host : HostState) (old new : Device) (h : Machine) (action : Action) (
   }
 
   -- work on the volume leaves the blocks
-  blocks_left : WritesBackOutside (IsVolumePlace host.geometry) old.medium new.medium → EachReads h.geometry new.medium (λ bs. (bs ≡ h.blocks) ⊎ (bs ≡ h.blocks))
+  blocks_left : WritesBackOutside (IsVolumePlace host.geometry) old.medium new.medium → EachReads h.geometry new.medium (λ bs. bs ≡ h.blocks)
   blocks_left outside =
-      each_reads-then h.geometry new.medium (λ bs. bs ≡ h.blocks) (λ bs. (bs ≡ h.blocks) ⊎ (bs ≡ h.blocks)) (λ bs e. inl e)
       (subst (λ interrupted. EachReads h.geometry new.medium (MayLeaveBlocks interrupted h.blocks)) (is_whole host old h stands on) (blocks_elsewhere host old new h stands serves outside).0)
 
   -- pages that an interrupted action may have left
@@ -271,11 +273,11 @@ module _ (host : HostState) (old new : Device) (h : Machine) (action : Action) (
 
 -- the same as a host answers it
 pub answered_interrupted : (now after : HostState) (by : Interruption) (answer : Answer) (action : Action) (old new : Device) → after ≡ record now { mode = interrupted_mode by } → answer ≡ interrupted_answer by
-    → 64 ≤ longest action → ((h : Machine) → Stands now old h → Performed h action (interrupted_answer by) (record now { mode = interrupted_mode by }) old new) → HostServes after new
+    → 64 ≤ longest action → ((h : Machine) → Stands now old h → Comes h action (fate h action) (interrupted_answer by) (record now { mode = interrupted_mode by }) old new) → HostServes after new
     → Answered action answer now after old new
 answered_interrupted now after by answer action old new state is long comes serves =
     subst (λ a. Answered action a now after old new) (sym is) (record {
-      step = λ h stands. subst (λ k. Performed h action (interrupted_answer by) k old new) (sym state) (comes h stands);
+      step = λ h stands. subst (λ k. Comes h action (fate h action) (interrupted_answer by) k old new) (sym state) (comes h stands);
       room = short by;
       serves = serves;
     })
@@ -420,13 +422,27 @@ comes_of_cut_in host old new h calls stands serves write_back panel =
           (written_back host old new h next stands serves write_back refl (ap (λ p. p.power) panel ∙ stands.device.power) (ap (λ p. p.cut_armed) panel) (ap (λ p. p.fail_armed) panel ∙ stands.device.fail_armed) (λ on. on));
     }
 
+-- What comes of a command where mode and places are right.
+pub comes_placed : (host after : HostState) (old new : Device) (h : Machine) (action : Action) (answer : Answer) → Stands host old h → mode_refusal host.mode (meaning action).needs ≡ None
+    → (meaning action).reasons h ≡ record no_reasons { places = option_map Refused ((meaning action).checked h.geometry) } → (meaning action).checked host.geometry ≡ None
+    → Comes h action ((meaning action).comes h) answer after old new → Comes h action (fate h action) answer after old new
+comes_placed host after old new h action answer stands mode reasons places =
+    subst (λ f. Comes h action f answer after old new)
+    (sym (fate_placed h action (subst (λ m. mode_refusal m (meaning action).needs ≡ None) stands.mode mode) reasons
+    (subst (λ geo. (meaning action).checked geo ≡ None) stands.geometry places)))
+
 -- A refusal comes to itself.
 pub comes_of_refusal : (host : HostState) (d : Device) (h : Machine) (action : Action) (why : Why) → Stands host d h
-    → refusal host.mode host.geometry action ≡ Some why → Comes h action (fate h action) (Refused why) host d d
-comes_of_refusal host d h action why stands is = subst (λ r. Comes h action (fate_of h action r) (Refused why) host d d) there comes
+    → early_refusal host.mode host.geometry action ≡ Some why → Comes h action (fate h action) (Refused why) host d d
+comes_of_refusal host d h action why stands is =
+    subst (λ r. Comes h action (unless_refused h r ((meaning action).comes h)) (Refused why) host d d) (sym (early_first h action why there)) (record {
+      said = answered (Refused why);
+      next = h;
+      answers = refl;
+      takes = (refl, refl);
+      tells = tells_nothing (Refused why) refl d.panel;
+      stands = stands;
+    })
   where
-    there : Some why ≡ refusal h.mode h.geometry action
-    there = sym is ∙ ap (λ m. refusal m host.geometry action) stands.mode ∙ ap (λ geo. refusal h.mode geo action) stands.geometry
-
-    comes : Comes h action (Gives (Refused why) h) (Refused why) host d d
-    comes = record { said = answered (Refused why); next = h; answers = refl; takes = (refl, refl); tells = tells_nothing (Refused why) refl d.panel; stands = stands }
+    there : early_refusal h.mode h.geometry action ≡ Some why
+    there = sym (ap (λ m. early_refusal m host.geometry action) stands.mode ∙ ap (λ geo. early_refusal h.mode geo action) stands.geometry) ∙ is

@@ -1,32 +1,12 @@
--- What an interruption does: how it is answered, and what it may leave until the next restart.
-use Rattle.std.specs.Prelude.{◌≡◌, Bool, IsTrue, List, Option, Some, None}
-use Rattle.nvm_model.specs.Storage.{Block}
-use Rattle.nvm_model.specs.Page.{Page}
-use Rattle.nvm_model.specs.Blocks.{IsMixed}
-use Rattle.nvm_model.specs.Interrupted.{MayStore, MaySync}
-use Rattle.block_device.specs.Images.{IsEither}
+-- What an interruption is answered, and the state that it leaves.
+use Rattle.std.specs.Prelude.{◌≡◌, Bool, IsTrue, Option, Some, None}
 use Rattle.line_words.specs.declared.interruption.Interruption.{Interruption}
 use Rattle.line_words.specs.declared.interruption.Interruption.TheVariants.{Failed, PowerLost as Lost}
-use Rattle.script_text.specs.Action.{Action}
-use Rattle.script_text.specs.Action.Action.{BWrite, BDiscardIf, VStore, VSync}
 use Rattle.reply_text.specs.Answer.{Answer}
 use Rattle.reply_text.specs.Answer.Answer.{DeviceFailed, PowerLost}
 use Rattle.machine_host.specs.declared.mode.Mode.{Mode}
 use Rattle.machine_host.specs.declared.mode.Mode.TheVariants as modes
-use Rattle.machine_host.specs.Machine.{Machine, blocks_after}
-
--- What an interrupted action may leave of the blocks: each old or new where it goes block by block, and else all old or all new.
-abbrev pub MayLeaveBlocks : Option Action → List Block → List Block → Type 0
-MayLeaveBlocks None old new = new ≡ old
-MayLeaveBlocks (Some (BWrite block bytes)) old new = IsMixed old (blocks_after (BWrite block bytes) old) new
-MayLeaveBlocks (Some (BDiscardIf block count)) old new = IsMixed old (blocks_after (BDiscardIf block count) old) new
-MayLeaveBlocks (Some action) old new = IsEither old (blocks_after action old) new
-
--- what it may leave of the volume
-abbrev pub MayLeaveVolume : Option Action → List Page → List Page → Type 0
-MayLeaveVolume (Some (VStore offset bytes)) old new = MayStore offset bytes old new
-MayLeaveVolume (Some (VSync offset len)) old new = MaySync offset len old new
-MayLeaveVolume _ old new = new ≡ old
+use Rattle.machine_host.specs.Machine.{Machine}
 
 -- what an interruption is answered, and the mode after it
 abbrev pub interrupted_answer : Interruption → Answer

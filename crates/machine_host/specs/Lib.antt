@@ -1,8 +1,13 @@
 pub mod Volume
+pub mod Costs
 pub mod Machine
+pub mod Meaning
+pub mod OnBlocks
+pub mod OnVolume
+pub mod OnPower
+pub mod Commands
 pub mod Interrupted
 pub mod Restarting
-pub mod Costs
 pub mod Run
 pub mod Performing
 pub mod Telling

@@ -5,7 +5,8 @@ use Rattle.reply_text.specs.declared.reply.Why.TheVariants.{Syntax}
 use Rattle.reply_text.specs.Answer.Answer.{Done, Refused}
 use Rattle.script_text.specs.Script.{Input}
 use Rattle.script_text.specs.Script.Input.{Skipped, Malformed, Asked}
-use Rattle.machine_host.specs.Machine.{Machine, fate}
+use Rattle.machine_host.specs.Machine.{Machine}
+use Rattle.machine_host.specs.Commands.{fate, spending}
 use Rattle.machine_host.specs.Machine.Fate.{Gives, Works, Orders, Cuts, Restarts}
 use Rattle.machine_host.specs.Restarting.{Keeps, restarted, restart_answer}
 use Rattle.machine_host.specs.Run.{Transcript, answered, followed_by, silence, with_cut, with_order, with_start, worked}
@@ -26,12 +27,12 @@ perform h (Skipped ∷ inputs) starts = perform h inputs starts
 perform h (Malformed ∷ inputs) starts = after (answered (Refused Syntax)) (perform h inputs starts)
 perform h (Asked action ∷ inputs) starts = elim (fate h action) [
   | Gives answer next ↦ after (answered answer) (perform next inputs starts)
-  | Works answer next ↦ after (worked action answer) (perform next inputs starts)
+  | Works answer next ↦ after (worked (spending h action) answer) (perform next inputs starts)
   | Orders order next ↦ after (with_order order Done) (perform next inputs starts)
   | Cuts next ↦ after (with_cut Done) (perform next inputs starts)
   | Restarts choice ↦ elim starts [
     | [] ↦ record { said = silence; state = h }
-    | start ∷ others ↦ after (with_start action start (restart_answer h start.image)) (perform (restarted h start.image) inputs others)
+    | start ∷ others ↦ after (with_start (spending h action) start (restart_answer h start.image)) (perform (restarted h start.image) inputs others)
   ]
 ]
 

@@ -1,25 +1,19 @@
 -- What a command's method promises of its reply.
-use Rattle.std.specs.Prelude.{◌+◌, ◌*◌, ◌≤◌, ℕ, Result, Ok, Err}
+use Rattle.std.specs.Prelude.{◌≤◌, Result, Ok, Err}
 use Rattle.line_device.specs.Device.{Device}
 use Rattle.script_text.specs.Action.{Action}
-use Rattle.script_text.specs.Action.Action.{BRead, VLoad}
 use Rattle.reply_text.specs.Answer.{Answer, answer_of}
 use Rattle.reply_text.specs.declared.reply.Reply.{Reply}
 use Rattle.reply_text.specs.Room.{most_of}
 use Rattle.machine_host.specs.Machine.{Machine}
-use Rattle.machine_host.specs.Stands.{HostState, HostServes, Stands, Performed}
+use Rattle.machine_host.specs.Commands.{fate, longest}
+use Rattle.machine_host.specs.Stands.{HostState, HostServes, Stands, Comes}
 use Rattle.machine_host.specs.Faults.{Leaves}
-
--- room for the reply's line, before the data is known
-abbrev pub longest : Action → ℕ
-longest (BRead block count) = 64 + 3 * (512 * count)
-longest (VLoad offset len) = 64 + 3 * len
-longest _ = 64
 
 -- A command was answered so: the machine comes to it in whichever state host and device stood for, its line has room, and the
 -- host may go on.
 pub record Answered (action : Action) (answer : Answer) (before after : HostState) (old new : Device) : Type 0 where
-  pub step : (h : Machine) → Stands before old h → Performed h action answer after old new
+  pub step : (h : Machine) → Stands before old h → Comes h action (fate h action) answer after old new
   pub room : most_of answer ≤ longest action
   pub serves : HostServes after new
 

@@ -12,7 +12,7 @@ use Rattle.reply_text.specs.Answer.Answer.{DoneBad}
 use Rattle.machine_host.specs.declared.mode.Mode.TheVariants as modes
 use Rattle.machine_host.specs.Volume.{volume_image}
 use Rattle.machine_host.specs.Machine.{Machine}
-use Rattle.machine_host.specs.Interrupted.{MayLeaveBlocks, MayLeaveVolume}
+use Rattle.machine_host.specs.Commands.{MayLeaveBlocks, MayLeaveVolume}
 
 -- the state that a medium stands for where nothing but blocks and volume is kept
 unfoldable pub reading : Geometry → Image → Machine

@@ -9,8 +9,9 @@ use Rattle.reply_text.specs.Answer.Answer.{Done, Refused}
 use Rattle.script_text.specs.Action.{Action}
 use Rattle.script_text.specs.Script.{Input}
 use Rattle.script_text.specs.Script.Input.{Skipped, Malformed, Asked}
-use Rattle.machine_host.specs.Costs.{Spending, no_spending, spending, spent_with}
-use Rattle.machine_host.specs.Machine.{Machine, Fate, fate, while_interrupted}
+use Rattle.machine_host.specs.Costs.{Spending, no_spending, spent_with}
+use Rattle.machine_host.specs.Machine.{Machine, Fate}
+use Rattle.machine_host.specs.Commands.{fate, spending, while_interrupted}
 use Rattle.machine_host.specs.Machine.Fate.{Gives, Works, Orders, Cuts, Restarts}
 use Rattle.machine_host.specs.Interrupted.{Interrupts, interrupted_answer}
 use Rattle.machine_host.specs.Restarting.{Keeps, restarted, restart_answer}
@@ -47,8 +48,8 @@ silence = record { starts = []; orders = []; cuts = 0; spent = no_spending; answ
 abbrev pub answered : Answer → Transcript
 answered answer = record silence { answers = answer ∷ [] }
 
-abbrev pub worked : Action → Answer → Transcript
-worked action answer = record silence { spent = spending action; answers = answer ∷ [] }
+abbrev pub worked : Spending → Answer → Transcript
+worked spent answer = record silence { spent = spent; answers = answer ∷ [] }
 
 -- an answer after an order, a cut of the power, or a restart that left this
 abbrev pub with_order : Order → Answer → Transcript
@@ -57,17 +58,17 @@ with_order order answer = record silence { orders = order ∷ []; answers = answ
 abbrev pub with_cut : Answer → Transcript
 with_cut answer = record silence { cuts = 1; answers = answer ∷ [] }
 
-abbrev pub with_start : Action → Start → Answer → Transcript
-with_start action start answer = record silence { starts = start ∷ []; spent = spending action; answers = answer ∷ [] }
+abbrev pub with_start : Spending → Start → Answer → Transcript
+with_start spent start answer = record silence { starts = start ∷ []; spent = spent; answers = answer ∷ [] }
 
 -- what comes of a command in h
 abbrev pub Takes : Machine → Action → Fate → Transcript → Machine → Type 0
 Takes h action (Gives good to) said next = (said ≡ answered good) × (next ≡ to)
-Takes h action (Works good to) said next = (answer : Answer) × (said ≡ worked action answer) × Ends good to (while_interrupted h action) answer next
+Takes h action (Works good to) said next = (answer : Answer) × (said ≡ worked (spending h action) answer) × Ends good to (while_interrupted h action) answer next
 Takes h action (Orders order to) said next = (said ≡ with_order order Done) × (next ≡ to)
 Takes h action (Cuts to) said next = (said ≡ with_cut Done) × (next ≡ to)
 Takes h action (Restarts choice) said next =
-    (start : Start) × (answer : Answer) × (said ≡ with_start action start answer) × (start.choice ≡ choice) × Keeps choice start.image h
+    (start : Start) × (answer : Answer) × (said ≡ with_start (spending h action) start answer) × (start.choice ≡ choice) × Keeps choice start.image h
     × Ends (restart_answer h start.image) (restarted h start.image) (restarted h start.image) answer next
 
 -- what comes of an input

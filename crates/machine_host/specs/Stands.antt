@@ -14,8 +14,8 @@ use Rattle.script_text.specs.Action.{Action}
 use Rattle.reply_text.specs.Answer.{Answer, answer_line}
 use Rattle.machine_host.specs.declared.mode.Mode.{Mode}
 use Rattle.machine_host.specs.declared.mode.Mode.TheVariants as modes
-use Rattle.machine_host.specs.Machine.{Machine, Fate, effect, fate}
-use Rattle.machine_host.specs.Interrupted.{MayLeaveBlocks, MayLeaveVolume}
+use Rattle.machine_host.specs.Machine.{Machine, Fate}
+use Rattle.machine_host.specs.Commands.{MayLeaveBlocks, MayLeaveVolume, fate}
 use Rattle.machine_host.specs.Run.{Transcript, Takes}
 use Rattle.machine_host.specs.Telling.{Tells}
 use Rattle.machine_host.specs.Volume.{volume_of, HasLayout}
@@ -90,10 +90,6 @@ pub record Comes (h : Machine) (action : Action) (fate : Fate) (answer : Answer)
   pub takes : Takes h action fate said next
   pub tells : Tells said old.panel new.panel
   pub stands : Stands host new next
-
--- what comes of it where mode and places allow it
-abbrev pub Performed : Machine → Action → Answer → HostState → Device → Device → Type 0
-Performed h action = Comes h action (effect h action)
 
 -- one step: what came of the command is answered by one line
 pub record Steps (h : Machine) (action : Action) (out_old out_new : List ℕ) (host : HostState) (old new : Device) : Type 0 where

@@ -5,9 +5,9 @@ ghost use Rattle.script_text.specs.Action.{action_of};
 ghost use Rattle.script_text.specs.Action.Action.{VLoad, VStore, VSync};
 ghost use Rattle.script_text.specs.Parsing.{InBounds};
 ghost use Rattle.reply_text.specs.Answer.{answer_of};
-ghost use Rattle.machine_host.specs.Machine.{refusal};
+ghost use Rattle.machine_host.specs.Commands.{early_refusal, longest};
 ghost use Rattle.machine_host.specs.Stands.{HostServes};
-ghost use Rattle.machine_host.specs.Responding.{Answered, Responds, longest};
+ghost use Rattle.machine_host.specs.Responding.{Answered, Responds};
 
 use super::Host;
 use crate::Mode;
@@ -32,6 +32,7 @@ pub fn longest_reply(command: &Command) -> u64
 }
 
 impl Host {
+    #[tactic(auto, using(crate::proofs::RefusalLemmas::is_on, crate::proofs::RefusalLemmas::is_off, crate::proofs::RefusalLemmas::is_powered, crate::proofs::RefusalLemmas::places_right, crate::proofs::RefusalLemmas::span_allowed, crate::proofs::RefusalLemmas::store_within, crate::proofs::RefusalLemmas::read_within, crate::proofs::RefusalLemmas::cut_in_some))]
     pub fn perform<D: LineDevice>(
         &mut self,
         device: &mut D,
@@ -39,7 +40,7 @@ impl Host {
     ) -> Result<Reply, AllocError>
         requires serves { HostServes self.old (D.state device.old) }
         requires bounded { InBounds (action_of command.now) }
-        requires allowed { refusal self.old.mode self.old.geometry (action_of command.now) ≡ None }
+        requires allowed { early_refusal self.old.mode self.old.geometry (action_of command.now) ≡ None }
         ensures { Responds (action_of command.now) result self.old self.new (D.state device.old) (D.state device.new) }
     {
         match command {

@@ -2,8 +2,10 @@
 ghost use Rattle.std.specs.Prelude.{◌≡◌, ◌≤◌, ◌<◌, ◌+◌, ◌*◌, ◌^◌, length};
 ghost use Rattle.word_tables.specs.Bounds.{IsValid};
 ghost use Rattle.script_text.specs.Action.{action_of};
-ghost use Rattle.machine_host.specs.Machine.{refusal, mode_refusal, place_refusal, read_refusal, span_refusal};
 ghost use Rattle.script_text.specs.Parsing.{InBounds};
+ghost use Rattle.machine_host.specs.Meaning.{mode_refusal, span_refusal};
+ghost use Rattle.machine_host.specs.OnBlocks.{read_refusal};
+ghost use Rattle.machine_host.specs.Commands.{early_refusal, meaning};
 
 use super::Host;
 use crate::Mode;
@@ -15,12 +17,12 @@ use word_tables::Geometry;
 /// Most blocks that are read at once.
 const MOST_READ: u64 = 128;
 
-#[tactic(auto, unfolding(crate::specs::Machine::refusal))]
+#[tactic(auto, unfolding(crate::specs::Commands::early_refusal))]
 impl Host {
     pub(crate) fn refusal(&self, command: &Command) -> Option<Why>
         requires valid { IsValid self.now.geometry }
         requires bounded { InBounds (action_of command.now) }
-        ensures { result ≡ refusal self.now.mode self.now.geometry (action_of command.now) }
+        ensures { result ≡ early_refusal self.now.mode self.now.geometry (action_of command.now) }
     {
         match mode_refusal(self.mode, command) {
             Some(why) => Some(why),
@@ -30,7 +32,7 @@ impl Host {
 }
 
 fn mode_refusal(mode: Mode, command: &Command) -> Option<Why>
-    ensures { result ≡ mode_refusal mode (action_of command.now) }
+    ensures { result ≡ mode_refusal mode (meaning (action_of command.now)).needs }
 {
     match (mode, command) {
         (Mode::On | Mode::Unsettled, Command::Restart { .. }) => Some(Why::On),
@@ -45,7 +47,7 @@ fn mode_refusal(mode: Mode, command: &Command) -> Option<Why>
 fn place_refusal(geo: Geometry, command: &Command) -> Option<Why>
     requires valid { IsValid geo }
     requires bounded { InBounds (action_of command.now) }
-    ensures { result ≡ place_refusal geo (action_of command.now) }
+    ensures { result ≡ (meaning (action_of command.now)).checked geo }
 {
     match command {
         Command::BRead { block, count } => read_refusal(geo.blocks, *block, *count),

@@ -11,7 +11,7 @@ use Rattle.word_log.specs.Replay.{listed}
 use Rattle.block_device.specs.Reading.{states_read, blocks_read}
 use Rattle.reply_text.specs.Answer.{answer_line}
 use Rattle.script_text.specs.Script.{lines_of, words_of, command_action, line_input}
-use Rattle.machine_host.specs.Machine.{refusal}
+use Rattle.machine_host.specs.Commands.{refusal}
 use Rattle.machine_host.specs.Restarting.{reading}
 use Rattle.machine_host.proofs.rows.worked_scripts.Goals as goal
 

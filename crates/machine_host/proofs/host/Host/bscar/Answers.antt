@@ -1,6 +1,4 @@
 use Rattle.std.proofs.Common.{refl, arith}
-use Rattle.nvm_model.specs.Blocks.{change}
-use Rattle.nvm_model.specs.Storage.Block.{Scarred as Scar}
 use Rattle.block_device.specs.Refusals.{change_refusal}
 use Rattle.script_text.specs.Action.Action.{BScar}
 use Rattle.machine_host.proofs.BlockLemmas.{called, change_answered, refused_change}
@@ -10,6 +8,6 @@ pub returns : goal.returns
 returns g c =
     let said = c.scar-call.ensures in
     let old = g.D.Lines.state c.args.device.now in
-    change_answered _ _ _ _ c.scar-call.result _ _ _ _ c.self.view_is c.answer.ensures.state c.requires.on c.requires.serves (BScar c.args.spans.now) (omega arith) (omega arith)
+    change_answered _ _ _ _ c.scar-call.result _ _ _ _ c.self.view_is c.answer.ensures.state c.requires.on c.requires.serves (BScar c.args.spans.now) (λ h. omega arith) (λ h. omega arith)
     (called g.D.Lines.state _ _ c.scar-call.result _ _ _ _ _ said.untouched said.images said.outside said.serves said.object said.runs)
-    _ (λ s. change_refusal s old.medium c.args.spans.now) (change c.args.spans.now Scar) (omega arith) (λ h. refl) (λ h serves stands on. refused_change _ old h serves stands on c.args.spans.now) (λ h. refl) said.refused said.ok c.answer.ensures.answer
+    _ (λ s. change_refusal s old.medium c.args.spans.now) _ _ _ _ _ refl (λ h. refl) (λ h serves stands on. refused_change _ old h serves stands on c.args.spans.now) said.refused said.ok c.answer.ensures.answer

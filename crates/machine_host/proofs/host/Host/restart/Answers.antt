@@ -25,7 +25,7 @@ returns-in-Ok g c =
     let x = c.in-Ok.ensures in
     let left = c.in_ok-restart.ensures in
     restart_mounted c.args.self.now c.args.self.now c.mounted.new.self c.args.choice old mid new left.0 refl c.requires.serves left.1 (g.met.D.Lines.sound c.args.device.now) (g.met.D.Lines.sound c.restart.new.self)
-    (record { outside = x.outside; reads = x.reads }) c.in-Ok.mounted.geo c.in-Ok.mounted.blocks (answer_of c.mounted.result) (mount_within mid.medium _ mid.panel new.panel x.runs) x.ok.0 x.ok.1 x.settled x.serves x.ok.2 c.mounted.ensures
+    (record { outside = x.outside; reads = x.reads }) c.requires.off c.in-Ok.mounted.geo c.in-Ok.mounted.blocks (answer_of c.mounted.result) (mount_within mid.medium _ mid.panel new.panel x.runs) x.ok.0 x.ok.1 x.settled x.serves x.ok.2 c.mounted.ensures
 
 pub returns-in-Err : goal.returns-in-Err
 returns-in-Err g c =
@@ -35,4 +35,4 @@ returns-in-Err g c =
     let x = c.in-Err.ensures in
     let left = c.in_ok-restart.ensures in
     restart_unmounted c.args.self.now c.args.self.now c.unmounted.new.self c.args.choice old mid new left.0 refl c.requires.serves left.1 (g.met.D.Lines.sound c.args.device.now) (g.met.D.Lines.sound c.restart.new.self)
-    (record { outside = x.outside; reads = x.reads }) c.in-Err.fault c.unmounted.result x.finds (mount_within mid.medium _ mid.panel new.panel x.runs) c.unmounted.ensures.state c.unmounted.ensures.answer
+    (record { outside = x.outside; reads = x.reads }) c.requires.off c.in-Err.fault c.unmounted.result x.finds (mount_within mid.medium _ mid.panel new.panel x.runs) c.unmounted.ensures.state c.unmounted.ensures.answer

@@ -1,0 +1,86 @@
+-- The table of commands: a row each, and what follows from the rows.
+use Rattle.std.specs.Prelude.{◌≡◌, ℕ, List, Option, Some, None}
+use Rattle.nvm_model.specs.Blocks.{first_there, IsMixed}
+use Rattle.nvm_model.specs.Interrupted.{MayStore, MaySync}
+use Rattle.nvm_model.specs.Page.{Page}
+use Rattle.nvm_model.specs.Storage.{Block}
+use Rattle.block_device.specs.Images.{IsEither}
+use Rattle.word_tables.specs.declared.geometry.Geometry.{Geometry}
+use Rattle.script_text.specs.Action.{Action}
+use Rattle.script_text.specs.Action.Action.{BRead, BWrite, BAtomic, BMulti, BDiscard, BDiscardIf, BExists, BScar, VLoad, VStore, VSync, Cut, CutIn, Restart}
+use Rattle.reply_text.specs.declared.reply.Why.{Why}
+use Rattle.reply_text.specs.Answer.{Answer}
+use Rattle.machine_host.specs.declared.mode.Mode.{Mode}
+use Rattle.machine_host.specs.Costs.{Spending}
+use Rattle.machine_host.specs.Machine.{Machine, Fate}
+use Rattle.machine_host.specs.Machine.Fate.{Gives}
+use Rattle.machine_host.specs.Meaning.{BlocksLeft, Meaning, VolumeLeft, first_reason, mode_refusal}
+use Rattle.machine_host.specs.Meaning.BlocksLeft.{Same, Either, Mixed}
+use Rattle.machine_host.specs.Meaning.VolumeLeft.{Kept, PartStored, PartSynced}
+use Rattle.machine_host.specs.OnBlocks as on_blocks
+use Rattle.machine_host.specs.OnVolume as on_volume
+use Rattle.machine_host.specs.OnPower as on_power
+
+abbrev pub meaning : Action → Meaning
+meaning (BRead block count) = on_blocks.bread block count
+meaning (BWrite block bytes) = on_blocks.bwrite block bytes
+meaning (BAtomic block bytes) = on_blocks.batomic block bytes
+meaning (BMulti ranges bytes) = on_blocks.bmulti ranges bytes
+meaning (BDiscard block count) = on_blocks.bdiscard block count
+meaning (BDiscardIf block count) = on_blocks.bdiscardif block count
+meaning (BExists block) = on_blocks.bexists block
+meaning (BScar ranges) = on_blocks.bscar ranges
+meaning (VLoad offset len) = on_volume.vload offset len
+meaning (VStore offset bytes) = on_volume.vstore offset bytes
+meaning (VSync offset len) = on_volume.vsync offset len
+meaning Cut = on_power.cut
+meaning (CutIn calls) = on_power.cut_in calls
+meaning (Restart choice) = on_power.restart choice
+
+-- what a command is answered where it is refused, None where it is done
+unfoldable pub refusal : Machine → Action → Option Answer
+refusal h action = first_reason (mode_refusal h.mode (meaning action).needs) h.bad_meta ((meaning action).reasons h)
+
+-- what the host finds itself, by its mode and sizes, before it asks a part of storage
+unfoldable pub early_refusal : Mode → Geometry → Action → Option Why
+early_refusal mode geo action = first_there (mode_refusal mode (meaning action).needs) ((meaning action).checked geo)
+
+-- what comes of a command; a refusal changes nothing
+abbrev pub unless_refused : Machine → Option Answer → Fate → Fate
+unless_refused h None fate = fate
+unless_refused h (Some answer) fate = Gives answer h
+
+abbrev pub fate : Machine → Action → Fate
+fate h action = unless_refused h (refusal h action) ((meaning action).comes h)
+
+-- the state while it is not done
+abbrev pub while_interrupted : Machine → Action → Machine
+while_interrupted h action = record h { interrupted = Some action }
+
+-- what it may spend
+abbrev pub spending : Machine → Action → Spending
+spending h action = (meaning action).spends h
+
+-- room for its reply's line, before the data is known
+abbrev pub longest : Action → ℕ
+longest action = (meaning action).room
+
+-- what an interruption leaves of blocks that would become others, and of the volume
+abbrev pub LeavesBlocks : BlocksLeft → List Block → List Block → List Block → Type 0
+LeavesBlocks Same old to new = new ≡ old
+LeavesBlocks Either old to new = IsEither old to new
+LeavesBlocks Mixed old to new = IsMixed old to new
+
+abbrev pub LeavesVolume : VolumeLeft → List Page → List Page → Type 0
+LeavesVolume Kept old new = new ≡ old
+LeavesVolume (PartStored offset bytes) old new = MayStore offset bytes old new
+LeavesVolume (PartSynced offset len) old new = MaySync offset len old new
+
+-- what the interrupted action may have left, if there is one
+abbrev pub MayLeaveBlocks : Option Action → List Block → List Block → Type 0
+MayLeaveBlocks None old new = new ≡ old
+MayLeaveBlocks (Some action) old new = LeavesBlocks (meaning action).blocks_left old ((meaning action).blocks old) new
+
+abbrev pub MayLeaveVolume : Option Action → List Page → List Page → Type 0
+MayLeaveVolume None old new = new ≡ old
+MayLeaveVolume (Some action) old new = LeavesVolume (meaning action).volume_left old new

@@ -1,0 +1,88 @@
+-- What a row of the table says of a command, and in which order reasons refuse it.
+use Rattle.std.specs.Prelude.{◌+◌, ◌==◌, ℕ, Bool, true, false, List, [], ◌∷◌, Option, Some, None, nat_lt, option_map, if◌then◌else◌}
+use Rattle.word_tables.specs.declared.geometry.Geometry.{Geometry}
+use Rattle.nvm_model.specs.Blocks.{first_there}
+use Rattle.nvm_model.specs.Page.{Page}
+use Rattle.nvm_model.specs.Storage.{Block}
+use Rattle.reply_text.specs.declared.reply.Why.{Why}
+use Rattle.reply_text.specs.declared.reply.Why.TheVariants as because
+use Rattle.reply_text.specs.Answer.{Answer}
+use Rattle.reply_text.specs.Answer.Answer.{Refused, RefusedMeta}
+use Rattle.machine_host.specs.declared.mode.Mode.{Mode}
+use Rattle.machine_host.specs.declared.mode.Mode.TheVariants as modes
+use Rattle.machine_host.specs.Costs.{Spending}
+use Rattle.machine_host.specs.Machine.{Machine, Fate}
+
+-- in which modes a command is done: in On; while the power is on; while it is off
+pub data Needs : Type 0 where
+  Usable : Needs
+  Powered : Needs
+  Unpowered : Needs
+
+-- Why a command is refused that its mode allows, kind by kind: what it names is missing, there or in use; the places that it
+-- names; there is no room; it would change metadata, of which a line is bad; something of it can't be read.
+pub record Reasons : Type 0 where
+  pub named : Option Answer
+  pub places : Option Answer
+  pub full : Option Answer
+  pub changes_metadata : Bool
+  pub unreadable : Option Answer
+
+abbrev pub no_reasons : Reasons
+no_reasons = record { named = None; places = None; full = None; changes_metadata = false; unreadable = None }
+
+-- what an interruption may leave of the blocks: all as they were, all old or all new, or each of them old or new
+pub data BlocksLeft : Type 0 where
+  Same : BlocksLeft
+  Either : BlocksLeft
+  Mixed : BlocksLeft
+
+-- and of the volume: all as it was, or a part of what is stored there or made durable
+pub data VolumeLeft : Type 0 where
+  Kept : VolumeLeft
+  PartStored : ℕ → List ℕ → VolumeLeft
+  PartSynced : ℕ → ℕ → VolumeLeft
+
+-- A command: the mode that it needs, the places that the host looks at before anything else does, all that refuses it, what
+-- comes of it where nothing does, what it makes of blocks and volume, what an interruption may leave of them, what it may
+-- spend, and the room of its reply.
+pub record Meaning : Type 0 where
+  pub needs : Needs
+  pub checked : Geometry → Option Why
+  pub reasons : Machine → Reasons
+  pub comes : Machine → Fate
+  pub blocks : List Block → List Block
+  pub volume : List Page → List Page
+  pub blocks_left : BlocksLeft
+  pub volume_left : VolumeLeft
+  pub spends : Machine → Spending
+  pub room : ℕ
+
+-- why a mode refuses what needs another
+abbrev pub mode_refusal : Mode → Needs → Option Why
+mode_refusal modes.On Usable = None
+mode_refusal modes.On Powered = None
+mode_refusal modes.On Unpowered = Some because.On
+mode_refusal modes.Off Usable = Some because.Off
+mode_refusal modes.Off Powered = Some because.Off
+mode_refusal modes.Off Unpowered = None
+mode_refusal modes.Unsettled Usable = Some because.Recover
+mode_refusal modes.Unsettled Powered = None
+mode_refusal modes.Unsettled Unpowered = Some because.On
+
+-- the lowest bad line of metadata refuses what would change it
+abbrev pub metadata_refusal : Bool → List ℕ → Option Answer
+metadata_refusal false bad_meta = None
+metadata_refusal true [] = None
+metadata_refusal true (line ∷ lines) = Some (RefusedMeta line)
+
+-- The first reason: the mode, and then kind by kind.
+abbrev pub first_reason : Option Why → List ℕ → Reasons → Option Answer
+first_reason mode bad_meta r =
+    first_there (option_map Refused mode)
+    (first_there r.named (first_there r.places (first_there r.full (first_there (metadata_refusal r.changes_metadata bad_meta) r.unreadable))))
+
+-- what is wrong with a span of something of this size: past its end, and else empty
+abbrev pub span_refusal : ℕ → ℕ → ℕ → Option Why
+span_refusal size offset len =
+    if nat_lt size (offset + len) then Some because.Range else (if len == 0 then Some because.Length else None)
