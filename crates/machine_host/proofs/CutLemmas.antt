@@ -25,7 +25,7 @@ use Rattle.script_text.specs.Script.Input.{Asked}
 use Rattle.machine_host.specs.declared.mode.Mode.TheVariants as modes
 use Rattle.machine_host.specs.Machine.{Machine}
 use Rattle.machine_host.specs.Commands.{refusal, spending, while_interrupted}
-use Rattle.machine_host.specs.Restarting.{Keeps, reading, fresh, restarted, restart_answer}
+use Rattle.machine_host.specs.Restarting.{RestartMayLeave, reading, fresh, restarted, restart_answer}
 use Rattle.machine_host.specs.Run.{Transcript, Hears, Run, answered, followed_by, silence, with_order, with_start, worked}
 use Rattle.machine_host.specs.Rows.{small, leaving}
 use Rattle.machine_host.specs.Volume.{volume_image}
@@ -62,7 +62,7 @@ abbrev told_of_write : Start → List ℕ → Transcript
 told_of_write start read =
     followed_by (with_order (ForCut 1) Done) (followed_by (worked (spending armed the_write) PowerLost) (followed_by (answered (Refused Off)) (come_back start read)))
 
-run_of_write : (start : Start) (read : List ℕ) → start.choice ≡ Firsts → Keeps Firsts start.image struck
+run_of_write : (start : Start) (read : List ℕ) → start.choice ≡ Firsts → RestartMayLeave Firsts start.image struck
     → Hears (back start) (Asked (BRead 0 2)) (worked (spending armed (BRead 0 2)) (Bytes read)) (back start)
     → Run (fresh small) (Asked (CutIn 1) ∷ Asked the_write ∷ Asked (BRead 0 1) ∷ Asked (Restart Firsts) ∷ Asked (BRead 0 2) ∷ []) (told_of_write start read) (back start)
 unfolding refusal reading

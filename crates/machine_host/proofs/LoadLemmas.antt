@@ -8,12 +8,12 @@ use Rattle.line_device.proofs.WordLemmas.{byte_at-word_from}
 use Rattle.line_device.proofs.WriteBackLemmas.{newest-write_back}
 use Rattle.nvm_model.specs.Numbered.{list_from}
 use Rattle.nvm_model.specs.Lines.{shown_byte, span_shown}
-use Rattle.machine_host.specs.Volume.{line_byte}
+use Rattle.machine_host.specs.Volume.{byte_in_line}
 use Rattle.nvm_model.proofs.NumberedLemmas.{list_from-is, list_from-same, list_from-append}
 
 -- bytes that spell words, one by one
-pub line_byte-is : (bytes : List ℕ) (i : ℕ) → ((k : ℕ) → get_or bytes k 0 < 256) → get_or bytes i 0 ≡ line_byte bytes i
-line_byte-is bytes i small =
+pub byte_in_line-is : (bytes : List ℕ) (i : ℕ) → ((k : ℕ) → get_or bytes k 0 < 256) → get_or bytes i 0 ≡ byte_in_line bytes i
+byte_in_line-is bytes i small =
     sym (byte_at-word_from (λ k. get_or bytes (8 * (i / 8) + k) 0) (i % 8) (λ k _. small (8 * (i / 8) + k)) (omega arith) ∙ ap (λ k. get_or bytes k 0) here)
   where
     here : 8 * (i / 8) + i % 8 ≡ i
@@ -21,21 +21,21 @@ line_byte-is bytes i small =
 
 -- a stretch of them
 pub list_from-line : (bytes : List ℕ) (start len : ℕ) → start + len ≤ length bytes → ((k : ℕ) → get_or bytes k 0 < 256)
-    → take len (drop start bytes) ≡ list_from (line_byte bytes) start len
-list_from-line bytes start len fits small = list_from-is (line_byte bytes) start _ each ∙ ap (list_from (line_byte bytes) start) size
+    → take len (drop start bytes) ≡ list_from (byte_in_line bytes) start len
+list_from-line bytes start len fits small = list_from-is (byte_in_line bytes) start _ each ∙ ap (list_from (byte_in_line bytes) start) size
   where
     size : length (take len (drop start bytes)) ≡ len
     size = omega (arith, length-take {A = ℕ}, length-drop {A = ℕ})
 
-    each : (k : ℕ) → k < length (take len (drop start bytes)) → get_or (take len (drop start bytes)) k 0 ≡ line_byte bytes (start + k)
-    each k lt = get_or-take len (drop start bytes) k 0 (omega (arith, size)) ∙ get_or-drop start bytes k 0 ∙ line_byte-is bytes (start + k) small
+    each : (k : ℕ) → k < length (take len (drop start bytes)) → get_or (take len (drop start bytes)) k 0 ≡ byte_in_line bytes (start + k)
+    each k lt = get_or-take len (drop start bytes) k 0 (omega (arith, size)) ∙ get_or-drop start bytes k 0 ∙ byte_in_line-is bytes (start + k) small
 
 -- what a load lends is what the span shows
 pub span_shown-line : (m : Medium) (start len : ℕ) (bytes : List ℕ) → IsLine m (start / 64) bytes → start % 64 + len ≤ 64
-    → list_from (line_byte bytes) (start % 64) len ≡ span_shown m start len
-span_shown-line m start len bytes is fits = list_from-same (line_byte bytes) (shown_byte m) (start % 64) start len each
+    → list_from (byte_in_line bytes) (start % 64) len ≡ span_shown m start len
+span_shown-line m start len bytes is fits = list_from-same (byte_in_line bytes) (shown_byte m) (start % 64) start len each
   where
-    each : (k : ℕ) → k < len → line_byte bytes (start % 64 + k) ≡ shown_byte m (start + k)
+    each : (k : ℕ) → k < len → byte_in_line bytes (start % 64 + k) ≡ shown_byte m (start + k)
     each k lt =
         let i : (start % 64 + k) % 8 ≡ (start + k) % 8 = omega arith in
         let p : 8 * (start / 64) + (start % 64 + k) / 8 ≡ (start + k) / 8 = omega arith in

@@ -145,15 +145,15 @@ is_told geo m bad_meta layout stands sound =
     }
 
 -- a mount that was stopped, or had no memory
-abbrev pub IsStop : MountFault → Type 0
-IsStop (fault.Meta line) = ⊥
-IsStop (fault.Layout place) = ⊥
-IsStop fault.Device = Unit {0}
-IsStop fault.PowerLost = Unit {0}
-IsStop fault.Memory = Unit {0}
+abbrev pub StopsMount : MountFault → Type 0
+StopsMount (fault.Meta line) = ⊥
+StopsMount (fault.Layout place) = ⊥
+StopsMount fault.Device = Unit {0}
+StopsMount fault.PowerLost = Unit {0}
+StopsMount fault.Memory = Unit {0}
 
 -- Of such a device a mount is refused by nothing but device, power and memory.
-pub only_stops : {T : Type 0} → (geo : Geometry) (m : Medium) (r : Result T MountFault) → HasLayout geo m → IsTold geo m → IsSound m → AreReadable geo m → Finds (first_finding m) r → IfErr r IsStop
+pub only_stops : {T : Type 0} → (geo : Geometry) (m : Medium) (r : Result T MountFault) → HasLayout geo m → IsTold geo m → IsSound m → AreReadable geo m → Finds (first_finding m) r → IfErr r StopsMount
 only_stops {T} geo m r layout told sound readable finds = by_answer r (subst (λ found. Finds found r) nothing finds)
   where
     none_wrong : wrong_place geo (last_image m) ≡ None
@@ -162,7 +162,7 @@ only_stops {T} geo m r layout told sound readable finds = by_answer r (subst (λ
     nothing : first_finding m ≡ None
     nothing = first_late m told.early ∙ ap (option_map wrong_word) (ap (λ g. wrong_place g (last_image m)) told.sizes ∙ none_wrong)
 
-    by_answer : (q : Result T MountFault) → Finds None q → IfErr q IsStop
+    by_answer : (q : Result T MountFault) → Finds None q → IfErr q StopsMount
     by_answer (Ok x) f = tt
     by_answer (Err (fault.Meta line)) f = cc f
     by_answer (Err (fault.Layout at)) f = cc f

@@ -35,7 +35,7 @@ use Rattle.machine_host.specs.OnBlocks.{refusal_answer}
 use Rattle.machine_host.specs.Commands.{fate, meaning, refusal, unless_refused, while_interrupted}
 use Rattle.machine_host.specs.Machine.Fate.{Gives, Works, Orders, Restarts}
 use Rattle.machine_host.specs.Interrupted.{interrupted_answer}
-use Rattle.machine_host.specs.Restarting.{Keeps, reading, fresh, restarted, restart_answer, zero_image}
+use Rattle.machine_host.specs.Restarting.{RestartMayLeave, reading, fresh, restarted, restart_answer, zero_image}
 use Rattle.machine_host.specs.Run.{Transcript, Run, Takes, Ends, followed_by}
 use Rattle.machine_host.specs.Rows.{small, text}
 use Rattle.machine_host.specs.CutRows.{MayWrite, with_cut_write, cut_write_lines}
@@ -83,7 +83,7 @@ module _ (h : Machine) (action : Action) (inputs : List Input) (answers : List A
       )
 
   began_restarting : (choice : Choice) → fate h action ≡ Restarts choice
-      → (image : Image) × (answer : Answer) × (next : Machine) × (rest : List Answer) × (answers ≡ answer ∷ rest) × Keeps choice image h
+      → (image : Image) × (answer : Answer) × (next : Machine) × (rest : List Answer) × (answers ≡ answer ∷ rest) × RestartMayLeave choice image h
       × Ends (restart_answer h image) (restarted h image) (restarted h image) answer next × Later next inputs rest
   began_restarting choice is =
       let run = later.3 in
@@ -186,7 +186,7 @@ back_shows shown cut fail answers later wrote =
     let one = began_restarting (struck cut fail) (Restart Firsts) (Asked (BRead 0 2) ∷ []) answers later Firsts refl in
     by_blocks one.0 one.1 one.2 one.3 one.5 one.6 one.7 one.5.blocks (sym (ap reply_text one.4) ∙ wrote)
   where
-    by_blocks : (image : Image) (answer : Answer) (next : Machine) (rest : List Answer) → Keeps Firsts image (struck cut fail)
+    by_blocks : (image : Image) (answer : Answer) (next : Machine) (rest : List Answer) → RestartMayLeave Firsts image (struck cut fail)
         → Ends (restart_answer (struck cut fail) image) (restarted (struck cut fail) image) (restarted (struck cut fail) image) answer next
         → Later next (Asked (BRead 0 2) ∷ []) rest
         → IsEither (fresh small).blocks (written (fresh small)).blocks (blocks_read small image.is_bad image.word)

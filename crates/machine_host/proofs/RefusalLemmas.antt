@@ -19,7 +19,7 @@ use Rattle.machine_host.specs.Machine.{Machine, Fate}
 use Rattle.machine_host.specs.Machine.Fate.{Works}
 use Rattle.machine_host.specs.Meaning.{BlocksLeft, Needs, first_reason, mode_refusal, no_reasons, span_refusal}
 use Rattle.machine_host.specs.Meaning.Needs.{Usable, Powered, Unpowered}
-use Rattle.machine_host.specs.OnBlocks.{changing, read_refusal, refusal_answer}
+use Rattle.machine_host.specs.OnBlocks.{changing, count_refusal, refusal_answer}
 use Rattle.machine_host.specs.Commands.{early_refusal, fate, meaning, refusal, unless_refused}
 
 -- the mode of what is not refused
@@ -83,7 +83,7 @@ cut_in_some calls = by_test (eqb calls 0) refl
     by_test true e none = cc
     by_test false e none = grind (arith, nat_tests)
 
-pub read_within : (blocks block count : ℕ) → read_refusal blocks block count ≡ None → (1 ≤ count) × (block + count ≤ blocks) × (count ≤ 128)
+pub read_within : (blocks block count : ℕ) → count_refusal blocks block count ≡ None → (1 ≤ count) × (block + count ≤ blocks) × (count ≤ 128)
 read_within blocks block count none = by_span (span_refusal blocks block count) refl none
   where
     by_limit : (over : Bool) → ltb 128 count ≡ over → cond over (Some Limit) None ≡ None → count ≤ 128
@@ -106,7 +106,7 @@ end_right size end within = ap (λ b. cond b (Some Range) None) (le-ltb size end
 pub calls_right : (calls : ℕ) → 1 ≤ calls → cond (eqb calls 0) (Some Range) None ≡ None
 calls_right calls some = ap (λ b. cond b (Some Range) None) (ne_eqb calls 0 (λ e. omega arith))
 
-pub read_right : (blocks block count : ℕ) → 1 ≤ count → block + count ≤ blocks → count ≤ 128 → read_refusal blocks block count ≡ None
+pub read_right : (blocks block count : ℕ) → 1 ≤ count → block + count ≤ blocks → count ≤ 128 → count_refusal blocks block count ≡ None
 read_right blocks block count some within few =
     ap (λ o. first_there o (cond (ltb 128 count) (Some Limit) None)) (span_right blocks block count some within)
     ∙ ap (λ b. cond b (Some Limit) None) (le-ltb 128 count few)

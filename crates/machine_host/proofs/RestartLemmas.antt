@@ -42,7 +42,7 @@ use Rattle.machine_host.specs.Machine.{Machine}
 use Rattle.machine_host.specs.Machine.Fate.{Restarts}
 use Rattle.machine_host.specs.Commands.{MayLeaveBlocks, fate, meaning, spending}
 use Rattle.machine_host.specs.Interrupted.{interrupted_answer, interrupted_mode}
-use Rattle.machine_host.specs.Restarting.{Keeps, reading, restarted}
+use Rattle.machine_host.specs.Restarting.{RestartMayLeave, reading, restarted}
 use Rattle.machine_host.specs.Costs.{Spending, mount_calls, mount_persists}
 use Rattle.machine_host.specs.Run.{with_start, worked}
 use Rattle.machine_host.specs.Telling.{Tells}
@@ -59,7 +59,7 @@ use Rattle.machine_host.proofs.DepictedLemmas.{blocks_depicted, reads_remounted}
 use Rattle.machine_host.specs.Meaning.{mode_refusal}
 use Rattle.machine_host.specs.Meaning.Needs.{Unpowered}
 use Rattle.machine_host.proofs.RefusalLemmas.{fate_placed}
-use Rattle.machine_host.proofs.MountLemmas.{IsStop, IsTold, all_intact, first_not_area, is_told, only_stops}
+use Rattle.machine_host.proofs.MountLemmas.{StopsMount, IsTold, all_intact, first_not_area, is_told, only_stops}
 
 -- the layout after a restart, and after one that was refused
 pub layout-restarted : (geo : Geometry) (choice : Choice) (old new : Medium) → HasLayout geo old → Survivors choice old new → HasLayout geo new
@@ -139,7 +139,7 @@ module _ (host : HostState) (choice : Choice) (old mid new : Device) (h : Machin
       (each_reads-then geo old.medium (MayLeaveBlocks h.interrupted h.blocks) (λ _. Unit {0}) (λ bs x. tt) stands.device.blocks)
 
   -- and can only be stopped
-  pub stops_alone : {T : Type 0} (r : Result T MountFault) → Finds (first_finding mid.medium) r → IfErr r IsStop
+  pub stops_alone : {T : Type 0} (r : Result T MountFault) → Finds (first_finding mid.medium) r → IfErr r StopsMount
   stops_alone r finds = only_stops geo mid.medium r layout told sound readable finds
 
   seen : Depicts (volume_of geo mid.medium) (volume_image geo start.image)
@@ -156,7 +156,7 @@ module _ (host : HostState) (choice : Choice) (old mid new : Device) (h : Machin
       v.stand (volume_intact geo old.medium was) v.length (omega arith) survivors seen
 
   -- the restart left what it may leave
-  pub keeps : Keeps choice start.image h
+  pub keeps : RestartMayLeave choice start.image h
   keeps = record {
     blocks = blocks_read-restarted geo was.valid choice old.medium mid.medium start.image (MayLeaveBlocks h.interrupted h.blocks) was.lines left.lines left.image stands.device.blocks;
     left = stands.device.volume.pages;
@@ -289,7 +289,7 @@ pub record Stopped (T : Type 0) (f : MountFault) : Type 0 where
   pub mode : unmounted_mode f ≡ interrupted_mode by
   pub ended_so : mount_outcome {T = T} (Err f) ≡ ended {T = Unit {0}} (Err by)
 
-pub stopped : (T : Type 0) (f : MountFault) → IsStop f → (f ≡ fault.Memory → ⊥) → Stopped T f
+pub stopped : (T : Type 0) (f : MountFault) → StopsMount f → (f ≡ fault.Memory → ⊥) → Stopped T f
 stopped T (fault.Meta line) stop other = absurd stop
 stopped T (fault.Layout at) stop other = absurd stop
 stopped T fault.Device stop other = record { by = Failed; answer = refl; mode = refl; ended_so = refl }

@@ -12,7 +12,7 @@ use Rattle.script_text.specs.Script.Input.{Skipped, Malformed, Asked}
 use Rattle.machine_host.specs.Machine.{Machine, Fate}
 use Rattle.machine_host.specs.Commands.{fate, spending}
 use Rattle.machine_host.specs.Machine.Fate.{Gives, Works, Orders, Cuts, Restarts}
-use Rattle.machine_host.specs.Restarting.{Keeps, restarted, restart_answer}
+use Rattle.machine_host.specs.Restarting.{RestartMayLeave, restarted, restart_answer}
 use Rattle.machine_host.specs.Run.{Transcript, Hears, Run, Takes, answered, followed_by, silence, with_cut, with_order, with_start, worked}
 use Rattle.machine_host.specs.Performing.{Performance, Allows, after, perform}
 use Rattle.machine_host.specs.Interrupted.{stop_in}
@@ -64,7 +64,7 @@ gone_on h action inputs starts = elim starts [
 abbrev allows_on : Machine → List Input → Choice → List Start → Type 0
 allows_on h inputs choice starts = elim starts as (λ _. Type 0) [
   | [] ↦ ⊥
-  | start ∷ others ↦ (start.choice ≡ choice) × Keeps choice start.image h × Allows (restarted h start.image) inputs others
+  | start ∷ others ↦ (start.choice ≡ choice) × RestartMayLeave choice start.image h × Allows (restarted h start.image) inputs others
 ]
 
 -- what follows a command

@@ -15,13 +15,13 @@ use Rattle.block_device.specs.declared.fault.BlockFault.TheVariants as fault
 use Rattle.recovery.specs.declared.fault.MountFault.{MountFault}
 use Rattle.recovery.specs.declared.fault.MountFault.TheVariants as mount
 use Rattle.machine_host.specs.Machine.{Machine}
-use Rattle.machine_host.specs.Restarting.{Keeps, restarted}
+use Rattle.machine_host.specs.Restarting.{RestartMayLeave, restarted}
 use Rattle.machine_host.specs.Costs.{Opens}
 use Rattle.machine_host.specs.Stands.{HostState, Stands}
 
 -- host and device stand for what a restart of this state left, with nothing mounted
 pub record StandsUnmounted (choice : Choice) (start : Start) (h : Machine) (host : HostState) (d : Device) : Type 0 where
-  pub keeps : Keeps choice start.image h
+  pub keeps : RestartMayLeave choice start.image h
   pub stands : Stands host d (record (restarted h start.image) { mode = modes.Unsettled })
 
 -- A restart that was done, after which there was no memory to mount the blocks.

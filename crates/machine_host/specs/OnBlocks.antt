@@ -33,8 +33,8 @@ abbrev pub blocks_from : ℕ → ℕ → List Span
 blocks_from block count = record { start = block; len = count } ∷ []
 
 -- so many blocks that a read asks for: past the last one, none, or more than are read at once
-abbrev pub read_refusal : ℕ → ℕ → ℕ → Option Why
-read_refusal blocks block count = first_there (span_refusal blocks block count) (if nat_lt 128 count then Some because.Limit else None)
+abbrev pub count_refusal : ℕ → ℕ → ℕ → Option Why
+count_refusal blocks block count = first_there (span_refusal blocks block count) (if nat_lt 128 count then Some because.Limit else None)
 
 -- a change of the blocks, refused for these places by their number
 abbrev pub changing : (ℕ → Option Refusal) → (List Block → List Block) → BlocksLeft → ℕ → ℕ → Meaning
@@ -80,9 +80,9 @@ bdiscardif block count = changing (λ blocks. spans_refusal blocks (blocks_from 
 abbrev pub bread : ℕ → ℕ → Meaning
 bread block count = record {
   needs = Usable;
-  checked = λ geo. read_refusal geo.blocks block count;
+  checked = λ geo. count_refusal geo.blocks block count;
   reasons = λ h. record no_reasons {
-    places = option_map Refused (read_refusal h.geometry.blocks block count);
+    places = option_map Refused (count_refusal h.geometry.blocks block count);
     unreadable = option_map (λ obstacle. refusal_answer (Unreadable obstacle)) (first_obstacle h.blocks block count);
   };
   comes = λ h. Works (Bytes (look h.blocks block count)) h;

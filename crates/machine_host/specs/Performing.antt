@@ -8,7 +8,7 @@ use Rattle.script_text.specs.Script.Input.{Skipped, Malformed, Asked}
 use Rattle.machine_host.specs.Machine.{Machine}
 use Rattle.machine_host.specs.Commands.{fate, spending}
 use Rattle.machine_host.specs.Machine.Fate.{Gives, Works, Orders, Cuts, Restarts}
-use Rattle.machine_host.specs.Restarting.{Keeps, restarted, restart_answer}
+use Rattle.machine_host.specs.Restarting.{RestartMayLeave, restarted, restart_answer}
 use Rattle.machine_host.specs.Run.{Transcript, answered, followed_by, silence, with_cut, with_order, with_start, worked}
 
 -- what was said, and the state after it
@@ -48,6 +48,6 @@ Allows h (Asked action ∷ inputs) starts = elim (fate h action) as (λ _. Type 
   | Cuts next ↦ Allows next inputs starts
   | Restarts choice ↦ elim starts as (λ _. Type 0) [
     | [] ↦ ⊥
-    | start ∷ others ↦ (start.choice ≡ choice) × Keeps choice start.image h × Allows (restarted h start.image) inputs others
+    | start ∷ others ↦ (start.choice ≡ choice) × RestartMayLeave choice start.image h × Allows (restarted h start.image) inputs others
   ]
 ]

@@ -42,7 +42,7 @@ restart_answer h image =
 
 -- What a restart may leave of a state: blocks and volume as an interrupted action may have left them, and of each word of the
 -- volume one of its values.
-pub record Keeps (choice : Choice) (image : Image) (h : Machine) : Type 0 where
+pub record RestartMayLeave (choice : Choice) (image : Image) (h : Machine) : Type 0 where
   pub blocks : MayLeaveBlocks h.interrupted h.blocks (blocks_read h.geometry image.is_bad image.word)
   pub left : List Page
   pub may : MayLeaveVolume h.interrupted h.volume left

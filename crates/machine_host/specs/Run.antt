@@ -14,7 +14,7 @@ use Rattle.machine_host.specs.Machine.{Machine, Fate}
 use Rattle.machine_host.specs.Commands.{fate, spending, while_interrupted}
 use Rattle.machine_host.specs.Machine.Fate.{Gives, Works, Orders, Cuts, Restarts}
 use Rattle.machine_host.specs.Interrupted.{Interrupts, interrupted_answer}
-use Rattle.machine_host.specs.Restarting.{Keeps, restarted, restart_answer}
+use Rattle.machine_host.specs.Restarting.{RestartMayLeave, restarted, restart_answer}
 
 -- It came to this answer and this state, or was interrupted in that one.
 abbrev pub Ends : Answer → Machine → Machine → Answer → Machine → Type 0
@@ -68,7 +68,7 @@ Takes h action (Works good to) said next = (answer : Answer) × (said ≡ worked
 Takes h action (Orders order to) said next = (said ≡ with_order order Done) × (next ≡ to)
 Takes h action (Cuts to) said next = (said ≡ with_cut Done) × (next ≡ to)
 Takes h action (Restarts choice) said next =
-    (start : Start) × (answer : Answer) × (said ≡ with_start (spending h action) start answer) × (start.choice ≡ choice) × Keeps choice start.image h
+    (start : Start) × (answer : Answer) × (said ≡ with_start (spending h action) start answer) × (start.choice ≡ choice) × RestartMayLeave choice start.image h
     × Ends (restart_answer h start.image) (restarted h start.image) (restarted h start.image) answer next
 
 -- what comes of an input

@@ -46,8 +46,8 @@ pub record HasLayout (geo : Geometry) (m : Medium) : Type 0 where
   pub intact : (n : ℕ) → n < m.count → (m.is_bad n ≡ false) × (meta_lines geo ≤ n → m.is_weak n ≡ false)
 
 -- bytes of a line, word by word
-abbrev pub line_byte : List ℕ → ℕ → ℕ
-line_byte bytes i = byte_at (i % 8) (word_at bytes (i / 8))
+abbrev pub byte_in_line : List ℕ → ℕ → ℕ
+byte_in_line bytes i = byte_at (i % 8) (word_at bytes (i / 8))
 
 -- the bytes of a span that lie in a line
 abbrev pub part_in : Span → ℕ → Span

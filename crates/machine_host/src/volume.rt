@@ -7,10 +7,10 @@ ghost use Rattle.line_words.specs.Ending.{ended};
 ghost use Rattle.line_words.specs.Words.{WritesBackOutside};
 ghost use Rattle.nvm_model.specs.Numbered.{list_from};
 ghost use Rattle.nvm_model.specs.Lines.{below, each, span_stored, span_flushed, span_shown};
-ghost use Rattle.machine_host.specs.Volume.{HasLayout, IsReachable, IsVolumePlace, line_byte, part_in as part_of, volume_of};
+ghost use Rattle.machine_host.specs.Volume.{HasLayout, IsReachable, IsVolumePlace, byte_in_line, part_in as part_of, volume_of};
 
-use line_device::{DeviceFault, Lines};
-use line_words::Interruption;
+use line_device::Lines;
+use line_words::{Interruption, stop_of};
 use nvm_base::{Bytes, LINE, LineNo, Span, lines_of};
 use word_tables::Geometry;
 
@@ -45,14 +45,13 @@ fn load_part<L: Lines>(
     ensures lines { WritesBack (L.state device.old).medium (L.state device.new).medium }
     ensures runs { Runs 1 0 (ended result) (L.state device.old).panel (L.state device.new).panel }
 {
-    match device.load(LineNo(geo.volume_line(part.start / LINE))) {
+    let at = geo.volume_line(part.start / LINE);
+    match device.load(LineNo(at)) {
         Ok(line) => {
             append_part(out, line, (part.start % LINE) as usize, part.len as usize);
             Ok(())
         }
-        Err(DeviceFault::Poisoned(_)) => unreachable!(),
-        Err(DeviceFault::Failed) => Err(Interruption::Failed),
-        Err(DeviceFault::PowerLost) => Err(Interruption::PowerLost),
+        Err(fault) => Err(stop_of(fault, at)),
     }
 }
 
@@ -60,7 +59,7 @@ fn load_part<L: Lines>(
 fn append_part(out: &mut Bytes, line: &[u8], start: usize, len: usize)
     requires within { start + len ≤ length line.now }
     requires room { len ≤ out.old.spare }
-    ensures bytes { out.new.items ≡ out.old.items ++ list_from (line_byte line.now) start len }
+    ensures bytes { out.new.items ≡ out.old.items ++ list_from (byte_in_line line.now) start len }
     ensures room { out.old.spare ≤ out.new.spare + len }
 {
     match out.extend(&line[start..start + len]) {
@@ -110,11 +109,10 @@ fn store_part<L: Lines>(
     ensures outside { WritesBackOutside (IsVolumePlace geo) (L.state device.old).medium (L.state device.new).medium }
     ensures runs { Runs 1 0 (ended result) (L.state device.old).panel (L.state device.new).panel }
 {
-    match device.store(LineNo(geo.volume_line(offset / LINE)), offset % LINE, bytes) {
+    let at = geo.volume_line(offset / LINE);
+    match device.store(LineNo(at), offset % LINE, bytes) {
         Ok(()) => Ok(()),
-        Err(DeviceFault::Poisoned(_)) => unreachable!(),
-        Err(DeviceFault::Failed) => Err(Interruption::Failed),
-        Err(DeviceFault::PowerLost) => Err(Interruption::PowerLost),
+        Err(fault) => Err(stop_of(fault, at)),
     }
 }
 

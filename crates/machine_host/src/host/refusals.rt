@@ -4,7 +4,7 @@ ghost use Rattle.word_tables.specs.Bounds.{IsValid};
 ghost use Rattle.script_text.specs.Action.{action_of};
 ghost use Rattle.script_text.specs.Parsing.{InBounds};
 ghost use Rattle.machine_host.specs.Meaning.{mode_refusal, span_refusal};
-ghost use Rattle.machine_host.specs.OnBlocks.{read_refusal};
+ghost use Rattle.machine_host.specs.OnBlocks.{count_refusal};
 ghost use Rattle.machine_host.specs.Commands.{early_refusal, meaning};
 
 use super::Host;
@@ -50,7 +50,7 @@ fn place_refusal(geo: Geometry, command: &Command) -> Option<Why>
     ensures { result ≡ (meaning (action_of command.now)).checked geo }
 {
     match command {
-        Command::BRead { block, count } => read_refusal(geo.blocks, *block, *count),
+        Command::BRead { block, count } => count_refusal(geo.blocks, *block, *count),
         Command::VLoad { offset, len } | Command::VSync { offset, len } => span_refusal(
             PAGE * geo.vpages,
             *offset,
@@ -65,9 +65,9 @@ fn place_refusal(geo: Geometry, command: &Command) -> Option<Why>
 }
 
 // What is wrong with so many blocks that a read asks for.
-fn read_refusal(blocks: u64, block: u64, count: u64) -> Option<Why>
+fn count_refusal(blocks: u64, block: u64, count: u64) -> Option<Why>
     requires { block + count < 2 ^ 64 }
-    ensures { result ≡ read_refusal blocks block count }
+    ensures { result ≡ count_refusal blocks block count }
 {
     match span_refusal(blocks, block, count) {
         Some(why) => Some(why),

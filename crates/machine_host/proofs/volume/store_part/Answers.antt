@@ -7,10 +7,10 @@ pub returns-in-Ok-clause-ok : goal.returns-in-Ok-clause-ok
 returns-in-Ok-clause-ok g c =
     let old = (g.L.Lines.state c.args.device.now).medium in
     let change = word_stored (c.args.offset % 64) c.args.bytes.now in
-    write_back-changed c.args.geo c.volume_line.result (c.args.offset / 64) change old _ c.volume_line.ensures.line c.in-Ok.ensures.lines
+    write_back-changed c.args.geo c.volume_line-at.result (c.args.offset / 64) change old _ c.volume_line-at.ensures.line c.in-Ok.ensures.lines
 
 pub returns-in-Ok-clause-outside : goal.returns-in-Ok-clause-outside
 returns-in-Ok-clause-outside g c =
     let old = (g.L.Lines.state c.args.device.now).medium in
     let change = word_stored (c.args.offset % 64) c.args.bytes.now in
-    outside-changed c.args.geo c.volume_line.result (c.args.offset / 64) change old _ c.volume_line.ensures.line c.requires.reachable.there c.in-Ok.ensures.lines
+    outside-changed c.args.geo c.volume_line-at.result (c.args.offset / 64) change old _ c.volume_line-at.ensures.line c.requires.reachable.there c.in-Ok.ensures.lines
