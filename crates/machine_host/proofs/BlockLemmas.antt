@@ -36,7 +36,7 @@ use Rattle.word_tables.specs.declared.geometry.Geometry.{Geometry}
 use Rattle.machine_host.specs.declared.mode.Mode.TheVariants.{On}
 use Rattle.machine_host.specs.Machine.{Machine, Fate}
 use Rattle.machine_host.specs.Meaning.{BlocksLeft}
-use Rattle.machine_host.specs.OnBlocks.{changing, refusal_answer}
+use Rattle.machine_host.specs.OnBlocks.{changing_blocks, refusal_answer}
 use Rattle.machine_host.specs.Machine.Fate.{Gives, Works}
 use Rattle.machine_host.specs.Commands.{MayLeaveBlocks, MayLeaveVolume, fate, meaning, spending, unless_refused}
 use Rattle.machine_host.specs.Interrupted.{interrupted_answer, interrupted_mode, stop_in}
@@ -365,7 +365,7 @@ module _ (now host after : HostState) (s : BlocksState) (r : Result (Unit {0}) B
       (comes_of_change host s action calls persists h (few h) (few_persists h) old new on_inside serves_inside stands_inside f good r why quiet left refused ok call)))
 
   -- a change of the blocks, by its row, is answered
-  pub change_answered : (answer : Answer) (why : BlocksState → Option Refusal) (places : ℕ → Option Refusal) (f : List Block → List Block) (left : BlocksLeft) (a b : ℕ) → meaning action ≡ changing places f left a b
+  pub change_answered : (answer : Answer) (why : BlocksState → Option Refusal) (places : ℕ → Option Refusal) (f : List Block → List Block) (left : BlocksLeft) (a b : ℕ) → meaning action ≡ changing_blocks places f left a b
       → ((h : Machine) → MayLeaveVolume (Some action) h.volume h.volume)
       → ((h : Machine) → HostServes host old → Stands host old h → host.mode ≡ On → places h.geometry.blocks ≡ why host.blocks)
       → Answers (why host.blocks) r → OnOk r (blocks_of s new.medium ≡ f (blocks_of host.blocks old.medium)) → answer ≡ answer_after Done r → Answered action answer now after old new

@@ -19,7 +19,7 @@ use Rattle.machine_host.specs.Machine.{Machine, Fate}
 use Rattle.machine_host.specs.Machine.Fate.{Works}
 use Rattle.machine_host.specs.Meaning.{BlocksLeft, Needs, first_reason, mode_refusal, no_reasons, span_refusal}
 use Rattle.machine_host.specs.Meaning.Needs.{Usable, Powered, Unpowered}
-use Rattle.machine_host.specs.OnBlocks.{changing, count_refusal, refusal_answer}
+use Rattle.machine_host.specs.OnBlocks.{changing_blocks, count_refusal, refusal_answer}
 use Rattle.machine_host.specs.Commands.{early_refusal, fate, meaning, refusal, unless_refused}
 
 -- the mode of what is not refused
@@ -166,11 +166,11 @@ power_allows Unsettled powered = refl
 
 -- and of a change of the blocks, with the power on and no line of metadata bad
 pub fate_changing : (h : Machine) (action : Action) (places : ℕ → Option Refusal) (to : List Block → List Block) (left : BlocksLeft) (calls persists : ℕ)
-    → meaning action ≡ changing places to left calls persists → h.mode ≡ On → h.bad_meta ≡ []
+    → meaning action ≡ changing_blocks places to left calls persists → h.mode ≡ On → h.bad_meta ≡ []
     → fate h action ≡ unless_refused h (option_map refusal_answer (places h.geometry.blocks)) (Works Done (record h { blocks = to h.blocks }))
 unfolding refusal
 fate_changing h action places to left calls persists row on good =
-    let row_of = changing places to left calls persists in
+    let row_of = changing_blocks places to left calls persists in
     let comes : Fate = Works Done (record h { blocks = to h.blocks }) in
     ap (λ m. unless_refused h (first_reason (mode_refusal h.mode m.needs) h.bad_meta (m.reasons h)) (m.comes h)) row
     ∙ ap (λ mode. unless_refused h (first_reason (mode_refusal mode Usable) h.bad_meta (row_of.reasons h)) comes) on

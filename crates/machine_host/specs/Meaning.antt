@@ -10,7 +10,7 @@ use Rattle.reply_text.specs.Answer.{Answer}
 use Rattle.reply_text.specs.Answer.Answer.{Refused, RefusedMeta}
 use Rattle.machine_host.specs.declared.mode.Mode.{Mode}
 use Rattle.machine_host.specs.declared.mode.Mode.TheVariants as modes
-use Rattle.machine_host.specs.Costs.{Spending}
+use Rattle.machine_host.specs.Costs.{Spending, no_spending}
 use Rattle.machine_host.specs.Machine.{Machine, Fate}
 
 -- in which modes a command is done: in On; while the power is on; while it is off
@@ -57,6 +57,29 @@ pub record Meaning : Type 0 where
   pub volume_left : VolumeLeft
   pub spends : Machine → Spending
   pub room : ℕ
+
+-- the places that the host looks at are all that refuses it
+abbrev pub placed : (Geometry → Option Why) → Machine → Reasons
+placed checked h = record no_reasons { places = option_map Refused (checked h.geometry) }
+
+-- a command that leaves blocks and volume, and makes no call
+abbrev pub quiet : Needs → (Geometry → Option Why) → (Machine → Fate) → Meaning
+quiet needs checked comes = record {
+  needs = needs;
+  checked = checked;
+  reasons = placed checked;
+  comes = comes;
+  blocks = λ blocks. blocks;
+  volume = λ pages. pages;
+  blocks_left = Same;
+  volume_left = Kept;
+  spends = λ h. no_spending;
+  room = 64;
+}
+
+-- no place is wrong
+abbrev pub anywhere : Geometry → Option Why
+anywhere geo = None
 
 -- why a mode refuses what needs another
 abbrev pub mode_refusal : Mode → Needs → Option Why

@@ -1,6 +1,7 @@
 -- The commands on blocks.
 use Rattle.std.specs.Prelude.{◌+◌, ◌*◌, ◌/◌, ℕ, true, List, [], ◌∷◌, Option, Some, None, length, nat_lt, option_map, if◌then◌else◌}
 use Rattle.nvm_base.specs.declared.units.Span.{Span}
+use Rattle.word_tables.specs.declared.geometry.Geometry.{Geometry}
 use Rattle.nvm_model.specs.Storage.{Block}
 use Rattle.nvm_model.specs.Storage.Block.{Absent, Scarred as Scar}
 use Rattle.nvm_model.specs.Blocks.{first_there, first_obstacle, nth, write, write_ranges, change, is_there, look}
@@ -11,12 +12,10 @@ use Rattle.reply_text.specs.declared.reply.Why.{Why}
 use Rattle.reply_text.specs.declared.reply.Why.TheVariants as because
 use Rattle.reply_text.specs.Answer.{Answer}
 use Rattle.reply_text.specs.Answer.Answer.{Done, Bytes, Yes, No, Scarred, PoisonBlock, Refused, RefusedMeta}
-use Rattle.machine_host.specs.Costs.{Spending, no_spending}
 use Rattle.machine_host.specs.Machine.Fate.{Gives, Works}
-use Rattle.machine_host.specs.Meaning.{BlocksLeft, Meaning, no_reasons, span_refusal}
-use Rattle.machine_host.specs.Meaning.BlocksLeft.{Same, Either, Mixed}
+use Rattle.machine_host.specs.Meaning.{BlocksLeft, Meaning, anywhere, no_reasons, placed, quiet, span_refusal}
+use Rattle.machine_host.specs.Meaning.BlocksLeft.{Either, Mixed}
 use Rattle.machine_host.specs.Meaning.Needs.{Usable}
-use Rattle.machine_host.specs.Meaning.VolumeLeft.{Kept}
 
 -- how a refusal by the blocks is answered
 abbrev pub refusal_answer : Refusal → Answer
@@ -37,73 +36,52 @@ abbrev pub count_refusal : ℕ → ℕ → ℕ → Option Why
 count_refusal blocks block count = first_there (span_refusal blocks block count) (if nat_lt 128 count then Some because.Limit else None)
 
 -- a change of the blocks, refused for these places by their number
-abbrev pub changing : (ℕ → Option Refusal) → (List Block → List Block) → BlocksLeft → ℕ → ℕ → Meaning
-changing places to left calls persists = record {
-  needs = Usable;
-  checked = λ geo. None;
+abbrev pub changing_blocks : (ℕ → Option Refusal) → (List Block → List Block) → BlocksLeft → ℕ → ℕ → Meaning
+changing_blocks places to left calls persists = record (quiet Usable anywhere (λ h. Works Done (record h { blocks = to h.blocks }))) {
   reasons = λ h. record no_reasons { places = option_map refusal_answer (places h.geometry.blocks); changes_metadata = true };
-  comes = λ h. Works Done (record h { blocks = to h.blocks });
   blocks = to;
-  volume = λ pages. pages;
   blocks_left = left;
-  volume_left = Kept;
   spends = λ h. record { calls = calls; persists = persists };
-  room = 64;
 }
 
 -- for each block its unit's lines, made healthy, stored and persisted, and a commit
 abbrev pub bwrite : ℕ → List ℕ → Meaning
 bwrite block bytes =
-    changing (λ blocks. bytes_refusal blocks block (length bytes)) (write block bytes) Mixed (35 * (length bytes / 512)) (13 * (length bytes / 512))
+    changing_blocks (λ blocks. bytes_refusal blocks block (length bytes)) (write block bytes) Mixed (35 * (length bytes / 512)) (13 * (length bytes / 512))
 
 abbrev pub batomic : ℕ → List ℕ → Meaning
 batomic block bytes =
-    changing (λ blocks. first_there (bytes_refusal blocks block (length bytes)) (where_ (nat_lt 64 (length bytes / 512)) Limit)) (write block bytes) Either
+    changing_blocks (λ blocks. first_there (bytes_refusal blocks block (length bytes)) (where_ (nat_lt 64 (length bytes / 512)) Limit)) (write block bytes) Either
     (29 * (length bytes / 512) + 6) (10 * (length bytes / 512) + 3)
 
 abbrev pub bmulti : List Span → List ℕ → Meaning
 bmulti ranges bytes =
-    changing (λ blocks. ranges_refusal blocks ranges) (write_ranges ranges bytes) Either (29 * (length bytes / 512) + 6) (10 * (length bytes / 512) + 3)
+    changing_blocks (λ blocks. ranges_refusal blocks ranges) (write_ranges ranges bytes) Either (29 * (length bytes / 512) + 6) (10 * (length bytes / 512) + 3)
 
 -- a commit of at most 64 words
 abbrev pub bdiscard : ℕ → ℕ → Meaning
-bdiscard block count = changing (λ blocks. together_refusal blocks (blocks_from block count)) (change (blocks_from block count) Absent) Either 326 131
+bdiscard block count = changing_blocks (λ blocks. together_refusal blocks (blocks_from block count)) (change (blocks_from block count) Absent) Either 326 131
 
 abbrev pub bscar : List Span → Meaning
-bscar ranges = changing (λ blocks. together_refusal blocks ranges) (change ranges Scar) Either 326 131
+bscar ranges = changing_blocks (λ blocks. together_refusal blocks ranges) (change ranges Scar) Either 326 131
 
 -- a commit for each block
 abbrev pub bdiscardif : ℕ → ℕ → Meaning
-bdiscardif block count = changing (λ blocks. spans_refusal blocks (blocks_from block count)) (change (blocks_from block count) Absent) Mixed (11 * count) (5 * count)
+bdiscardif block count = changing_blocks (λ blocks. spans_refusal blocks (blocks_from block count)) (change (blocks_from block count) Absent) Mixed (11 * count) (5 * count)
 
 -- each line of the blocks is loaded
 abbrev pub bread : ℕ → ℕ → Meaning
-bread block count = record {
-  needs = Usable;
-  checked = λ geo. count_refusal geo.blocks block count;
-  reasons = λ h. record no_reasons {
-    places = option_map Refused (count_refusal h.geometry.blocks block count);
-    unreadable = option_map (λ obstacle. refusal_answer (Unreadable obstacle)) (first_obstacle h.blocks block count);
-  };
-  comes = λ h. Works (Bytes (look h.blocks block count)) h;
-  blocks = λ blocks. blocks;
-  volume = λ pages. pages;
-  blocks_left = Same;
-  volume_left = Kept;
-  spends = λ h. record { calls = 8 * count; persists = 0 };
-  room = 64 + 3 * (512 * count);
-}
+bread block count =
+    let past : Geometry → Option Why = λ geo. count_refusal geo.blocks block count in
+    record (quiet Usable past (λ h. Works (Bytes (look h.blocks block count)) h)) {
+      reasons = λ h. record (placed past h) {
+        unreadable = option_map (λ obstacle. refusal_answer (Unreadable obstacle)) (first_obstacle h.blocks block count);
+      };
+      spends = λ h. record { calls = 8 * count; persists = 0 };
+      room = 64 + 3 * (512 * count);
+    }
 
 abbrev pub bexists : ℕ → Meaning
-bexists block = record {
-  needs = Usable;
-  checked = λ geo. None;
+bexists block = record (quiet Usable anywhere (λ h. Gives (if is_there (nth h.blocks block) then Yes else No) h)) {
   reasons = λ h. record no_reasons { places = if nat_lt block h.geometry.blocks then None else Some (Refused because.Range) };
-  comes = λ h. Gives (if is_there (nth h.blocks block) then Yes else No) h;
-  blocks = λ blocks. blocks;
-  volume = λ pages. pages;
-  blocks_left = Same;
-  volume_left = Kept;
-  spends = λ h. no_spending;
-  room = 64;
 }
