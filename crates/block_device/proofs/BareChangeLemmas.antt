@@ -19,7 +19,7 @@ use Rattle.block_device.specs.Object.{AreDurable, is_at}
 use Rattle.block_device.specs.Changes.{IsVacant, takes, names, changed_map, changes_in, units_named, MayChange, AreTaken}
 use Rattle.block_device.proofs.ChangeLemmas.{is_at-set, may_change-later}
 use Rattle.block_device.proofs.SpanLemmas.{change_to, length-changes_in}
-use Rattle.block_device.proofs.PassedLemmas.{AreThere}
+use Rattle.block_device.specs.Prepared.{AreThere}
 
 -- all of them give that state
 abbrev pub AllTo : BlockState → List Change → Type 0

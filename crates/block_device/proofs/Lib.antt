@@ -7,7 +7,7 @@ pub mod ChangeLemmas
 pub mod ByteLemmas
 pub mod FreeUnitLemmas
 pub mod WriteLemmas
-pub mod FreshLemmas
+pub mod PartLemmas
 pub mod PassedLemmas
 pub mod AssignLemmas
 pub mod SwitchLemmas
@@ -22,7 +22,6 @@ pub mod BareLemmas
 pub mod BareChangeLemmas
 pub mod TogetherLemmas
 pub mod ReachLemmas
-pub mod HintLemmas
 pub mod MapLemmas
 pub mod RestartLemmas
 pub mod ZerosLemmas

@@ -1,5 +1,5 @@
 -- What is known once the tests before a call passed.
-use Rattle.std.proofs.Common.{◌≡◌, ◌+◌, ◌<◌, ◌≤◌, ◌==◌, ◌||◌, ℕ, Bool, true, false, not, List, length, get_or, sum_by, position, nat_lt, cond, Option, Some, None, option_map, Ok, refl, sym, ap, ◌∙◌, inl, inr, arith}
+use Rattle.std.proofs.Common.{◌≡◌, ◌+◌, ◌<◌, ◌==◌, ◌||◌, ℕ, Bool, true, false, not, List, length, get_or, sum_by, position, nat_lt, cond, Option, Some, None, option_map, Result, Ok, Err, refl, sym, ap, ◌∙◌, inl, inr, arith}
 use Rattle.std.specs.List.{list_any, range_with_len, position_or_len}
 use Rattle.std.proofs.lemmas.Bool.{cases_Bool, ltb-false, or_parts}
 use Rattle.std.proofs.lemmas.Option.{none-some}
@@ -12,8 +12,10 @@ use Rattle.word_tables.specs.Layout.{meta_lines}
 use Rattle.range_sets.specs.Ranges.{is_disjoint}
 use Rattle.nvm_model.specs.Blocks.{first_there}
 use Rattle.block_device.specs.Object.{HasGoodMetadata}
+use Rattle.block_device.specs.Prepared.{AreThere, AreTogether}
 use Rattle.block_device.specs.Refusals.Refusal.{Meta}
-use Rattle.block_device.specs.Refusals.{Refusal, Checks, where_, spans_refusal, together_refusal, meta_refusal}
+use Rattle.block_device.specs.declared.fault.BlockFault.{BlockFault}
+use Rattle.block_device.specs.Refusals.{Refusal, Checks, OnWorked, where_, spans_refusal, together_refusal, meta_refusal}
 
 nowhere : {X : Type 0} (p : X → Bool) (xs : List X) (k : ℕ) (d : X) → position p xs ≡ None → k < length xs → p (get_or xs k d) ≡ false
 nowhere p xs k d none below =
@@ -43,21 +45,10 @@ first_passed : {T : Type 0} (a b : Option Refusal) (x : T) → Checks (first_the
 first_passed None b x h = (tt, h)
 first_passed (Some why) b x h = absurd h
 
--- spans of blocks that are there, none empty
-pub record AreThere (blocks : ℕ) (spans : List Span) : Type 0 where
-  pub within : list_any (λ (s : Span). nat_lt blocks (s.start + s.len)) spans ≡ false
-  pub full : list_any (λ (s : Span). s.len == 0) spans ≡ false
-
 pub spans_passed : {T : Type 0} (blocks : ℕ) (spans : List Span) (x : T) → Checks (spans_refusal blocks spans) (Ok x) → AreThere blocks spans
 spans_passed blocks spans x h =
     let both = both_passed (list_any (λ (s : Span). nat_lt blocks (s.start + s.len)) spans) (list_any (λ (s : Span). s.len == 0) spans) _ _ x h in
     record { within = both.0; full = both.1 }
-
--- few, and no two share a block
-pub record AreTogether (blocks : ℕ) (spans : List Span) : Type 0 where
-  pub there : AreThere blocks spans
-  pub few : sum_by (λ (s : Span). s.len) spans ≤ 64
-  pub disjoint : is_disjoint spans ≡ true
 
 pub together_passed : {T : Type 0} (blocks : ℕ) (spans : List Span) (x : T) → Checks (together_refusal blocks spans) (Ok x) → AreTogether blocks spans
 together_passed blocks spans x h =
@@ -73,3 +64,7 @@ together_passed blocks spans x h =
     positive : (b : Bool) → not b ≡ false → b ≡ true
     positive true out = refl
     positive false out = sym out
+
+pub on_worked : {T : Type 0} (r : Result T BlockFault) (P : Type 0) → P → OnWorked r P
+on_worked (Ok x) P p = p
+on_worked (Err f) P p = λ _. p

@@ -6,7 +6,8 @@ use Rattle.std.proofs.lemmas.List.Sums.{sum_by-append}
 use Rattle.line_device.specs.Medium.{Medium, IsSound, last_image}
 use Rattle.line_words.specs.Words.{HoldsLine, WritesBackBeside}
 use Rattle.line_words.proofs.BesideLemmas.{beside-wider}
-use Rattle.word_tables.specs.Layout.{block_line}
+use Rattle.word_tables.specs.declared.geometry.Geometry.{Geometry}
+use Rattle.word_tables.specs.Layout.{block_line, first_line, total_lines}
 use Rattle.block_map.specs.declared.state.BlockState.{BlockState}
 use Rattle.block_map.specs.declared.state.BlockState.TheVariants.{Absent, Scarred, At}
 use Rattle.block_map.specs.States.{IsAt}
@@ -22,8 +23,7 @@ use Rattle.block_device.specs.Prepared.{ArePrepared, AreAsBefore, blocks_with}
 use Rattle.block_device.proofs.ReadLemmas.{map_read-beside, durable-beside}
 use Rattle.block_device.proofs.ServesLemmas.{serves-beside}
 use Rattle.block_device.proofs.ChangeLemmas.{slice_get-set_other, is_at-set, length-changed_map, may_change-later, may_change-push}
-use Rattle.block_device.proofs.FreeUnitLemmas.{IsUnitLine, durable-set, free_is_vacant, holds_block, in_step-taken, is_unit_line, taken-set, unit_is_block, unit_off_area, unit_off_named, unit_reads}
-use Rattle.block_device.proofs.FreshLemmas.{HasBytes}
+use Rattle.block_device.proofs.FreeUnitLemmas.{IsUnitLine, HoldsBlock, durable-set, free_is_vacant, holds_block, in_step-taken, is_unit_line, taken-set, unit_is_block, unit_off_area, unit_off_named, unit_reads}
 use Rattle.block_device.proofs.WriteLemmas.{write_one}
 
 abbrev pub put : ℕ → ℕ → Change
@@ -69,6 +69,18 @@ changed_taken free (c ∷ cs) states may taken named =
       | inl here ↦ taken.0 unit here.1
       | inr there ↦ named block unit there.1
     ])
+
+-- the unit has the block's bytes
+pub record HasBytes (s : BlocksState) (unit : ℕ) (n : Medium) (block : ℕ) (bytes : List ℕ) : Type 0 where
+  pub there : block < s.geo.blocks
+  pub holds : HoldsBlock s.geo n unit bytes
+  pub sound : IsSound n
+  pub small : (k : ℕ) → get_or bytes k 0 < 256
+  pub whole : length bytes ≡ 512
+
+pub unit_there : (geo : Geometry) (unit first len count : ℕ) → unit < geo.blocks + 64 → first ≡ block_line geo unit → len ≡ 512 → count ≡ total_lines geo → first + len / 64 ≤ count
+unfolding first_line total_lines
+unit_there geo unit first len count within at whole all = omega arith
 
 -- a free unit beside prepared changes, its lines made new
 pub record HasSpare (s : BlocksState) (m n : Medium) (cs : List Change) (unit : ℕ) : Type 0 where

@@ -1,5 +1,6 @@
 -- Spans of blocks that change together to a state without bytes.
-use Rattle.std.proofs.Common.{◌≡◌, false, ◌<◌, ◌+◌, List, length, nat_lt, IsTrue, Result, Ok, Err, sym, ◌∙◌, ap, subst}
+use Rattle.std.proofs.Common.{◌≡◌, ℕ, false, ◌<◌, ◌+◌, List, [], ◌∷◌, length, nat_lt, sum_by, lit≤, IsTrue, Result, Ok, Err, OnOk, refl, sym, ◌∙◌, ap, subst, arith}
+use Rattle.std.proofs.lemmas.Bool.{le-ltb, or_from}
 use Rattle.std.specs.List.{list_any}
 use Rattle.nvm_base.specs.declared.units.Span.{Span}
 use Rattle.line_device.specs.Medium.{Medium, last_image}
@@ -12,23 +13,18 @@ use Rattle.word_log.specs.Area.{IsOf}
 use Rattle.nvm_model.specs.Blocks.{change}
 use Rattle.block_map.specs.declared.state.BlockState.{BlockState}
 use Rattle.block_device.specs.declared.change.Change.{Change}
-use Rattle.block_device.specs.declared.fault.BlockFault.{BlockFault}
 use Rattle.block_device.specs.Area.{block_area, IsBlockLine}
 use Rattle.block_device.specs.Reading.{map_read}
 use Rattle.block_device.specs.Object.{BlocksState, IsKept, BlocksServe, AreDurable, HasGoodMetadata, IsInStep, blocks_of, is_at}
 use Rattle.block_device.specs.Changes.{bare_block, changed_map, changes_in, units_named, MayChange, AreTaken}
-use Rattle.block_device.specs.Refusals.{Checks, OnWorked, together_refusal, meta_refusal}
+use Rattle.block_device.specs.Prepared.{AreTogether}
 use Rattle.block_device.specs.Images.{EachReads, IsEither}
 use Rattle.block_device.proofs.ReadLemmas.{map_read-outside}
 use Rattle.block_device.proofs.PlaceLemmas.{area_is_block, named_apart}
 use Rattle.block_device.proofs.ChangeLemmas.{is_map-changed, length-changed_map}
 use Rattle.block_device.proofs.BareLemmas.{changed_blocks}
 use Rattle.block_device.proofs.BareChangeLemmas.{all_to-changes_in, bare_may_change, bare_taken, bare_units, bare_durable, some_changes}
-use Rattle.block_device.proofs.PassedLemmas.{AreTogether, together_passed, meta_passed}
-
-pub on_worked : {T : Type 0} (r : Result T BlockFault) (P : Type 0) → P → OnWorked r P
-on_worked (Ok x) P p = p
-on_worked (Err f) P p = λ _. p
+use Rattle.block_device.proofs.SpanLemmas.{length-changes_in}
 
 -- settled blocks, and spans of them that can change together
 pub record IsAsked (s : BlocksState) (m : Medium) (spans : List Span) (state : BlockState) (cs : List Change) : Type 0 where
@@ -41,14 +37,14 @@ pub record IsAsked (s : BlocksState) (m : Medium) (spans : List Span) (state : B
   pub bare : is_at state ≡ false
   pub named : cs ≡ changes_in spans state
 
-pub asked : {T U : Type 0} (view s : BlocksState) (area : LogArea) (m : Medium) (spans : List Span) (state : BlockState) (cs : List Change) (x : T) (y : U) → view ≡ s → IsKept view area → BlocksServe s m → IsTrue s.settled → Checks (meta_refusal view.geo m) (Ok y) → Checks (together_refusal view.geo.blocks spans) (Ok x) → is_at state ≡ false → cs ≡ changes_in spans state → IsAsked s m spans state cs
-asked view s area m spans state cs x y is kept serves settled meta together bare named = record {
+pub asked : (view s : BlocksState) (area : LogArea) (m : Medium) (spans : List Span) (state : BlockState) (cs : List Change) → view ≡ s → IsKept view area → BlocksServe s m → IsTrue s.settled → HasGoodMetadata s.geo m → AreTogether s.geo.blocks spans → is_at state ≡ false → cs ≡ changes_in spans state → IsAsked s m spans state cs
+asked view s area m spans state cs is kept serves settled good together bare named = record {
   area = area;
   kept = subst (λ t. IsKept t area) is kept;
   serves = serves;
   settled = settled;
-  good = subst (λ (t : BlocksState). HasGoodMetadata t.geo m) is (meta_passed view.geo m y meta);
-  together = subst (λ (t : BlocksState). AreTogether t.geo.blocks spans) is (together_passed view.geo.blocks spans x together);
+  good = good;
+  together = together;
   bare = bare;
   named = named;
 }
@@ -92,5 +88,17 @@ module _ (s : BlocksState) (m : Medium) (spans : List Span) (state : BlockState)
   pub asked_images : (new : Medium) → EachReads s.geo new (IsEither (blocks_of s m) (map_read s.geo m.is_bad (last_image m) (changed_map cs s.map))) → EachReads s.geo new (IsEither (blocks_of s m) (change spans (bare_block state) (blocks_of s m)))
   asked_images new each = subst (λ bs. EachReads s.geo new (IsEither (blocks_of s m) bs)) asked_blocks each
 
-  pub asked_ok : (t : BlocksState) (new : Medium) → t.geo ≡ s.geo → t.map ≡ changed_map cs s.map → WritesBackOutside (IsOf (block_area s.geo)) m new → blocks_of t new ≡ change spans (bare_block state) (blocks_of s m)
-  asked_ok t new geo map outside = blocks_switched s t x.area m new cs x.kept asked_may geo map outside ∙ asked_blocks
+  pub asked_ok : {E : Type 0} (result : Result (Unit {0}) E) (t : BlocksState) (new : Medium) → t.geo ≡ s.geo → OnOk result (t.map ≡ changed_map cs s.map) → WritesBackOutside (IsOf (block_area s.geo)) m new → OnOk result (blocks_of t new ≡ change spans (bare_block state) (blocks_of s m))
+  asked_ok (Ok done) t new geo map outside = blocks_switched s t x.area m new cs x.kept asked_may geo map outside ∙ asked_blocks
+  asked_ok (Err e) t new geo map outside = tt
+
+  pub asked_count : length cs ≡ sum_by (λ (t : Span). t.len) spans
+  asked_count = ap length x.named ∙ length-changes_in spans state
+
+-- one block is a span of them
+pub one_together : (count block : ℕ) → block < count → AreTogether count (record { start = block; len = 1 } ∷ [])
+one_together count block below = record {
+  there = record { within = or_from (nat_lt count (block + 1)) false (le-ltb count (block + 1) (omega arith)) refl; full = refl };
+  few = lit≤ tt;
+  disjoint = refl;
+}

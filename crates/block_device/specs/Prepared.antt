@@ -40,6 +40,17 @@ pub record AreAsBefore (s t : BlocksState) (m n : Medium) : Type 0 where
   pub good : HasGoodMetadata t.geo n
   pub outside : WritesBackBeside (IsBlockLine s.geo) m n
 
+-- spans of blocks that are there, none empty
+pub record AreThere (blocks : ℕ) (spans : List Span) : Type 0 where
+  pub within : list_any (λ (s : Span). nat_lt blocks (s.start + s.len)) spans ≡ false
+  pub full : list_any (λ (s : Span). s.len == 0) spans ≡ false
+
+-- few of them, and no two share a block
+pub record AreTogether (blocks : ℕ) (spans : List Span) : Type 0 where
+  pub there : AreThere blocks spans
+  pub few : sum_by (λ (s : Span). s.len) spans ≤ 64
+  pub disjoint : is_disjoint spans ≡ true
+
 -- ranges of whole blocks that are there, few and apart
 pub record AreApart (count : ℕ) (ranges : List Span) : Type 0 where
   pub whole : list_any (λ (r : Span). r.len == 0 || not (r.len % 512 == 0)) ranges ≡ false

@@ -1,22 +1,16 @@
-// Blocks that are written together, all of them or none.
-ghost use Rattle.std.specs.Prelude.{◌≡◌, ◌+◌, ◌*◌, ◌/◌, ◌<◌, ◌≤◌, IsTrue, OnOk, length};
-ghost use Rattle.std.specs.Result.{is_ok};
+// Blocks that follow each other, written together: one range of them.
+ghost use Rattle.std.specs.Prelude.{◌≡◌, ◌+◌, ◌*◌, ◌/◌, IsTrue, OnOk, length};
 ghost use Rattle.line_device.specs.Panel.{Runs};
 ghost use Rattle.line_words.specs.Words.{WritesBackBeside};
-ghost use Rattle.line_words.specs.Ending.{ended};
 ghost use Rattle.nvm_model.specs.Blocks.{write};
 ghost use Rattle.block_device.specs.Area.{IsBlockLine};
-ghost use Rattle.block_device.specs.Object.{BlocksServe, HasGoodMetadata, blocks_of};
+ghost use Rattle.block_device.specs.Object.{BlocksServe, blocks_of};
 ghost use Rattle.block_device.specs.Refusals.{Answers, OnRefused, OnWorked, atomic_refusal, block_outcome, is_done};
 ghost use Rattle.block_device.specs.Images.{EachReads, IsEither};
 
-use crate::area::MOST_TOGETHER;
-use crate::checks::{check_bytes, check_meta};
-use crate::preparing::Changes;
 use crate::{BlockFault, Blocks};
 use line_device::Lines;
-use line_words::Interruption;
-use nvm_base::BLOCK;
+use nvm_base::Span;
 
 impl Blocks {
     /// Writes whole blocks together: wherever the power goes, all have their old bytes or all their new ones.
@@ -42,43 +36,10 @@ impl Blocks {
         ensures runs { Runs (29 * (length bytes.now / 512) + 6) (10 * (length bytes.now / 512) + 3) (block_outcome result)
             (L.state dev.old).panel (L.state dev.new).panel }
     {
-        check_bytes(self.geo.blocks, block, bytes.len() as u64)?;
-        if bytes.len() as u64 / BLOCK > MOST_TOGETHER {
-            return Err(BlockFault::Limit);
-        }
-        check_meta(dev, self.geo)?;
-        self.write_together(dev, block, bytes)?;
-        Ok(())
-    }
-
-    // Writes blocks that are there, all of them or none.
-    fn write_together<L: Lines>(
-        &mut self,
-        dev: &mut L,
-        block: u64,
-        bytes: &[u8],
-    ) -> Result<(), Interruption>
-        requires serves { BlocksServe self.old (L.state dev.old).medium }
-        requires settled { IsTrue self.old.settled }
-        requires on { IsTrue (L.state dev.old).panel.power }
-        requires good { HasGoodMetadata self.old.geo (L.state dev.old).medium }
-        requires some { 0 < length bytes.now / 512 }
-        requires few { length bytes.now / 512 ≤ 64 }
-        requires within { block + length bytes.now / 512 ≤ self.old.geo.blocks }
-        ensures ok { OnOk result (blocks_of self.new (L.state dev.new).medium
-            ≡ write block bytes.now (blocks_of self.old (L.state dev.old).medium)) }
-        ensures images { EachReads self.old.geo (L.state dev.new).medium
-            (IsEither (blocks_of self.old (L.state dev.old).medium)
-            (write block bytes.now (blocks_of self.old (L.state dev.old).medium))) }
-        ensures outside { WritesBackBeside (IsBlockLine self.old.geo) (L.state dev.old).medium (L.state dev.new).medium }
-        ensures serves { OnOk result (BlocksServe self.new (L.state dev.new).medium) }
-        ensures object { (self.new.geo ≡ self.old.geo) × (self.new.settled ≡ is_ok result) }
-        ensures runs { Runs (29 * (length bytes.now / 512) + 6) (10 * (length bytes.now / 512) + 3) (ended result)
-            (L.state dev.old).panel (L.state dev.new).panel }
-    {
-        self.settled = false;
-        let mut changes = Changes::new();
-        self.prepare_blocks(dev, &mut changes, block, bytes)?;
-        self.switch(dev, changes.as_slice())
+        let range = Span {
+            start: block,
+            len: bytes.len() as u64,
+        };
+        self.atomic_multiwrite(dev, &[range], bytes)
     }
 }

@@ -1,16 +1,19 @@
 // Discards and scars: blocks that change without bytes.
 ghost use Rattle.std.specs.Prelude.{◌≡◌, ◌+◌, ◌*◌, ◌<◌, ◌≤◌, ◌++◌, All, IsTrue, OnOk, [], ◌∷◌, false, length, sum_by};
+ghost use Rattle.std.specs.Result.{is_ok};
 ghost use Rattle.arrayvec.specs.ArrayVec.{array_vec_len};
 ghost use Rattle.nvm_base.specs.declared.units.Span.{Span as Stretch};
 ghost use Rattle.line_device.specs.Panel.{Runs};
 ghost use Rattle.line_words.specs.Words.{WritesBackBeside};
+ghost use Rattle.line_words.specs.Ending.{ended};
 ghost use Rattle.nvm_model.specs.Storage.Block.{Absent, Scarred};
 ghost use Rattle.nvm_model.specs.Blocks.{IsMixed, change};
 ghost use Rattle.block_device.specs.Area.{IsBlockLine};
-ghost use Rattle.block_device.specs.Object.{BlocksServe, blocks_of, is_at};
+ghost use Rattle.block_device.specs.Object.{BlocksServe, HasGoodMetadata, blocks_of, is_at};
 ghost use Rattle.block_device.specs.Changes.{bare_block, changes_in};
 ghost use Rattle.block_device.specs.Refusals.{Answers, OnRefused, OnWorked, block_outcome, is_done, change_refusal, hint_refusal};
 ghost use Rattle.block_device.specs.Images.{EachReads, IsEither};
+ghost use Rattle.block_device.specs.Prepared.{AreTogether};
 
 use crate::change::Change;
 use crate::checks::{check_meta, check_spans, check_together};
@@ -18,6 +21,7 @@ use crate::preparing::Changes;
 use crate::{BlockFault, Blocks};
 use block_map::BlockState;
 use line_device::Lines;
+use line_words::Interruption;
 use nvm_base::Span;
 
 impl Blocks {
@@ -83,11 +87,11 @@ impl Blocks {
         check_spans(self.geo.blocks, &[blocks])?;
         check_meta(dev, self.geo)?;
         for block in blocks.start..blocks.start + blocks.len {
-            let change = Change {
-                block,
-                state: BlockState::Absent,
+            let one = Span {
+                start: block,
+                len: 1,
             };
-            self.switch(dev, &[change])?;
+            self.change_apart(dev, &[one], BlockState::Absent)?;
         }
         Ok(())
     }
@@ -118,8 +122,38 @@ impl Blocks {
     {
         check_together(self.geo.blocks, spans)?;
         check_meta(dev, self.geo)?;
+        self.change_apart(dev, spans, state)?;
+        Ok(())
+    }
+
+    // Gives the blocks of spans that are apart a state without bytes, all of them or none.
+    fn change_apart<L: Lines>(
+        &mut self,
+        dev: &mut L,
+        spans: &[Span],
+        state: BlockState,
+    ) -> Result<(), Interruption>
+        requires serves { BlocksServe self.old (L.state dev.old).medium }
+        requires settled { IsTrue self.old.settled }
+        requires on { IsTrue (L.state dev.old).panel.power }
+        requires good { HasGoodMetadata self.old.geo (L.state dev.old).medium }
+        requires some { 0 < length spans.now }
+        requires together { AreTogether self.old.geo.blocks spans.now }
+        requires bare { is_at state ≡ false }
+        ensures ok { OnOk result (blocks_of self.new (L.state dev.new).medium
+            ≡ change spans.now (bare_block state) (blocks_of self.old (L.state dev.old).medium)) }
+        ensures images { EachReads self.old.geo (L.state dev.new).medium
+            (IsEither (blocks_of self.old (L.state dev.old).medium)
+            (change spans.now (bare_block state) (blocks_of self.old (L.state dev.old).medium))) }
+        ensures outside { WritesBackBeside (IsBlockLine self.old.geo) (L.state dev.old).medium (L.state dev.new).medium }
+        ensures serves { OnOk result (BlocksServe self.new (L.state dev.new).medium) }
+        ensures object { (self.new.geo ≡ self.old.geo) × (self.new.settled ≡ is_ok result) }
+        ensures runs { Runs (5 * sum_by (λ (s : Stretch). s.len) spans.now + 6) (2 * sum_by (λ (s : Stretch). s.len) spans.now + 3)
+            (ended result) (L.state dev.old).panel (L.state dev.new).panel }
+    {
+        let _ = &self.geo;
         let changes = changes_of(spans, state);
-        Ok(self.switch(dev, changes.as_slice())?)
+        self.switch(dev, changes.as_slice())
     }
 }
 

@@ -53,7 +53,7 @@ impl Blocks {
     }
 
     // Writes ranges that are apart, all of them or none.
-    fn write_apart<L: Lines>(
+    pub(crate) fn write_apart<L: Lines>(
         &mut self,
         dev: &mut L,
         ranges: &[Span],

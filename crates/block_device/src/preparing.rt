@@ -1,7 +1,8 @@
 // Blocks written to fresh units that the map doesn't name yet.
-ghost use Rattle.std.specs.Prelude.{◌≡◌, ◌+◌, ◌*◌, ◌/◌, ◌<◌, ◌≤◌, ◌++◌, ℕ, IsTrue, OnOk, [], ◌∷◌, false, length};
+ghost use Rattle.std.specs.Prelude.{◌≡◌, ◌+◌, ◌*◌, ◌/◌, ◌<◌, ◌≤◌, ◌++◌, ℕ, IsTrue, OnOk, [], ◌∷◌, false, length, slice_set};
 ghost use Rattle.arrayvec.specs.ArrayVec.{array_vec_len};
 ghost use Rattle.line_device.specs.Panel.{Runs};
+ghost use Rattle.free_pool.specs.Units.{IsFree, free_count};
 ghost use Rattle.line_words.specs.Ending.{ended};
 ghost use Rattle.nvm_model.specs.Numbered.{list_from};
 ghost use Rattle.nvm_model.specs.Blocks.{write};
@@ -86,5 +87,19 @@ impl Blocks {
             state: BlockState::At(unit),
         });
         Ok(())
+    }
+
+    // Takes a free unit.
+    fn take_unit(&mut self) -> u64
+        requires unsettled { self.old.settled ≡ false }
+        requires some { 0 < free_count self.old.free }
+        ensures unit { result < self.old.geo.blocks + 64 }
+        ensures was_free { IsFree self.old.free result }
+        ensures after { self.new ≡ record self.old { free = slice_set self.old.free result false } }
+    {
+        match self.pool.take() {
+            Some(unit) => unit,
+            None => unreachable!(),
+        }
     }
 }

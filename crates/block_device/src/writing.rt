@@ -1,24 +1,21 @@
 // Writing blocks.
-ghost use Rattle.std.specs.Prelude.{◌≡◌, ◌+◌, ◌*◌, ◌/◌, ◌<◌, ◌≤◌, IsTrue, OnOk, false, length, slice_set};
+ghost use Rattle.std.specs.Prelude.{◌≡◌, ◌+◌, ◌*◌, ◌/◌, ◌<◌, ◌≤◌, IsTrue, OnOk, length};
 ghost use Rattle.std.specs.Result.{is_ok};
 ghost use Rattle.line_device.specs.Panel.{Runs};
 ghost use Rattle.line_words.specs.Words.{WritesBackBeside};
 ghost use Rattle.line_words.specs.Ending.{ended};
 ghost use Rattle.word_tables.specs.Bounds.{IsValid};
-ghost use Rattle.free_pool.specs.Units.{IsFree, free_count};
 ghost use Rattle.nvm_model.specs.Blocks.{IsMixed, write};
 ghost use Rattle.block_device.specs.Area.{IsBlockLine};
 ghost use Rattle.block_device.specs.Object.{BlocksServe, HasGoodMetadata, blocks_of};
 ghost use Rattle.block_device.specs.Refusals.{Answers, OnRefused, OnWorked, block_outcome, is_done, write_refusal};
-ghost use Rattle.block_device.specs.Images.{EachReads, IsEither};
+ghost use Rattle.block_device.specs.Images.{EachReads};
 
-use crate::change::Change;
 use crate::checks::{check_bytes, check_meta};
 use crate::{BlockFault, Blocks};
-use block_map::BlockState;
 use line_device::Lines;
-use line_words::{Interruption, renew_lines};
-use nvm_base::BLOCK;
+use line_words::Interruption;
+use nvm_base::{BLOCK, Span};
 
 impl Blocks {
     /// Writes whole blocks, one after the other: wherever the power goes, each has its old bytes or its new ones.
@@ -77,57 +74,12 @@ impl Blocks {
     {
         let size = BLOCK as usize;
         for k in 0..bytes.len() / size {
-            self.write_block(dev, block + k as u64, &bytes[size * k..size * k + size])?;
+            let range = Span {
+                start: block + k as u64,
+                len: BLOCK,
+            };
+            self.write_apart(dev, &[range], &bytes[size * k..size * k + size])?;
         }
         Ok(())
-    }
-
-    // Writes one block: wherever the power goes, it has its old bytes or its new ones.
-    fn write_block<L: Lines>(
-        &mut self,
-        dev: &mut L,
-        block: u64,
-        bytes: &[u8],
-    ) -> Result<(), Interruption>
-        requires serves { BlocksServe self.old (L.state dev.old).medium }
-        requires settled { IsTrue self.old.settled }
-        requires on { IsTrue (L.state dev.old).panel.power }
-        requires good { HasGoodMetadata self.old.geo (L.state dev.old).medium }
-        requires block { block < self.old.geo.blocks }
-        requires length { length bytes.now ≡ 512 }
-        ensures ok { OnOk result (blocks_of self.new (L.state dev.new).medium
-            ≡ write block bytes.now (blocks_of self.old (L.state dev.old).medium)) }
-        ensures images { EachReads self.old.geo (L.state dev.new).medium
-            (IsEither (blocks_of self.old (L.state dev.old).medium)
-            (write block bytes.now (blocks_of self.old (L.state dev.old).medium))) }
-        ensures outside { WritesBackBeside (IsBlockLine self.old.geo) (L.state dev.old).medium (L.state dev.new).medium }
-        ensures good { HasGoodMetadata self.old.geo (L.state dev.new).medium }
-        ensures serves { OnOk result (BlocksServe self.new (L.state dev.new).medium) }
-        ensures object { (self.new.geo ≡ self.old.geo) × (self.new.settled ≡ is_ok result) }
-        ensures runs { Runs 35 13 (ended result) (L.state dev.old).panel (L.state dev.new).panel }
-    {
-        self.settled = false;
-        let unit = self.take_unit();
-        // The unit's lines first, durably: once the map names them, they count.
-        renew_lines(dev, self.geo.block_line(unit), bytes)?;
-        let change = Change {
-            block,
-            state: BlockState::At(unit),
-        };
-        self.switch(dev, &[change])
-    }
-
-    // Takes a free unit.
-    pub(crate) fn take_unit(&mut self) -> u64
-        requires unsettled { self.old.settled ≡ false }
-        requires some { 0 < free_count self.old.free }
-        ensures unit { result < self.old.geo.blocks + 64 }
-        ensures was_free { IsFree self.old.free result }
-        ensures after { self.new ≡ record self.old { free = slice_set self.old.free result false } }
-    {
-        match self.pool.take() {
-            Some(unit) => unit,
-            None => unreachable!(),
-        }
     }
 }

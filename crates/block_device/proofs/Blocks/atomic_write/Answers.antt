@@ -1,19 +1,13 @@
-use Rattle.std.proofs.Common.{subst}
-use Rattle.line_words.proofs.BesideLemmas.{beside-refl}
-use Rattle.block_device.specs.Object.{BlocksState, HasGoodMetadata}
-use Rattle.block_device.proofs.PassedLemmas.{meta_passed}
+-- One range takes all bytes.
+use Rattle.std.proofs.Common.{length, refl, subst}
+use Rattle.block_device.specs.Object.{blocks_of}
+use Rattle.block_device.specs.Images.{EachReads, IsEither}
+use Rattle.block_device.specs.Refusals.{OnWorked}
+use Rattle.block_device.proofs.WriteLemmas.{one_range}
 use Rattle.block_device.proofs.Blocks.atomic_write.Goals as goal
 
-pub returns-in_err-check_bytes-clause-outside : goal.returns-in_err-check_bytes-clause-outside
-returns-in_err-check_bytes-clause-outside g c = beside-refl _ _
-
-pub returns-then-bytes-gt-MOST_TOGETHER-clause-outside : goal.returns-then-bytes-gt-MOST_TOGETHER-clause-outside
-returns-then-bytes-gt-MOST_TOGETHER-clause-outside g c = beside-refl _ _
-
-pub returns-in_err-check_meta-clause-outside : goal.returns-in_err-check_meta-clause-outside
-returns-in_err-check_meta-clause-outside g c = beside-refl _ _
-
-pub write_together-requires-clause-good : goal.write_together-requires-clause-good
-write_together-requires-clause-good g c =
-    let m = (g.L.Lines.state c.args.dev.now).medium in
-    subst (λ (s : BlocksState). HasGoodMetadata s.geo m) c.self.view_is (meta_passed c.self.inside.geo m _ c.in_ok-check_meta.ensures)
+pub returns-clause-images : goal.returns-clause-images
+returns-clause-images g c =
+    let old = blocks_of c.args.self.now (g.L.Lines.state c.args.dev.now).medium in
+    let new = (g.L.Lines.state c.atomic_multiwrite.new.dev).medium in
+    subst (λ bs. OnWorked c.atomic_multiwrite.result (EachReads c.args.self.now.geo new (IsEither old bs))) (one_range c.args.block (length c.args.bytes.now) c.args.bytes.now old refl) c.atomic_multiwrite.ensures.images

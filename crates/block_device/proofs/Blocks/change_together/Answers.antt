@@ -1,59 +1,22 @@
 -- Spans that pass the tests may change together.
-use Rattle.std.proofs.Common.{◌∙◌, subst}
-use Rattle.word_tables.specs.Bounds.{IsValid}
+use Rattle.std.proofs.Common.{subst}
 use Rattle.line_words.proofs.BesideLemmas.{beside-refl}
-use Rattle.block_device.specs.Object.{BlocksState}
-use Rattle.block_device.proofs.TogetherLemmas.{on_worked, asked, asked_may, asked_some, asked_taken, asked_in_step, asked_durable, asked_images, asked_ok, beside_of_area}
+use Rattle.block_device.specs.Object.{BlocksState, HasGoodMetadata}
+use Rattle.block_device.specs.Prepared.{AreTogether}
+use Rattle.block_device.proofs.PassedLemmas.{together_passed, meta_passed}
 use Rattle.block_device.proofs.Blocks.change_together.Goals as goal
 
 pub returns-in_err-check_together-clause-outside : goal.returns-in_err-check_together-clause-outside
-returns-in_err-check_together-clause-outside g c =
-    beside-refl _ _
+returns-in_err-check_together-clause-outside g c = beside-refl _ _
 
 pub returns-in_err-check_meta-clause-outside : goal.returns-in_err-check_meta-clause-outside
-returns-in_err-check_meta-clause-outside g c =
-    beside-refl _ _
+returns-in_err-check_meta-clause-outside g c = beside-refl _ _
 
-pub switch-requires-clause-good : goal.switch-requires-clause-good
-switch-requires-clause-good g c =
-    (asked _ c.args.self.now _ (g.L.Lines.state c.args.dev.now).medium c.args.spans.now c.args.state c.as_slice.result.now _ _ c.self.view_is c.self.invariant c.requires.serves c.requires.settled c.in_ok-check_meta.ensures c.in_ok-check_together.ensures c.requires.bare (c.as_slice.ensures.value ∙ c.changes_of-changes.ensures)).good
+pub change_apart-requires-clause-good : goal.change_apart-requires-clause-good
+change_apart-requires-clause-good g c =
+    let m = (g.L.Lines.state c.args.dev.now).medium in
+    subst (λ (s : BlocksState). HasGoodMetadata s.geo m) c.self.view_is (meta_passed c.self.inside.geo m _ c.in_ok-check_meta.ensures)
 
-pub switch-requires-clause-some : goal.switch-requires-clause-some
-switch-requires-clause-some g c =
-    asked_some c.args.self.now (g.L.Lines.state c.args.dev.now).medium c.args.spans.now c.args.state c.as_slice.result.now (asked _ c.args.self.now _ (g.L.Lines.state c.args.dev.now).medium c.args.spans.now c.args.state c.as_slice.result.now _ _ c.self.view_is c.self.invariant c.requires.serves c.requires.settled c.in_ok-check_meta.ensures c.in_ok-check_together.ensures c.requires.bare (c.as_slice.ensures.value ∙ c.changes_of-changes.ensures)) c.requires.some
-
-pub switch-requires-clause-may : goal.switch-requires-clause-may
-switch-requires-clause-may g c =
-    asked_may c.args.self.now (g.L.Lines.state c.args.dev.now).medium c.args.spans.now c.args.state c.as_slice.result.now (asked _ c.args.self.now _ (g.L.Lines.state c.args.dev.now).medium c.args.spans.now c.args.state c.as_slice.result.now _ _ c.self.view_is c.self.invariant c.requires.serves c.requires.settled c.in_ok-check_meta.ensures c.in_ok-check_together.ensures c.requires.bare (c.as_slice.ensures.value ∙ c.changes_of-changes.ensures))
-
-pub switch-requires-clause-taken : goal.switch-requires-clause-taken
-switch-requires-clause-taken g c =
-    asked_taken c.args.self.now (g.L.Lines.state c.args.dev.now).medium c.args.spans.now c.args.state c.as_slice.result.now (asked _ c.args.self.now _ (g.L.Lines.state c.args.dev.now).medium c.args.spans.now c.args.state c.as_slice.result.now _ _ c.self.view_is c.self.invariant c.requires.serves c.requires.settled c.in_ok-check_meta.ensures c.in_ok-check_together.ensures c.requires.bare (c.as_slice.ensures.value ∙ c.changes_of-changes.ensures))
-
-pub switch-requires-clause-in_step : goal.switch-requires-clause-in_step
-switch-requires-clause-in_step g c =
-    asked_in_step c.args.self.now (g.L.Lines.state c.args.dev.now).medium c.args.spans.now c.args.state c.as_slice.result.now (asked _ c.args.self.now _ (g.L.Lines.state c.args.dev.now).medium c.args.spans.now c.args.state c.as_slice.result.now _ _ c.self.view_is c.self.invariant c.requires.serves c.requires.settled c.in_ok-check_meta.ensures c.in_ok-check_together.ensures c.requires.bare (c.as_slice.ensures.value ∙ c.changes_of-changes.ensures))
-
-pub switch-requires-clause-durable : goal.switch-requires-clause-durable
-switch-requires-clause-durable g c =
-    asked_durable c.args.self.now (g.L.Lines.state c.args.dev.now).medium c.args.spans.now c.args.state c.as_slice.result.now (asked _ c.args.self.now _ (g.L.Lines.state c.args.dev.now).medium c.args.spans.now c.args.state c.as_slice.result.now _ _ c.self.view_is c.self.invariant c.requires.serves c.requires.settled c.in_ok-check_meta.ensures c.in_ok-check_together.ensures c.requires.bare (c.as_slice.ensures.value ∙ c.changes_of-changes.ensures))
-
-pub returns-in_err-switch-clause-images : goal.returns-in_err-switch-clause-images
-returns-in_err-switch-clause-images g c =
-    on_worked c.from_residual-in_err-switch.result _ (asked_images c.args.self.now (g.L.Lines.state c.args.dev.now).medium c.args.spans.now c.args.state c.as_slice.result.now (asked _ c.args.self.now _ (g.L.Lines.state c.args.dev.now).medium c.args.spans.now c.args.state c.as_slice.result.now _ _ c.self.view_is c.self.invariant c.requires.serves c.requires.settled c.in_ok-check_meta.ensures c.in_ok-check_together.ensures c.requires.bare (c.as_slice.ensures.value ∙ c.changes_of-changes.ensures)) _ c.switch.ensures.images)
-
-pub returns-in_err-switch-clause-outside : goal.returns-in_err-switch-clause-outside
-returns-in_err-switch-clause-outside g c =
-    beside_of_area _ _ _ (subst (λ (s : BlocksState). IsValid s.geo) c.self.view_is c.self.invariant.valid) c.switch.ensures.outside
-
-pub returns-clause-ok : goal.returns-clause-ok
-returns-clause-ok g c =
-    asked_ok c.args.self.now (g.L.Lines.state c.args.dev.now).medium c.args.spans.now c.args.state c.as_slice.result.now (asked _ c.args.self.now _ (g.L.Lines.state c.args.dev.now).medium c.args.spans.now c.args.state c.as_slice.result.now _ _ c.self.view_is c.self.invariant c.requires.serves c.requires.settled c.in_ok-check_meta.ensures c.in_ok-check_together.ensures c.requires.bare (c.as_slice.ensures.value ∙ c.changes_of-changes.ensures)) c.switch.new.self _ c.switch.ensures.object.0 c.in_ok-switch.ensures.ok c.switch.ensures.outside
-
-pub returns-clause-images : goal.returns-clause-images
-returns-clause-images g c =
-    asked_images c.args.self.now (g.L.Lines.state c.args.dev.now).medium c.args.spans.now c.args.state c.as_slice.result.now (asked _ c.args.self.now _ (g.L.Lines.state c.args.dev.now).medium c.args.spans.now c.args.state c.as_slice.result.now _ _ c.self.view_is c.self.invariant c.requires.serves c.requires.settled c.in_ok-check_meta.ensures c.in_ok-check_together.ensures c.requires.bare (c.as_slice.ensures.value ∙ c.changes_of-changes.ensures)) _ c.switch.ensures.images
-
-pub returns-clause-outside : goal.returns-clause-outside
-returns-clause-outside g c =
-    beside_of_area _ _ _ (subst (λ (s : BlocksState). IsValid s.geo) c.self.view_is c.self.invariant.valid) c.switch.ensures.outside
+pub change_apart-requires-clause-together : goal.change_apart-requires-clause-together
+change_apart-requires-clause-together g c =
+    subst (λ (s : BlocksState). AreTogether s.geo.blocks c.args.spans.now) c.self.view_is (together_passed c.self.inside.geo.blocks c.args.spans.now _ c.in_ok-check_together.ensures)

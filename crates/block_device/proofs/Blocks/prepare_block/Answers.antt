@@ -1,8 +1,7 @@
 use Rattle.std.proofs.Common.{◌++◌, ◌∷◌, [], length, sym, subst, ◌∙◌, ap, arith}
 use Rattle.block_device.specs.Object.{BlocksState}
 use Rattle.block_device.specs.Prepared.{ArePrepared, AreAsBefore, blocks_with}
-use Rattle.block_device.proofs.FreshLemmas.{unit_there}
-use Rattle.block_device.proofs.PreparedLemmas.{has_spare, spare_bytes, spare_before, spare_prepared, spare_written, put, unit_at}
+use Rattle.block_device.proofs.PreparedLemmas.{has_spare, spare_bytes, spare_before, spare_prepared, spare_written, put, unit_at, unit_there}
 use Rattle.block_device.proofs.Blocks.prepare_block.Goals as goal
 
 pub renew_lines-requires-clause-there : goal.renew_lines-requires-clause-there

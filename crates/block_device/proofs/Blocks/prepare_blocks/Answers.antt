@@ -1,7 +1,8 @@
 use Rattle.std.proofs.Common.{sym, ◌∙◌, arith, append-nil}
 use Rattle.line_device.proofs.PanelLemmas.{runs-refl, runs_then, runs_within}
 use Rattle.block_device.specs.Prepared.{numbers_of}
-use Rattle.block_device.proofs.WriteLemmas.{written-none, written-all, piece_is, so_far}
+use Rattle.block_device.proofs.WriteLemmas.{blocks_in, written-all, piece_is, so_far}
+use Rattle.block_device.proofs.PartLemmas.{given-none}
 use Rattle.block_device.proofs.MadeLemmas.{before-refl, before-trans, next_fresh, numbers_len, numbers_more}
 use Rattle.block_device.proofs.Blocks.prepare_blocks.Goals as goal
 
@@ -10,7 +11,7 @@ loop-k-init g c = record {
   before = before-refl _ _ c.requires.serves c.requires.good c.requires.unsettled;
   prepared = c.requires.prepared;
   numbers = sym (append-nil (numbers_of c.args.changes.now.items));
-  written = sym (written-none c.args.block c.args.bytes.now _);
+  written = sym (given-none (blocks_in c.args.block c.args.bytes.now) c.args.block _);
   runs = runs-refl _;
 }
 
