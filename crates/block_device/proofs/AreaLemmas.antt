@@ -1,5 +1,5 @@
 -- The blocks' areas on the whole device.
-use Rattle.std.proofs.Common.{◌≡◌, ◌+◌, ◌/◌, ◌<◌, ◌≤◌, ℕ, inr, refl, arith}
+use Rattle.std.proofs.Common.{◌≡◌, ◌+◌, ◌*◌, ◌/◌, ◌<◌, ◌≤◌, ℕ, inr, refl, subst, arith}
 use Rattle.line_device.specs.Medium.{Medium, IsHealthy}
 use Rattle.word_tables.specs.declared.geometry.Geometry.{Geometry}
 use Rattle.word_tables.specs.Bounds.{IsValid}
@@ -31,3 +31,9 @@ word_line geo m b valid count whole below =
     let of : IsOf (block_area geo) (place geo (of_block b)) = inr (block_is_home geo valid b below) in
     let meta = area_in_metadata geo valid (place geo (of_block b)) of in
     (omega (arith, meta_within geo), whole (place geo (of_block b)) of)
+
+-- line k of the map
+pub map_line : (geo : Geometry) (m : Medium) (first k : ℕ) → IsValid geo → m.count ≡ total_lines geo → IsWhole (block_area geo) m → first ≡ place geo (of_block 0) → k < geo.blocks / 8 → IsHealthy m (first / 8 + k)
+map_line geo m first k valid count whole at below =
+    let same : place geo (of_block (8 * k)) / 8 ≡ first / 8 + k = omega arith in
+    subst (IsHealthy m) same (word_line geo m (8 * k) valid count whole (omega arith))

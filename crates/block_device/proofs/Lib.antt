@@ -28,7 +28,6 @@ pub mod ZerosLemmas
 pub mod GoodLemmas
 pub mod MountedLemmas
 pub mod MarkLemmas
-pub mod MountLemmas
 pub mod PoisonLemmas
 pub mod PlainLemmas
 pub mod PreparedLemmas

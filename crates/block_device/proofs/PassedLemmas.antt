@@ -12,18 +12,11 @@ use Rattle.word_tables.specs.Layout.{meta_lines}
 use Rattle.range_sets.specs.Ranges.{is_disjoint}
 use Rattle.nvm_model.specs.Blocks.{first_there}
 use Rattle.block_device.specs.Object.{HasGoodMetadata}
+use Rattle.block_device.proofs.PositionLemmas.{fails_below}
 use Rattle.block_device.specs.Prepared.{AreThere, AreTogether}
 use Rattle.block_device.specs.Refusals.Refusal.{Meta}
 use Rattle.block_device.specs.declared.fault.BlockFault.{BlockFault}
 use Rattle.block_device.specs.Refusals.{Refusal, Checks, OnWorked, where_, spans_refusal, together_refusal, meta_refusal}
-
-nowhere : {X : Type 0} (p : X → Bool) (xs : List X) (k : ℕ) (d : X) → position p xs ≡ None → k < length xs → p (get_or xs k d) ≡ false
-nowhere p xs k d none below =
-    let at = position_or_len p xs in
-    elim (cases_Bool (nat_lt at (length xs))) as (λ _. p (get_or xs k d) ≡ false) [
-      | inl found ↦ absurd (none-some at (sym none ∙ ap (λ b. cond b (Some at) None) found))
-      | inr past ↦ fails_before_first p xs k d (omega (arith, ltb-false at (length xs) past))
-    ]
 
 unmapped : {T : Type 0} (o : Option ℕ) (f : ℕ → Refusal) (x : T) → Checks (option_map f o) (Ok x) → o ≡ None
 unmapped None f x h = refl
@@ -31,10 +24,7 @@ unmapped (Some n) f x h = absurd h
 
 -- no line of metadata is bad
 pub meta_passed : {T : Type 0} (geo : Geometry) (m : Medium) (x : T) → Checks (meta_refusal geo m) (Ok x) → HasGoodMetadata geo m
-meta_passed geo m x h n below =
-    let size = length-range_with_len 0 (meta_lines geo) in
-    let at : get_or (range_with_len 0 (meta_lines geo)) n 0 ≡ n = get_or-range_with_len 0 (meta_lines geo) n 0 below ∙ omega arith in
-    ap m.is_bad (sym at) ∙ nowhere m.is_bad (range_with_len 0 (meta_lines geo)) n 0 (unmapped (position m.is_bad (range_with_len 0 (meta_lines geo))) (λ line. Meta line) x h) (omega arith)
+meta_passed geo m x h n below = fails_below m.is_bad (meta_lines geo) n (unmapped (position m.is_bad (range_with_len 0 (meta_lines geo))) (λ line. Meta line) x h) below
 
 both_passed : {T : Type 0} (a b : Bool) (v w : Refusal) (x : T) → Checks (first_there (where_ a v) (where_ b w)) (Ok x) → (a ≡ false) × (b ≡ false)
 both_passed false false v w x h = (refl, refl)

@@ -1,5 +1,5 @@
 -- Blocks after the power came back: each word has one value.
-use Rattle.std.proofs.Common.{Option, Some, None, slice_get, if◌then◌else◌, refl, ◌≡◌, inl, inr, ℕ, ◌/◌, ◌≤◌, List, [], ◌∷◌, sym, ◌∙◌, subst, arith}
+use Rattle.std.proofs.Common.{Result, Ok, Err, IfOk, IsTrue, Option, Some, None, slice_get, if◌then◌else◌, refl, ◌≡◌, inl, inr, ℕ, ◌/◌, ◌≤◌, List, [], ◌∷◌, sym, ◌∙◌, subst, arith}
 use Rattle.std.proofs.lemmas.Bool.{cases_lt, cases_Bool}
 use Rattle.std.proofs.lemmas.Option.{slice_get_past, none-some}
 use Rattle.line_device.specs.Word.{word_at}
@@ -14,7 +14,7 @@ use Rattle.line_device.proofs.HistoryLemmas.{word_write_back-none, is_in-one}
 use Rattle.line_words.specs.Words.{IsOnly}
 use Rattle.word_tables.specs.declared.geometry.Geometry.{Geometry}
 use Rattle.block_map.specs.declared.state.BlockState.{BlockState}
-use Rattle.block_device.specs.Object.{AreDurable}
+use Rattle.block_device.specs.Object.{AreDurable, BlocksServe, BlocksState}
 use Rattle.block_device.proofs.ByteLemmas.{is_only-newest}
 use Rattle.block_device.proofs.RestartLemmas.{is_only-none}
 
@@ -49,3 +49,8 @@ pub plain_ends : (device : Plain) (p : ℕ) → (device_of device).medium.count 
 plain_ends device p past =
     none_past (slice_get device.cells.marks.items (p / 8)) (word_at device.cells.durable.items p) (word_at device.cells.last.items p)
     (slice_get_past device.cells.marks.items (p / 8) (omega (arith, device.cells.marks.ok.0, past)))
+
+-- blocks that are mounted then can be used
+pub served : (P : Type 0) (m : Medium) {E : Type 0} (r : Result BlocksState E) → P → IfOk r (λ b. P → BlocksServe b m) → IfOk r (λ b. IsTrue b.settled → BlocksServe b m)
+served P m (Ok b) p q = λ _. q p
+served P m (Err e) p q = tt

@@ -1,21 +1,13 @@
 -- The first place that passes a test, in numbers that follow each other and in what is made from them.
-use Rattle.std.proofs.Common.{◌≡◌, ◌+◌, ◌<◌, ℕ, zero, suc, Bool, true, false, List, length, get_or, position, nat_lt, cond, Some, None, sym, ap, ◌∙◌, arith}
+use Rattle.std.proofs.Common.{◌≡◌, inl, inr, ◌+◌, ◌<◌, ℕ, zero, suc, Bool, true, false, List, length, get_or, position, nat_lt, cond, Some, None, sym, ap, ◌∙◌, arith}
 use Rattle.std.specs.List.{range_with_len, position_or_len}
-use Rattle.std.proofs.lemmas.Bool.{lt-ltb, le-ltb}
-use Rattle.std.proofs.lemmas.List.Sums.{position_or_len_is}
+use Rattle.std.proofs.lemmas.Bool.{cases_Bool, ltb-false}
+use Rattle.std.proofs.lemmas.Option.{none-some}
+use Rattle.std.proofs.lemmas.List.Sums.{fails_before_first}
+use Rattle.line_words.proofs.PositionLemmas.{first_place, no_place}
 use Rattle.std.proofs.lemmas.List.FromFn.{length-range_with_len, get_or-range_with_len}
 use Rattle.nvm_model.specs.Numbered.{list_from}
 use Rattle.nvm_model.proofs.NumberedLemmas.{length-list_from}
-
-first_place : {X : Type 0} (p : X → Bool) (xs : List X) (i : ℕ) (d : X) → i < length xs → ((k : ℕ) → k < i → p (get_or xs k d) ≡ false) → p (get_or xs i d) ≡ true → position p xs ≡ Some i
-first_place p xs i d within before here =
-    let is : position_or_len p xs ≡ i = position_or_len_is p xs i d (omega arith) before (λ _. here) in
-    ap (λ n. cond (nat_lt n (length xs)) (Some n) None) is ∙ ap (λ b. cond b (Some i) None) (lt-ltb i (length xs) within)
-
-no_place : {X : Type 0} (p : X → Bool) (xs : List X) (d : X) → ((k : ℕ) → k < length xs → p (get_or xs k d) ≡ false) → position p xs ≡ None
-no_place p xs d fails =
-    let is : position_or_len p xs ≡ length xs = position_or_len_is p xs (length xs) d (omega arith) fails (λ h. absurd (omega arith)) in
-    ap (λ n. cond (nat_lt n (length xs)) (Some n) None) is ∙ ap (λ b. cond b (Some (length xs)) None) (le-ltb (length xs) (length xs) (omega arith))
 
 -- among numbers from 0
 pub first_below : (p : ℕ → Bool) (n i : ℕ) → i < n → ((k : ℕ) → k < i → p k ≡ false) → p i ≡ true → position p (range_with_len 0 n) ≡ Some i
@@ -48,3 +40,15 @@ none_made f p a n fails =
     let size = length-list_from f a n in
     no_place p (list_from f a n) (f a)
     (λ k lt. let within : k < n = omega arith in ap p (get_or-list_from f a n k (f a) within) ∙ fails k within)
+
+-- where nothing is found among the first numbers, none passes
+pub fails_below : (p : ℕ → Bool) (n k : ℕ) → position p (range_with_len 0 n) ≡ None → k < n → p k ≡ false
+fails_below p n k none below =
+    let xs = range_with_len 0 n in
+    let size = length-range_with_len 0 n in
+    let at : get_or xs k 0 ≡ k = get_or-range_with_len 0 n k 0 below ∙ omega arith in
+    let found = position_or_len p xs in
+    elim (cases_Bool (nat_lt found (length xs))) as (λ _. p k ≡ false) [
+      | inl here ↦ absurd (none-some found (sym none ∙ ap (λ b. cond b (Some found) None) here))
+      | inr past ↦ ap p (sym at) ∙ fails_before_first p xs k 0 (omega (arith, ltb-false found (length xs) past))
+    ]

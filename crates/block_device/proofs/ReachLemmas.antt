@@ -12,10 +12,10 @@ use Rattle.word_tables.specs.Bounds.{IsValid}
 use Rattle.word_tables.specs.Layout.{size, meta_lines}
 use Rattle.word_tables.specs.Words.{place, of_block}
 use Rattle.word_log.specs.Area.{IsOf, IsWhole}
-use Rattle.word_log.specs.Replay.{Replays, replayed}
+use Rattle.word_log.specs.Replay.{Replays, first_wrong, replayed}
 use Rattle.word_log.specs.Rest.{EachImage, IsReached}
 use Rattle.word_log.proofs.FrameLemmas.{whole-outside}
-use Rattle.word_log.proofs.RestLemmas.{replays-same, replays-reached}
+use Rattle.word_log.proofs.RestLemmas.{replays-same, replays-then, replays-reached}
 use Rattle.block_map.specs.declared.state.BlockState.{BlockState}
 use Rattle.block_map.specs.States.{IsMap, state_of, word_of}
 use Rattle.block_map.specs.Wrong as table
@@ -25,7 +25,7 @@ use Rattle.nvm_model.specs.Storage.{Block}
 use Rattle.block_device.specs.Area.{block_area, IsBlockPlace}
 use Rattle.block_device.specs.Object.{AreDurable}
 use Rattle.block_device.specs.Reading.{map_read, states_read, blocks_read}
-use Rattle.block_device.specs.Images.{IsBlockImage, Reads, EachReads, KeepsReads}
+use Rattle.block_device.specs.Images.{IsBlockImage, IsSameLog, Reads, EachReads, KeepsReads}
 use Rattle.block_device.specs.Mounting.{wrong_place}
 use Rattle.block_device.proofs.ReadLemmas.{IsNamed, list_from-cong, map_read-same, durable-outside, durable-write_back}
 use Rattle.block_device.proofs.PlaceLemmas.{area_in_metadata, block_is_home, data_behind_metadata, image_on_area, named_apart, named_is_data}
@@ -47,13 +47,35 @@ each_reads-kept geo old new P keeps each image is =
     let was = each k.before k.was in
     reads-then geo new (λ bs. bs ≡ blocks_read geo old.is_bad k.before) P image (λ bs same. subst P (sym same) was.blocks) (k.reads (reads-then geo old P (λ _. Unit {0}) k.before (λ _ _. tt) was))
 
-pub keeps_reads-trans : (geo : Geometry) (a b c : Medium) → KeepsReads geo a b → KeepsReads geo b c → KeepsReads geo a c
-keeps_reads-trans geo a b c x y image is =
+own_replay : (geo : Geometry) (v : ℕ → ℕ) → first_wrong (block_area geo) v ≡ None → Replays (block_area geo) v (replayed (block_area geo) v)
+own_replay geo v valid = record { valid = valid; home = λ p _. refl }
+
+-- what one image came of, and that one of another
+same_log-trans : (geo : Geometry) (v w image : ℕ → ℕ) → IsValid geo → IsSameLog geo v w → IsSameLog geo w image → IsSameLog geo v image
+same_log-trans geo v w image valid first second =
+    let area = block_area geo in
+    let shape = area_shaped geo valid in
+    elim second as (λ _. IsSameLog geo v image) [
+      | inl same ↦ elim first as (λ _. IsSameLog geo v image) [
+        | inl was ↦ inl (λ p of. same p of ∙ was p of)
+        | inr (fine, replays) ↦ inr (fine, replays-same area image w (replayed area v) shape same replays)
+      ]
+      | inr (fine, replays) ↦ elim first as (λ _. IsSameLog geo v image) [
+        | inl was ↦
+            let of_v = replays-same area v w (replayed area w) shape (λ p of. sym (was p of)) (own_replay geo w fine) in
+            inr (of_v.valid, replays-then area image (replayed area w) (replayed area v) (λ p at. sym (of_v.home p at)) replays)
+        | inr (was_fine, was) ↦ inr (was_fine, replays-then area image (replayed area w) (replayed area v) was.home replays)
+      ]
+    ]
+
+pub keeps_reads-trans : (geo : Geometry) (a b c : Medium) → IsValid geo → KeepsReads geo a b → KeepsReads geo b c → KeepsReads geo a c
+keeps_reads-trans geo a b c valid x y image is =
     let second = y image is in
     let first = x second.before second.was in
     record {
       before = first.before;
       was = first.was;
+      same = same_log-trans geo first.before second.before image valid first.same second.same;
       reads = λ was.
           let now = first.reads was in
           reads-then geo c (λ bs. bs ≡ blocks_read geo b.is_bad second.before) (λ bs. bs ≡ blocks_read geo a.is_bad first.before) image (λ bs same. same ∙ now.blocks)
@@ -67,6 +89,7 @@ keeps_reads-write_back geo old new x image is =
     record {
       before = image;
       was = λ p place good. is_in-word_write_back (old.is_weak (p / 8)) (image p) (old.history p) (new.history p) (x.word_write_back p) (is p place (x.bad (p / 8) ∙ good));
+      same = inl (λ p of. refl);
       reads = λ r.
           record {
             log = r.log;
@@ -150,6 +173,7 @@ keeps_reads-reached geo old new valid x images whole image is =
     record {
       before = j;
       was = joined_image geo old new valid x image reached.before reached.was is;
+      same = same_log-trans geo j reached.before image valid (inl same) reached.same;
       reads = λ r.
           let own : Replays area j (replayed area j) = record { valid = r.log; home = λ p _. refl } in
           let was = replays-same area reached.before j (replayed area j) (area_shaped geo valid) same own in

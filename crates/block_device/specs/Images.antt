@@ -3,7 +3,8 @@ use Rattle.std.specs.Prelude.{◌≡◌, ◌⊎◌, ◌/◌, ℕ, false, List, N
 use Rattle.line_device.specs.History.{IsIn}
 use Rattle.line_device.specs.Medium.{Medium}
 use Rattle.word_tables.specs.declared.geometry.Geometry.{Geometry}
-use Rattle.word_log.specs.Replay.{first_wrong}
+use Rattle.word_log.specs.Area.{IsOf}
+use Rattle.word_log.specs.Replay.{Replays, first_wrong, replayed}
 use Rattle.block_map.specs.States.{IsMap}
 use Rattle.nvm_model.specs.Storage.{Block}
 use Rattle.block_device.specs.Area.{block_area, IsBlockPlace}
@@ -33,11 +34,18 @@ IsEither one other blocks = (blocks ≡ one) ⊎ (blocks ≡ other)
 abbrev pub AreReadable : Geometry → Medium → Type 0
 AreReadable geo m = EachReads geo m (λ blocks. Unit {0})
 
--- An image of `new` reads as an image of `old`: where the log and the map of that one are in order, and what it names is
--- durable, so it is with this one, and the blocks are the same.
+-- log and map have the same words, or the log was valid before, and both replay to the same
+abbrev pub IsSameLog : Geometry → (ℕ → ℕ) → (ℕ → ℕ) → Type 0
+IsSameLog geo before image =
+    ((p : ℕ) → IsOf (block_area geo) p → image p ≡ before p)
+    ⊎ (first_wrong (block_area geo) before ≡ None) × Replays (block_area geo) image (replayed (block_area geo) before)
+
+-- An image of `new` came of an image of `old`: log and map are the same, or were replayed. Where those of that one are in
+-- order, and what it names is durable, so it is with this one, and the blocks are the same.
 pub record ReadsAsBefore (geo : Geometry) (old new : Medium) (image : ℕ → ℕ) : Type 0 where
   pub before : ℕ → ℕ
   pub was : IsBlockImage geo old before
+  pub same : IsSameLog geo before image
   pub reads : Reads geo old (λ blocks. Unit {0}) before → Reads geo new (λ blocks. blocks ≡ blocks_read geo old.is_bad before) image
 
 -- each image does

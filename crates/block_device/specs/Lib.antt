@@ -1,5 +1,4 @@
 pub mod Area
-pub mod Stopped
 pub mod Reading
 pub mod Object
 pub mod Refusals

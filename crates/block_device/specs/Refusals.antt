@@ -4,7 +4,10 @@ use Rattle.std.specs.List.{list_any, range_with_len}
 use Rattle.nvm_base.specs.declared.units.Span.{Span}
 use Rattle.line_device.specs.Medium.{Medium}
 use Rattle.line_device.specs.Panel.{Outcome}
-use Rattle.line_device.specs.Panel.Outcome.{went, failed, lost}
+use Rattle.line_words.specs.declared.interruption.Interruption.TheVariants as stop
+use Rattle.line_words.specs.Told as all
+use Rattle.line_words.specs.Told.{Told, refusal_of}
+use Rattle.line_words.specs.Told.Told.{Refuses, Stops}
 use Rattle.word_tables.specs.declared.geometry.Geometry.{Geometry}
 use Rattle.word_tables.specs.Layout.{meta_lines}
 use Rattle.range_sets.specs.Ranges.{is_disjoint}
@@ -23,31 +26,39 @@ pub data Refusal : Type 0 where
   Meta : ℕ → Refusal
   Unreadable : Obstacle → Refusal
 
--- what a fault tells; a device that failed or lost power refuses nothing
+-- what a fault tells
+abbrev pub block_says : BlockFault → Told Refusal
+block_says fault.Range = Refuses Range
+block_says fault.Length = Refuses Length
+block_says fault.Limit = Refuses Limit
+block_says fault.Overlap = Refuses Overlap
+block_says (fault.Meta line) = Refuses (Meta line.0)
+block_says (fault.Scarred block) = Refuses (Unreadable (scar block))
+block_says (fault.Poison block line) = Refuses (Unreadable (bad_line block line))
+block_says fault.Device = Stops stop.Failed
+block_says fault.PowerLost = Stops stop.PowerLost
+
+-- the reason that it tells, if any; and of an answer what line_words says of all faults
 abbrev pub told : BlockFault → Option Refusal
-told fault.Range = Some Range
-told fault.Length = Some Length
-told fault.Limit = Some Limit
-told fault.Overlap = Some Overlap
-told (fault.Meta line) = Some (Meta line.0)
-told (fault.Scarred block) = Some (Unreadable (scar block))
-told (fault.Poison block line) = Some (Unreadable (bad_line block line))
-told fault.Device = None
-told fault.PowerLost = None
+told f = refusal_of (block_says f)
 
--- a call is refused for this reason and no other, and where there is none it isn't refused
 abbrev pub Answers : {T : Type 0} → Option Refusal → Result T BlockFault → Type 0
-Answers None (Ok x) = Unit {0}
-Answers None (Err f) = told f ≡ None
-Answers (Some why) (Ok x) = ⊥
-Answers (Some why) (Err f) = told f ≡ Some why
+Answers why result = all.Answers block_says why result
 
--- a test finds this reason and no other, and passes where there is none
 abbrev pub Checks : {T : Type 0} → Option Refusal → Result T BlockFault → Type 0
-Checks None (Ok x) = Unit {0}
-Checks None (Err f) = ⊥
-Checks (Some why) (Ok x) = ⊥
-Checks (Some why) (Err f) = told f ≡ Some why
+Checks why result = all.Checks block_says why result
+
+abbrev pub OnRefused : {T : Type 0} → Result T BlockFault → Type 0 → Type 0
+OnRefused result P = all.OnRefused block_says result P
+
+abbrev pub OnWorked : {T : Type 0} → Result T BlockFault → Type 0 → Type 0
+OnWorked result P = all.OnWorked block_says result P
+
+abbrev pub block_outcome : {T : Type 0} → Result T BlockFault → Outcome
+block_outcome result = all.outcome_by block_says result
+
+abbrev pub is_done : Outcome → Bool
+is_done end = all.is_done end
 
 -- this fault tells that reason, and there is none where there is no reason
 abbrev pub Obstructs : Option Refusal → Option BlockFault → Type 0
@@ -55,35 +66,6 @@ Obstructs None None = Unit {0}
 Obstructs None (Some f) = ⊥
 Obstructs (Some why) None = ⊥
 Obstructs (Some why) (Some f) = told f ≡ Some why
-
--- where a call was refused, this holds
-abbrev pub OnRefused : {T : Type 0} → Result T BlockFault → Type 0 → Type 0
-OnRefused (Ok x) P = Unit {0}
-OnRefused (Err f) P = told f ≢ None → P
-
--- where it was not refused, this holds, however it ended
-abbrev pub OnWorked : {T : Type 0} → Result T BlockFault → Type 0 → Type 0
-OnWorked (Ok x) P = P
-OnWorked (Err f) P = told f ≡ None → P
-
--- how a call ended, as far as the device goes
-abbrev pub block_outcome : {T : Type 0} → Result T BlockFault → Outcome
-block_outcome (Ok x) = went
-block_outcome (Err fault.Device) = failed
-block_outcome (Err fault.PowerLost) = lost
-block_outcome (Err fault.Range) = went
-block_outcome (Err fault.Length) = went
-block_outcome (Err fault.Limit) = went
-block_outcome (Err fault.Overlap) = went
-block_outcome (Err (fault.Meta line)) = went
-block_outcome (Err (fault.Scarred block)) = went
-block_outcome (Err (fault.Poison block line)) = went
-
--- whether the device did all that it was asked
-abbrev pub is_done : Outcome → Bool
-is_done went = true
-is_done failed = false
-is_done lost = false
 
 -- one refusal where a condition holds
 abbrev pub where_ : Bool → Refusal → Option Refusal

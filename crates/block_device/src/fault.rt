@@ -44,9 +44,10 @@ pub enum MountFault {
 }
 
 impl From<Interruption> for BlockFault {
-    ghost use Rattle.block_device.specs.Stopped.{as_block_fault};
+    ghost use Rattle.line_words.specs.Told.Told.{Stops};
+    ghost use Rattle.block_device.specs.Refusals.{block_says};
 
-    ghost from_gives = { λ stop fault. fault ≡ as_block_fault stop };
+    ghost from_gives = { λ stop fault. block_says fault ≡ Stops stop };
 
     fn from(stop: Interruption) -> BlockFault {
         match stop {
@@ -57,9 +58,10 @@ impl From<Interruption> for BlockFault {
 }
 
 impl From<Interruption> for MountFault {
-    ghost use Rattle.block_device.specs.Stopped.{as_mount_fault};
+    ghost use Rattle.line_words.specs.Told.Told.{Stops};
+    ghost use Rattle.block_device.specs.Mounting.{mount_says};
 
-    ghost from_gives = { λ stop fault. fault ≡ as_mount_fault stop };
+    ghost from_gives = { λ stop fault. mount_says fault ≡ Stops stop };
 
     fn from(stop: Interruption) -> MountFault {
         match stop {
@@ -70,9 +72,10 @@ impl From<Interruption> for MountFault {
 }
 
 impl From<LogFault> for MountFault {
-    ghost use Rattle.block_device.specs.Stopped.{of_log_fault};
+    ghost use Rattle.word_log.specs.Mount.{says};
+    ghost use Rattle.block_device.specs.Mounting.{mount_says};
 
-    ghost from_gives = { λ log fault. fault ≡ of_log_fault log };
+    ghost from_gives = { λ log fault. mount_says fault ≡ says log };
 
     fn from(fault: LogFault) -> MountFault {
         match fault {
@@ -86,9 +89,10 @@ impl From<LogFault> for MountFault {
 }
 
 impl From<AllocError> for MountFault {
-    ghost use Rattle.block_device.specs.declared.fault.MountFault.TheVariants.{Memory};
+    ghost use Rattle.line_words.specs.Told.Told.{Starves};
+    ghost use Rattle.block_device.specs.Mounting.{mount_says};
 
-    ghost from_gives = { λ _ fault. fault ≡ Memory };
+    ghost from_gives = { λ _ fault. mount_says fault ≡ Starves };
 
     fn from(_fault: AllocError) -> MountFault {
         MountFault::Memory

@@ -1,21 +1,25 @@
-// Mounting: the log first, then the map and the units that it leaves free.
-ghost use Rattle.std.specs.Prelude.{◌≡◌, ◌+◌, ◌*◌, ◌/◌, ◌<◌, ◌≤◌, None, IfOk, IfErr, IsTrue, OnOk, length, map};
+// Mounting, in two parts: the device's replays the log and reads the map's words, and the other judges them without the
+// device. So a device of several logs replays all of them before any table is judged.
+ghost use Rattle.std.specs.Prelude.{◌≡◌, ◌+◌, ◌*◌, ◌/◌, ◌<◌, ◌≤◌, None, true, IfOk, IfErr, IsTrue, OnOk, length, map};
 ghost use Rattle.line_device.specs.Medium.{WritesBack, last_image};
 ghost use Rattle.line_device.specs.Panel.{Runs};
+ghost use Rattle.line_device.specs.Panel.Outcome.{went};
 ghost use Rattle.word_tables.specs.Bounds.{IsValid};
 ghost use Rattle.word_tables.specs.Layout.{total_lines};
 ghost use Rattle.word_tables.specs.Words.{place, of_block};
 ghost use Rattle.line_words.specs.Words.{WritesBackOutside};
-ghost use Rattle.line_words.specs.Ending.{ended};
+ghost use Rattle.line_words.specs.Told.{Explains, IsStop, outcome_by};
 ghost use Rattle.word_log.specs.Area.{IsOf, IsWhole, gate_place};
-ghost use Rattle.word_log.specs.Rest.{EachImage, IsReached};
+ghost use Rattle.word_log.specs.Mount.{IsFound};
+ghost use Rattle.word_log.specs.Replay as log;
+ghost use Rattle.word_log.specs.Rest.{IsAtRest};
 ghost use Rattle.block_map.specs.States.{word_of};
 ghost use Rattle.block_map.specs.Wrong.{first_wrong};
 ghost use Rattle.nvm_model.specs.Numbered.{list_from};
 ghost use Rattle.block_device.specs.Area.{block_area};
 ghost use Rattle.block_device.specs.Reading.{states_read, blocks_read};
 ghost use Rattle.block_device.specs.Object.{BlocksServe, IsInStep, AreDurable, HasStrongMetadata, blocks_of};
-ghost use Rattle.block_device.specs.Mounting.{Finds, IsStop, IsTableCause, mount_outcome, wrong_place};
+ghost use Rattle.block_device.specs.Mounting.{FindsBlocks, IsWrongMap, Redoes, mount_says};
 ghost use Rattle.block_device.specs.Images.{KeepsReads};
 
 use crate::area::block_area;
@@ -23,9 +27,10 @@ use crate::{Blocks, MountFault};
 use block_map::{BlockMap, BlockState, TableFault};
 use free_pool::Pool;
 use line_device::Lines;
-use line_words::load_word;
+use line_words::load_words;
 use nvm_base::Words;
 use std::alloc::{AllocError, Global};
+use word_log::Log;
 use word_tables::Geometry;
 
 /// Units beyond the blocks: as many as change together.
@@ -37,38 +42,52 @@ impl Blocks {
         requires valid { IsValid geo }
         requires lines { (L.state dev.old).medium.count ≡ total_lines geo }
         requires strong { HasStrongMetadata geo (L.state dev.old).medium }
-        requires durable { wrong_place geo (last_image (L.state dev.old).medium) ≡ None
-            → AreDurable geo (L.state dev.old).medium (states_read geo (last_image (L.state dev.old).medium)) }
         requires on { IsTrue (L.state dev.old).panel.power }
         ensures ok { IfOk result (λ blocks. (blocks.geo ≡ geo) × (blocks_of blocks (L.state dev.new).medium
             ≡ blocks_read geo (L.state dev.old).medium.is_bad (last_image (L.state dev.old).medium))) }
-        ensures finds { Finds geo (L.state dev.old).medium result }
-        ensures images { EachImage (block_area geo) (L.state dev.new).medium (IsReached (block_area geo) (L.state dev.old).medium) }
+        ensures finds { FindsBlocks geo (L.state dev.old).medium result }
         ensures reads { IsWhole (block_area geo) (L.state dev.old).medium
             → KeepsReads geo (L.state dev.old).medium (L.state dev.new).medium }
         ensures closed { last_image (L.state dev.old).medium (gate_place (block_area geo)) ≡ 0
             → WritesBack (L.state dev.old).medium (L.state dev.new).medium }
         ensures outside { WritesBackOutside (IsOf (block_area geo)) (L.state dev.old).medium (L.state dev.new).medium }
-        ensures serves { IfOk result (λ blocks. BlocksServe blocks (L.state dev.new).medium) }
+        ensures serves { IfOk result (λ blocks.
+            AreDurable geo (L.state dev.old).medium (states_read geo (last_image (L.state dev.old).medium))
+            → BlocksServe blocks (L.state dev.new).medium) }
         ensures settled { IfOk result (λ blocks. IsTrue blocks.settled) }
-        ensures runs { Runs (2 * geo.blocks + 279) (geo.blocks / 8 + 84) (mount_outcome result)
+        ensures runs { Runs (geo.blocks / 4 + 279) (geo.blocks / 8 + 84) (outcome_by mount_says result)
             (L.state dev.old).panel (L.state dev.new).panel }
     {
-        let log = word_log::mount(alloc, dev, block_area(geo))?;
-        let words = load_map(alloc, dev, geo)?;
-        let map = read_map(alloc, geo, words.as_slice())?;
-        let pool = pool_beside(alloc, &map, geo.blocks)?;
-        Ok(Blocks {
-            geo,
-            log,
-            map,
-            pool,
-            settled: true,
-        })
+        match replay(alloc, dev, geo) {
+            Ok((log, words)) => judge(alloc, geo, log, words.as_slice()),
+            Err(fault) => Err(fault),
+        }
     }
 }
 
-// The words of the block map.
+// The device's part: a log at rest, and the words of the map then.
+fn replay<L: Lines>(alloc: Global, dev: &mut L, geo: Geometry) -> Result<(Log, Words), MountFault>
+    requires valid { IsValid geo }
+    requires lines { (L.state dev.old).medium.count ≡ total_lines geo }
+    requires strong { HasStrongMetadata geo (L.state dev.old).medium }
+    requires on { IsTrue (L.state dev.old).panel.power }
+    ensures log { IfOk result (λ found. found.0 ≡ record { area = block_area geo; settled = true }) }
+    ensures words { IfOk result (λ found. found.1.items ≡ map word_of (states_read geo (last_image (L.state dev.old).medium))) }
+    ensures rest { OnOk result (IsAtRest (block_area geo) (L.state dev.new).medium
+        (log.replayed (block_area geo) (last_image (L.state dev.old).medium))) }
+    ensures finds { Explains mount_says (IsWhole (block_area geo) (L.state dev.old).medium
+        × (log.first_wrong (block_area geo) (last_image (L.state dev.old).medium) ≡ None))
+        (IsFound (block_area geo) (L.state dev.old).medium) result }
+    ensures redoes { Redoes (block_area geo) (L.state dev.old).medium (L.state dev.new).medium }
+    ensures runs { Runs (geo.blocks / 4 + 279) (geo.blocks / 8 + 84) (outcome_by mount_says result)
+        (L.state dev.old).panel (L.state dev.new).panel }
+{
+    let log = word_log::mount(alloc, dev, block_area(geo))?;
+    let words = load_map(alloc, dev, geo)?;
+    Ok((log, words))
+}
+
+// The words of the block map, a line at a time.
 fn load_map<L: Lines>(alloc: Global, dev: &mut L, geo: Geometry) -> Result<Words, MountFault>
     requires valid { IsValid geo }
     requires lines { (L.state dev.old).medium.count ≡ total_lines geo }
@@ -76,16 +95,38 @@ fn load_map<L: Lines>(alloc: Global, dev: &mut L, geo: Geometry) -> Result<Words
     requires on { IsTrue (L.state dev.old).panel.power }
     ensures words { IfOk result (λ words. words.items
         ≡ list_from (λ b. last_image (L.state dev.old).medium (place geo (of_block b))) 0 geo.blocks) }
-    ensures stop { IfErr result IsStop }
+    ensures stop { IfErr result (IsStop mount_says) }
     ensures lines { WritesBack (L.state dev.old).medium (L.state dev.new).medium }
-    ensures runs { Runs geo.blocks 0 (mount_outcome result) (L.state dev.old).panel (L.state dev.new).panel }
+    ensures runs { Runs (geo.blocks / 8) 0 (outcome_by mount_says result) (L.state dev.old).panel (L.state dev.new).panel }
 {
+    let first = geo.block_word(0) / 8;
     let mut words = Words::new(alloc);
-    for block in 0..geo.blocks {
-        let word = load_word(dev, geo.block_word(block))?;
-        words.push(word)?;
+    for k in 0..geo.blocks / 8 {
+        let eight = load_words(dev, first + k)?;
+        words.extend(&eight)?;
     }
     Ok(words)
+}
+
+// The blocks of a log at rest and of the words of their map, or what is wrong with these.
+fn judge(alloc: Global, geo: Geometry, log: Log, words: &[u64]) -> Result<Blocks, MountFault>
+    requires valid { IsValid geo }
+    requires log { log ≡ record { area = block_area geo; settled = true } }
+    requires length { length words.now ≡ geo.blocks }
+    ensures blocks { IfOk result (λ blocks. (blocks.geo ≡ geo) × (map word_of blocks.map ≡ words.now)) }
+    ensures settled { IfOk result (λ blocks. IsTrue blocks.settled) }
+    ensures finds { Explains mount_says (first_wrong words.now ≡ None) (IsWrongMap geo words.now) result }
+    ensures went { outcome_by mount_says result ≡ went }
+{
+    let map = read_map(alloc, geo, words)?;
+    let pool = pool_beside(alloc, &map, geo.blocks)?;
+    Ok(Blocks {
+        geo,
+        log,
+        map,
+        pool,
+        settled: true,
+    })
 }
 
 // The map that these words are, or the place of the first that is wrong.
@@ -93,8 +134,8 @@ fn read_map(alloc: Global, geo: Geometry, words: &[u64]) -> Result<BlockMap, Mou
     requires valid { IsValid geo }
     requires length { length words.now ≡ geo.blocks }
     ensures ok { IfOk result (λ map_. map word_of map_ ≡ words.now) }
-    ensures right { OnOk result (first_wrong words.now ≡ None) }
-    ensures err { IfErr result (IsTableCause geo words.now) }
+    ensures finds { Explains mount_says (first_wrong words.now ≡ None) (IsWrongMap geo words.now) result }
+    ensures went { outcome_by mount_says result ≡ went }
 {
     match BlockMap::read(alloc, geo, words) {
         Ok(map) => Ok(map),

@@ -23,7 +23,8 @@ fn word_in(bytes: &[u8], w: u64) -> u64
 // All words of a line's bytes.
 fn words_in(bytes: &[u8]) -> [u64; 8]
     requires { length bytes.now ≡ 64 }
-    ensures { (w : ℕ) → w < 8 → slice_index result w ≡ word_at bytes.now w }
+    ensures words { (w : ℕ) → w < 8 → slice_index result w ≡ word_at bytes.now w }
+    ensures size { length result ≡ 8 }
 {
     let mut words = [0; 8];
     LittleEndian::read_u64_into(bytes, &mut words);
@@ -49,6 +50,7 @@ pub fn load_words<L: Lines>(dev: &mut L, line: u64) -> Result<[u64; 8], Interrup
     requires healthy { IsHealthy (L.state dev.old).medium line }
     requires on { IsTrue (L.state dev.old).panel.power }
     ensures words { IfOk result (λ words. (w : ℕ) → w < 8 → slice_index words w ≡ last_image (L.state dev.old).medium (8 * line + w)) }
+    ensures size { IfOk result (λ words. length words ≡ 8) }
     ensures lines { WritesBack (L.state dev.old).medium (L.state dev.new).medium }
     ensures runs { Runs 1 0 (ended result) (L.state dev.old).panel (L.state dev.new).panel }
 {

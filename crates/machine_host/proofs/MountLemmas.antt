@@ -32,7 +32,7 @@ use Rattle.block_device.proofs.ReachLemmas.{reads_right}
 use Rattle.block_device.proofs.RestartLemmas.{block_image-last, is_only-none}
 use Rattle.recovery.specs.Fresh.{IsFresh, fresh_word}
 use Rattle.recovery.specs.Findings.{geometry_told, early_finding, first_finding}
-use Rattle.recovery.specs.Findings.Finding.{wrong_word}
+use Rattle.word_log.specs.Mount.Finding.{wrong_word}
 use Rattle.recovery.specs.Mounting.{Finds, HasDurableBlocks, IsInOrder, blocks_told}
 use Rattle.recovery.specs.declared.fault.MountFault.{MountFault}
 use Rattle.recovery.specs.declared.fault.MountFault.TheVariants as fault
@@ -170,7 +170,7 @@ only_stops {T} geo m r layout told sound readable finds = by_answer r (subst (λ
     by_answer (Err fault.PowerLost) f = tt
     by_answer (Err fault.Memory) f = tt
 
-pub mount_within : (m : Medium) (e : Outcome) (p q : Panel) → Runs (2 * blocks_told m + 287) (blocks_told m / 8 + 84) e p q → Runs mount_calls mount_persists e p q
+pub mount_within : (m : Medium) (e : Outcome) (p q : Panel) → Runs (blocks_told m / 4 + 280) (blocks_told m / 8 + 84) e p q → Runs mount_calls mount_persists e p q
 mount_within m e p q runs =
     let most : blocks_told m ≤ 4096 = min-le_right (geometry_told m).blocks 4096 in
-    runs_within (2 * blocks_told m + 287) (blocks_told m / 8 + 84) mount_calls mount_persists e p q runs (omega (arith, most)) (omega (arith, most))
+    runs_within (blocks_told m / 4 + 280) (blocks_told m / 8 + 84) mount_calls mount_persists e p q runs (omega (arith, most)) (omega (arith, most))

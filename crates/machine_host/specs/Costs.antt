@@ -21,7 +21,7 @@ lines_touched start len = (units_of 64 (record { start = start; len = len })).le
 
 -- what a mount makes at most: it reads the superblock, makes log and map of the blocks durable, replays, and reads the map
 abbrev pub mount_calls : ℕ
-mount_calls = 8479
+mount_calls = 1304
 
 abbrev pub mount_persists : ℕ
 mount_persists = 596

@@ -20,7 +20,7 @@ use Rattle.block_device.specs.Images.{KeepsReads, AreReadable}
 use Rattle.block_device.proofs.ReachLemmas.{each_reads-kept}
 use Rattle.block_device.proofs.RestartLemmas.{block_image-last, each_reads-restarted, each_reads-waits}
 use Rattle.recovery.specs.Findings.{geometry_told, superblock_finding, meta_finding, early_finding}
-use Rattle.recovery.specs.Findings.Finding.{bad_line, wrong_word}
+use Rattle.word_log.specs.Mount.Finding.{bad_line, wrong_word}
 use Rattle.recovery.specs.Mounting.{HasDurableBlocks, IsMountable, GoesOn}
 use Rattle.recovery.proofs.FindingLemmas.{early_none, is_superblock, nothing_early, words_alone}
 

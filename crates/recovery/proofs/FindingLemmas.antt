@@ -1,14 +1,14 @@
 -- What is found of a device, by what is found of its parts.
-use Rattle.std.proofs.Common.{◌≡◌, slice_index, ◌*◌, inl, inr, ℕ, Bool, true, false, List, Option, Some, None, Result, Ok, Err, if◌then◌else◌, option_map, position, refl, sym, ◌∙◌, ap, ap₂, subst}
+use Rattle.std.proofs.Common.{◌≡◌, slice_index, length, ◌+◌, ◌<◌, arith, ◌*◌, inl, inr, ℕ, Bool, true, false, List, Option, Some, None, Result, Ok, Err, if◌then◌else◌, option_map, position, refl, sym, ◌∙◌, ap, ap₂, subst}
 use Rattle.std.specs.List.{range_with_len}
+use Rattle.std.specs.Result.{IsErrAnd}
 use Rattle.std.proofs.lemmas.Bool.{cases_Bool}
 use Rattle.std.proofs.lemmas.Option.{none-some}
 use Rattle.line_device.specs.Medium.{Medium, WritesBack, last_image}
-use Rattle.line_device.specs.Panel.Outcome.{went}
-use Rattle.line_words.specs.declared.interruption.Interruption.{Interruption}
-use Rattle.line_words.specs.declared.interruption.Interruption.TheVariants as stop
+use Rattle.line_words.specs.Told.{Told, IfRefused, told_outcome}
 use Rattle.nvm_model.specs.Numbered.{list_from}
 use Rattle.nvm_model.specs.Blocks.{first_there}
+use Rattle.nvm_model.proofs.NumberedLemmas.{list_from-is}
 use Rattle.word_tables.specs.declared.geometry.Geometry.{Geometry}
 use Rattle.word_tables.specs.Layout.{meta_lines}
 use Rattle.word_tables.specs.Superblock.{first_wrong_word, geometry_of, IsSuperblock}
@@ -17,11 +17,11 @@ use Rattle.block_device.specs.Object.{HasStrongMetadata, HasGoodMetadata}
 use Rattle.block_device.specs.Mounting.{wrong_place}
 use Rattle.recovery.specs.declared.fault.MountFault.{MountFault}
 use Rattle.recovery.specs.declared.fault.MountFault.TheVariants.{Meta, Layout, Device, PowerLost, Memory}
-use Rattle.recovery.specs.Stopped.{as_mount_fault}
-use Rattle.recovery.specs.Findings.{Finding, geometry_told, superblock_finding, meta_finding, early_finding, first_finding}
-use Rattle.recovery.specs.Findings.Finding.{bad_line, wrong_word}
-use Rattle.recovery.specs.Mounting.{Checks, Finds, mount_outcome}
-use Rattle.recovery.proofs.SearchLemmas.{fails_below}
+use Rattle.word_log.specs.Mount.{Finding}
+use Rattle.recovery.specs.Findings.{geometry_told, superblock_finding, meta_finding, early_finding, first_finding}
+use Rattle.word_log.specs.Mount.Finding.{bad_line, wrong_word}
+use Rattle.recovery.specs.Mounting.{Finds, device_says, mount_outcome}
+use Rattle.block_device.proofs.PositionLemmas.{fails_below}
 
 -- what the first of two searches finds, and what the second does where the first finds nothing
 pub finds_first : (T U : Type 0) (a b : Option Finding) (f : MountFault) → Finds {T = U} a (Err f) → Finds {T = T} (first_there a b) (Err f)
@@ -34,38 +34,18 @@ finds_first T U a b Memory h = tt
 pub finds_second : {T : Type 0} (a b : Option Finding) (r : Result T MountFault) → a ≡ None → Finds b r → Finds (first_there a b) r
 finds_second a b r none h = subst (λ o. Finds (first_there o b) r) (sym none) h
 
--- a search that the device stopped finds nothing
-pub finds_stop : (T : Type 0) (found : Option Finding) (f : Interruption) → Finds {T = T} found (Err (as_mount_fault f))
-finds_stop T found stop.Failed = tt
-finds_stop T found stop.PowerLost = tt
+-- a fault that tells what another one told
+pub finds_told : {T : Type 0} (found : Option Finding) (r : Result T MountFault) (t : Told Finding) → IsErrAnd r (λ e. device_says e ≡ t) → IfRefused t (λ why. found ≡ Some why) → Finds found r
+finds_told found (Ok x) t is h = absurd is
+finds_told found (Err e) t is h = subst (λ u. IfRefused u (λ why. found ≡ Some why)) (sym is) h
 
--- the same on another result
+pub ended_told : {T : Type 0} (r : Result T MountFault) (t : Told Finding) → IsErrAnd r (λ e. device_says e ≡ t) → mount_outcome r ≡ told_outcome t
+ended_told (Ok x) t is = absurd is
+ended_told (Err e) t is = ap told_outcome is
+
+-- the same fault on another result
 pub finds_on : {T : Type 0} (found : Option Finding) (r : Result T MountFault) (f : MountFault) → r ≡ Err f → Finds {T = T} found (Err f) → Finds found r
 finds_on found r f is h = subst (λ q. Finds found q) (sym is) h
-
--- a test that nothing stops
-pub finds_checked : {T : Type 0} (found : Option Finding) (r : Result T MountFault) → Checks found r → Finds found r
-finds_checked found (Ok x) h = h
-finds_checked found (Err (Meta line)) h = h
-finds_checked found (Err (Layout place)) h = h
-finds_checked found (Err Device) h = absurd h
-finds_checked found (Err PowerLost) h = absurd h
-finds_checked found (Err Memory) h = absurd h
-
-pub went_checked : {T : Type 0} (found : Option Finding) (r : Result T MountFault) → Checks found r → mount_outcome r ≡ went
-went_checked found (Ok x) h = refl
-went_checked found (Err (Meta line)) h = refl
-went_checked found (Err (Layout place)) h = refl
-went_checked found (Err Device) h = absurd h
-went_checked found (Err PowerLost) h = absurd h
-went_checked found (Err Memory) h = absurd h
-
-pub checks_on : (T U : Type 0) (found : Option Finding) (f : MountFault) → Checks {T = U} found (Err f) → Checks {T = T} found (Err f)
-checks_on T U found (Meta line) h = h
-checks_on T U found (Layout place) h = h
-checks_on T U found Device h = absurd h
-checks_on T U found PowerLost h = absurd h
-checks_on T U found Memory h = absurd h
 
 -- the first line
 pub superblock_bad : (m : Medium) → m.is_bad 0 ≡ true → superblock_finding m ≡ Some (bad_line 0)
@@ -86,9 +66,17 @@ words_alone lines word = refl
 pub sizes_alone : (word : ℕ → ℕ) → geometry_of (slice_index (list_from word 0 8)) ≡ geometry_of word
 sizes_alone word = refl
 
-pub superblock_checked : {T : Type 0} (m : Medium) (lines : ℕ) (words : List ℕ) (r : Result T MountFault) → m.is_bad 0 ≡ false → lines ≡ m.count → words ≡ list_from (last_image m) 0 8
+-- as they are loaded
+pub first_words : (m : Medium) (words : List ℕ) → length words ≡ 8 → ((w : ℕ) → w < 8 → slice_index words w ≡ last_image m (8 * 0 + w)) → words ≡ list_from (last_image m) 0 8
+first_words m words eight same = list_from-is (last_image m) 0 words (λ w below. same w (omega (arith, below, eight))) ∙ ap (list_from (last_image m) 0) eight
+
+pub sizes_loaded : (m : Medium) (words : List ℕ) → length words ≡ 8 → ((w : ℕ) → w < 8 → slice_index words w ≡ last_image m (8 * 0 + w)) → geometry_of (slice_index words) ≡ geometry_told m
+sizes_loaded m words eight same = ap (λ (ws : List ℕ). geometry_of (slice_index ws)) (first_words m words eight same)
+
+pub superblock_checked : {T : Type 0} (m : Medium) (lines : ℕ) (words : List ℕ) (r : Result T MountFault) → m.is_bad 0 ≡ false → lines ≡ m.count → length words ≡ 8 → ((w : ℕ) → w < 8 → slice_index words w ≡ last_image m (8 * 0 + w))
     → Finds (option_map wrong_word (first_wrong_word lines (slice_index words))) r → Finds (superblock_finding m) r
-superblock_checked m lines words r good count is h =
+superblock_checked m lines words r good count eight same h =
+    let is = first_words m words eight same in
     subst (λ o. Finds o r)
     (ap₂ (λ n (ws : List ℕ). option_map wrong_word (first_wrong_word n (slice_index ws))) count is ∙ ap (option_map wrong_word) (words_alone m.count (last_image m)) ∙ sym (superblock_good m good)) h
 
@@ -104,6 +92,11 @@ is_superblock m none =
 first_none : {A : Type 0} (a b : Option A) → first_there a b ≡ None → (a ≡ None) × (b ≡ None)
 first_none None b h = (refl, h)
 first_none (Some x) b h = absurd (none-some x (sym h))
+
+-- where nothing is found at all, nothing is found before the log
+pub nothing_early : (m : Medium) → first_finding m ≡ None → early_finding m ≡ None
+unfolding first_finding
+nothing_early m none = (first_none (early_finding m) (option_map wrong_word (wrong_place (geometry_told m) (last_image m))) none).0
 
 pub early_none : (m : Medium) → early_finding m ≡ None → (superblock_finding m ≡ None) × (meta_finding (geometry_told m) m ≡ None)
 unfolding early_finding
@@ -143,11 +136,6 @@ unfolding early_finding
 finds_early geo old new r is x none h =
     finds_second (superblock_finding old) (meta_finding (geometry_told old) old) r none
     (subst (λ o. Finds o r) (meta-write_back geo old new x ∙ ap (λ g. meta_finding g old) is) h)
-
--- where nothing is found at all, nothing is found before the log
-pub nothing_early : (m : Medium) → first_finding m ≡ None → early_finding m ≡ None
-unfolding first_finding
-nothing_early m none = (first_none (early_finding m) (option_map wrong_word (wrong_place (geometry_told m) (last_image m))) none).0
 
 -- and once nothing is found before the log
 pub first_late : (m : Medium) → early_finding m ≡ None → first_finding m ≡ option_map wrong_word (wrong_place (geometry_told m) (last_image m))

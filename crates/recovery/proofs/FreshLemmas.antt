@@ -22,7 +22,7 @@ use Rattle.block_device.proofs.ReachLemmas.{reads_right}
 use Rattle.block_device.proofs.RestartLemmas.{block_image-last, block_on_device}
 use Rattle.block_device.proofs.ZerosLemmas.{zeros_read}
 use Rattle.recovery.specs.Findings.{geometry_told, early_finding, first_finding}
-use Rattle.recovery.specs.Findings.Finding.{wrong_word}
+use Rattle.word_log.specs.Mount.Finding.{wrong_word}
 use Rattle.recovery.specs.Fresh.{IsFresh, HasSuperblock, fresh_word}
 use Rattle.recovery.specs.Mounting.{IsMountable}
 use Rattle.recovery.proofs.FindingLemmas.{first_late}

@@ -1,4 +1,3 @@
-pub mod SearchLemmas
 pub mod WordLemmas
 pub mod FindingLemmas
 pub mod MountLemmas

@@ -19,7 +19,7 @@ use Rattle.word_tables.proofs.SuperblockLemmas.{told}
 use Rattle.block_device.specs.Object.{HasStrongMetadata, HasGoodMetadata}
 use Rattle.block_device.proofs.PositionLemmas.{none_below}
 use Rattle.recovery.specs.Findings.{geometry_told, superblock_finding, meta_finding, early_finding}
-use Rattle.recovery.specs.Findings.Finding.{bad_line, wrong_word}
+use Rattle.word_log.specs.Mount.Finding.{bad_line, wrong_word}
 use Rattle.recovery.specs.Fresh.{HasSuperblock}
 use Rattle.recovery.specs.Mounting.{IsMountable}
 use Rattle.recovery.proofs.FindingLemmas as found

@@ -6,12 +6,9 @@ use Rattle.word_tables.specs.declared.geometry.Geometry.{Geometry}
 use Rattle.word_tables.specs.Layout.{meta_lines}
 use Rattle.word_tables.specs.Superblock.{geometry_of, first_wrong_word}
 use Rattle.nvm_model.specs.Blocks.{first_there}
+use Rattle.word_log.specs.Mount.{Finding}
 use Rattle.block_device.specs.Mounting.{wrong_place}
-
--- a bad line of metadata, or a word that is not as it has to be
-pub data Finding : Type 0 where
-  bad_line : ℕ → Finding
-  wrong_word : ℕ → Finding
+use Rattle.word_log.specs.Mount.Finding.{bad_line, wrong_word}
 
 -- the sizes that the first line tells, as last stored
 abbrev pub geometry_told : Medium → Geometry

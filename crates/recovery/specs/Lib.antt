@@ -1,4 +1,3 @@
-pub mod Stopped
 pub mod Findings
 pub mod Mounting
 pub mod Examples

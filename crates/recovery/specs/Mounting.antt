@@ -1,8 +1,11 @@
 -- What a mount asks for, and what its answers say.
-use Rattle.std.specs.Prelude.{◌≡◌, ◌≤◌, ◌<◌, ℕ, min, Option, Some, None, Result, Ok, Err}
+use Rattle.std.specs.Prelude.{◌≡◌, ◌≤◌, ◌<◌, ℕ, min, Option, None, Result}
 use Rattle.line_device.specs.Medium.{Medium, last_image}
 use Rattle.line_device.specs.Panel.{Outcome}
-use Rattle.line_device.specs.Panel.Outcome.{went, failed, lost}
+use Rattle.line_words.specs.declared.interruption.Interruption.TheVariants as stop
+use Rattle.line_words.specs.Told as all
+use Rattle.line_words.specs.Told.{Told}
+use Rattle.line_words.specs.Told.Told.{Refuses, Stops, Starves}
 use Rattle.line_words.specs.Words.{IsOnly}
 use Rattle.word_tables.specs.declared.geometry.Geometry.{Geometry}
 use Rattle.word_tables.specs.Bounds.{IsValid}
@@ -12,38 +15,29 @@ use Rattle.block_device.specs.Reading.{states_read}
 use Rattle.block_device.specs.Object.{AreDurable, HasStrongMetadata, HasGoodMetadata}
 use Rattle.recovery.specs.declared.fault.MountFault.{MountFault}
 use Rattle.recovery.specs.declared.fault.MountFault.TheVariants.{Meta, Layout, Device, PowerLost, Memory}
-use Rattle.recovery.specs.Findings.{Finding, bad_line, wrong_word, geometry_told, early_finding, first_finding}
+use Rattle.word_log.specs.Mount.{Finding}
+use Rattle.word_log.specs.Mount.Finding.{bad_line, wrong_word}
+use Rattle.recovery.specs.Findings.{geometry_told, early_finding, first_finding}
 
--- what the block map names is durable, where nothing is found
-abbrev pub HasDurableBlocks : Medium → Type 0
-HasDurableBlocks m = first_finding m ≡ None → AreDurable (geometry_told m) m (states_read (geometry_told m) (last_image m))
+-- what a fault tells
+abbrev pub device_says : MountFault → Told Finding
+device_says (Meta line) = Refuses (bad_line line.0)
+device_says (Layout place) = Refuses (wrong_word place)
+device_says Device = Stops stop.Failed
+device_says PowerLost = Stops stop.PowerLost
+device_says Memory = Starves
 
--- An answer tells this finding and no other. It is Ok only where there is none, and device, power and memory may stop it.
+-- an answer tells this finding and no other, and is Ok only where there is none
 abbrev pub Finds : {T : Type 0} → Option Finding → Result T MountFault → Type 0
-Finds found (Ok x) = found ≡ None
-Finds found (Err (Meta line)) = found ≡ Some (bad_line line.0)
-Finds found (Err (Layout place)) = found ≡ Some (wrong_word place)
-Finds found (Err Device) = Unit {0}
-Finds found (Err PowerLost) = Unit {0}
-Finds found (Err Memory) = Unit {0}
-
--- the same of a test, which nothing stops
-abbrev pub Checks : {T : Type 0} → Option Finding → Result T MountFault → Type 0
-Checks found (Ok x) = found ≡ None
-Checks found (Err (Meta line)) = found ≡ Some (bad_line line.0)
-Checks found (Err (Layout place)) = found ≡ Some (wrong_word place)
-Checks found (Err Device) = ⊥
-Checks found (Err PowerLost) = ⊥
-Checks found (Err Memory) = ⊥
+Finds found result = all.Finds device_says found result
 
 -- how a mount ended, as far as the device goes
 abbrev pub mount_outcome : {T : Type 0} → Result T MountFault → Outcome
-mount_outcome (Ok x) = went
-mount_outcome (Err (Meta line)) = went
-mount_outcome (Err (Layout place)) = went
-mount_outcome (Err Device) = failed
-mount_outcome (Err PowerLost) = lost
-mount_outcome (Err Memory) = went
+mount_outcome result = all.outcome_by device_says result
+
+-- where nothing is found, what the block map names is durable
+abbrev pub HasDurableBlocks : Medium → Type 0
+HasDurableBlocks m = first_finding m ≡ None → AreDurable (geometry_told m) m (states_read (geometry_told m) (last_image m))
 
 -- the device has these sizes, and no line of metadata is bad or weak
 pub record IsInOrder (geo : Geometry) (m : Medium) : Type 0 where

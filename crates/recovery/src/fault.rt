@@ -19,9 +19,10 @@ pub enum MountFault {
 }
 
 impl From<Interruption> for MountFault {
-    ghost use Rattle.recovery.specs.Stopped.{as_mount_fault};
+    ghost use Rattle.line_words.specs.Told.Told.{Stops};
+    ghost use Rattle.recovery.specs.Mounting.{device_says};
 
-    ghost from_gives = { λ stop fault. fault ≡ as_mount_fault stop };
+    ghost from_gives = { λ stop fault. device_says fault ≡ Stops stop };
 
     fn from(stop: Interruption) -> MountFault {
         match stop {
@@ -32,9 +33,10 @@ impl From<Interruption> for MountFault {
 }
 
 impl From<block_device::MountFault> for MountFault {
-    ghost use Rattle.recovery.specs.Stopped.{of_block_fault};
+    ghost use Rattle.block_device.specs.Mounting.{mount_says};
+    ghost use Rattle.recovery.specs.Mounting.{device_says};
 
-    ghost from_gives = { λ blocks fault. fault ≡ of_block_fault blocks };
+    ghost from_gives = { λ blocks fault. device_says fault ≡ mount_says blocks };
 
     fn from(fault: block_device::MountFault) -> MountFault {
         match fault {

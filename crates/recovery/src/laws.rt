@@ -14,7 +14,7 @@ ghost use Rattle.block_device.specs.Area.{block_area};
 ghost use Rattle.block_device.specs.Images.{EachReads, KeepsReads};
 ghost use Rattle.block_device.specs.Object.{HasGoodMetadata, HasStrongMetadata};
 ghost use Rattle.recovery.specs.Findings.{geometry_told, early_finding, first_finding};
-ghost use Rattle.recovery.specs.Findings.Finding.{bad_line, wrong_word};
+ghost use Rattle.word_log.specs.Mount.Finding.{bad_line, wrong_word};
 ghost use Rattle.recovery.specs.Fresh.{HasSuperblock, IsFresh};
 ghost use Rattle.recovery.specs.Examples.{smallest, nowhere, only, small_device, superblock_but};
 ghost use Rattle.recovery.specs.Mounting.{HasDurableBlocks, IsMountable, GoesOn};

@@ -22,7 +22,6 @@ use word_tables::Geometry;
 /// Mounts a device: replays the log of its blocks where it is open, and reads their map.
 pub fn mount<L: Lines>(alloc: Global, dev: &mut L) -> Result<Mounted, MountFault>
     requires some { 1 ≤ (L.state dev.old).medium.count }
-    requires durable { HasDurableBlocks (L.state dev.old).medium }
     requires on { IsTrue (L.state dev.old).panel.power }
     ensures ok { IfOk result (λ mounted. (mounted.geo ≡ geometry_told (L.state dev.old).medium)
         × (mounted.blocks.geo ≡ geometry_told (L.state dev.old).medium)
@@ -37,26 +36,27 @@ pub fn mount<L: Lines>(alloc: Global, dev: &mut L) -> Result<Mounted, MountFault
         → WritesBack (L.state dev.old).medium (L.state dev.new).medium }
     ensures outside { WritesBackOutside (IsOf (block_area (geometry_told (L.state dev.old).medium)))
         (L.state dev.old).medium (L.state dev.new).medium }
-    ensures serves { IfOk result (λ mounted. BlocksServe mounted.blocks (L.state dev.new).medium) }
+    ensures serves { HasDurableBlocks (L.state dev.old).medium
+        → IfOk result (λ mounted. BlocksServe mounted.blocks (L.state dev.new).medium) }
     ensures settled { IfOk result (λ mounted. IsTrue mounted.blocks.settled) }
     ensures order { IfOk result (λ mounted. IsInOrder mounted.geo (L.state dev.new).medium) }
-    ensures runs { Runs (2 * blocks_told (L.state dev.old).medium + 287) (blocks_told (L.state dev.old).medium / 8 + 84)
+    ensures runs { Runs (blocks_told (L.state dev.old).medium / 4 + 280) (blocks_told (L.state dev.old).medium / 8 + 84)
         (mount_outcome result) (L.state dev.old).panel (L.state dev.new).panel }
 {
-    let geo = look(dev)?;
+    let geo = find_sizes(dev)?;
     let blocks = Blocks::mount(alloc, dev, geo)?;
     Ok(Mounted { geo, blocks })
 }
 
 // The sizes of a device whose superblock and lines of metadata are in order.
-fn look<L: Lines>(dev: &mut L) -> Result<Geometry, MountFault>
+fn find_sizes<L: Lines>(dev: &mut L) -> Result<Geometry, MountFault>
     requires some { 1 ≤ (L.state dev.old).medium.count }
     requires on { IsTrue (L.state dev.old).panel.power }
     ensures geo { IfOk result (λ geo. geo ≡ geometry_told (L.state dev.old).medium) }
     ensures order { IfOk result (λ geo. IsInOrder geo (L.state dev.new).medium) }
     ensures finds { Finds (early_finding (L.state dev.old).medium) result }
     ensures lines { WritesBack (L.state dev.old).medium (L.state dev.new).medium }
-    ensures runs { Runs 8 0 (mount_outcome result) (L.state dev.old).panel (L.state dev.new).panel }
+    ensures runs { Runs 1 0 (mount_outcome result) (L.state dev.old).panel (L.state dev.new).panel }
 {
     let geo = read_superblock(dev)?;
     check_metadata(dev, geo)?;

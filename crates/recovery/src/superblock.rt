@@ -1,22 +1,18 @@
-// The superblock: loaded word by word, and compared with the layout.
-ghost use Rattle.std.specs.Prelude.{◌≡◌, ◌≤◌, ◌%◌, ◌==◌, ◌&&◌, false, IsTrue, IfOk, option_map, slice_index};
-ghost use Rattle.line_device.specs.Medium.{WritesBack, last_image};
+// The superblock: loaded by one call, and compared with the layout.
+ghost use Rattle.std.specs.Prelude.{◌≡◌, ◌≤◌, ◌%◌, ◌==◌, ◌&&◌, IsTrue, IfOk, option_map, slice_index};
+ghost use Rattle.line_device.specs.Medium.{WritesBack};
 ghost use Rattle.line_device.specs.Panel.{Runs};
-ghost use Rattle.line_words.specs.Ending.{ended};
-ghost use Rattle.nvm_model.specs.Numbered.{list_from};
+ghost use Rattle.line_device.specs.Panel.Outcome.{went};
 ghost use Rattle.word_tables.specs.Superblock.{geometry_of, first_wrong_word, is_within};
 ghost use Rattle.recovery.specs.Findings.{geometry_told, superblock_finding};
-ghost use Rattle.recovery.specs.Findings.Finding.{wrong_word};
-ghost use Rattle.recovery.specs.Mounting.{Checks, Finds, mount_outcome};
+ghost use Rattle.word_log.specs.Mount.Finding.{wrong_word};
+ghost use Rattle.recovery.specs.Mounting.{Finds, mount_outcome};
 
 use crate::MountFault;
 use line_device::Lines;
-use line_words::{Interruption, load_word};
+use line_words::load_words;
 use nvm_base::LineNo;
 use word_tables::{Geometry, LAYOUT, MARK, WORD_BYTES};
-
-/// The words of a superblock.
-const WORDS: usize = 8;
 
 /// The sizes that the superblock tells, where it is as it has to be.
 pub fn read_superblock<L: Lines>(dev: &mut L) -> Result<Geometry, MountFault>
@@ -25,35 +21,20 @@ pub fn read_superblock<L: Lines>(dev: &mut L) -> Result<Geometry, MountFault>
     ensures geo { IfOk result (λ geo. geo ≡ geometry_told (L.state dev.old).medium) }
     ensures finds { Finds (superblock_finding (L.state dev.old).medium) result }
     ensures lines { WritesBack (L.state dev.old).medium (L.state dev.new).medium }
-    ensures runs { Runs 8 0 (mount_outcome result) (L.state dev.old).panel (L.state dev.new).panel }
+    ensures runs { Runs 1 0 (mount_outcome result) (L.state dev.old).panel (L.state dev.new).panel }
 {
     if dev.is_bad(LineNo(0)) {
         return Err(MountFault::Meta(LineNo(0)));
     }
-    let words = load_words(dev)?;
+    let words = load_words(dev, 0)?;
     check_words(&words, dev.lines())
 }
 
-// The words of the first line.
-fn load_words<L: Lines>(dev: &mut L) -> Result<[u64; WORDS], Interruption>
-    requires some { 1 ≤ (L.state dev.old).medium.count }
-    requires good { (L.state dev.old).medium.is_bad 0 ≡ false }
-    requires on { IsTrue (L.state dev.old).panel.power }
-    ensures words { IfOk result (λ words. words ≡ list_from (last_image (L.state dev.old).medium) 0 8) }
-    ensures lines { WritesBack (L.state dev.old).medium (L.state dev.new).medium }
-    ensures runs { Runs 8 0 (ended result) (L.state dev.old).panel (L.state dev.new).panel }
-{
-    let mut words = [0; WORDS];
-    for w in 0..WORDS {
-        words[w] = load_word(dev, w as u64)?;
-    }
-    Ok(words)
-}
-
 // The sizes that words tell, or the lowest word that is wrong on a device of so many lines.
-fn check_words(words: &[u64; WORDS], lines: u64) -> Result<Geometry, MountFault>
+fn check_words(words: &[u64; 8], lines: u64) -> Result<Geometry, MountFault>
     ensures geo { IfOk result (λ geo. geo ≡ geometry_of (slice_index words.now)) }
-    ensures finds { Checks (option_map wrong_word (first_wrong_word lines (slice_index words.now))) result }
+    ensures finds { Finds (option_map wrong_word (first_wrong_word lines (slice_index words.now))) result }
+    ensures went { mount_outcome result ≡ went }
 {
     if words[0] != MARK {
         return Err(MountFault::Layout(0));

@@ -2,5 +2,5 @@ use Rattle.std.proofs.Common.{◌∙◌, arith}
 use Rattle.line_words.proofs.CallLemmas.{word_spelled}
 use Rattle.line_words.proofs.words.words_in.Goals as goal
 
-pub returns : goal.returns
-returns c = λ w below. c.read_u64_into.ensures w (omega arith) ∙ word_spelled c.args.bytes.now w
+pub returns-clause-words : goal.returns-clause-words
+returns-clause-words c = λ w below. c.read_u64_into.ensures w (omega arith) ∙ word_spelled c.args.bytes.now w

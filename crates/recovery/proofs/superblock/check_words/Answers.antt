@@ -1,5 +1,5 @@
 use Rattle.std.proofs.Common.{◌∙◌, sym, ap, option_map, slice_index}
-use Rattle.recovery.specs.Findings.Finding.{wrong_word}
+use Rattle.word_log.specs.Mount.Finding.{wrong_word}
 use Rattle.recovery.proofs.WordLemmas.{at_mark, at_layout, at_blocks, at_vpages, at_fpages, at_meta, at_total, at_lines, at_bytes, at_end}
 use Rattle.recovery.proofs.superblock.check_words.Goals as goal
 use Rattle.recovery.proofs.superblock.check_words.Goals.{then-words-total_lines-via-then-words-total_lines, then-words-total_lines-via-else-words-total_lines+then-words-lines}

@@ -5,9 +5,6 @@ use Rattle.machine_host.specs.Volume.{HasGoodData}
 use Rattle.machine_host.proofs.MountLemmas.{durable_flushed, layout_mounted, metadata_mounted}
 use Rattle.machine_host.proofs.host.Host.mount.Goals as goal
 
-pub mount-requires-clause-durable : goal.mount-requires-clause-durable
-mount-requires-clause-durable g c = durable_flushed _ c.requires.flushed
-
 pub returns-clause-metadata : goal.returns-clause-metadata
 returns-clause-metadata g c =
     let old = (g.D.Lines.state c.args.device.now).medium in
@@ -24,5 +21,5 @@ returns-clause-serves g c = λ good.
     record {
       layout = layout_mounted c.in_ok-mounted.mounted.geo _ old new x.order x.outside (subst (λ geo. HasGoodData geo old) (sym x.ok.0) good);
       power = x.runs.cause.0 ∙ c.requires.on;
-      mounted = λ _. record { geometry = x.ok.1 ∙ sym x.ok.0; settled = x.settled; serves = x.serves };
+      mounted = λ _. record { geometry = x.ok.1 ∙ sym x.ok.0; settled = x.settled; serves = x.serves (durable_flushed _ c.requires.flushed) };
     }

@@ -14,9 +14,6 @@ pub mount-requires-clause-some : goal.mount-requires-clause-some
 mount-requires-clause-some g c =
     line_zero c.args.self.now.geometry _ (layout-restarted c.args.self.now.geometry c.args.choice _ _ c.requires.serves.layout c.in_ok-restart.ensures.1.lines)
 
-pub mount-requires-clause-durable : goal.mount-requires-clause-durable
-mount-requires-clause-durable g c = durable_flushed _ (flushed-restarted c.args.choice _ _ (g.met.D.Lines.sound c.args.device.now) c.in_ok-restart.ensures.1.lines)
-
 pub returns-in-Ok : goal.returns-in-Ok
 returns-in-Ok g c =
     let old = (g.D.Lines.state c.args.device.now) in
@@ -25,7 +22,7 @@ returns-in-Ok g c =
     let x = c.in-Ok.ensures in
     let left = c.in_ok-restart.ensures in
     restart_mounted c.args.self.now c.args.self.now c.mounted.new.self c.args.choice old mid new left.0 refl c.requires.serves left.1 (g.met.D.Lines.sound c.args.device.now) (g.met.D.Lines.sound c.restart.new.self)
-    (record { outside = x.outside; reads = x.reads }) c.requires.off c.in-Ok.mounted.geo c.in-Ok.mounted.blocks (answer_of c.mounted.result) (mount_within mid.medium _ mid.panel new.panel x.runs) x.ok.0 x.ok.1 x.settled x.serves x.ok.2 c.mounted.ensures
+    (record { outside = x.outside; reads = x.reads }) c.requires.off c.in-Ok.mounted.geo c.in-Ok.mounted.blocks (answer_of c.mounted.result) (mount_within mid.medium _ mid.panel new.panel x.runs) x.ok.0 x.ok.1 x.settled (x.serves (durable_flushed _ (flushed-restarted c.args.choice _ _ (g.met.D.Lines.sound c.args.device.now) c.in_ok-restart.ensures.1.lines))) x.ok.2 c.mounted.ensures
 
 pub returns-in-Err : goal.returns-in-Err
 returns-in-Err g c =

@@ -5,10 +5,10 @@ use Rattle.word_tables.specs.Bounds.{IsValid}
 use Rattle.word_tables.specs.Layout.{total_lines}
 use Rattle.block_device.proofs.MountedLemmas.{handed}
 use Rattle.recovery.specs.declared.fault.MountFault.{MountFault}
-use Rattle.recovery.specs.Findings.{meta_finding, early_finding}
+use Rattle.recovery.specs.Findings.{early_finding}
 use Rattle.recovery.specs.Mounting.{mount_outcome}
-use Rattle.recovery.proofs.FindingLemmas.{finds_on, finds_superblock, finds_early, finds_checked, went_checked, checks_on, is_superblock, good_metadata, strong_metadata}
-use Rattle.recovery.proofs.mounting.look.Goals as goal
+use Rattle.recovery.proofs.FindingLemmas.{finds_on, finds_superblock, finds_early, is_superblock, good_metadata, strong_metadata}
+use Rattle.recovery.proofs.mounting.find_sizes.Goals as goal
 
 pub returns-in_err-geo-clause-finds : goal.returns-in_err-geo-clause-finds
 returns-in_err-geo-clause-finds g c =
@@ -30,20 +30,15 @@ returns-in_err-check_metadata-clause-finds g c =
     let now = (g.L.Lines.state c.read_superblock.new.dev).medium in
     let f = c.in_err-check_metadata.field-0.0 in
     let r = c.from_residual-in_err-check_metadata.result in
-    let found = meta_finding c.in_ok-geo.geo now in
     finds_on (early_finding old) r f (handed r f c.from_residual-in_err-check_metadata.ensures.1)
-    (finds_early {T = Geometry} c.in_ok-geo.geo old now (Err f) c.in_ok-geo.ensures.geo c.in_ok-geo.ensures.lines c.in_ok-geo.ensures.finds
-    (finds_checked {T = Geometry} found (Err f) (checks_on Geometry (Unit {0}) found f c.in_err-check_metadata.ensures)))
+    (finds_early {T = Geometry} c.in_ok-geo.geo old now (Err f) c.in_ok-geo.ensures.geo c.in_ok-geo.ensures.lines c.in_ok-geo.ensures.finds c.in_err-check_metadata.ensures.finds)
 
 pub returns-in_err-check_metadata-clause-runs : goal.returns-in_err-check_metadata-clause-runs
 returns-in_err-check_metadata-clause-runs g c =
     let f = c.in_err-check_metadata.field-0.0 in
     let r = c.from_residual-in_err-check_metadata.result in
-    let found = meta_finding c.in_ok-geo.geo (g.L.Lines.state c.read_superblock.new.dev).medium in
-    subst (λ (e : Outcome). Runs 8 0 e (g.L.Lines.state c.args.dev.now).panel (g.L.Lines.state c.read_superblock.new.dev).panel)
-    (sym
-    (ap (λ (q : Result Geometry MountFault). mount_outcome q) (handed r f c.from_residual-in_err-check_metadata.ensures.1)
-    ∙ went_checked {T = Geometry} found (Err f) (checks_on Geometry (Unit {0}) found f c.in_err-check_metadata.ensures)))
+    subst (λ (e : Outcome). Runs 1 0 e (g.L.Lines.state c.args.dev.now).panel (g.L.Lines.state c.read_superblock.new.dev).panel)
+    (sym (ap (λ (q : Result Geometry MountFault). mount_outcome q) (handed r f c.from_residual-in_err-check_metadata.ensures.1) ∙ c.in_err-check_metadata.ensures.went))
     c.in_ok-geo.ensures.runs
 
 pub returns-clause-order : goal.returns-clause-order
@@ -53,12 +48,12 @@ returns-clause-order g c =
     record {
       valid = subst IsValid (sym c.in_ok-geo.ensures.geo) told.valid;
       count = c.in_ok-geo.ensures.lines.count ∙ told.count ∙ ap total_lines (sym c.in_ok-geo.ensures.geo);
-      good = good_metadata c.in_ok-geo.geo now c.in_ok-check_metadata.ensures;
-      strong = strong_metadata c.in_ok-geo.geo now c.in_ok-check_metadata.ensures;
+      good = good_metadata c.in_ok-geo.geo now c.in_ok-check_metadata.ensures.finds;
+      strong = strong_metadata c.in_ok-geo.geo now c.in_ok-check_metadata.ensures.finds;
     }
 
 pub returns-clause-finds : goal.returns-clause-finds
 returns-clause-finds g c =
     let old = (g.L.Lines.state c.args.dev.now).medium in
     let now = (g.L.Lines.state c.read_superblock.new.dev).medium in
-    finds_early {T = Geometry} c.in_ok-geo.geo old now (Ok c.in_ok-geo.geo) c.in_ok-geo.ensures.geo c.in_ok-geo.ensures.lines c.in_ok-geo.ensures.finds c.in_ok-check_metadata.ensures
+    finds_early {T = Geometry} c.in_ok-geo.geo old now (Ok c.in_ok-geo.geo) c.in_ok-geo.ensures.geo c.in_ok-geo.ensures.lines c.in_ok-geo.ensures.finds c.in_ok-check_metadata.ensures.finds
