@@ -19,10 +19,10 @@ Fetches held name most (Err Failed) = Unit {0}
 Fetches held name most (Err Memory) = Unit {0}
 
 -- these names keep what is held under them
-abbrev pub Keeps : (List ℕ → Type 0) → Option Held → Option Held → Type 0
-Keeps which None after = Unit {0}
-Keeps which (Some look) None = ⊥
-Keeps which (Some look) (Some after) = (name : List ℕ) → which name → after name ≡ look name
+abbrev pub KeepsHeld : (List ℕ → Type 0) → Option Held → Option Held → Type 0
+KeepsHeld which None after = Unit {0}
+KeepsHeld which (Some look) None = ⊥
+KeepsHeld which (Some look) (Some after) = (name : List ℕ) → which name → after name ≡ look name
 
 -- what a fetch counts
 pub record CountsFetch (failed : Type 0) (old new : ImageCounts) : Type 0 where

@@ -18,5 +18,5 @@ abbrev pub fails_next : Schedule → Bool
 fails_next s = list_any (λ n. n == raised s.calls) s.numbers
 
 -- after one more call
-abbrev pub after_call : Schedule → Schedule
-after_call s = record { numbers = s.numbers; calls = raised s.calls; faults = if fails_next s then raised s.faults else s.faults }
+abbrev pub schedule_after : Schedule → Schedule
+schedule_after s = record { numbers = s.numbers; calls = raised s.calls; faults = if fails_next s then raised s.faults else s.faults }

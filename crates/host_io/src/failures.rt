@@ -21,7 +21,7 @@ impl Model for Failures {
 }
 
 impl Failures {
-    ghost use Rattle.host_io.specs.Schedule.{schedule_of, fails_next, after_call};
+    ghost use Rattle.host_io.specs.Schedule.{schedule_of, fails_next, schedule_after};
 
     pub fn new(numbers: Words) -> Self
         ensures { result ≡ schedule_of numbers.items }
@@ -36,7 +36,7 @@ impl Failures {
     /// Counts a call, and says whether it fails.
     pub fn next(&mut self) -> bool
         ensures value { result ≡ fails_next self.old }
-        ensures after { self.new ≡ after_call self.old }
+        ensures after { self.new ≡ schedule_after self.old }
         ensures later { self.old.faults ≤ self.new.faults }
     {
         raise(&mut self.calls);

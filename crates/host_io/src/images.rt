@@ -1,5 +1,6 @@
 use crate::WriteFault;
 use nvm_base::Bytes;
+use thiserror::Error;
 
 /// What was asked of images and what failed. No count falls, and each stands still at its last value.
 #[derive(Clone, Copy, Debug, PartialEq, Eq)]
@@ -13,11 +14,15 @@ pub struct ImageCounts {
 }
 
 /// Why an image was not fetched.
-#[derive(Clone, Copy, Debug, PartialEq, Eq)]
+#[derive(Clone, Copy, Debug, PartialEq, Eq, Error)]
 pub enum FetchFault {
+    #[error("no image has this name")]
     Missing,
+    #[error("the image could not be read")]
     Failed,
+    #[error("the image is too long")]
     TooLong,
+    #[error("no memory for the image")]
     Memory,
 }
 
@@ -25,7 +30,7 @@ pub enum FetchFault {
 pub trait Images {
     ghost use Rattle.std.specs.Prelude.{◌≡◌, ◌≢◌, Option, Some, IfSome, IfErr, OnOk, ⊤};
     ghost use Rattle.host_io.specs.declared.images.ImageCounts.{ImageCounts};
-    ghost use Rattle.host_io.specs.Images.{Held, Fetches, Keeps, CountsFetch, CountsReplace};
+    ghost use Rattle.host_io.specs.Images.{Held, Fetches, KeepsHeld, CountsFetch, CountsReplace};
 
     /// The bytes held under each name, where they are told.
     ghost held: { Self → Option Held };
@@ -35,15 +40,15 @@ pub trait Images {
     /// The bytes held under the name, if they are at most so many.
     fn fetch(&mut self, name: &str, most: u64) -> Result<Bytes, FetchFault>
         ensures answer { Fetches (held self.old) name.now most result }
-        ensures held { Keeps (λ _. ⊤) (held self.old) (held self.new) }
+        ensures held { KeepsHeld (λ _. ⊤) (held self.old) (held self.new) }
         ensures counts { CountsFetch (result ≡ Err FetchFault.Failed) (count self.old) (count self.new) };
 
     /// Holds the bytes under the name, in place of what was there.
     fn replace(&mut self, name: &str, bytes: &[u8]) -> Result<(), WriteFault>
         ensures ok { OnOk result (IfSome (held self.new) (λ look. look name.now ≡ Some bytes.now)) }
         ensures memory { IfErr result
-            (λ e. e ≡ WriteFault.Memory → Keeps (λ _. ⊤) (held self.old) (held self.new)) }
-        ensures others { Keeps (λ other. other ≢ name.now) (held self.old) (held self.new) }
+            (λ e. e ≡ WriteFault.Memory → KeepsHeld (λ _. ⊤) (held self.old) (held self.new)) }
+        ensures others { KeepsHeld (λ other. other ≢ name.now) (held self.old) (held self.new) }
         ensures counts { CountsReplace (result ≡ Err WriteFault.Failed) (count self.old) (count self.new) };
 
     fn counts(&self) -> ImageCounts

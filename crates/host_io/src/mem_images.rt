@@ -68,14 +68,22 @@ impl MemImages {
 }
 
 impl Images for MemImages {
-    ghost use Rattle.std.specs.Prelude.{Some};
-    ghost use Rattle.host_io.specs.MemImages.{held_in, counts_of};
+    ghost use Rattle.std.specs.Prelude.{◌≡◌, ◌≢◌, ◌↔◌, Some, IfSome, IfErr, OnOk, IsTrue, ⊤};
+    ghost use Rattle.host_io.specs.Images.{Fetches, KeepsHeld, CountsFetch, CountsReplace};
+    ghost use Rattle.host_io.specs.MemImages.{held_in, calls_of, counts_of};
+    ghost use Rattle.host_io.specs.Schedule.{fails_next, schedule_after};
 
     ghost held = { λ m. Some (held_in m) };
 
     ghost count = { counts_of };
 
-    fn fetch(&mut self, name: &str, most: u64) -> Result<Bytes, FetchFault> {
+    fn fetch(&mut self, name: &str, most: u64) -> Result<Bytes, FetchFault>
+        ensures answer { Fetches (Some (held_in self.old)) name.now most result }
+        ensures held { KeepsHeld (λ _. ⊤) (Some (held_in self.old)) (Some (held_in self.new)) }
+        ensures counts { CountsFetch (result ≡ Err FetchFault.Failed) (counts_of self.old) (counts_of self.new) }
+        ensures fails { (result ≡ Err FetchFault.Failed) ↔ IsTrue (fails_next (calls_of self.old)) }
+        ensures calls { calls_of self.new ≡ schedule_after (calls_of self.old) }
+    {
         raise(&mut self.counts.fetches);
         if self.failures.next() {
             raise(&mut self.counts.fetch_faults);
@@ -94,7 +102,15 @@ impl Images for MemImages {
         }
     }
 
-    fn replace(&mut self, name: &str, bytes: &[u8]) -> Result<(), WriteFault> {
+    fn replace(&mut self, name: &str, bytes: &[u8]) -> Result<(), WriteFault>
+        ensures ok { OnOk result (IfSome (Some (held_in self.new)) (λ look. look name.now ≡ Some bytes.now)) }
+        ensures memory { IfErr result
+            (λ e. e ≡ WriteFault.Memory → KeepsHeld (λ _. ⊤) (Some (held_in self.old)) (Some (held_in self.new))) }
+        ensures others { KeepsHeld (λ other. other ≢ name.now) (Some (held_in self.old)) (Some (held_in self.new)) }
+        ensures counts { CountsReplace (result ≡ Err WriteFault.Failed) (counts_of self.old) (counts_of self.new) }
+        ensures fails { (result ≡ Err WriteFault.Failed) ↔ IsTrue (fails_next (calls_of self.old)) }
+        ensures calls { calls_of self.new ≡ schedule_after (calls_of self.old) }
+    {
         raise(&mut self.counts.replaces);
         if self.failures.next() {
             raise(&mut self.counts.replace_faults);

@@ -47,7 +47,7 @@ impl Sink for MemSink {
     ghost use Rattle.std.specs.Prelude.{◌≡◌, ◌≤◌, ◌<◌, ◌↔◌, length, Some, IfOk, IfErr, IsTrue};
     ghost use Rattle.std.specs.Io.KnownBytes.{WriteAppends};
     ghost use Rattle.nvm_base.specs.Counts.{Rose};
-    ghost use Rattle.host_io.specs.Schedule.{fails_next, after_call};
+    ghost use Rattle.host_io.specs.Schedule.{fails_next, schedule_after};
 
     ghost written = { λ s. Some s.bytes };
 
@@ -62,7 +62,7 @@ impl Sink for MemSink {
         ensures cause { IfErr result (λ e. e ≡ WriteFault.Failed → Rose self.old.calls.faults self.new.calls.faults) }
         ensures fails { (result ≡ Err WriteFault.Failed) ↔ IsTrue (fails_next self.old.calls) }
         ensures whole { IfOk result (λ n. n ≡ length bytes.now) }
-        ensures calls { self.new.calls ≡ after_call self.old.calls }
+        ensures calls { self.new.calls ≡ schedule_after self.old.calls }
     {
         if self.failures.next() {
             return Err(WriteFault::Failed);

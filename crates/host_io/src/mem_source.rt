@@ -49,7 +49,7 @@ impl Source for MemSource {
     ghost use Rattle.std.specs.Prelude.{◌≡◌, ◌≤◌, ◌<◌, ◌↔◌, ◌++◌, min, drop, take, length, Some, IfOk, OnErr, IsErr, IsTrue};
     ghost use Rattle.std.specs.Io.KnownBytes.{ReadConsumes};
     ghost use Rattle.nvm_base.specs.Counts.{Rose};
-    ghost use Rattle.host_io.specs.Schedule.{fails_next, after_call};
+    ghost use Rattle.host_io.specs.Schedule.{fails_next, schedule_after};
 
     ghost left = { λ s. Some s.left };
 
@@ -64,7 +64,7 @@ impl Source for MemSource {
         ensures given { IfOk result (λ n. n ≡ min (min self.old.piece (length buf.old)) (length self.old.left)) }
         ensures rest { IfOk result (λ n. drop n buf.new ≡ drop n buf.old) }
         ensures failed { OnErr result (buf.new ≡ buf.old) }
-        ensures calls { self.new.calls ≡ after_call self.old.calls }
+        ensures calls { self.new.calls ≡ schedule_after self.old.calls }
         ensures piece { self.new.piece ≡ self.old.piece }
     {
         if self.failures.next() {

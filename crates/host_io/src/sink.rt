@@ -1,7 +1,11 @@
+use thiserror::Error;
+
 /// Why nothing was written.
-#[derive(Clone, Copy, Debug, PartialEq, Eq)]
+#[derive(Clone, Copy, Debug, PartialEq, Eq, Error)]
 pub enum WriteFault {
+    #[error("a write failed")]
     Failed,
+    #[error("no memory for what is written")]
     Memory,
 }
 

@@ -1,5 +1,8 @@
+use thiserror::Error;
+
 /// A call of `read` failed.
-#[derive(Clone, Copy, Debug, PartialEq, Eq)]
+#[derive(Clone, Copy, Debug, PartialEq, Eq, Error)]
+#[error("a read failed")]
 pub struct ReadFailed;
 
 /// What a script is read from.

@@ -20,13 +20,17 @@ pub struct StdoutSink<'a, R> {
 }
 
 impl<'a, R: Input> StdinSource<'a, R> {
-    pub fn new(rt: &'a R) -> Self {
+    pub fn new(rt: &'a R) -> Self
+        ensures { result.faults ≡ 0 }
+    {
         StdinSource { rt, faults: 0 }
     }
 }
 
 impl<'a, R: Print> StdoutSink<'a, R> {
-    pub fn new(rt: &'a R) -> Self {
+    pub fn new(rt: &'a R) -> Self
+        ensures { result.faults ≡ 0 }
+    {
         StdoutSink { rt, faults: 0 }
     }
 }

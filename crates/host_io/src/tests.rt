@@ -83,6 +83,25 @@ fn fails(fetched: Result<Bytes, FetchFault>, fault: FetchFault) -> bool {
 }
 
 #[test]
+fn faults_have_a_text(rt: HostRuntime) -> Result<(), AllocError> {
+    let alloc = rt.alloc();
+    for (fault, text) in [
+        (format!(in alloc; "{ReadFailed}")?, "a read failed"),
+        (
+            format!(in alloc; "{}", WriteFault::Failed)?,
+            "a write failed",
+        ),
+        (
+            format!(in alloc; "{}", FetchFault::TooLong)?,
+            "the image is too long",
+        ),
+    ] {
+        assert_eq!(rt; fault.as_str(), text);
+    }
+    Ok(())
+}
+
+#[test]
 fn standard_input_and_output_are_reached(rt: HostRuntime) {
     let mut sink = StdoutSink::new(&rt);
     assert_eq!(rt;
