@@ -13,8 +13,10 @@ use Rattle.machine_host.specs.Costs.{Spends}
 use Rattle.machine_host.proofs.RunLemmas.{run_of_one, run_then, reply_text-append, tells_silence, tells_then}
 use Rattle.machine_host.proofs.CostLemmas.{spends-idle, spends_then}
 use Rattle.nvmhost.specs.declared.ending.Ending.{Ending}
-use Rattle.nvmhost.specs.Whole.{Performs, LineGoes, Flushes}
+use Rattle.nvmhost.specs.Whole.{TellsFirst}
+use Rattle.nvmhost.specs.Running.{Performs, LineGoes, Flushes}
 use Rattle.nvmhost.proofs.BytesLemmas.{appends-none, appends_then}
+use Rattle.nvmhost.proofs.TellLemmas.{tells_first-then}
 
 -- what was said so far: some of the answers' text is written, the rest waits
 pub record Said (first : Machine) (lines : List (List ℕ)) (host : HostState) (out : List ℕ) (written_old written : Option (List ℕ)) (old now : Device) : Type 0 where
@@ -129,15 +131,15 @@ going-end script before host written_old written old now going = record {
         run = was.run;
         front = record { rest = []; joined = append-nil was.part ∙ all };
         wrote = was.wrote;
-        whole = record { all = all; none_left = refl; tells = was.tells; stands = was.stands.device };
+        outcome = record { all = all; none_left = refl; tells = was.tells; stands = was.stands.device };
       };
 }
 
 -- an end before the end: some of the replies that wait may be written, and a further line may be begun
 pub going-broken : (script rest : List ℕ) (before host : HostState) (out : List ℕ) (written_old written written' : Option (List ℕ)) (old now next : Device)
     (ending : Ending) (more later : List (List ℕ)) → Going script rest before host out written_old written old now → lines_of rest ≡ more ++ later
-    → Spends (inputs_of more) now.panel next.panel → AppendsSome out written written' → Performs before script (Err ending) written_old written' old next
-going-broken script rest before host out written_old written written' old now next ending more later going splits spends some = record {
+    → Spends (inputs_of more) now.panel next.panel → TellsFirst silence now.panel next.panel → AppendsSome out written written' → Performs before script (Err ending) written_old written' old next
+going-broken script rest before host out written_old written written' old now next ending more later going splits spends beyond some = record {
   begun = going.lines ++ more;
   others = later;
   split = going.split ∙ ap (λ ls. going.lines ++ ls) splits ∙ sym (append_assoc going.lines more later);
@@ -157,7 +159,7 @@ going-broken script rest before host out written_old written written' old now ne
           joined = append_assoc was.part (take some.count out) (drop some.count out) ∙ ap (λ t. was.part ++ t) (take-append-drop some.count out) ∙ was.text;
         };
         wrote = appends_then written_old written written' was.part (take some.count out) was.wrote some.part;
-        whole = tt;
+        outcome = tells_first-then was.said old.panel now.panel next.panel was.tells beyond;
       };
 }
 

@@ -5,11 +5,11 @@ use Rattle.nvm_base.specs.Stock.{Stock}
 use Rattle.nvmhost.specs.declared.ending.Ending.{Ending}
 use Rattle.nvmhost.specs.declared.ending.Ending.TheVariants.{Usage, Read, Write, Memory, Script}
 use Rattle.nvmhost.specs.declared.ending.Ending.TheVariants as endings
-use Rattle.nvmhost.specs.Whole.{Reads, Takes}
+use Rattle.nvmhost.specs.Reading.{ReadsScript, TakesPiece}
 use Rattle.nvmhost.proofs.BytesLemmas.{consumes_then}
 
 -- A piece that was not taken ends the reading.
-pub reads-broken : (a b c : Option (List ℕ)) (so_far new : List ℕ) (e : Ending) → Consumes a b so_far → Takes b c so_far new (Err e) → Reads a c (Err e)
+pub reads-broken : (a b c : Option (List ℕ)) (so_far new : List ℕ) (e : Ending) → Consumes a b so_far → TakesPiece b c so_far new (Err e) → ReadsScript a c (Err e)
 reads-broken a b c so_far new Read before takes = record { script = so_far ++ takes.taken; read = consumes_then a b c so_far takes.taken before takes.read; outcome = tt }
 reads-broken a b c so_far new Memory before takes = record { script = so_far ++ takes.taken; read = consumes_then a b c so_far takes.taken before takes.read; outcome = tt }
 reads-broken a b c so_far new Usage before takes = absurd takes.outcome
@@ -18,16 +18,16 @@ reads-broken a b c so_far new Script before takes = absurd takes.outcome
 reads-broken a b c so_far new endings.Device before takes = absurd takes.outcome
 
 -- The pieces so far, and one more.
-pub consumes-piece : (a b c : Option (List ℕ)) (so_far new : List ℕ) (count : ℕ) → Consumes a b so_far → Takes b c so_far new (Ok count) → Consumes a c new
+pub consumes-piece : (a b c : Option (List ℕ)) (so_far new : List ℕ) (count : ℕ) → Consumes a b so_far → TakesPiece b c so_far new (Ok count) → Consumes a c new
 consumes-piece a b c so_far new count before takes =
     subst (λ s. Consumes a c s) (sym takes.outcome.0) (consumes_then a b c so_far takes.taken before takes.read)
 
-pub length-piece : (b c : Option (List ℕ)) (so_far new : List ℕ) (count : ℕ) → Takes b c so_far new (Ok count) → length new ≡ length so_far + count
+pub length-piece : (b c : Option (List ℕ)) (so_far new : List ℕ) (count : ℕ) → TakesPiece b c so_far new (Ok count) → length new ≡ length so_far + count
 length-piece b c so_far new count takes = ap length takes.outcome.0 ∙ length-append so_far takes.taken ∙ ap (λ n. length so_far + n) takes.outcome.1
 
 -- An empty piece is the end.
 pub reads-all : (a b c : Option (List ℕ)) (so_far : List ℕ) (new : Stock ℕ) (count : ℕ) → length so_far < 1073741824 → count ≡ 0 → Consumes a b so_far
-    → Takes b c so_far new.items (Ok count) → Reads a c (Ok new)
+    → TakesPiece b c so_far new.items (Ok count) → ReadsScript a c (Ok new)
 reads-all a b c so_far new count short none before takes = record {
   script = new.items;
   read = consumes-piece a b c so_far new.items count before takes;

@@ -1,11 +1,12 @@
 -- A call as a whole.
-use Rattle.std.proofs.Common.{◌≡◌, ◌⊎◌, ◌==◌, if◌then◌else◌, inl, inr, ℕ, ◌≤◌, List, [], ◌++◌, length, take, drop, Option, Some, None, Result, Ok, Err, refl, sym, ap, subst, ◌∙◌, append-nil, length-append, arith}
-use Rattle.std.proofs.lemmas.List.{take-append-drop}
+use Rattle.std.proofs.Common.{◌≡◌, ◌⊎◌, ◌==◌, if◌then◌else◌, inl, inr, ℕ, ◌≤◌, List, [], ◌++◌, length, Option, Some, None, Result, Ok, Err, refl, sym, ap, subst, ◌∙◌, append-nil, length-append, arith}
 use Rattle.std.specs.Prelude.{IfSome, IfErr, MatchResult}
 use Rattle.std.specs.Io.KnownBytes.{Appends, Consumes}
 use Rattle.line_device.specs.Panel.{Panel}
 use Rattle.line_device.specs.Device.{Device}
 use Rattle.host_io.specs.Writing.{WritesAll}
+use Rattle.host_io.specs.declared.sink.WriteFault.{WriteFault}
+use Rattle.host_io.specs.declared.sink.WriteFault.TheVariants.{Failed}
 use Rattle.word_tables.specs.declared.geometry.Geometry.{Geometry}
 use Rattle.nvm_base.specs.Stock.{Stock}
 use Rattle.nvm_base.specs.Counts.{Rose}
@@ -20,28 +21,39 @@ use Rattle.nvmhost.specs.declared.ending.Ending.{Ending}
 use Rattle.nvmhost.specs.declared.ending.Ending.TheVariants.{Usage, Read, Write, Memory, Script}
 use Rattle.nvmhost.specs.declared.ending.Ending.TheVariants as endings
 use Rattle.nvmhost.specs.Words.{IsForm}
-use Rattle.nvmhost.specs.Ending.{status}
-use Rattle.nvmhost.specs.Whole.{Completes, WritesFront, Halts, Costs, DeviceFailed, IsReady, IsCaused, Reads, Performs}
+use Rattle.nvmhost.specs.Ending.{status, ending_text}
+use Rattle.nvmhost.specs.Whole.{Completes, WritesLine, Halts, TellsFirst, CallCosts, DeviceFailed, IsReady, IsCaused}
+use Rattle.nvmhost.specs.Reading.{ReadsScript}
+use Rattle.nvmhost.specs.Running.{Performs}
 use Rattle.nvmhost.proofs.BytesLemmas.{appends-none}
+use Rattle.nvmhost.proofs.TellLemmas.{tells_first-after}
 
--- what was written of some bytes is how they begin
-pub writes_front : {E : Type 0} (bytes : List ℕ) (r : Result (Unit {0}) E) (old new : Option (List ℕ)) → WritesAll bytes r old new → WritesFront bytes old new
-writes_front bytes (Ok x) old new all = record { part = bytes; front = record { rest = []; joined = append-nil bytes }; wrote = all }
-writes_front bytes (Err e) old new some =
-    record { part = take some.count bytes; front = record { rest = drop some.count bytes; joined = take-append-drop some.count bytes }; wrote = some.part }
+-- the ending's line, written as far as the sink took it
+pub writes_line : (ending : Ending) (text : List ℕ) (r : Result (Unit {0}) WriteFault) (a b c : ℕ) (old new : Option (List ℕ)) → text ≡ ending_text ending → WritesAll text r old new
+    → a ≤ b → IfErr r (λ e. e ≡ Failed → Rose b c) → WritesLine ending a c old new
+writes_line ending text r a b c old new is all later cause = record {
+  outcome = r;
+  wrote = subst (λ t. WritesAll t r old new) is all;
+  cause = rose r cause;
+}
+  where
+    rose : (r : Result (Unit {0}) WriteFault) → IfErr r (λ e. e ≡ Failed → Rose b c) → r ≡ Err Failed → Rose a c
+    rose (Ok x) cause is = cc is
+    rose (Err e) cause is = let risen = cause (cc is) in omega (arith, risen, later)
 
--- a call that said nothing of a run
-pub halts-silent : (geo : Geometry) (p : Panel) (left_old left_new written : Option (List ℕ)) (script : List ℕ) → Consumes left_old left_new script → Halts geo p left_old left_new written written
+-- a call that performed no line
+pub halts-silent : (geo : Geometry) (left_old left_new written : Option (List ℕ)) (script : List ℕ) (old new : Device) → Consumes left_old left_new script
+    → TellsFirst silence old.panel new.panel → Halts geo left_old left_new written written old new
 unfolding reading
-halts-silent geo p left_old left_new written script read = record {
+halts-silent geo left_old left_new written script old new read tells = record {
   script = script;
   lines = [];
-  others = lines_of script;
   said = silence;
   end = fresh geo;
   read = read;
-  split = refl;
+  first = record { others = lines_of script; split = refl; whole = inl (record { rest = script; joined = refl }) };
   run = record { begin = fresh geo; begins = record { state = refl; cut = λ t. cc; fail = λ t. cc }; run = (refl, refl) };
+  tells = tells;
   wrote = record { part = []; front = record { rest = []; joined = refl }; wrote = appends-none written };
 }
 
@@ -50,16 +62,16 @@ pub opens-none : (p : Panel) → Opens p p
 opens-none p = spends_within 0 0 0 0 0 _ _ _ _ _ p p (omega arith) (omega arith) (omega arith) (omega arith) (omega arith) (spends_nothing p)
 
 -- a call that began no line
-pub costs-none : (left_old left_new : Option (List ℕ)) (script : List ℕ) (old new : Panel) → Consumes left_old left_new script → Opens old new → Costs left_old left_new old new
+pub costs-none : (left_old left_new : Option (List ℕ)) (script : List ℕ) (old new : Panel) → Consumes left_old left_new script → Opens old new → CallCosts left_old left_new old new
 costs-none left_old left_new script old new read opens =
     record { opened = new; script = script; begun = []; others = lines_of script; read = read; split = refl; opens = opens; spends = spends-idle [] new }
 
 pub ends_performed : (geo : Geometry) (host : HostState) (left_old left_new written_old written_new : Option (List ℕ)) (script : Stock ℕ) (result : Result (Unit {0}) Ending) (old ready new : Device)
-    → Reads left_old left_new (Ok script) → IsReady geo host old ready → Performs host script.items result written_old written_new ready new
-    → MatchResult result (λ _. Completes geo left_old left_new written_old written_new old new) (λ _. Halts geo old.panel left_old left_new written_old written_new)
+    → ReadsScript left_old left_new (Ok script) → IsReady geo host old ready → Performs host script.items result written_old written_new ready new
+    → MatchResult result (λ _. Completes geo left_old left_new written_old written_new old new) (λ _. Halts geo left_old left_new written_old written_new old new)
 ends_performed geo host left_old left_new written_old written_new script (Ok x) old ready new reads is_ready performs =
     let says = performs.says is_ready.begin is_ready.stands in
-    let whole = says.whole in
+    let whole = says.outcome in
     let same : script.items ≡ reads.script = reads.outcome.0 in
     let all : lines_of reads.script ≡ says.lines = sym (ap lines_of same) ∙ says.split ∙ ap (λ ls. says.lines ++ ls) whole.none_left ∙ append-nil says.lines in
     record {
@@ -85,12 +97,12 @@ ends_performed geo host left_old left_new written_old written_new script (Err e)
     record {
       script = reads.script;
       lines = says.lines;
-      others = says.others;
       said = says.said;
       end = says.end;
       read = reads.read;
-      split = ap lines_of (sym reads.outcome.0) ∙ says.split;
+      first = record { others = says.others; split = ap lines_of (sym reads.outcome.0) ∙ says.split; whole = inr reads.outcome.1 };
       run = record { begin = is_ready.begin; begins = is_ready.begins; run = says.run };
+      tells = tells_first-after says.said old.panel ready.panel new.panel is_ready.tells says.outcome;
       wrote = record { part = says.part; front = says.front; wrote = says.wrote };
     }
 
@@ -134,7 +146,7 @@ pub run_cause : (e : Ending) (read_old read_new write_old write_new : ℕ) (old 
 run_cause e a b c d old new left_old left_new (inl is) rose = record { read = λ x. cc; write = rose; device = λ x. cc; script = λ x. cc }
 run_cause e a b c d old new left_old left_new (inr is) rose = record { read = λ x. cc; write = λ x. cc; device = λ x. cc; script = λ x. cc }
 
-pub read_cause : (e : Ending) (read_old read_new write_old write_new : ℕ) (old new : Panel) (left_old left_new : Option (List ℕ)) → Reads left_old left_new (Err e)
+pub read_cause : (e : Ending) (read_old read_new write_old write_new : ℕ) (old new : Panel) (left_old left_new : Option (List ℕ)) → ReadsScript left_old left_new (Err e)
     → (e ≡ Read → Rose read_old read_new) → IsCaused e read_old read_new write_old write_new old new left_old left_new
 read_cause Read a b c d old new left_old left_new reads rose = record { read = rose; write = λ x. cc; device = λ x. cc; script = λ x. cc }
 read_cause Memory a b c d old new left_old left_new reads rose = record { read = λ x. cc; write = λ x. cc; device = λ x. cc; script = λ x. cc }

@@ -1,22 +1,24 @@
 -- What a whole call did: over which lines of which script, with which answers, and what the device is left as.
-use Rattle.std.specs.Prelude.{◌≡◌, ◌⊎◌, ◌≤◌, ◌<◌, ℕ, List, [], ◌++◌, length, IsTrue, Option, IfSome, Result, Ok, Err, OnOk}
+use Rattle.std.specs.Prelude.{◌≡◌, ◌⊎◌, ◌≤◌, ◌<◌, ℕ, List, [], ◌∷◌, ◌++◌, length, IsTrue, Option, IfSome, Result, Err}
 use Rattle.std.specs.Io.KnownBytes.{Appends, Consumes, IsAtEnd}
 use Rattle.nvm_base.specs.Counts.{Rose}
-use Rattle.line_device.specs.Panel.{Panel}
+use Rattle.line_device.specs.Panel.{Panel, Start, told}
 use Rattle.line_device.specs.Device.{Device}
+use Rattle.host_io.specs.Writing.{WritesAll}
+use Rattle.host_io.specs.declared.sink.WriteFault.{WriteFault}
+use Rattle.host_io.specs.declared.sink.WriteFault.TheVariants.{Failed}
 use Rattle.word_tables.specs.declared.geometry.Geometry.{Geometry}
 use Rattle.reply_text.specs.Answer.{reply_text}
-use Rattle.script_text.specs.Script.{Input, inputs_of, lines_of}
+use Rattle.script_text.specs.Script.{inputs_of, lines_of}
 use Rattle.machine_host.specs.Machine.{Machine}
 use Rattle.machine_host.specs.Restarting.{fresh}
-use Rattle.machine_host.specs.Run.{Transcript, Hears, Run, silence}
-use Rattle.machine_host.specs.Stands.{HostState, Serves, DeviceStands, Stands, Tells}
+use Rattle.machine_host.specs.Run.{Transcript, Run, silence}
+use Rattle.machine_host.specs.Stands.{HostState, Serves, DeviceStands, Stands, Tells, last_of}
 use Rattle.machine_host.specs.Costs.{Opens, Spends}
-use Rattle.nvm_base.specs.Stock.{Stock}
 use Rattle.nvmhost.specs.declared.ending.Ending.{Ending}
-use Rattle.nvmhost.specs.declared.ending.Ending.TheVariants.{Usage, Read, Write, Memory, Script}
+use Rattle.nvmhost.specs.declared.ending.Ending.TheVariants.{Read, Write, Script}
 use Rattle.nvmhost.specs.declared.ending.Ending.TheVariants as endings
-use Rattle.nvmhost.specs.Ending.{ending_text}
+use Rattle.nvmhost.specs.Ending.{ending_text, line}
 
 -- `part` is how `whole` begins
 pub record IsFront (part whole : List ℕ) : Type 0 where
@@ -58,26 +60,49 @@ pub record WritesFront (text : List ℕ) (old new : Option (List ℕ)) : Type 0 
   pub front : IsFront part text
   pub wrote : Appends old new part
 
--- A call that came to no end: what was written is how the text of a run begins, over some first lines of what was read.
-pub record Halts (geo : Geometry) (p : Panel) (left_old left_new written_old written_new : Option (List ℕ)) : Type 0 where
+-- the bytes of these lines, each with its newline
+abbrev pub bytes_of : List (List ℕ) → List ℕ
+bytes_of [] = []
+bytes_of (text ∷ texts) = line text ++ bytes_of texts
+
+-- The first lines of what was taken from a source, none of them cut short: the last one may lack its newline only at the source's end.
+pub record AreWholeLines (script : List ℕ) (left : Option (List ℕ)) (lines : List (List ℕ)) : Type 0 where
+  pub others : List (List ℕ)
+  pub split : lines_of script ≡ lines ++ others
+  pub whole : IsFront (bytes_of lines) script ⊎ IsAtEnd left
+
+-- The device told what the run said, and then at most what a command left that had no memory for its answer.
+pub record TellsFirst (said : Transcript) (old new : Panel) : Type 0 where
+  pub more : List Start
+  pub starts : new.starts ≡ told (told old.starts said.starts) more
+  pub orders : new.last_order ≡ last_of said.orders old.last_order
+
+-- A call that came to no end: what was written is how the text of a run of the device begins, over some first lines of what was read.
+pub record Halts (geo : Geometry) (left_old left_new written_old written_new : Option (List ℕ)) (old new : Device) : Type 0 where
   pub script : List ℕ
   pub lines : List (List ℕ)
-  pub others : List (List ℕ)
   pub said : Transcript
   pub end : Machine
   pub read : Consumes left_old left_new script
-  pub split : lines_of script ≡ lines ++ others
-  pub run : IsRun geo p lines said end
+  pub first : AreWholeLines script left_new lines
+  pub run : IsRun geo old.panel lines said end
+  pub tells : TellsFirst said old.panel new.panel
   pub wrote : WritesFront (reply_text said.answers) written_old written_new
 
--- A call that ended early: it came to no end, and then some of the ending's line was written.
-pub record BreaksOff (geo : Geometry) (p : Panel) (ending : Ending) (left_old left_new written_old written_new : Option (List ℕ)) : Type 0 where
+-- The ending's line was written: all of it, unless the sink's count rose or it wanted memory.
+pub record WritesLine (ending : Ending) (count_old count_new : ℕ) (old new : Option (List ℕ)) : Type 0 where
+  pub outcome : Result (Unit {0}) WriteFault
+  pub wrote : WritesAll (ending_text ending) outcome old new
+  pub cause : outcome ≡ Err Failed → Rose count_old count_new
+
+-- A call that ended early: it came to no end, and then the ending's line was written.
+pub record BreaksOff (geo : Geometry) (ending : Ending) (count_old count_new : ℕ) (left_old left_new written_old written_new : Option (List ℕ)) (old new : Device) : Type 0 where
   pub between : Option (List ℕ)
-  pub halts : Halts geo p left_old left_new written_old between
-  pub line : WritesFront (ending_text ending) between written_new
+  pub halts : Halts geo left_old left_new written_old between old new
+  pub line : WritesLine ending count_old count_new between written_new
 
 -- What the call did to the device's counts: no more than a mount and then the commands of the lines that it began.
-pub record Costs (left_old left_new : Option (List ℕ)) (old new : Panel) : Type 0 where
+pub record CallCosts (left_old left_new : Option (List ℕ)) (old new : Panel) : Type 0 where
   pub opened : Panel
   pub script : List ℕ
   pub begun : List (List ℕ)
@@ -105,76 +130,3 @@ pub record IsCaused (ending : Ending) (read_old read_new write_old write_new : �
   pub write : ending ≡ Write → Rose write_old write_new
   pub device : ending ≡ endings.Device → DeviceFailed old new × (left_new ≡ left_old)
   pub script : ending ≡ Script → IfSome left_old (λ script. 1073741824 ≤ length script)
-
--- Reading all of a script: it is what the source told, unless it is too long or the source fails.
-abbrev pub ReadsTo : List ℕ → Option (List ℕ) → Result (Stock ℕ) Ending → Type 0
-ReadsTo script left (Ok bytes) = (bytes.items ≡ script) × IsAtEnd left × (length script < 1073741824)
-ReadsTo script left (Err Script) = 1073741824 ≤ length script
-ReadsTo script left (Err Read) = Unit {0}
-ReadsTo script left (Err Memory) = Unit {0}
-ReadsTo script left (Err Usage) = ⊥
-ReadsTo script left (Err Write) = ⊥
-ReadsTo script left (Err endings.Device) = ⊥
-
-pub record Reads (left_old left_new : Option (List ℕ)) (result : Result (Stock ℕ) Ending) : Type 0 where
-  pub script : List ℕ
-  pub read : Consumes left_old left_new script
-  pub outcome : ReadsTo script left_new result
-
--- Reading some more of it: none only at the end.
-abbrev pub TakesTo : List ℕ → Option (List ℕ) → List ℕ → List ℕ → Result ℕ Ending → Type 0
-TakesTo taken left old new (Ok count) = (new ≡ old ++ taken) × (length taken ≡ count) × (count ≡ 0 → IsAtEnd left)
-TakesTo taken left old new (Err Read) = Unit {0}
-TakesTo taken left old new (Err Memory) = Unit {0}
-TakesTo taken left old new (Err Usage) = ⊥
-TakesTo taken left old new (Err Write) = ⊥
-TakesTo taken left old new (Err Script) = ⊥
-TakesTo taken left old new (Err endings.Device) = ⊥
-
-pub record Takes (left_old left_new : Option (List ℕ)) (old new : List ℕ) (result : Result ℕ Ending) : Type 0 where
-  pub taken : List ℕ
-  pub read : Consumes left_old left_new taken
-  pub outcome : TakesTo taken left_new old new result
-
--- One line: it led the machine on, and its answers are appended.
-pub record LineGoes (h : Machine) (input : Input) (out_old out_new : List ℕ) (host : HostState) (old new : Device) : Type 0 where
-  pub said : Transcript
-  pub next : Machine
-  pub hears : Hears h input said next
-  pub text : out_new ≡ out_old ++ reply_text said.answers
-  pub tells : Tells said old.panel new.panel
-  pub stands : Stands host new next
-
--- replies that wait are written from the front
-pub record Flushes (out_old out_new : List ℕ) (written_old written_new : Option (List ℕ)) : Type 0 where
-  pub part : List ℕ
-  pub wrote : Appends written_old written_new part
-  pub kept : part ++ out_new ≡ out_old
-
--- a run of which nothing is left to do or to write
-pub record IsWhole (said : Transcript) (end : Machine) (part : List ℕ) (others : List (List ℕ)) (old new : Device) : Type 0 where
-  pub all : part ≡ reply_text said.answers
-  pub none_left : others ≡ []
-  pub tells : Tells said old.panel new.panel
-  pub stands : DeviceStands new end
-
--- what was said over some first lines of a script, from this state on; all of it at Ok
-pub record Says (first : Machine) (script : List ℕ) (result : Result (Unit {0}) Ending) (written_old written_new : Option (List ℕ)) (old new : Device) : Type 0 where
-  pub lines : List (List ℕ)
-  pub others : List (List ℕ)
-  pub said : Transcript
-  pub end : Machine
-  pub part : List ℕ
-  pub split : lines_of script ≡ lines ++ others
-  pub run : Run first (inputs_of lines) said end
-  pub front : IsFront part (reply_text said.answers)
-  pub wrote : Appends written_old written_new part
-  pub whole : OnOk result (IsWhole said end part others old new)
-
--- A script was performed up to some line. From each state that host and device stood for, it is a run.
-pub record Performs (host : HostState) (script : List ℕ) (result : Result (Unit {0}) Ending) (written_old written_new : Option (List ℕ)) (old new : Device) : Type 0 where
-  pub begun : List (List ℕ)
-  pub others : List (List ℕ)
-  pub split : lines_of script ≡ begun ++ others
-  pub spends : Spends (inputs_of begun) old.panel new.panel
-  pub says : (first : Machine) → Stands host old first → Says first script result written_old written_new old new

@@ -6,16 +6,16 @@ use Rattle.word_tables.specs.declared.geometry.Geometry.{Geometry}
 use Rattle.word_tables.specs.Bounds.{IsValid}
 
 -- the three sizes, where each is a number
-abbrev pub sizes : Option ℕ → Option ℕ → Option ℕ → Option Geometry
-sizes (Some blocks) (Some vpages) (Some fpages) = Some (record { blocks = blocks; vpages = vpages; fpages = fpages })
-sizes (Some blocks) (Some vpages) None = None
-sizes (Some blocks) None fpages = None
-sizes None vpages fpages = None
+abbrev pub sizes_named : Option ℕ → Option ℕ → Option ℕ → Option Geometry
+sizes_named (Some blocks) (Some vpages) (Some fpages) = Some (record { blocks = blocks; vpages = vpages; fpages = fpages })
+sizes_named (Some blocks) (Some vpages) None = None
+sizes_named (Some blocks) None fpages = None
+sizes_named None vpages fpages = None
 
 -- the sizes that the words `run BLOCKS VPAGES FPAGES` name
 unfoldable pub sizes_of : List (List ℕ) → Option Geometry
 sizes_of (name ∷ blocks ∷ vpages ∷ fpages ∷ []) =
-    if bytes_eq name (codes "run") then sizes (number_of blocks) (number_of vpages) (number_of fpages) else None
+    if bytes_eq name (codes "run") then sizes_named (number_of blocks) (number_of vpages) (number_of fpages) else None
 sizes_of _ = None
 
 -- The words are a form of the command line, with sizes within their limits. So far a volume has at most 16 pages.

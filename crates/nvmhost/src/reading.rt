@@ -1,7 +1,7 @@
 // Reading a whole script.
 ghost use Rattle.std.specs.Prelude.{◌≡◌, ◌<◌, ◌≤◌, IfErr, length};
 ghost use Rattle.nvm_base.specs.Counts.{Rose};
-ghost use Rattle.nvmhost.specs.Whole.{Reads, Takes};
+ghost use Rattle.nvmhost.specs.Reading.{ReadsScript, TakesPiece};
 
 use crate::ending::Ending;
 use host_io::Source;
@@ -16,7 +16,7 @@ const PIECE: usize = 65536;
 
 /// Reads the source to its end.
 pub fn read_all<T: Source>(alloc: Global, source: &mut T) -> Result<Bytes, Ending>
-    ensures reads { Reads (T.left source.old) (T.left source.new) result }
+    ensures reads { ReadsScript (T.left source.old) (T.left source.new) result }
     ensures cause { IfErr result (λ e. e ≡ Ending.Read → Rose (T.count source.old) (T.count source.new)) }
 {
     let mut script = Bytes::new(alloc);
@@ -37,7 +37,7 @@ fn read_piece<T: Source>(
     script: &mut Bytes,
 ) -> Result<usize, Ending>
     requires { 0 < length piece.old }
-    ensures takes { Takes (T.left source.old) (T.left source.new) script.old.items script.new.items result }
+    ensures takes { TakesPiece (T.left source.old) (T.left source.new) script.old.items script.new.items result }
     ensures later { T.count source.old ≤ T.count source.new }
     ensures cause { IfErr result (λ e. e ≡ Ending.Read → Rose (T.count source.old) (T.count source.new)) }
 {

@@ -7,7 +7,9 @@ ghost use Rattle.script_text.specs.Script.{line_input};
 ghost use Rattle.machine_host.specs.Machine.{Machine};
 ghost use Rattle.machine_host.specs.Stands.{Serves, Stands};
 ghost use Rattle.machine_host.specs.Costs.{Spends};
-ghost use Rattle.nvmhost.specs.Whole.{Performs, LineGoes, Flushes};
+ghost use Rattle.machine_host.specs.Run.{silence};
+ghost use Rattle.nvmhost.specs.Running.{Performs, LineGoes, Flushes};
+ghost use Rattle.nvmhost.specs.Whole.{TellsFirst};
 
 use crate::ending::Ending;
 use host_io::{Sink, WriteFault, write_all};
@@ -32,6 +34,7 @@ pub fn run_script<D: LineDevice, K: Sink>(
     requires { Serves host.old (D.state device.old) }
     ensures performs { Performs host.old script.now result (K.written replies.old) (K.written replies.new)
         (D.state device.old) (D.state device.new) }
+    ensures later { K.count replies.old ≤ K.count replies.new }
     ensures cause { IfErr result (λ e. e ≡ Ending.Write → Rose (K.count replies.old) (K.count replies.new)) }
     ensures others { IfErr result (λ e. (e ≡ Ending.Write) ⊎ (e ≡ Ending.Memory)) }
 {
@@ -58,6 +61,7 @@ fn perform_line<D: LineDevice>(
     ensures goes { OnOk result ((h : Machine) → Stands host.old (D.state device.old) h
         → LineGoes h (line_input line.now) out.old.items out.new.items host.new (D.state device.old) (D.state device.new)) }
     ensures err { OnErr result (out.new.items ≡ out.old.items) }
+    ensures unanswered { OnErr result (TellsFirst silence (D.state device.old).panel (D.state device.new).panel) }
     ensures serves { Serves host.new (D.state device.new) }
     ensures spends { Spends (line_input line.now ∷ []) (D.state device.old).panel (D.state device.new).panel }
 {

@@ -1,15 +1,15 @@
 // The top call: the words, the device, the script, the replies, the status.
 ghost use Rattle.std.specs.Prelude.{◌≡◌, ◌≢◌, ◌≤◌, ◌↔◌, ◌++◌, ◌⊎◌, ℕ, IfErr, IfOk, IfSome, MatchResult, Contains, map, [], ◌∷◌, Err};
 ghost use Rattle.std.specs.String.{string_bytes};
-ghost use Rattle.line_device.specs.Panel.{Start};
+ghost use Rattle.line_device.specs.Panel.{SameOrders};
 ghost use Rattle.word_tables.specs.declared.geometry.Geometry.{Geometry as Sizes};
 ghost use Rattle.word_tables.specs.Bounds.{IsValid};
 ghost use Rattle.machine_host.specs.Costs.{Opens};
 ghost use Rattle.nvmhost.specs.declared.ending.Ending.{Ending as Early};
 ghost use Rattle.nvmhost.specs.declared.ending.Ending.TheVariants.{Usage};
 ghost use Rattle.nvmhost.specs.Words.{IsForm};
-ghost use Rattle.nvmhost.specs.Ending.{status, ending_text};
-ghost use Rattle.nvmhost.specs.Whole.{Completes, Halts, BreaksOff, WritesFront, Costs, DeviceFailed, IsReady, IsCaused};
+ghost use Rattle.nvmhost.specs.Ending.{status};
+ghost use Rattle.nvmhost.specs.Whole.{Completes, Halts, BreaksOff, WritesLine, CallCosts, DeviceFailed, IsReady, IsCaused};
 
 use crate::ending::Ending;
 use crate::reading::read_all;
@@ -35,11 +35,13 @@ pub fn nvmhost<D: LineDevice, F: Images, T: Source, K: Sink>(
         → Completes geo (T.left script.old) (T.left script.new) (K.written replies.old) (K.written replies.new)
         (D.state device.old) (D.state device.new) }
 
-    // What was written begins as such a run, and then as the status's line.
+    // What was written begins as such a run of the device over whole lines of the script, and then comes the status's line.
     ensures early_end { result ≢ 0 → (geo : Sizes) → IsForm (map (λ word. string_bytes word) words.now) geo
-        → (ending : Early) × (result ≡ status ending) × BreaksOff geo (D.state device.old).panel ending (T.left script.old) (T.left script.new)
+        → (ending : Early) × (result ≡ status ending) × BreaksOff geo ending (K.count replies.old) (K.count replies.new)
+        (T.left script.old) (T.left script.new) (K.written replies.old) (K.written replies.new)
+        (D.state device.old) (D.state device.new) }
+    ensures usage_line { result ≡ 2 → WritesLine Usage (K.count replies.old) (K.count replies.new)
         (K.written replies.old) (K.written replies.new) }
-    ensures usage_line { result ≡ 2 → WritesFront (ending_text Usage) (K.written replies.old) (K.written replies.new) }
 
     // Each status has its cause; want of memory alone is free.
     ensures usage { (result ≡ 2) ↔ ((geo : Sizes) → IsForm (map (λ word. string_bytes word) words.now) geo → ⊥) }
@@ -49,7 +51,7 @@ pub fn nvmhost<D: LineDevice, F: Images, T: Source, K: Sink>(
     ensures statuses { (result ≡ 0) ⊎ ((ending : Early) × (result ≡ status ending)) }
 
     // The device is given no order but the script's.
-    ensures costs { Costs (T.left script.old) (T.left script.new) (D.state device.old).panel (D.state device.new).panel }
+    ensures costs { CallCosts (T.left script.old) (T.left script.new) (D.state device.old).panel (D.state device.new).panel }
     ensures images { images.new ≡ images.old }
 {
     match perform(alloc, words, device, script, replies) {
@@ -73,13 +75,15 @@ fn perform<D: LineDevice, T: Source, K: Sink>(
         → MatchResult result
         (λ _. Completes geo (T.left script.old) (T.left script.new) (K.written replies.old) (K.written replies.new)
         (D.state device.old) (D.state device.new))
-        (λ _. Halts geo (D.state device.old).panel (T.left script.old) (T.left script.new) (K.written replies.old) (K.written replies.new)) }
+        (λ _. Halts geo (T.left script.old) (T.left script.new) (K.written replies.old) (K.written replies.new)
+        (D.state device.old) (D.state device.new)) }
     ensures usage { (result ≡ Err Usage) ↔ ((geo : Sizes) → IsForm (map (λ word. string_bytes word) words.now) geo → ⊥) }
     ensures untouched { result ≡ Err Usage → K.written replies.new ≡ K.written replies.old }
+    ensures later { K.count replies.old ≤ K.count replies.new }
     ensures causes { IfErr result (λ ending. IsCaused ending (T.count script.old) (T.count script.new)
         (K.count replies.old) (K.count replies.new) (D.state device.old).panel (D.state device.new).panel
         (T.left script.old) (T.left script.new)) }
-    ensures costs { Costs (T.left script.old) (T.left script.new) (D.state device.old).panel (D.state device.new).panel }
+    ensures costs { CallCosts (T.left script.old) (T.left script.new) (D.state device.old).panel (D.state device.new).panel }
 {
     let Some(geometry) = read_words(words) else {
         return Err(Ending::Usage);
@@ -95,6 +99,7 @@ fn set_up<D: LineDevice>(alloc: Global, device: &mut D, geometry: Geometry) -> R
     ensures ready { IfOk result (λ host. IsReady geometry host (D.state device.old) (D.state device.new)) }
     ensures cause { IfErr result (λ e. (e ≡ Ending.Memory) ⊎ ((e ≡ Ending.Device)
         × DeviceFailed (D.state device.old).panel (D.state device.new).panel)) }
+    ensures orders { SameOrders (D.state device.old).panel (D.state device.new).panel }
     ensures opens { Opens (D.state device.old).panel (D.state device.new).panel }
 {
     recovery::format(device, geometry)?;
