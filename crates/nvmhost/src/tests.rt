@@ -1,85 +1,32 @@
 // Whole calls over devices, sources and sinks of memory.
 
 use crate::top::nvmhost;
-use faulty::Faulty;
 use host_io::{MemImages, MemSink, MemSource};
-use line_device::{Choice, LineDevice, LineState, Plain};
+use line_device::{Choice, LineDevice, LineState, Order, Plain};
 use nvm_base::{Bytes, Words};
 use std::alloc::{AllocError, Global};
 use std::test::Fail;
-use test_devices::Recorder;
+use test_devices::{Fuse, Recorder};
 
-mod cuts;
-mod faulty;
+mod stories;
 
 const WORDS: &str = "run 8 2 32";
 
-const LOST: &str = "vstore 0 07*8\ncut\nrestart none\nvload 0 8\n";
-
-const SYNCED: &str = "vstore 0 07*8\nvsync 0 1\ncut\nrestart none\nvload 0 8\n";
-
-const KEPT: &str = "vstore 0 07*8\ncut\nrestart all\nvload 0 8\n";
-
-const REFUSED: &str =
-    "vload 8184 8\nvload 8188 8\nvload 0 0\nrestart all\ncut\nvload 0 1\nfread a 0 1\n";
-
-const NEW_BLOCKS: &str = "bread 7 1\nbread 7 2\nbread 0 0\n";
-
-const ABSENT: &str = "bexists 0\nbdiscard 0 1\nbexists 0\n";
-
-const WRITTEN: &str = "bwrite 1 aa*512\ncut\nrestart none\nbread 1 1\n";
-
-const SCARRED: &str = "bscar 2 1\nbread 1 3\nbexists 2\nbwrite 2 05*512\nbread 2 1\n";
-
-// A source of the text, in pieces, of which the named calls fail.
-fn source(
-    alloc: Global,
-    text: &[u8],
-    piece: usize,
-    fails: &[u64],
-) -> Result<MemSource, AllocError> {
+// So many times the text, and then the last one.
+fn repeated(alloc: Global, text: &str, count: u64, last: &str) -> Result<Bytes, AllocError> {
     let mut bytes = Bytes::new(alloc);
-    bytes.extend(text)?;
-    Ok(MemSource::new(bytes, piece.max(1), numbers(alloc, fails)?))
-}
-
-fn numbers(alloc: Global, list: &[u64]) -> Result<Words, AllocError> {
-    let mut numbers = Words::new(alloc);
-    numbers.extend(list)?;
-    Ok(numbers)
-}
-
-// So many lines that are no commands.
-fn no_commands(alloc: Global, count: usize) -> Result<Bytes, AllocError> {
-    let mut script = Bytes::new(alloc);
     for _ in 0..count {
-        script.extend(b"x\n")?;
+        bytes.extend(text.as_bytes())?;
     }
-    Ok(script)
+    bytes.extend(last.as_bytes())?;
+    Ok(bytes)
 }
 
-// A hundred writes, each followed by a discard; then all blocks are read, and once more after a cut.
-fn writes_and_discards(alloc: Global) -> Result<Bytes, AllocError> {
-    let mut script = Bytes::new(alloc);
-    for turn in 0..100_u64 {
-        let written = format!(in alloc; "bwrite {} {}{}*512\n", turn % 8, turn / 10, turn % 10)?;
-        script.extend(written.as_bytes())?;
-        let discarded = format!(in alloc; "bdiscard {} 1\n", (turn + 3) % 8)?;
-        script.extend(discarded.as_bytes())?;
-    }
-    script.extend(b"bread 0 8\ncut\nrestart none\nbread 0 8\n")?;
-    Ok(script)
-}
-
-// What is answered to that script.
-fn last_bytes(alloc: Global) -> Result<Bytes, AllocError> {
-    let mut replies = Bytes::new(alloc);
-    for _ in 0..200 {
-        replies.extend(b"ok\n")?;
-    }
-    replies.extend(b"data 96*512,97*512,98*512,99*512,00*1536,95*512\nok\nok bad 0\n")?;
-    replies.extend(b"data 96*512,97*512,98*512,99*512,00*1536,95*512\n")?;
-    Ok(replies)
+// A list of one number, as that of the call that is to fail: 0 names none.
+fn only(alloc: Global, number: u64) -> Result<Words, AllocError> {
+    let mut numbers = Words::new(alloc);
+    numbers.push(number)?;
+    Ok(numbers)
 }
 
 // The status of a call with these words.
@@ -98,47 +45,67 @@ fn call<D: LineDevice>(
     Ok(nvmhost(alloc, &list, device, &mut images, script, replies))
 }
 
+// The replies to a script that comes in pieces of so many bytes.
+fn replies_of<D: LineDevice>(
+    alloc: Global,
+    device: &mut D,
+    script: &str,
+    piece: usize,
+) -> Result<MemSink, Fail> {
+    let bytes = repeated(alloc, script, 1, "")?;
+    let mut source = MemSource::new(bytes, piece.max(1), Words::new(alloc));
+    let mut sink = MemSink::new(alloc, Words::new(alloc));
+    match call(alloc, WORDS, device, &mut source, &mut sink)? {
+        0 => Ok(sink),
+        _ => Err(Fail::from("the status")),
+    }
+}
+
+// Whether the script gets these replies over this device, in pieces of so many bytes.
+fn gets<D: LineDevice>(
+    alloc: Global,
+    device: &mut D,
+    story: (&str, &str),
+    piece: usize,
+) -> Result<bool, Fail> {
+    let sink = replies_of(alloc, device, story.0, piece)?;
+    Ok(sink.written() == story.1.as_bytes())
+}
+
 #[test]
-fn a_script_is_performed_whatever_pieces_it_comes_in(rt: HostRuntime) -> Result<(), Fail> {
+fn a_script_gets_its_replies_whatever_pieces_it_comes_in(rt: HostRuntime) -> Result<(), Fail> {
     let alloc = rt.alloc();
-    for (script, replies) in [
-        (LOST, "ok\nok\nok bad 0\ndata 00*8\n"),
-        (SYNCED, "ok\nok\nok\nok bad 0\ndata 07*8\n"),
-        (KEPT, "ok\nok\nok bad 0\ndata 07*8\n"),
-        (
-            REFUSED,
-            "data 00*8\nrefused range\nrefused length\nrefused on\nok\nrefused off\nrefused syntax\n",
-        ),
-        (NEW_BLOCKS, "data 00*512\nrefused range\nrefused length\n"),
-        (ABSENT, "no\nok\nno\n"),
-        (WRITTEN, "ok\nok\nok bad 0\ndata aa*512\n"),
-        (SCARRED, "ok\nscarred 2\nyes\nok\ndata 05*512\n"),
-    ] {
+    for story in stories::STORIES {
         for piece in [1, 7, 65536] {
-            let mut device = Plain::new(alloc);
-            let mut source = source(alloc, script.as_bytes(), piece, &[])?;
-            let mut sink = MemSink::new(alloc, Words::new(alloc));
-            let status = call(alloc, WORDS, &mut device, &mut source, &mut sink)?;
-            assert_eq!(rt; status, 0, "{script}");
-            assert_eq!(rt; sink.written(), replies.as_bytes(), "{script}");
+            let done = gets(alloc, &mut Plain::new(alloc), story, piece)?;
+            assert!(rt; done, "{}", story.0);
         }
+        let mut recorder = Recorder::new(alloc, Plain::new(alloc));
+        let done = gets(alloc, &mut recorder, story, 65536)?;
+        assert!(rt; done, "{}", story.0);
     }
     Ok(())
 }
 
 #[test]
-fn blocks_are_written_and_discarded_in_turn(rt: HostRuntime) -> Result<(), Fail> {
+fn a_recorder_tells_what_the_script_asked_for(rt: HostRuntime) -> Result<(), Fail> {
     let alloc = rt.alloc();
-    let script = writes_and_discards(alloc)?;
-    let replies = last_bytes(alloc)?;
-    for piece in [1, 65536] {
-        let mut device = Plain::new(alloc);
-        let mut source = source(alloc, script.as_slice(), piece, &[])?;
-        let mut sink = MemSink::new(alloc, Words::new(alloc));
-        let status = call(alloc, WORDS, &mut device, &mut source, &mut sink)?;
-        assert_eq!(rt; status, 0);
-        assert_eq!(rt; sink.written(), replies.as_slice());
-    }
+    let mut device = Recorder::new(alloc, Plain::new(alloc));
+    replies_of(alloc, &mut device, stories::TWO_RESTARTS, 7)?;
+    assert_eq!(rt; device.last(), Some(Order::Cut(2)));
+    let starts = device.starts();
+    assert_eq!(rt; starts.len(), 2);
+    assert_eq!(rt;
+        (starts[0].choice, starts[1].choice),
+        (Choice::Firsts, Choice::Lasts)
+    );
+    let lines = starts[0].lines.as_slice();
+    assert_eq!(rt; lines.len(), 5056);
+    let LineState::Healthy(first) = &lines[0] else {
+        return Err(Fail::from("the first line"));
+    };
+    assert_eq!(rt; &first[..8], b"NVMPMH01".as_slice());
+    assert_eq!(rt; lines[2304], LineState::Healthy([0; 64]));
     Ok(())
 }
 
@@ -153,10 +120,9 @@ fn words_that_are_no_form_get_the_usage_line(rt: HostRuntime) -> Result<(), Fail
         "run 9 2 32",
         "run 8 17 32",
     ] {
-        let mut device = Plain::new(alloc);
-        let mut source = source(alloc, LOST.as_bytes(), 7, &[])?;
+        let mut source = MemSource::new(Bytes::new(alloc), 7, Words::new(alloc));
         let mut sink = MemSink::new(alloc, Words::new(alloc));
-        let status = call(alloc, words, &mut device, &mut source, &mut sink)?;
+        let status = call(alloc, words, &mut Plain::new(alloc), &mut source, &mut sink)?;
         assert_eq!(rt; status, 2, "{words}");
         assert_eq!(rt;
             sink.written(),
@@ -167,63 +133,57 @@ fn words_that_are_no_form_get_the_usage_line(rt: HostRuntime) -> Result<(), Fail
     Ok(())
 }
 
-#[test]
-fn a_script_that_cannot_be_read_gets_no_replies(rt: HostRuntime) -> Result<(), Fail> {
-    let alloc = rt.alloc();
-    let mut device = Plain::new(alloc);
-    let mut source = source(alloc, LOST.as_bytes(), 14, &[2])?;
-    let mut sink = MemSink::new(alloc, Words::new(alloc));
-    let status = call(alloc, WORDS, &mut device, &mut source, &mut sink)?;
-    assert_eq!(rt; status, 4);
-    assert_eq!(rt; sink.written(), b"error read\n".as_slice());
-    Ok(())
+// A call that is to end early: so many lines that are no commands, and the read, the write and the device's call that fail, 0
+// for none.
+#[derive(Clone, Copy)]
+struct Trial {
+    lines: u64,
+    read: u64,
+    write: u64,
+    cut: u64,
 }
 
-#[test]
-fn replies_are_written_up_to_the_call_that_fails(rt: HostRuntime) -> Result<(), Fail> {
-    let alloc = rt.alloc();
-    // A write is made once 65,536 bytes wait, which are 4,370 replies of 15 bytes.
-    let script = no_commands(alloc, 5 * 4370)?;
-    for (fails, written) in [(1, 0), (5, 4 * 65550)] {
-        let mut device = Plain::new(alloc);
-        let mut source = source(alloc, script.as_slice(), 65536, &[])?;
-        let mut sink = MemSink::new(alloc, numbers(alloc, &[fails])?);
-        let status = call(alloc, WORDS, &mut device, &mut source, &mut sink)?;
-        assert_eq!(rt; status, 5, "at call {fails}");
-        assert_eq!(rt; sink.written().len(), written, "at call {fails}");
+// The trial's status and what was written.
+fn outcome(alloc: Global, trial: &Trial) -> Result<(u8, MemSink), AllocError> {
+    let mut device = Fuse::new(Plain::new(alloc), trial.cut.wrapping_sub(1));
+    let script = repeated(alloc, "x\n", trial.lines, "")?;
+    let mut source = MemSource::new(script, 7, only(alloc, trial.read)?);
+    let mut sink = MemSink::new(alloc, only(alloc, trial.write)?);
+    let status = call(alloc, WORDS, &mut device, &mut source, &mut sink)?;
+    Ok((status, sink))
+}
+
+const fn trying(lines: u64, read: u64, write: u64, cut: u64) -> Trial {
+    Trial {
+        lines,
+        read,
+        write,
+        cut,
     }
-    Ok(())
 }
 
 #[test]
-fn a_device_that_cannot_be_set_up_ends_the_call(rt: HostRuntime) -> Result<(), Fail> {
+fn a_call_that_ends_early_says_why(rt: HostRuntime) -> Result<(), Fail> {
     let alloc = rt.alloc();
-    let mut device = Faulty::new(Plain::new(alloc));
-    let mut source = source(alloc, LOST.as_bytes(), 7, &[])?;
-    let mut sink = MemSink::new(alloc, Words::new(alloc));
-    let status = call(alloc, WORDS, &mut device, &mut source, &mut sink)?;
-    assert_eq!(rt; status, 8);
-    assert_eq!(rt; sink.written(), b"error device\n".as_slice());
-    Ok(())
-}
-
-#[test]
-fn a_device_is_restarted_as_the_script_says(rt: HostRuntime) -> Result<(), Fail> {
-    let alloc = rt.alloc();
-    let mut device = Recorder::new(alloc, Plain::new(alloc));
-    let mut source = source(alloc, LOST.as_bytes(), 7, &[])?;
-    let mut sink = MemSink::new(alloc, Words::new(alloc));
-    let status = call(alloc, WORDS, &mut device, &mut source, &mut sink)?;
-    assert_eq!(rt; status, 0);
-    let starts = device.starts();
-    assert_eq!(rt; starts.len(), 1);
-    assert_eq!(rt; starts[0].choice, Choice::Firsts);
-    let lines = starts[0].lines.as_slice();
-    assert_eq!(rt; lines.len(), 5056);
-    let LineState::Healthy(first) = &lines[0] else {
-        return Err(Fail::from("the first line"));
-    };
-    assert_eq!(rt; &first[..8], b"NVMPMH01".as_slice());
-    assert_eq!(rt; lines[2304], LineState::Healthy([0; 64]));
+    // Each with its status, how many replies there are, and the status's line. A write is made once 65,536 bytes wait, which are
+    // 4,370 replies of 15 bytes.
+    for (trial, status, replies, line) in [
+        (trying(8, 1, 0, 0), 4, 0, "error read\n"),
+        // The first piece ends inside the fourth line.
+        (trying(8, 2, 0, 0), 4, 0, "error read\n"),
+        (trying(8, 0, 1, 0), 5, 0, ""),
+        (trying(5 * 4370, 0, 1, 0), 5, 0, ""),
+        (trying(5 * 4370, 0, 5, 0), 5, 4 * 4370, ""),
+        (trying(8, 0, 0, 1), 8, 0, "error device\n"),
+        (trying(8, 0, 0, 20), 8, 0, "error device\n"),
+        // Where the status's line can't be written either, the status stays.
+        (trying(8, 1, 1, 0), 4, 0, ""),
+        (trying(8, 0, 1, 1), 8, 0, ""),
+    ] {
+        let (ended, sink) = outcome(alloc, &trial)?;
+        assert_eq!(rt; ended, status);
+        let written = repeated(alloc, "refused syntax\n", replies, line)?;
+        assert_eq!(rt; sink.written(), written.as_slice());
+    }
     Ok(())
 }

@@ -1,0 +1,76 @@
+// Scripts, and the replies to each.
+
+/// A cut at the second call of a store that touches two lines.
+pub const TWO_RESTARTS: &str =
+    "vstore 0 07*8\ncut\nrestart none\ncut in 2\nvstore 60 aa*8\nrestart all\nvload 60 8\n";
+
+/// Each script with its replies.
+pub const STORIES: [(&str, &str); 16] = [
+    // What is not synced may be lost, or kept.
+    (
+        "vstore 0 07*8\ncut\nrestart none\nvload 0 8\n",
+        "ok\nok\nok bad 0\ndata 00*8\n",
+    ),
+    (
+        "vstore 0 07*8\nvsync 0 1\ncut\nrestart none\nvload 0 8\n",
+        "ok\nok\nok\nok bad 0\ndata 07*8\n",
+    ),
+    (
+        "vstore 0 07*8\ncut\nrestart all\nvload 0 8\n",
+        "ok\nok\nok bad 0\ndata 07*8\n",
+    ),
+    (
+        TWO_RESTARTS,
+        "ok\nok\nok bad 0\nok\npower lost\nok bad 0\ndata aa*4,00*4\n",
+    ),
+    // Refusals.
+    (
+        "vload 8184 8\nvload 8188 8\nvload 0 0\nrestart all\ncut\nvload 0 1\nfread a 0 1\n",
+        "data 00*8\nrefused range\nrefused length\nrefused on\nok\nrefused off\nrefused syntax\n",
+    ),
+    (
+        "bread 7 1\nbread 7 2\nbread 0 0\n",
+        "data 00*512\nrefused range\nrefused length\n",
+    ),
+    // Blocks.
+    ("bexists 0\nbdiscard 0 1\nbexists 0\n", "no\nok\nno\n"),
+    (
+        "bwrite 1 aa*512\ncut\nrestart none\nbread 1 1\n",
+        "ok\nok\nok bad 0\ndata aa*512\n",
+    ),
+    (
+        "bscar 2 1\nbread 1 3\nbexists 2\nbwrite 2 05*512\nbread 2 1\n",
+        "ok\nscarred 2\nyes\nok\ndata 05*512\n",
+    ),
+    // A cut inside a command is answered, and the rest is off.
+    (
+        "vstore 60 aa*8\nvsync 60 8\nvstore 60 bb*8\ncut in 2\nvsync 60 8\nvload 60 8\nrestart none\nvload 60 8\n",
+        "ok\nok\nok\nok\npower lost\nrefused off\nok bad 0\ndata bb*4,aa*4\n",
+    ),
+    (
+        "cut in 2\nvstore 60 aa*8\nbexists 0\nrestart all\nvload 60 8\n",
+        "ok\npower lost\nrefused off\nok bad 0\ndata aa*4,00*4\n",
+    ),
+    (
+        "cut in 2\nvstore 60 aa*8\ncut\nrestart none\nvload 60 8\n",
+        "ok\npower lost\nrefused off\nok bad 0\ndata 00*8\n",
+    ),
+    (
+        "bwrite 3 11*512\ncut in 1\nbwrite 3 22*512\nrestart all\nbread 3 1\nbwrite 3 33*512\nbread 3 1\n",
+        "ok\nok\npower lost\nok bad 0\ndata 11*512\nok\ndata 33*512\n",
+    ),
+    (
+        "vstore 0 01\ncut in 1\nvload 0 1\nrestart none\nvload 0 1\n",
+        "ok\nok\npower lost\nok bad 0\ndata 00\n",
+    ),
+    // What is refused, and what makes no call of the device, leaves the cut to come.
+    (
+        "cut in 1\nvload 0 8193\nbexists 0\nbread 0 1\nbatomic 0 01*512\nrestart none\nbexists 0\n",
+        "ok\nrefused range\nno\ndata 00*512\npower lost\nok bad 0\nno\n",
+    ),
+    // The later of two is the one to come, and `cut` takes it away.
+    (
+        "cut in 1\ncut in 2\nvload 0 1\ncut\ncut in 1\nrestart none\nvload 0 2\ncut in 0\n",
+        "ok\nok\ndata 00\nok\nrefused off\nok bad 0\ndata 00*2\nrefused range\n",
+    ),
+];
