@@ -7,6 +7,8 @@ use Rattle.machine_host.specs.Costs.{Opens, mount_calls, mount_persists}
 -- what was not done opens nothing
 pub opens-none : (p : Panel) → Opens p p
 opens-none p = record {
+  faults = omega arith;
+  cuts = omega arith;
   calls = omega arith;
   persists = omega arith;
   armed = arms_nothing-refl p;
@@ -14,4 +16,4 @@ opens-none p = record {
 }
 
 pub opens-runs : (end : Outcome) (p q : Panel) → Runs mount_calls mount_persists end p q → Opens p q
-opens-runs end p q runs = record { calls = runs.few_calls; persists = runs.few_persists; armed = runs.armed; orders = runs.orders }
+opens-runs end p q runs = record { faults = runs.faults; cuts = runs.cuts; calls = runs.few_calls; persists = runs.few_persists; armed = runs.armed; orders = runs.orders }

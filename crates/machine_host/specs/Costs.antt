@@ -26,8 +26,10 @@ mount_calls = 1304
 abbrev pub mount_persists : ℕ
 mount_persists = 596
 
--- What a mount does to a device's counts: no more counted calls and persists than these, and no order.
+-- What a mount does to a device's counts: no more counted calls and persists than these, and no order. No count falls.
 pub record Opens (old new : Panel) : Type 0 where
+  pub faults : old.counts.faults ≤ new.counts.faults
+  pub cuts : old.counts.cuts ≤ new.counts.cuts
   pub calls : new.counts.calls ≤ old.counts.calls + mount_calls
   pub persists : new.counts.persists ≤ old.counts.persists + mount_persists
   pub armed : ArmsNothing old new

@@ -8,15 +8,13 @@ use Rattle.reply_text.specs.Answer.{reply_text}
 use Rattle.script_text.specs.Script.{line_input, inputs_of, lines_of}
 use Rattle.machine_host.specs.Machine.{Machine}
 use Rattle.machine_host.specs.Run.{Transcript, Run, followed_by, silence}
-use Rattle.machine_host.specs.Stands.{HostState, Stands, Tells}
-use Rattle.machine_host.specs.Costs.{Spends}
+use Rattle.machine_host.specs.Telling.{Tells}
+use Rattle.machine_host.specs.Stands.{HostState, Stands}
 use Rattle.machine_host.proofs.RunLemmas.{run_of_one, run_then, reply_text-append, tells_silence, tells_then}
-use Rattle.machine_host.proofs.CostLemmas.{spends-idle, spends_then}
 use Rattle.nvmhost.specs.declared.ending.Ending.{Ending}
-use Rattle.nvmhost.specs.Whole.{TellsFirst}
+use Rattle.nvmhost.specs.Whole.{Unanswered}
 use Rattle.nvmhost.specs.Running.{Performs, LineGoes, Flushes}
 use Rattle.nvmhost.proofs.BytesLemmas.{appends-none, appends_then}
-use Rattle.nvmhost.proofs.TellLemmas.{tells_first-then}
 
 -- what was said so far: some of the answers' text is written, the rest waits
 pub record Said (first : Machine) (lines : List (List ℕ)) (host : HostState) (out : List ℕ) (written_old written : Option (List ℕ)) (old now : Device) : Type 0 where
@@ -33,7 +31,6 @@ pub record Said (first : Machine) (lines : List (List ℕ)) (host : HostState) (
 pub record Going (script rest : List ℕ) (before host : HostState) (out : List ℕ) (written_old written : Option (List ℕ)) (old now : Device) : Type 0 where
   pub lines : List (List ℕ)
   pub split : lines_of script ≡ lines ++ lines_of rest
-  pub spends : Spends (inputs_of lines) old.panel now.panel
   pub says : (first : Machine) → Stands before old first → Said first lines host out written_old written old now
 
 pub inputs_of-append : (x y : List (List ℕ)) → inputs_of (x ++ y) ≡ inputs_of x ++ inputs_of y
@@ -45,7 +42,6 @@ pub going-start : (script : List ℕ) (host : HostState) (written : Option (List
 going-start script host written d = record {
   lines = [];
   split = refl;
-  spends = spends-idle [] d.panel;
   says = λ first stands. record {
     said = silence;
     state = first;
@@ -62,11 +58,10 @@ going-start script host written d = record {
 pub going-line : (script rest line others : List ℕ) (before host host' : HostState) (out out' : List ℕ) (written_old written : Option (List ℕ)) (old now next : Device)
     → Going script rest before host out written_old written old now → lines_of rest ≡ line ∷ lines_of others
     → ((h : Machine) → Stands host now h → LineGoes h (line_input line) out out' host' now next)
-    → Spends (line_input line ∷ []) now.panel next.panel → Going script others before host' out' written_old written old next
-going-line script rest line others before host host' out out' written_old written old now next going begins goes spends = record {
+    → Going script others before host' out' written_old written old next
+going-line script rest line others before host host' out out' written_old written old now next going begins goes = record {
   lines = going.lines ++ line ∷ [];
   split = going.split ∙ ap (λ ls. going.lines ++ ls) begins ∙ sym (append_assoc going.lines (line ∷ []) (lines_of others));
-  spends = subst (λ i. Spends i old.panel next.panel) inputs (spends_then (inputs_of going.lines) (line_input line ∷ []) _ _ _ going.spends spends);
   says = λ first stands.
       let was = going.says first stands in
       let step = goes was.state was.stands in
@@ -94,7 +89,6 @@ pub going-flush : (script rest : List ℕ) (before host : HostState) (out out' :
 going-flush script rest before host out out' written_old written written' old now going flushes = record {
   lines = going.lines;
   split = going.split;
-  spends = going.spends;
   says = λ first stands.
       let was = going.says first stands in
       record {
@@ -114,10 +108,6 @@ pub going-end : (script : List ℕ) (before host : HostState) (written_old writt
     → Going script [] before host [] written_old written old now → Performs before script (Ok tt) written_old written old now
 unfolding lines_of
 going-end script before host written_old written old now going = record {
-  begun = going.lines;
-  others = [];
-  split = going.split;
-  spends = going.spends;
   says = λ first stands.
       let was = going.says first stands in
       let all : was.part ≡ reply_text was.said.answers = sym (append-nil was.part) ∙ was.text in
@@ -135,15 +125,11 @@ going-end script before host written_old written old now going = record {
       };
 }
 
--- an end before the end: some of the replies that wait may be written, and a further line may be begun
+-- an end before the end: some of the replies that wait may be written, and a command may be left without its answer
 pub going-broken : (script rest : List ℕ) (before host : HostState) (out : List ℕ) (written_old written written' : Option (List ℕ)) (old now next : Device)
-    (ending : Ending) (more later : List (List ℕ)) → Going script rest before host out written_old written old now → lines_of rest ≡ more ++ later
-    → Spends (inputs_of more) now.panel next.panel → TellsFirst silence now.panel next.panel → AppendsSome out written written' → Performs before script (Err ending) written_old written' old next
-going-broken script rest before host out written_old written written' old now next ending more later going splits spends beyond some = record {
-  begun = going.lines ++ more;
-  others = later;
-  split = going.split ∙ ap (λ ls. going.lines ++ ls) splits ∙ sym (append_assoc going.lines more later);
-  spends = subst (λ i. Spends i old.panel next.panel) (sym (inputs_of-append going.lines more)) (spends_then (inputs_of going.lines) (inputs_of more) _ _ _ going.spends spends);
+    (ending : Ending) → Going script rest before host out written_old written old now → Unanswered now.panel next.panel → AppendsSome out written written'
+    → Performs before script (Err ending) written_old written' old next
+going-broken script rest before host out written_old written written' old now next ending going left some = record {
   says = λ first stands.
       let was = going.says first stands in
       record {
@@ -159,7 +145,7 @@ going-broken script rest before host out written_old written written' old now ne
           joined = append_assoc was.part (take some.count out) (drop some.count out) ∙ ap (λ t. was.part ++ t) (take-append-drop some.count out) ∙ was.text;
         };
         wrote = appends_then written_old written written' was.part (take some.count out) was.wrote some.part;
-        outcome = tells_first-then was.said old.panel now.panel next.panel was.tells beyond;
+        outcome = record { between = now.panel; tells = was.tells; left = left };
       };
 }
 

@@ -31,7 +31,7 @@ line_goes-malformed h input old new host d is stands line = subst (λ i. LineGoe
   next = h;
   hears = (refl, refl);
   text = line ∙ ap (λ t. old ++ t) (sym (append-nil (answer_line (Refused Syntax))));
-  tells = tells_nothing (Refused Syntax) d.panel;
+  tells = tells_nothing (Refused Syntax) refl d.panel;
   stands = stands;
 })
 

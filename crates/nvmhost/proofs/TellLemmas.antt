@@ -1,48 +1,114 @@
--- What a device told of a run that ended early.
-use Rattle.std.proofs.Common.{◌≡◌, [], ◌∷◌, inl, inr, refl, ap, ◌∙◌}
-use Rattle.line_device.specs.Panel.{Panel, SameOrders, told}
-use Rattle.line_device.specs.declared.line.Choice.{Choice}
+-- What a device told as it was set up, and of a run that ended early.
+use Rattle.std.proofs.Common.{◌≡◌, [], ◌∷◌, inl, inr, refl, sym, ap, subst, ◌∙◌, arith}
+use Rattle.line_device.specs.Panel.{Panel, SetsUp, Outcome}
 use Rattle.line_device.specs.Device.{Device}
+use Rattle.line_device.specs.declared.line.Choice.{Choice}
 use Rattle.script_text.specs.Action.{Action}
 use Rattle.script_text.specs.Action.Action.{BRead, BWrite, BAtomic, BMulti, BDiscard, BDiscardIf, BExists, BScar, VLoad, VStore, VSync, Cut, CutIn, Restart}
-use Rattle.machine_host.specs.Run.{Transcript, silence}
-use Rattle.machine_host.specs.Stands.{HostState, Tells, last_of}
-use Rattle.machine_host.specs.Costs.{Costs}
-use Rattle.machine_host.specs.Faults.{Leaves}
-use Rattle.nvmhost.specs.Whole.{TellsFirst}
+use Rattle.machine_host.specs.Run.{Transcript, followed_by, silence}
+use Rattle.machine_host.specs.Telling.{Tells}
+use Rattle.machine_host.specs.Stands.{HostState}
+use Rattle.machine_host.specs.Costs.{Opens}
+use Rattle.machine_host.specs.Faults.{Leaves, LeftUnmounted}
+use Rattle.machine_host.proofs.RunLemmas.{tells_then}
+use Rattle.nvmhost.specs.Whole.{TellsFirst, Unanswered, opening}
 
--- no order and no restart
-pub tells_first-idle : (p q : Panel) → SameOrders p q → TellsFirst silence p q
-tells_first-idle p q same = record { more = []; starts = same.starts; orders = same.last_order }
-
-pub tells_first-nothing : (p : Panel) → TellsFirst silence p p
-tells_first-nothing p = record { more = []; starts = refl; orders = refl }
-
--- what was said, and then no more
-pub tells_first-all : (s : Transcript) (p q : Panel) → Tells s p q → TellsFirst s p q
-tells_first-all s p q tells = record { more = []; starts = tells.starts; orders = tells.orders }
-
--- what was said, and then a command without an answer
-pub tells_first-then : (s : Transcript) (p q r : Panel) → Tells s p q → TellsFirst silence q r → TellsFirst s p r
-tells_first-then s p q r tells beyond = record {
-  more = beyond.more;
-  starts = beyond.starts ∙ ap (λ before. told before beyond.more) tells.starts;
-  orders = beyond.orders ∙ tells.orders;
+-- setting up and mounting
+pub opens-set_up : (end : Outcome) (p q : Panel) → SetsUp end p q → Opens p q
+opens-set_up end p q sets = record {
+  faults = sets.faults;
+  cuts = sets.cuts;
+  calls = omega (arith, sets.calls);
+  persists = omega (arith, sets.persists);
+  armed = sets.armed;
+  orders = sets.orders;
 }
 
--- the same after a device that was told nothing
-pub tells_first-after : (s : Transcript) (p q r : Panel) → Tells silence p q → TellsFirst s q r → TellsFirst s p r
-tells_first-after s p q r quiet tells = record {
-  more = tells.more;
-  starts = tells.starts ∙ ap (λ before. told (told before s.starts) tells.more) quiet.starts;
-  orders = tells.orders ∙ ap (last_of s.orders) quiet.orders;
+pub tells_opening : (p q : Panel) → Opens p q → Tells opening p q
+tells_opening p q opens = record {
+  starts = opens.orders.starts;
+  restarts = opens.orders.restarts;
+  orders = opens.orders.last_order;
+  arms = opens.orders.arms;
+  offs = omega (arith, opens.orders.offs);
+  faults = opens.faults;
+  cuts = opens.cuts;
+  calls = opens.calls;
+  persists = opens.persists;
+  evicts = opens.orders.evicts;
+  disarms = opens.orders.disarms;
 }
+
+pub unanswered-none : (p : Panel) → Unanswered p p
+unanswered-none p = record {
+  more = [];
+  few = omega arith;
+  starts = refl;
+  restarts = omega arith;
+  once = omega arith;
+  last_order = refl;
+  arms = refl;
+  offs = refl;
+  faults = omega arith;
+  cuts = omega arith;
+  calls = omega arith;
+  persists = omega arith;
+  evicts = refl;
+  disarms = refl;
+}
+
+-- set up, and no line performed
+pub tells_first-opened : (p q : Panel) → Opens p q → TellsFirst (followed_by opening silence) p q
+tells_first-opened p q opens = record { between = q; tells = tells_opening p q opens; left = unanswered-none q }
+
+-- set up, and then a run
+pub tells_first-after : (s : Transcript) (p q r : Panel) → Tells opening p q → TellsFirst s q r → TellsFirst (followed_by opening s) p r
+tells_first-after s p q r opened first = record { between = first.between; tells = tells_then opening s p q first.between opened first.tells; left = first.left }
+
+-- a restart without a mount
+unanswered-unmounted : (choice : Choice) (host after : HostState) (old new : Device) → LeftUnmounted choice host after old new → Unanswered old.panel new.panel
+unanswered-unmounted choice host after old new left =
+    let opens = left.opens in
+    let panel = left.restarted.panel in
+    let counts = ap (λ (p : Panel). p.counts) panel in
+    record {
+      more = left.start ∷ [];
+      few = omega arith;
+      starts = opens.orders.starts ∙ ap (λ p. p.starts) panel;
+      restarts = omega (arith, opens.orders.restarts, ap (λ c. c.restarts) counts);
+      once = omega (arith, opens.orders.restarts, ap (λ c. c.restarts) counts);
+      last_order = opens.orders.last_order ∙ ap (λ p. p.last_order) panel;
+      arms = opens.orders.arms ∙ ap (λ c. c.arms) counts;
+      offs = opens.orders.offs ∙ ap (λ c. c.offs) counts;
+      faults = omega (arith, opens.faults, ap (λ c. c.faults) counts);
+      cuts = omega (arith, opens.cuts, ap (λ c. c.cuts) counts);
+      calls = omega (arith, opens.calls, ap (λ c. c.calls) counts);
+      persists = omega (arith, opens.persists, ap (λ c. c.persists) counts);
+      evicts = opens.orders.evicts ∙ ap (λ c. c.evicts) counts;
+      disarms = opens.orders.disarms ∙ ap (λ c. c.disarms) counts;
+    }
 
 -- a command that had no memory for its answer
-pub tells_first-left : (action : Action) (host after : HostState) (old new : Device) → Leaves action host after old new → Costs action old.panel new.panel
-    → TellsFirst silence old.panel new.panel
-tells_first-left (Restart choice) host after old new (inl (same, inl is)) costs = record { more = []; starts = ap (λ d. d.panel.starts) is; orders = ap (λ d. d.panel.last_order) is }
-tells_first-left (Restart choice) host after old new (inl (same, inr waits)) costs = record { more = []; starts = waits.panel.starts; orders = waits.panel.last_order }
-tells_first-left (Restart choice) host after old new (inr left) costs =
-    record { more = left.start ∷ []; starts = left.starts ∙ ap (λ p. p.starts) left.restarted.panel; orders = costs.last_order refl }
-tells_first-left _ host after old new left costs = record { more = []; starts = ap (λ d. d.panel.starts) left.1; orders = ap (λ d. d.panel.last_order) left.1 }
+pub unanswered-left : (action : Action) (host after : HostState) (old new : Device) → Leaves action host after old new → Unanswered old.panel new.panel
+unanswered-left (Restart choice) host after old new (inl (same, inl is)) = subst (λ (d : Device). Unanswered old.panel d.panel) (sym is) (unanswered-none old.panel)
+unanswered-left (Restart choice) host after old new (inl (same, inr waits)) =
+    let refused = waits.panel in
+    let counts = refused.counts in
+    record {
+      more = [];
+      few = omega arith;
+      starts = refused.starts;
+      restarts = refused.restarts;
+      once = refused.once;
+      last_order = refused.last_order;
+      arms = ap (λ c. c.arms) counts;
+      offs = ap (λ c. c.offs) counts;
+      faults = omega (arith, ap (λ c. c.faults) counts);
+      cuts = omega (arith, ap (λ c. c.cuts) counts);
+      calls = omega (arith, ap (λ c. c.calls) counts);
+      persists = omega (arith, ap (λ c. c.persists) counts);
+      evicts = ap (λ c. c.evicts) counts;
+      disarms = ap (λ c. c.disarms) counts;
+    }
+unanswered-left (Restart choice) host after old new (inr left) = unanswered-unmounted choice host after old new left
+unanswered-left _ host after old new left = subst (λ (d : Device). Unanswered old.panel d.panel) (sym left.1) (unanswered-none old.panel)

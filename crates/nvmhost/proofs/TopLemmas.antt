@@ -16,17 +16,16 @@ use Rattle.machine_host.specs.Run.{Run, silence}
 use Rattle.machine_host.specs.Stands.{HostState}
 use Rattle.machine_host.specs.Costs.{Opens}
 use Rattle.machine_host.proofs.RunLemmas.{tells_then}
-use Rattle.machine_host.proofs.CostLemmas.{spends-idle, spends_nothing, spends_within}
 use Rattle.nvmhost.specs.declared.ending.Ending.{Ending}
 use Rattle.nvmhost.specs.declared.ending.Ending.TheVariants.{Usage, Read, Write, Memory, Script}
 use Rattle.nvmhost.specs.declared.ending.Ending.TheVariants as endings
 use Rattle.nvmhost.specs.Words.{IsForm}
 use Rattle.nvmhost.specs.Ending.{status, ending_text}
-use Rattle.nvmhost.specs.Whole.{Completes, WritesLine, Halts, TellsFirst, CallCosts, DeviceFailed, IsReady, IsCaused}
+use Rattle.nvmhost.specs.Whole.{Completes, WritesLine, Halts, SetUpFailed, IsReady, IsCaused, opening}
 use Rattle.nvmhost.specs.Reading.{ReadsScript}
 use Rattle.nvmhost.specs.Running.{Performs}
 use Rattle.nvmhost.proofs.BytesLemmas.{appends-none}
-use Rattle.nvmhost.proofs.TellLemmas.{tells_first-after}
+use Rattle.nvmhost.proofs.TellLemmas.{tells_first-after, tells_first-opened}
 
 -- the ending's line, written as far as the sink took it
 pub writes_line : (ending : Ending) (text : List ℕ) (r : Result (Unit {0}) WriteFault) (a b c : ℕ) (old new : Option (List ℕ)) → text ≡ ending_text ending → WritesAll text r old new
@@ -43,9 +42,9 @@ writes_line ending text r a b c old new is all later cause = record {
 
 -- a call that performed no line
 pub halts-silent : (geo : Geometry) (left_old left_new written : Option (List ℕ)) (script : List ℕ) (old new : Device) → Consumes left_old left_new script
-    → TellsFirst silence old.panel new.panel → Halts geo left_old left_new written written old new
+    → Opens old.panel new.panel → Halts geo left_old left_new written written old new
 unfolding reading
-halts-silent geo left_old left_new written script old new read tells = record {
+halts-silent geo left_old left_new written script old new read opens = record {
   script = script;
   lines = [];
   said = silence;
@@ -53,18 +52,9 @@ halts-silent geo left_old left_new written script old new read tells = record {
   read = read;
   first = record { others = lines_of script; split = refl; whole = inl (record { rest = script; joined = refl }) };
   run = record { begin = fresh geo; begins = record { state = refl; cut = λ t. cc; fail = λ t. cc }; run = (refl, refl) };
-  tells = tells;
+  tells = tells_first-opened old.panel new.panel opens;
   wrote = record { part = []; front = record { rest = []; joined = refl }; wrote = appends-none written };
 }
-
--- what was not done opens nothing
-pub opens-none : (p : Panel) → Opens p p
-opens-none p = spends_within 0 0 0 0 0 _ _ _ _ _ p p (omega arith) (omega arith) (omega arith) (omega arith) (omega arith) (spends_nothing p)
-
--- a call that began no line
-pub costs-none : (left_old left_new : Option (List ℕ)) (script : List ℕ) (old new : Panel) → Consumes left_old left_new script → Opens old new → CallCosts left_old left_new old new
-costs-none left_old left_new script old new read opens =
-    record { opened = new; script = script; begun = []; others = lines_of script; read = read; split = refl; opens = opens; spends = spends-idle [] new }
 
 pub ends_performed : (geo : Geometry) (host : HostState) (left_old left_new written_old written_new : Option (List ℕ)) (script : Stock ℕ) (result : Result (Unit {0}) Ending) (old ready new : Device)
     → ReadsScript left_old left_new (Ok script) → IsReady geo host old ready → Performs host script.items result written_old written_new ready new
@@ -87,7 +77,7 @@ ends_performed geo host left_old left_new written_old written_new script (Ok x) 
           begins = is_ready.begins;
           run = subst (λ ls. Run is_ready.begin (inputs_of ls) says.said says.end) (sym all) says.run;
         };
-        tells = tells_then silence says.said old.panel ready.panel new.panel is_ready.tells whole.tells;
+        tells = tells_then opening says.said old.panel ready.panel new.panel is_ready.tells whole.tells;
         stands = whole.stands;
       };
       wrote = subst (λ t. Appends written_old written_new t) whole.all says.wrote;
@@ -162,7 +152,7 @@ read_cause Write a b c d old new left_old left_new reads rose = absurd reads.out
 read_cause endings.Device a b c d old new left_old left_new reads rose = absurd reads.outcome
 
 pub set_up_cause : (e : Ending) (read_old read_new write_old write_new : ℕ) (old new : Panel) (left : Option (List ℕ))
-    → (e ≡ Memory) ⊎ ((e ≡ endings.Device) × DeviceFailed old new) → IsCaused e read_old read_new write_old write_new old new left left
+    → (e ≡ Memory) ⊎ ((e ≡ endings.Device) × SetUpFailed old new) → IsCaused e read_old read_new write_old write_new old new left left
 set_up_cause e a b c d old new left (inl is) = record { read = λ x. cc; write = λ x. cc; device = λ x. cc; script = λ x. cc }
 set_up_cause e a b c d old new left (inr is) = record { read = λ x. cc (is.0, x); write = λ x. cc (is.0, x); device = λ x. (is.1, refl); script = λ x. cc (is.0, x) }
 

@@ -6,8 +6,8 @@ use Rattle.reply_text.specs.Answer.{reply_text}
 use Rattle.script_text.specs.Script.{Input, inputs_of, lines_of}
 use Rattle.machine_host.specs.Machine.{Machine}
 use Rattle.machine_host.specs.Run.{Transcript, Hears, Run}
-use Rattle.machine_host.specs.Stands.{HostState, DeviceStands, Stands, Tells}
-use Rattle.machine_host.specs.Costs.{Spends}
+use Rattle.machine_host.specs.Telling.{Tells}
+use Rattle.machine_host.specs.Stands.{HostState, DeviceStands, Stands}
 use Rattle.nvmhost.specs.declared.ending.Ending.{Ending}
 use Rattle.nvmhost.specs.Whole.{IsFront, TellsFirst}
 
@@ -46,10 +46,6 @@ pub record Says (first : Machine) (script : List ℕ) (result : Result (Unit {0}
   pub wrote : Appends written_old written_new part
   pub outcome : MatchResult result (λ _. IsFinished said end part others old new) (λ _. TellsFirst said old.panel new.panel)
 
--- A script was performed up to some line. From each state that host and device stood for, it is a run.
+-- A script was performed up to some line: from each state that host and device stood for, it is a run.
 pub record Performs (host : HostState) (script : List ℕ) (result : Result (Unit {0}) Ending) (written_old written_new : Option (List ℕ)) (old new : Device) : Type 0 where
-  pub begun : List (List ℕ)
-  pub others : List (List ℕ)
-  pub split : lines_of script ≡ begun ++ others
-  pub spends : Spends (inputs_of begun) old.panel new.panel
   pub says : (first : Machine) → Stands host old first → Says first script result written_old written_new old new

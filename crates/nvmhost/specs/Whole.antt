@@ -1,5 +1,5 @@
 -- What a whole call did: over which lines of which script, with which answers, and what the device is left as.
-use Rattle.std.specs.Prelude.{◌≡◌, ◌⊎◌, ◌≤◌, ◌<◌, ℕ, List, [], ◌∷◌, ◌++◌, length, IsTrue, Option, IfSome, Result, Err}
+use Rattle.std.specs.Prelude.{◌≡◌, ◌⊎◌, ◌≤◌, ◌<◌, ◌+◌, ℕ, List, [], ◌∷◌, ◌++◌, length, IsTrue, Option, IfSome, Result, Err}
 use Rattle.std.specs.Io.KnownBytes.{Appends, Consumes, IsAtEnd}
 use Rattle.nvm_base.specs.Counts.{Rose}
 use Rattle.line_device.specs.Panel.{Panel, Start, told}
@@ -12,9 +12,10 @@ use Rattle.reply_text.specs.Answer.{reply_text}
 use Rattle.script_text.specs.Script.{inputs_of, lines_of}
 use Rattle.machine_host.specs.Machine.{Machine}
 use Rattle.machine_host.specs.Restarting.{fresh}
-use Rattle.machine_host.specs.Run.{Transcript, Run, silence}
-use Rattle.machine_host.specs.Stands.{HostState, Serves, DeviceStands, Stands, Tells, last_of}
-use Rattle.machine_host.specs.Costs.{Opens, Spends}
+use Rattle.machine_host.specs.Run.{Transcript, Run, followed_by, silence}
+use Rattle.machine_host.specs.Telling.{Tells, bumped_by}
+use Rattle.machine_host.specs.Stands.{HostState, HostServes, DeviceStands, Stands}
+use Rattle.machine_host.specs.Costs.{mount_calls, mount_persists}
 use Rattle.nvmhost.specs.declared.ending.Ending.{Ending}
 use Rattle.nvmhost.specs.declared.ending.Ending.TheVariants.{Read, Write, Script}
 use Rattle.nvmhost.specs.declared.ending.Ending.TheVariants as endings
@@ -37,11 +38,15 @@ pub record IsRun (geo : Geometry) (p : Panel) (lines : List (List ℕ)) (said : 
   pub begins : Begins geo p begin
   pub run : Run begin (inputs_of lines) said end
 
--- It is the run of a device: it told what was said to it, and stands for the state after.
+-- what setting up says: nothing, but it asks of the device what a mount may
+abbrev pub opening : Transcript
+opening = record silence { spent = record { calls = mount_calls; persists = mount_persists } }
+
+-- It is the run of a device, once this was set up: it told what was said to it, and stands for the state after.
 pub record Ran (geo : Geometry) (lines : List (List ℕ)) (said : Transcript) (old new : Device) : Type 0 where
   pub end : Machine
   pub run : IsRun geo old.panel lines said end
-  pub tells : Tells said old.panel new.panel
+  pub tells : Tells (followed_by opening said) old.panel new.panel
   pub stands : DeviceStands new end
 
 -- A call that went well: all of a script was read and performed, and its replies were written and nothing else.
@@ -71,11 +76,28 @@ pub record AreWholeLines (script : List ℕ) (left : Option (List ℕ)) (lines :
   pub split : lines_of script ≡ lines ++ others
   pub whole : IsFront (bytes_of lines) script ⊎ IsAtEnd left
 
--- The device told what the run said, and then at most what a command left that had no memory for its answer.
-pub record TellsFirst (said : Transcript) (old new : Panel) : Type 0 where
+-- What a command leaves that had no memory for its answer: nothing was done, or a restart and some of a mount.
+pub record Unanswered (old new : Panel) : Type 0 where
   pub more : List Start
-  pub starts : new.starts ≡ told (told old.starts said.starts) more
-  pub orders : new.last_order ≡ last_of said.orders old.last_order
+  pub few : length more ≤ 1
+  pub starts : new.starts ≡ told old.starts more
+  pub restarts : bumped_by more old.counts.restarts ≤ new.counts.restarts
+  pub once : new.counts.restarts ≤ old.counts.restarts + 1
+  pub last_order : new.last_order ≡ old.last_order
+  pub arms : new.counts.arms ≡ old.counts.arms
+  pub offs : new.counts.offs ≡ old.counts.offs
+  pub faults : old.counts.faults ≤ new.counts.faults
+  pub cuts : old.counts.cuts ≤ new.counts.cuts
+  pub calls : new.counts.calls ≤ old.counts.calls + mount_calls
+  pub persists : new.counts.persists ≤ old.counts.persists + mount_persists
+  pub evicts : new.counts.evicts ≡ old.counts.evicts
+  pub disarms : new.counts.disarms ≡ old.counts.disarms
+
+-- The device told first what was said, and then at most what such a command leaves.
+pub record TellsFirst (said : Transcript) (old new : Panel) : Type 0 where
+  pub between : Panel
+  pub tells : Tells said old between
+  pub left : Unanswered between new
 
 -- A call that came to no end: what was written is how the text of a run of the device begins, over some first lines of what was read.
 pub record Halts (geo : Geometry) (left_old left_new written_old written_new : Option (List ℕ)) (old new : Device) : Type 0 where
@@ -86,7 +108,7 @@ pub record Halts (geo : Geometry) (left_old left_new written_old written_new : O
   pub read : Consumes left_old left_new script
   pub first : AreWholeLines script left_new lines
   pub run : IsRun geo old.panel lines said end
-  pub tells : TellsFirst said old.panel new.panel
+  pub tells : TellsFirst (followed_by opening said) old.panel new.panel
   pub wrote : WritesFront (reply_text said.answers) written_old written_new
 
 -- The ending's line was written: all of it, unless the sink's count rose or it wanted memory.
@@ -101,32 +123,21 @@ pub record BreaksOff (geo : Geometry) (ending : Ending) (count_old count_new : �
   pub halts : Halts geo left_old left_new written_old between old new
   pub line : WritesLine ending count_old count_new between written_new
 
--- What the call did to the device's counts: no more than a mount and then the commands of the lines that it began.
-pub record CallCosts (left_old left_new : Option (List ℕ)) (old new : Panel) : Type 0 where
-  pub opened : Panel
-  pub script : List ℕ
-  pub begun : List (List ℕ)
-  pub others : List (List ℕ)
-  pub read : Consumes left_old left_new script
-  pub split : lines_of script ≡ begun ++ others
-  pub opens : Opens old opened
-  pub spends : Spends (inputs_of begun) opened new
-
 -- The device was made one of zeros, and a host mounted it: they stand for the machine as a run begins.
 pub record IsReady (geo : Geometry) (host : HostState) (old new : Device) : Type 0 where
-  pub serves : Serves host new
-  pub tells : Tells silence old.panel new.panel
+  pub serves : HostServes host new
+  pub tells : Tells opening old.panel new.panel
   pub begin : Machine
   pub begins : Begins geo old.panel begin
   pub stands : Stands host new begin
 
 -- the device could not be set up, or failed or lost power as it was mounted
-abbrev pub DeviceFailed : Panel → Panel → Type 0
-DeviceFailed old new = Rose old.counts.setups new.counts.setups ⊎ Rose old.counts.faults new.counts.faults ⊎ Rose old.counts.cuts new.counts.cuts
+abbrev pub SetUpFailed : Panel → Panel → Type 0
+SetUpFailed old new = Rose old.counts.setups new.counts.setups ⊎ Rose old.counts.faults new.counts.faults ⊎ Rose old.counts.cuts new.counts.cuts
 
 -- Why a call ended early, by the counts of what failed. A device that failed did so before anything was read.
 pub record IsCaused (ending : Ending) (read_old read_new write_old write_new : ℕ) (old new : Panel) (left_old left_new : Option (List ℕ)) : Type 0 where
   pub read : ending ≡ Read → Rose read_old read_new
   pub write : ending ≡ Write → Rose write_old write_new
-  pub device : ending ≡ endings.Device → DeviceFailed old new × (left_new ≡ left_old)
+  pub device : ending ≡ endings.Device → SetUpFailed old new × (left_new ≡ left_old)
   pub script : ending ≡ Script → IfSome left_old (λ script. 1073741824 ≤ length script)

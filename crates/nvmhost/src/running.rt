@@ -1,15 +1,13 @@
 // Performing a script line by line, and writing the replies.
-ghost use Rattle.std.specs.Prelude.{◌≡◌, ◌≤◌, ◌++◌, ◌⊎◌, [], ◌∷◌, IfErr, OnOk, OnErr, MatchResult};
+ghost use Rattle.std.specs.Prelude.{◌≡◌, ◌≤◌, ◌++◌, ◌⊎◌, [], IfErr, OnOk, OnErr, MatchResult};
 ghost use Rattle.std.specs.Io.KnownBytes.{Appends};
 ghost use Rattle.nvm_base.specs.Counts.{Rose};
 ghost use Rattle.host_io.specs.Writing.{AppendsSome};
 ghost use Rattle.script_text.specs.Script.{line_input};
 ghost use Rattle.machine_host.specs.Machine.{Machine};
-ghost use Rattle.machine_host.specs.Stands.{Serves, Stands};
-ghost use Rattle.machine_host.specs.Costs.{Spends};
-ghost use Rattle.machine_host.specs.Run.{silence};
+ghost use Rattle.machine_host.specs.Stands.{HostServes, Stands};
 ghost use Rattle.nvmhost.specs.Running.{Performs, LineGoes, Flushes};
-ghost use Rattle.nvmhost.specs.Whole.{TellsFirst};
+ghost use Rattle.nvmhost.specs.Whole.{Unanswered};
 
 use crate::ending::Ending;
 use host_io::{Sink, WriteFault, write_all};
@@ -31,7 +29,7 @@ pub fn run_script<D: LineDevice, K: Sink>(
     script: &[u8],
     replies: &mut K,
 ) -> Result<(), Ending>
-    requires { Serves host.old (D.state device.old) }
+    requires { HostServes host.old (D.state device.old) }
     ensures performs { Performs host.old script.now result (K.written replies.old) (K.written replies.new)
         (D.state device.old) (D.state device.new) }
     ensures later { K.count replies.old ≤ K.count replies.new }
@@ -57,13 +55,12 @@ fn perform_line<D: LineDevice>(
     line: &[u8],
     out: &mut Bytes,
 ) -> Result<(), AllocError>
-    requires { Serves host.old (D.state device.old) }
+    requires { HostServes host.old (D.state device.old) }
     ensures goes { OnOk result ((h : Machine) → Stands host.old (D.state device.old) h
         → LineGoes h (line_input line.now) out.old.items out.new.items host.new (D.state device.old) (D.state device.new)) }
     ensures err { OnErr result (out.new.items ≡ out.old.items) }
-    ensures unanswered { OnErr result (TellsFirst silence (D.state device.old).panel (D.state device.new).panel) }
-    ensures serves { Serves host.new (D.state device.new) }
-    ensures spends { Spends (line_input line.now ∷ []) (D.state device.old).panel (D.state device.new).panel }
+    ensures unanswered { OnErr result (Unanswered (D.state device.old).panel (D.state device.new).panel) }
+    ensures serves { HostServes host.new (D.state device.new) }
 {
     match parse(alloc, line) {
         Ok(None) => Ok(()),

@@ -1,7 +1,6 @@
 // The top call: the words, the device, the script, the replies, the status.
 ghost use Rattle.std.specs.Prelude.{◌≡◌, ◌≢◌, ◌≤◌, ◌↔◌, ◌++◌, ◌⊎◌, ℕ, IfErr, IfOk, IfSome, MatchResult, Contains, map, [], ◌∷◌, Err};
 ghost use Rattle.std.specs.String.{string_bytes};
-ghost use Rattle.line_device.specs.Panel.{SameOrders};
 ghost use Rattle.word_tables.specs.declared.geometry.Geometry.{Geometry as Sizes};
 ghost use Rattle.word_tables.specs.Bounds.{IsValid};
 ghost use Rattle.machine_host.specs.Costs.{Opens};
@@ -9,7 +8,7 @@ ghost use Rattle.nvmhost.specs.declared.ending.Ending.{Ending as Early};
 ghost use Rattle.nvmhost.specs.declared.ending.Ending.TheVariants.{Usage};
 ghost use Rattle.nvmhost.specs.Words.{IsForm};
 ghost use Rattle.nvmhost.specs.Ending.{status};
-ghost use Rattle.nvmhost.specs.Whole.{Completes, Halts, BreaksOff, WritesLine, CallCosts, DeviceFailed, IsReady, IsCaused};
+ghost use Rattle.nvmhost.specs.Whole.{Completes, Halts, BreaksOff, WritesLine, SetUpFailed, IsReady, IsCaused};
 
 use crate::ending::Ending;
 use crate::reading::read_all;
@@ -50,8 +49,8 @@ pub fn nvmhost<D: LineDevice, F: Images, T: Source, K: Sink>(
         (T.left script.old) (T.left script.new) }
     ensures statuses { (result ≡ 0) ⊎ ((ending : Early) × (result ≡ status ending)) }
 
-    // The device is given no order but the script's.
-    ensures costs { CallCosts (T.left script.old) (T.left script.new) (D.state device.old).panel (D.state device.new).panel }
+    // Words of no form leave the device and the script alone.
+    ensures untouched { result ≡ 2 → (device.new ≡ device.old) × (script.new ≡ script.old) }
     ensures images { images.new ≡ images.old }
 {
     match perform(alloc, words, device, script, replies) {
@@ -78,12 +77,12 @@ fn perform<D: LineDevice, T: Source, K: Sink>(
         (λ _. Halts geo (T.left script.old) (T.left script.new) (K.written replies.old) (K.written replies.new)
         (D.state device.old) (D.state device.new)) }
     ensures usage { (result ≡ Err Usage) ↔ ((geo : Sizes) → IsForm (map (λ word. string_bytes word) words.now) geo → ⊥) }
-    ensures untouched { result ≡ Err Usage → K.written replies.new ≡ K.written replies.old }
+    ensures untouched { result ≡ Err Usage → (device.new ≡ device.old) × (script.new ≡ script.old)
+        × (K.written replies.new ≡ K.written replies.old) }
     ensures later { K.count replies.old ≤ K.count replies.new }
     ensures causes { IfErr result (λ ending. IsCaused ending (T.count script.old) (T.count script.new)
         (K.count replies.old) (K.count replies.new) (D.state device.old).panel (D.state device.new).panel
         (T.left script.old) (T.left script.new)) }
-    ensures costs { CallCosts (T.left script.old) (T.left script.new) (D.state device.old).panel (D.state device.new).panel }
 {
     let Some(geometry) = read_words(words) else {
         return Err(Ending::Usage);
@@ -98,8 +97,7 @@ fn set_up<D: LineDevice>(alloc: Global, device: &mut D, geometry: Geometry) -> R
     requires { IsValid geometry }
     ensures ready { IfOk result (λ host. IsReady geometry host (D.state device.old) (D.state device.new)) }
     ensures cause { IfErr result (λ e. (e ≡ Ending.Memory) ⊎ ((e ≡ Ending.Device)
-        × DeviceFailed (D.state device.old).panel (D.state device.new).panel)) }
-    ensures orders { SameOrders (D.state device.old).panel (D.state device.new).panel }
+        × SetUpFailed (D.state device.old).panel (D.state device.new).panel)) }
     ensures opens { Opens (D.state device.old).panel (D.state device.new).panel }
 {
     recovery::format(device, geometry)?;

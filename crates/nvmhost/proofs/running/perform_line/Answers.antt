@@ -1,7 +1,7 @@
 use Rattle.std.proofs.lemmas.Result.{IfOk-weaker, on_err_weaker}
 use Rattle.script_text.specs.Action.{action_of}
 use Rattle.nvmhost.proofs.LineLemmas.{line_goes-skipped, line_goes-malformed, line_goes-asked}
-use Rattle.nvmhost.proofs.TellLemmas.{tells_first-nothing, tells_first-left}
+use Rattle.nvmhost.proofs.TellLemmas.{unanswered-none, unanswered-left}
 use Rattle.nvmhost.proofs.running.perform_line.Goals as goal
 
 pub returns-in-Ok-None-clause-goes : goal.returns-in-Ok-None-clause-goes
@@ -14,10 +14,10 @@ pub returns-in-Err-Syntax-clause-goes : goal.returns-in-Err-Syntax-clause-goes
 returns-in-Err-Syntax-clause-goes g c = IfOk-weaker c.print.result _ _ (λ _ line h stands. line_goes-malformed h _ _ _ _ _ (rw c.in-Err-Syntax.field-0-is at c.in-Err-Syntax.ensures.input) stands line) c.print.ensures.ok
 
 pub returns-in-Ok-Some-clause-unanswered : goal.returns-in-Ok-Some-clause-unanswered
-returns-in-Ok-Some-clause-unanswered g c = on_err_weaker c.step.result (λ left. tells_first-left (action_of c.in-Ok-Some.command) _ _ _ _ left.1 c.step.ensures.costs) c.step.ensures.memory
+returns-in-Ok-Some-clause-unanswered g c = on_err_weaker c.step.result (λ left. unanswered-left (action_of c.in-Ok-Some.command) _ _ _ _ left.1) c.step.ensures.memory
 
 pub returns-in-Err-Syntax-clause-unanswered : goal.returns-in-Err-Syntax-clause-unanswered
-returns-in-Err-Syntax-clause-unanswered g c = on_err_weaker c.print.result (λ _. tells_first-nothing _) c.print.ensures.err
+returns-in-Err-Syntax-clause-unanswered g c = on_err_weaker c.print.result (λ _. unanswered-none _) c.print.ensures.err
 
 pub returns-in-Err-Memory-clause-unanswered : goal.returns-in-Err-Memory-clause-unanswered
-returns-in-Err-Memory-clause-unanswered g c = tells_first-nothing _
+returns-in-Err-Memory-clause-unanswered g c = unanswered-none _

@@ -2,9 +2,8 @@ use Rattle.std.proofs.Common.{◌≡◌, ◌∷◌, [], subst, sym, refl, arith}
 use Rattle.std.proofs.lemmas.Bool.Decides.{nat_tests}
 use Rattle.std.proofs.lemmas.List.{nil_from_length}
 use Rattle.std.proofs.lemmas.Result.{err_from_is_err_and}
-use Rattle.machine_host.proofs.CostLemmas.{spends-idle}
 use Rattle.nvmhost.proofs.GoingLemmas.{Going, going-start, going-line, going-flush, going-end, going-broken, appends_some-none}
-use Rattle.nvmhost.proofs.TellLemmas.{tells_first-nothing}
+use Rattle.nvmhost.proofs.TellLemmas.{unanswered-none}
 use Rattle.nvmhost.proofs.running.run_script.Goals as goal
 
 pub loop-rest-init : goal.loop-rest-init
@@ -22,11 +21,11 @@ loop-rest-init g c =
 pub returns-in_err-perform_line-clause-performs : goal.returns-in_err-perform_line-clause-performs
 returns-in_err-perform_line-clause-performs g c =
     let p = err_from_is_err_and c.from_residual.result c.from_residual.ensures.1 in
-    rw p.1 (going-broken c.args.script.now _ c.args.host.now _ _ _ _ _ _ _ _ p.0 (c.split_line.result.0.now ∷ []) _ c.loop-rest.invariant.going c.split_line.ensures.lines c.in_err-perform_line.ensures.spends c.in_err-perform_line.ensures.unanswered (appends_some-none _ _))
+    rw p.1 (going-broken c.args.script.now _ c.args.host.now _ _ _ _ _ _ _ _ p.0 c.loop-rest.invariant.going c.in_err-perform_line.ensures.unanswered (appends_some-none _ _))
 
 pub loop-rest-preserved : goal.loop-rest-preserved
 loop-rest-preserved g c =
-    let next = going-line c.args.script.now _ c.split_line.result.0.now c.split_line.result.1.now c.args.host.now _ _ _ _ _ _ _ _ _ c.loop-rest.invariant.going c.split_line.ensures.lines c.in_ok-perform_line.ensures.goes c.in_ok-perform_line.ensures.spends in
+    let next = going-line c.args.script.now _ c.split_line.result.0.now c.split_line.result.1.now c.args.host.now _ _ _ _ _ _ _ _ _ c.loop-rest.invariant.going c.split_line.ensures.lines c.in_ok-perform_line.ensures.goes in
     record {
       going = going-flush _ _ _ _ _ _ _ _ _ _ _ next c.in_ok-flush_long.ensures.bytes;
       serves = c.in_ok-perform_line.ensures.serves;
@@ -36,13 +35,13 @@ loop-rest-preserved g c =
 pub returns-in_err-flush_long-clause-performs : goal.returns-in_err-flush_long-clause-performs
 returns-in_err-flush_long-clause-performs g c =
     let p = err_from_is_err_and c.from_residual-in_err-flush_long.result c.from_residual-in_err-flush_long.ensures.1 in
-    let next = going-line c.args.script.now _ c.split_line.result.0.now c.split_line.result.1.now c.args.host.now _ _ _ _ _ _ _ _ _ c.loop-rest.invariant.going c.split_line.ensures.lines c.in_ok-perform_line.ensures.goes c.in_ok-perform_line.ensures.spends in
-    rw p.1 (going-broken c.args.script.now _ c.args.host.now _ _ _ _ _ _ _ _ p.0 [] _ next refl (spends-idle [] _) (tells_first-nothing _) c.in_err-flush_long.ensures.bytes)
+    let next = going-line c.args.script.now _ c.split_line.result.0.now c.split_line.result.1.now c.args.host.now _ _ _ _ _ _ _ _ _ c.loop-rest.invariant.going c.split_line.ensures.lines c.in_ok-perform_line.ensures.goes in
+    rw p.1 (going-broken c.args.script.now _ c.args.host.now _ _ _ _ _ _ _ _ p.0 next (unanswered-none _) c.in_err-flush_long.ensures.bytes)
 
 pub returns-in_err-flush-clause-performs : goal.returns-in_err-flush-clause-performs
 returns-in_err-flush-clause-performs g c =
     let p = err_from_is_err_and c.from_residual-in_err-flush.result c.from_residual-in_err-flush.ensures.1 in
-    rw p.1 (going-broken c.args.script.now _ c.args.host.now _ _ _ _ _ _ _ _ p.0 [] _ c.loop-rest.invariant.going refl (spends-idle [] _) (tells_first-nothing _) c.in_err-flush.ensures.bytes)
+    rw p.1 (going-broken c.args.script.now _ c.args.host.now _ _ _ _ _ _ _ _ p.0 c.loop-rest.invariant.going (unanswered-none _) c.in_err-flush.ensures.bytes)
 
 pub returns-clause-performs : goal.returns-clause-performs
 returns-clause-performs g c =

@@ -24,7 +24,7 @@ returns-in-Err-clause-usage_line g c is =
     let between = g.K.Sink.written c.perform.new.replies in
     let after = g.K.Sink.written c.write_all.new.sink in
     let usage : c.in-Err.ending ≡ Usage = status-usage c.in-Err.ending (sym c.status.ensures ∙ is) in
-    let same : between ≡ before = c.in-Err.ensures.untouched (ap (λ e. Err e) usage) in
+    let same : between ≡ before = (c.in-Err.ensures.untouched (ap (λ e. Err e) usage)).2 in
     subst (λ w. WritesLine Usage (g.K.Sink.count c.args.replies.now) (g.K.Sink.count c.write_all.new.sink) w after) same
     (writes_line Usage c.line.result.now c.write_all.result _ _ _ between after (c.line.ensures ∙ ap ending_text usage) c.write_all.ensures.bytes c.in-Err.ensures.later c.write_all.ensures.cause)
 

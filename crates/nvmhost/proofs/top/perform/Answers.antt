@@ -3,32 +3,22 @@ use Rattle.std.proofs.lemmas.Result.{err_from_is_err_and}
 use Rattle.nvmhost.specs.Whole.{IsReady}
 use Rattle.nvmhost.specs.Running.{Performs}
 use Rattle.nvmhost.proofs.BytesLemmas.{consumes-none}
-use Rattle.nvmhost.proofs.TopLemmas.{halts-silent, opens-none, costs-none, ends_performed, never_usage, read_cause, run_causes, same_form}
-use Rattle.nvmhost.proofs.TellLemmas.{tells_first-idle}
+use Rattle.nvmhost.proofs.TopLemmas.{halts-silent, ends_performed, never_usage, read_cause, run_causes, same_form}
 use Rattle.nvmhost.proofs.top.perform.Goals as goal
-
-pub returns-in_default-clause-costs : goal.returns-in_default-clause-costs
-returns-in_default-clause-costs g c = costs-none _ _ [] _ _ (consumes-none _) (opens-none _)
 
 pub returns-in_err-host-clause-run : goal.returns-in_err-host-clause-run
 returns-in_err-host-clause-run g c geo form =
-    let p = err_from_is_err_and c.from_residual.result c.from_residual.ensures.1 in rw p.1 (halts-silent geo _ _ _ [] _ _ (consumes-none _) (tells_first-idle _ _ c.in_err-host.ensures.orders))
-
-pub returns-in_err-host-clause-costs : goal.returns-in_err-host-clause-costs
-returns-in_err-host-clause-costs g c = costs-none _ _ [] _ _ (consumes-none _) c.in_err-host.ensures.opens
+    let p = err_from_is_err_and c.from_residual.result c.from_residual.ensures.1 in rw p.1 (halts-silent geo _ _ _ [] _ _ (consumes-none _) c.in_err-host.ensures.opens)
 
 pub returns-in_err-text-clause-run : goal.returns-in_err-text-clause-run
 returns-in_err-text-clause-run g c geo form =
     let p = err_from_is_err_and c.from_residual-in_err-text.result c.from_residual-in_err-text.ensures.1 in
-    rw p.1 (halts-silent geo _ _ _ c.in_err-text.ensures.reads.script _ _ c.in_err-text.ensures.reads.read (tells_first-idle _ _ c.in_ok-host.ensures.orders))
+    rw p.1 (halts-silent geo _ _ _ c.in_err-text.ensures.reads.script _ _ c.in_err-text.ensures.reads.read c.in_ok-host.ensures.opens)
 
 pub returns-in_err-text-clause-causes : goal.returns-in_err-text-clause-causes
 returns-in_err-text-clause-causes g c =
     let p = err_from_is_err_and c.from_residual-in_err-text.result c.from_residual-in_err-text.ensures.1 in
     rw (p.1, p.2) (read_cause _ _ _ _ _ _ _ _ _ c.in_err-text.ensures.reads c.in_err-text.ensures.cause)
-
-pub returns-in_err-text-clause-costs : goal.returns-in_err-text-clause-costs
-returns-in_err-text-clause-costs g c = costs-none _ _ c.in_err-text.ensures.reads.script _ _ c.in_err-text.ensures.reads.read c.in_ok-host.ensures.opens
 
 pub returns-clause-run : goal.returns-clause-run
 returns-clause-run g c geo form =

@@ -1,16 +1,28 @@
-use Rattle.std.proofs.Common.{Err, subst}
+use Rattle.std.proofs.Common.{Err, subst, arith}
 use Rattle.std.proofs.lemmas.Result.{err_from_is_err_and}
 use Rattle.recovery.specs.Mounting.{Finds}
 use Rattle.machine_host.specs.Stands.{HostState}
-use Rattle.recovery.proofs.FreshLemmas.{fresh_first, fresh_mountable}
-use Rattle.nvmhost.proofs.SetUpLemmas.{caused_by_mount, ready_of_mount}
+use Rattle.recovery.proofs.FreshLemmas.{fresh_first}
+use Rattle.recovery.proofs.SuperblockLemmas.{some_lines}
+use Rattle.machine_host.proofs.MountLemmas.{fresh_flushed}
+use Rattle.nvmhost.proofs.SetUpLemmas.{caused_by_mount, opens-mounted, ready_of_mount}
+use Rattle.nvmhost.proofs.TellLemmas.{opens-set_up}
 use Rattle.nvmhost.proofs.top.set_up.Goals as goal
 
-pub mount-requires-clause-mountable : goal.mount-requires-clause-mountable
-mount-requires-clause-mountable g c = fresh_mountable c.args.geometry _ c.in_ok-format.ensures.ok (g.met.D.Lines.sound c.format.new.device)
+pub mount-requires-clause-some : goal.mount-requires-clause-some
+mount-requires-clause-some g c = omega (arith, c.in_ok-format.ensures.ok.count, some_lines c.args.geometry)
 
-pub mount-requires-clause-intact : goal.mount-requires-clause-intact
-mount-requires-clause-intact g c n below = (c.in_ok-format.ensures.ok.good n, c.in_ok-format.ensures.ok.strong n)
+pub mount-requires-clause-flushed : goal.mount-requires-clause-flushed
+mount-requires-clause-flushed g c p there = fresh_flushed c.args.geometry _ c.in_ok-format.ensures.ok p there
+
+pub returns-in_err-format-clause-opens : goal.returns-in_err-format-clause-opens
+returns-in_err-format-clause-opens g c = opens-set_up _ _ _ c.in_err-format.ensures.sets_up
+
+pub returns-in_err-mount-clause-opens : goal.returns-in_err-mount-clause-opens
+returns-in_err-mount-clause-opens g c = opens-mounted _ _ _ _ c.in_ok-format.ensures.sets_up c.in_err-mount.ensures.runs
+
+pub returns-clause-opens : goal.returns-clause-opens
+returns-clause-opens g c = opens-mounted _ _ _ _ c.in_ok-format.ensures.sets_up c.in_ok-mount.ensures.runs
 
 pub returns-clause-ready : goal.returns-clause-ready
 returns-clause-ready g c =
@@ -21,7 +33,8 @@ returns-clause-ready g c =
       blocks = done.ok.2;
       outside = done.lines;
       reads = done.reads;
-      serves = done.serves;
+      serves = done.serves (λ n behind there. (c.in_ok-format.ensures.ok.good n, c.in_ok-format.ensures.ok.strong n));
+      metadata = done.metadata;
       runs = done.runs;
     })
 
