@@ -12,7 +12,7 @@ use Rattle.machine_host.specs.Telling.{Tells}
 use Rattle.machine_host.specs.Stands.{HostState, Stands}
 use Rattle.machine_host.proofs.RunLemmas.{run_of_one, run_then, reply_text-append, tells_silence, tells_then}
 use Rattle.nvmhost.specs.declared.ending.Ending.{Ending}
-use Rattle.nvmhost.specs.Whole.{Unanswered}
+use Rattle.nvmhost.specs.Whole.{GoesUnanswered}
 use Rattle.nvmhost.specs.Running.{Performs, LineGoes, Flushes}
 use Rattle.nvmhost.proofs.BytesLemmas.{appends-none, appends_then}
 
@@ -127,7 +127,7 @@ going-end script before host written_old written old now going = record {
 
 -- an end before the end: some of the replies that wait may be written, and a command may be left without its answer
 pub going-broken : (script rest : List ℕ) (before host : HostState) (out : List ℕ) (written_old written written' : Option (List ℕ)) (old now next : Device)
-    (ending : Ending) → Going script rest before host out written_old written old now → Unanswered now.panel next.panel → AppendsSome out written written'
+    (ending : Ending) → Going script rest before host out written_old written old now → GoesUnanswered now.panel next.panel → AppendsSome out written written'
     → Performs before script (Err ending) written_old written' old next
 going-broken script rest before host out written_old written written' old now next ending going left some = record {
   says = λ first stands.

@@ -11,7 +11,7 @@ use Rattle.machine_host.specs.Stands.{HostState}
 use Rattle.machine_host.specs.Costs.{Opens}
 use Rattle.machine_host.specs.Faults.{Leaves, LeftUnmounted}
 use Rattle.machine_host.proofs.RunLemmas.{tells_then}
-use Rattle.nvmhost.specs.Whole.{TellsFirst, Unanswered, opening}
+use Rattle.nvmhost.specs.Whole.{TellsFirst, GoesUnanswered, opening}
 
 -- setting up and mounting
 pub opens-set_up : (end : Outcome) (p q : Panel) → SetsUp end p q → Opens p q
@@ -39,7 +39,7 @@ tells_opening p q opens = record {
   disarms = opens.orders.disarms;
 }
 
-pub unanswered-none : (p : Panel) → Unanswered p p
+pub unanswered-none : (p : Panel) → GoesUnanswered p p
 unanswered-none p = record {
   more = [];
   few = omega arith;
@@ -66,7 +66,7 @@ pub tells_first-after : (s : Transcript) (p q r : Panel) → Tells opening p q �
 tells_first-after s p q r opened first = record { between = first.between; tells = tells_then opening s p q first.between opened first.tells; left = first.left }
 
 -- a restart without a mount
-unanswered-unmounted : (choice : Choice) (host after : HostState) (old new : Device) → LeftUnmounted choice host after old new → Unanswered old.panel new.panel
+unanswered-unmounted : (choice : Choice) (host after : HostState) (old new : Device) → LeftUnmounted choice host after old new → GoesUnanswered old.panel new.panel
 unanswered-unmounted choice host after old new left =
     let opens = left.opens in
     let panel = left.restarted.panel in
@@ -89,8 +89,8 @@ unanswered-unmounted choice host after old new left =
     }
 
 -- a command that had no memory for its answer
-pub unanswered-left : (action : Action) (host after : HostState) (old new : Device) → Leaves action host after old new → Unanswered old.panel new.panel
-unanswered-left (Restart choice) host after old new (inl (same, inl is)) = subst (λ (d : Device). Unanswered old.panel d.panel) (sym is) (unanswered-none old.panel)
+pub unanswered-left : (action : Action) (host after : HostState) (old new : Device) → Leaves action host after old new → GoesUnanswered old.panel new.panel
+unanswered-left (Restart choice) host after old new (inl (same, inl is)) = subst (λ (d : Device). GoesUnanswered old.panel d.panel) (sym is) (unanswered-none old.panel)
 unanswered-left (Restart choice) host after old new (inl (same, inr waits)) =
     let refused = waits.panel in
     let counts = refused.counts in
@@ -111,4 +111,4 @@ unanswered-left (Restart choice) host after old new (inl (same, inr waits)) =
       disarms = ap (λ c. c.disarms) counts;
     }
 unanswered-left (Restart choice) host after old new (inr left) = unanswered-unmounted choice host after old new left
-unanswered-left _ host after old new left = subst (λ (d : Device). Unanswered old.panel d.panel) (sym left.1) (unanswered-none old.panel)
+unanswered-left _ host after old new left = subst (λ (d : Device). GoesUnanswered old.panel d.panel) (sym left.1) (unanswered-none old.panel)

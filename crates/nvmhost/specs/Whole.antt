@@ -76,8 +76,8 @@ pub record AreWholeLines (script : List ℕ) (left : Option (List ℕ)) (lines :
   pub split : lines_of script ≡ lines ++ others
   pub whole : IsFront (bytes_of lines) script ⊎ IsAtEnd left
 
--- What a command leaves that had no memory for its answer: nothing was done, or a restart and some of a mount.
-pub record Unanswered (old new : Panel) : Type 0 where
+-- A command had no memory for its answer: nothing was done, or a restart and some of a mount.
+pub record GoesUnanswered (old new : Panel) : Type 0 where
   pub more : List Start
   pub few : length more ≤ 1
   pub starts : new.starts ≡ told old.starts more
@@ -93,11 +93,11 @@ pub record Unanswered (old new : Panel) : Type 0 where
   pub evicts : new.counts.evicts ≡ old.counts.evicts
   pub disarms : new.counts.disarms ≡ old.counts.disarms
 
--- The device told first what was said, and then at most what such a command leaves.
+-- The device told first what was said, and then at most such a command.
 pub record TellsFirst (said : Transcript) (old new : Panel) : Type 0 where
   pub between : Panel
   pub tells : Tells said old between
-  pub left : Unanswered between new
+  pub left : GoesUnanswered between new
 
 -- A call that came to no end: what was written is how the text of a run of the device begins, over some first lines of what was read.
 pub record Halts (geo : Geometry) (left_old left_new written_old written_new : Option (List ℕ)) (old new : Device) : Type 0 where

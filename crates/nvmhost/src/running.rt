@@ -7,7 +7,7 @@ ghost use Rattle.script_text.specs.Script.{line_input};
 ghost use Rattle.machine_host.specs.Machine.{Machine};
 ghost use Rattle.machine_host.specs.Stands.{HostServes, Stands};
 ghost use Rattle.nvmhost.specs.Running.{Performs, LineGoes, Flushes};
-ghost use Rattle.nvmhost.specs.Whole.{Unanswered};
+ghost use Rattle.nvmhost.specs.Whole.{GoesUnanswered};
 
 use crate::ending::Ending;
 use host_io::{Sink, WriteFault, write_all};
@@ -59,7 +59,7 @@ fn perform_line<D: LineDevice>(
     ensures goes { OnOk result ((h : Machine) → Stands host.old (D.state device.old) h
         → LineGoes h (line_input line.now) out.old.items out.new.items host.new (D.state device.old) (D.state device.new)) }
     ensures err { OnErr result (out.new.items ≡ out.old.items) }
-    ensures unanswered { OnErr result (Unanswered (D.state device.old).panel (D.state device.new).panel) }
+    ensures unanswered { OnErr result (GoesUnanswered (D.state device.old).panel (D.state device.new).panel) }
     ensures serves { HostServes host.new (D.state device.new) }
 {
     match parse(alloc, line) {
