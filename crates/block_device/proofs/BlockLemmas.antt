@@ -16,7 +16,7 @@ use Rattle.block_map.specs.States.{IsAt}
 use Rattle.nvm_model.specs.Numbered.{list_from}
 use Rattle.nvm_model.specs.Storage.{Block}
 use Rattle.nvm_model.specs.Storage.Block.{Absent, Data}
-use Rattle.nvm_model.specs.Blocks.{nth, block_byte, line_byte, byte_in, look, obstacle_in}
+use Rattle.nvm_model.specs.Blocks.{nth, block_byte, line_byte, byte_of_blocks, look_blocks, obstacle_in}
 use Rattle.nvm_model.specs.Blocks.Obstacle.{bad_line}
 use Rattle.nvm_model.proofs.NumberedLemmas.{list_from-is, list_from-append, length-list_from}
 use Rattle.block_device.specs.declared.fault.BlockFault.{BlockFault}
@@ -85,15 +85,15 @@ unit_good s m block unit first at is none k within =
 
 -- the bytes of one block
 pub look_block : (blocks : List Block) (block n : ℕ) (bytes : List ℕ) → n ≡ 512 * 1 → length bytes ≡ n
-    → ((k : ℕ) → k < 512 → get_or bytes k 0 ≡ block_byte (nth blocks block) k) → bytes ≡ look blocks block 1
-unfolding look
+    → ((k : ℕ) → k < 512 → get_or bytes k 0 ≡ block_byte (nth blocks block) k) → bytes ≡ look_blocks blocks block 1
+unfolding look_blocks
 look_block blocks block n bytes is size each =
-    list_from-is (byte_in blocks) (512 * block) bytes
+    list_from-is (byte_of_blocks blocks) (512 * block) bytes
     (λ k lt.
     let b : block ≡ (512 * block + k) / 512 = omega arith in
     let r : k ≡ (512 * block + k) % 512 = omega arith in
     each k (omega arith) ∙ ap₂ (λ i j. block_byte (nth blocks i) j) b r)
-    ∙ ap (list_from (byte_in blocks) (512 * block)) (size ∙ is)
+    ∙ ap (list_from (byte_of_blocks blocks) (512 * block)) (size ∙ is)
 
 line_good : (bad : ℕ → Bool) (word : ℕ → ℕ) (n i : ℕ) → bad n ≡ false → i < 64 → line_byte (line_read bad word n) i ≡ byte_of word (64 * n + i)
 line_good bad word n i good within =
@@ -109,7 +109,7 @@ unit_byte bad word first k good within =
     ∙ ap (byte_of word) at)
 
 pub unit_read : (s : BlocksState) (m : Medium) (block unit first : ℕ) → IsAt s.map block unit → first ≡ block_line s.geo unit
-    → ((k : ℕ) → k < 8 → m.is_bad (first + k) ≡ false) → bytes_read (last_image m) (64 * first) 512 ≡ look (blocks_of s m) block 1
+    → ((k : ℕ) → k < 8 → m.is_bad (first + k) ≡ false) → bytes_read (last_image m) (64 * first) 512 ≡ look_blocks (blocks_of s m) block 1
 unfolding bytes_read
 unit_read s m block unit first at is good =
     look_block (blocks_of s m) block 512 (list_from (byte_of (last_image m)) (64 * first) 512) (omega arith) (length-list_from (byte_of (last_image m)) (64 * first) 512)
@@ -120,8 +120,8 @@ unit_read s m block unit first at is good =
     ∙ ap (λ b. block_byte b k) (sym (nth-map_read s.geo m.is_bad (last_image m) s.map block (state.At unit) at)))
 
 -- the bytes of one block put in the middle of a buffer
-pub block_put : {T E : Type 0} (r : Result T E) (blocks : List Block) (block at : ℕ) (s ys read : List ℕ) → at + 512 ≤ length s → OnOk r (ys ≡ read) → read ≡ look blocks block 1
-    → OnOk r (put_mid at (at + 512 - at) s ys ≡ take at s ++ look blocks block 1 ++ drop (at + 512) s)
+pub block_put : {T E : Type 0} (r : Result T E) (blocks : List Block) (block at : ℕ) (s ys read : List ℕ) → at + 512 ≤ length s → OnOk r (ys ≡ read) → read ≡ look_blocks blocks block 1
+    → OnOk r (put_mid at (at + 512 - at) s ys ≡ take at s ++ look_blocks blocks block 1 ++ drop (at + 512) s)
 block_put (Err e) blocks block at s ys read within is whole = tt
 block_put (Ok x) blocks block at s ys read within is whole =
     mid_is at (at + 512 - at) (at + 512) s ys (omega arith) ∙ ap (λ bytes. take at s ++ bytes ++ drop (at + 512) s) (is ∙ whole)
@@ -136,7 +136,7 @@ bare_byte geo bad word st k bare =
 
 pub zeros_put : (s : BlocksState) (m : Medium) (block at : ℕ) (st : BlockState) (out ys : List ℕ) → at + 512 ≤ length out → slice_get s.map block ≡ Some st
     → (st ≡ state.Absent) ⊎ (st ≡ state.Scarred) → length ys ≡ 512 → ((k : ℕ) → k < length ys → get_or ys k 0 ≡ 0)
-    → put_mid at (at + 512 - at) out ys ≡ take at out ++ look (blocks_of s m) block 1 ++ drop (at + 512) out
+    → put_mid at (at + 512 - at) out ys ≡ take at out ++ look_blocks (blocks_of s m) block 1 ++ drop (at + 512) out
 zeros_put s m block at st out ys within found bare size zeros =
     mid_is at (at + 512 - at) (at + 512) out ys (omega arith)
     ∙ ap (λ bytes. take at out ++ bytes ++ drop (at + 512) out)
@@ -144,31 +144,31 @@ zeros_put s m block at st out ys within found bare size zeros =
     (λ k lt. zeros k (omega arith) ∙ sym (ap (λ b. block_byte b k) (nth-map_read s.geo m.is_bad (last_image m) s.map block st found) ∙ bare_byte s.geo m.is_bad (last_image m) st k bare)))
 
 -- blocks read one by one into a buffer
-length-look : (blocks : List Block) (at count : ℕ) → length (look blocks at count) ≡ 512 * count
-unfolding look
-length-look blocks at count = length-list_from (byte_in blocks) (512 * at) (512 * count)
+length-look : (blocks : List Block) (at count : ℕ) → length (look_blocks blocks at count) ≡ 512 * count
+unfolding look_blocks
+length-look blocks at count = length-list_from (byte_of_blocks blocks) (512 * at) (512 * count)
 
-look_more : (blocks : List Block) (at k : ℕ) → look blocks at (k + 1) ≡ look blocks at k ++ look blocks (at + k) 1
-unfolding look
+look_more : (blocks : List Block) (at k : ℕ) → look_blocks blocks at (k + 1) ≡ look_blocks blocks at k ++ look_blocks blocks (at + k) 1
+unfolding look_blocks
 look_more blocks at k =
     let count : 512 * (k + 1) ≡ 512 * k + 512 * 1 = omega arith in
     let start : 512 * at + 512 * k ≡ 512 * (at + k) = omega arith in
-    ap (list_from (byte_in blocks) (512 * at)) count
-    ∙ list_from-append (byte_in blocks) (512 * at) (512 * k) (512 * 1)
-    ∙ ap (λ n. list_from (byte_in blocks) (512 * at) (512 * k) ++ list_from (byte_in blocks) n (512 * 1)) start
+    ap (list_from (byte_of_blocks blocks) (512 * at)) count
+    ∙ list_from-append (byte_of_blocks blocks) (512 * at) (512 * k) (512 * 1)
+    ∙ ap (λ n. list_from (byte_of_blocks blocks) (512 * at) (512 * k) ++ list_from (byte_of_blocks blocks) n (512 * 1)) start
 
-pub looked_none : (blocks : List Block) (at : ℕ) (s : List ℕ) → s ≡ look blocks at 0 ++ drop (512 * 0) s
-unfolding look
+pub looked_none : (blocks : List Block) (at : ℕ) (s : List ℕ) → s ≡ look_blocks blocks at 0 ++ drop (512 * 0) s
+unfolding look_blocks
 looked_none blocks at s = refl
 
-pub looked_more : (blocks : List Block) (at k : ℕ) (s a b : List ℕ) → a ≡ look blocks at k ++ drop (512 * k) s
-    → b ≡ take (512 * k) a ++ look blocks (at + k) 1 ++ drop (512 * k + 512) a → b ≡ look blocks at (k + 1) ++ drop (512 * (k + 1)) s
+pub looked_more : (blocks : List Block) (at k : ℕ) (s a b : List ℕ) → a ≡ look_blocks blocks at k ++ drop (512 * k) s
+    → b ≡ take (512 * k) a ++ look_blocks blocks (at + k) 1 ++ drop (512 * k + 512) a → b ≡ look_blocks blocks at (k + 1) ++ drop (512 * (k + 1)) s
 looked_more blocks at k s a b before now =
     let count : 512 * k + 512 ≡ 512 * (k + 1) = omega arith in
-    part_more (look blocks at k) (look blocks (at + k) 1) (512 * k) 512 s a b (length-look blocks at k) before now
+    part_more (look_blocks blocks at k) (look_blocks blocks (at + k) 1) (512 * k) 512 s a b (length-look blocks at k) before now
     ∙ ap₂ (λ x n. x ++ drop n s) (sym (look_more blocks at k)) count
 
-pub looked_all : (blocks : List Block) (at k count : ℕ) (s a : List ℕ) → a ≡ look blocks at k ++ drop (512 * k) s → k ≡ count → length s ≡ 512 * count
-    → a ≡ look blocks at count
+pub looked_all : (blocks : List Block) (at k count : ℕ) (s a : List ℕ) → a ≡ look_blocks blocks at k ++ drop (512 * k) s → k ≡ count → length s ≡ 512 * count
+    → a ≡ look_blocks blocks at count
 looked_all blocks at k count s a before is size =
-    before ∙ ap (λ n. look blocks at n ++ drop (512 * n) s) is ∙ ap (λ x. look blocks at count ++ x) (drop_all (512 * count) s (omega arith)) ∙ append-nil (look blocks at count)
+    before ∙ ap (λ n. look_blocks blocks at n ++ drop (512 * n) s) is ∙ ap (λ x. look_blocks blocks at count ++ x) (drop_all (512 * count) s (omega arith)) ∙ append-nil (look_blocks blocks at count)

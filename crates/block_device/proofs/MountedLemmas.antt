@@ -83,7 +83,7 @@ state_at geo old b below =
     ap word_of (get_or-list_from (λ k. state_of (after geo old k)) 0 geo.blocks b Absent below) ∙ word_of-state_of (after geo old (0 + b)) ∙ ap (after geo old) at
 
 -- a map whose words are right
-pub map_from_right : (states : List BlockState) (words : List ℕ) → map word_of states ≡ words → table.first_wrong words ≡ None → IsMap states
+pub map_from_right : (states : List BlockState) (words : List ℕ) → map word_of states ≡ words → table.first_wrong_entry words ≡ None → IsMap states
 map_from_right states words is right = subst IsMap (ap (map state_of) (sym is) ∙ map_back states) (map_right_words words right)
 
 module _ (geo : Geometry) (valid : IsValid geo) (old mid : Medium) (count : old.count ≡ total_lines geo) (whole : IsWhole (block_area geo) old) (x : WritesBackOutside (IsOf (block_area geo)) old mid) (rest : IsAtRest (block_area geo) mid (replayed (block_area geo) (last_image old))) where
@@ -142,7 +142,7 @@ module _ (geo : Geometry) (valid : IsValid geo) (old mid : Medium) (count : old.
 
   -- what is made of them
   module _ (words : List ℕ) (same : words ≡ map word_of (states_read geo (last_image old))) where
-    pub judged_reads : (r : Result BlocksState MountFault) → IfOk r (λ b. (b.geo ≡ geo) × (map word_of b.map ≡ words)) → Explains mount_says (table.first_wrong words ≡ None) (IsWrongMap geo words) r → IfOk r (λ b. (b.geo ≡ geo) × (blocks_of b mid ≡ blocks_read geo old.is_bad (last_image old)))
+    pub judged_reads : (r : Result BlocksState MountFault) → IfOk r (λ b. (b.geo ≡ geo) × (map word_of b.map ≡ words)) → Explains mount_says (table.first_wrong_entry words ≡ None) (IsWrongMap geo words) r → IfOk r (λ b. (b.geo ≡ geo) × (blocks_of b mid ≡ blocks_read geo old.is_bad (last_image old)))
     judged_reads (Ok b) made right = (
       made.0,
       ap (λ g. map_read g mid.is_bad (last_image mid) b.map) made.0
@@ -150,32 +150,32 @@ module _ (geo : Geometry) (valid : IsValid geo) (old mid : Medium) (count : old.
     )
     judged_reads (Err f) made right = tt
 
-    pub judged_serves : (r : Result BlocksState MountFault) → HasStrongMetadata geo old → IfOk r (λ b. (b.geo ≡ geo) × (map word_of b.map ≡ words)) → Explains mount_says (table.first_wrong words ≡ None) (IsWrongMap geo words) r → IfOk r (λ b. AreDurable geo old (states_read geo (last_image old)) → BlocksServe b mid)
+    pub judged_serves : (r : Result BlocksState MountFault) → HasStrongMetadata geo old → IfOk r (λ b. (b.geo ≡ geo) × (map word_of b.map ≡ words)) → Explains mount_says (table.first_wrong_entry words ≡ None) (IsWrongMap geo words) r → IfOk r (λ b. AreDurable geo old (states_read geo (last_image old)) → BlocksServe b mid)
     judged_serves (Ok b) strong made right = λ durable.
         mounted_serves b.map (states_same b.map (states_read geo (last_image old)) (made.1 ∙ same)) (map_from_right b.map words made.1 right) b made.0 refl strong durable
     judged_serves (Err f) strong made right = tt
 
 -- nothing is wrong with log and map
-pub right_map : (geo : Geometry) (old : Medium) (words : List ℕ) → first_wrong (block_area geo) (last_image old) ≡ None → words ≡ map word_of (states_read geo (last_image old)) → table.first_wrong words ≡ None → wrong_place geo (last_image old) ≡ None
+pub right_map : (geo : Geometry) (old : Medium) (words : List ℕ) → first_wrong (block_area geo) (last_image old) ≡ None → words ≡ map word_of (states_read geo (last_image old)) → table.first_wrong_entry words ≡ None → wrong_place geo (last_image old) ≡ None
 right_map geo old words log is right =
     let where_ : ℕ → ℕ = λ k. place geo (of_block k) in
-    ap (λ o. first_there o (option_map where_ (table.first_wrong (map word_of (states_read geo (last_image old)))))) log
-    ∙ ap (λ (ws : List ℕ). option_map where_ (table.first_wrong ws)) (sym is)
+    ap (λ o. first_there o (option_map where_ (table.first_wrong_entry (map word_of (states_read geo (last_image old)))))) log
+    ∙ ap (λ (ws : List ℕ). option_map where_ (table.first_wrong_entry ws)) (sym is)
     ∙ ap (option_map where_) right
 
 -- what is wrong with the log, or with the map, is wrong with both
 of_log : (geo : Geometry) (m : Medium) (why : Finding) → IsFound (block_area geo) m why → IsWrong geo m why
 of_log geo m (bad_line n) wrong = wrong
 of_log geo m (wrong_word p) wrong =
-    (wrong.0, ap (λ o. first_there o (option_map (λ k. place geo (of_block k)) (table.first_wrong (map word_of (states_read geo (last_image m)))))) wrong.1)
+    (wrong.0, ap (λ o. first_there o (option_map (λ k. place geo (of_block k)) (table.first_wrong_entry (map word_of (states_read geo (last_image m)))))) wrong.1)
 
 of_map : (geo : Geometry) (m : Medium) (words : List ℕ) (why : Finding) → IsWhole (block_area geo) m → first_wrong (block_area geo) (last_image m) ≡ None → words ≡ map word_of (states_read geo (last_image m)) → IsWrongMap geo words why → IsWrong geo m why
 of_map geo m words (bad_line n) whole log is wrong = absurd wrong
 of_map geo m words (wrong_word p) whole log is wrong =
     let where_ : ℕ → ℕ = λ k. place geo (of_block k) in (
       whole,
-      ap (λ o. first_there o (option_map where_ (table.first_wrong (map word_of (states_read geo (last_image m)))))) log
-          ∙ ap (λ (ws : List ℕ). option_map where_ (table.first_wrong ws)) (sym is)
+      ap (λ o. first_there o (option_map where_ (table.first_wrong_entry (map word_of (states_read geo (last_image m)))))) log
+          ∙ ap (λ (ws : List ℕ). option_map where_ (table.first_wrong_entry ws)) (sym is)
           ∙ ap (option_map where_) wrong.1
           ∙ ap Some (sym wrong.2),
     )
@@ -188,7 +188,7 @@ refused_for Starves P Q next h = tt
 pub finds_log : (T U : Type 0) (geo : Geometry) (m : Medium) (f : MountFault) (well : Type 0) → Explains {T = U} mount_says well (IsFound (block_area geo) m) (Err f) → FindsBlocks {T = T} geo m (Err f)
 finds_log T U geo m f well h = refused_for (mount_says f) (IsFound (block_area geo) m) (IsWrong geo m) (of_log geo m) h
 
-pub finds_map : {T : Type 0} (geo : Geometry) (m : Medium) (words : List ℕ) (r : Result T MountFault) → IsWhole (block_area geo) m → first_wrong (block_area geo) (last_image m) ≡ None → words ≡ map word_of (states_read geo (last_image m)) → Explains mount_says (table.first_wrong words ≡ None) (IsWrongMap geo words) r → FindsBlocks geo m r
+pub finds_map : {T : Type 0} (geo : Geometry) (m : Medium) (words : List ℕ) (r : Result T MountFault) → IsWhole (block_area geo) m → first_wrong (block_area geo) (last_image m) ≡ None → words ≡ map word_of (states_read geo (last_image m)) → Explains mount_says (table.first_wrong_entry words ≡ None) (IsWrongMap geo words) r → FindsBlocks geo m r
 finds_map geo m words (Ok x) whole log is h = (whole, right_map geo m words log is h)
 finds_map geo m words (Err f) whole log is h = refused_for (mount_says f) (IsWrongMap geo words) (IsWrong geo m) (λ why. of_map geo m words why whole log is) h
 

@@ -1,26 +1,22 @@
 -- The first place that passes a test, in numbers that follow each other and in what is made from them.
-use Rattle.std.proofs.Common.{◌≡◌, inl, inr, ◌+◌, ◌<◌, ℕ, zero, suc, Bool, true, false, List, length, get_or, position, nat_lt, cond, Some, None, sym, ap, ◌∙◌, arith}
-use Rattle.std.specs.List.{range_with_len, position_or_len}
-use Rattle.std.proofs.lemmas.Bool.{cases_Bool, ltb-false}
-use Rattle.std.proofs.lemmas.Option.{none-some}
-use Rattle.std.proofs.lemmas.List.Sums.{fails_before_first}
-use Rattle.line_words.proofs.PositionLemmas.{first_place, no_place}
-use Rattle.std.proofs.lemmas.List.FromFn.{length-range_with_len, get_or-range_with_len}
+use Rattle.std.proofs.Common.{◌≡◌, ◌+◌, ◌<◌, ℕ, zero, suc, Bool, true, false, List, length, get_or, position, Some, None, sym, ap, ◌∙◌, arith}
+use Rattle.std.specs.List.{range_with_len}
+use Rattle.line_words.proofs.PositionLemmas.{first_place, no_place, first_among, none_among, none_found}
 use Rattle.nvm_model.specs.Numbered.{list_from}
 use Rattle.nvm_model.proofs.NumberedLemmas.{length-list_from}
 
 -- among numbers from 0
 pub first_below : (p : ℕ → Bool) (n i : ℕ) → i < n → ((k : ℕ) → k < i → p k ≡ false) → p i ≡ true → position p (range_with_len 0 n) ≡ Some i
 first_below p n i within before here =
-    let size = length-range_with_len 0 n in
-    let at : (k : ℕ) → k < n → get_or (range_with_len 0 n) k 0 ≡ k = λ k lt. get_or-range_with_len 0 n k 0 lt ∙ omega arith in
-    first_place p (range_with_len 0 n) i 0 (omega arith) (λ k lt. ap p (at k (omega arith)) ∙ before k lt) (ap p (at i within) ∙ here)
+    let at : (k : ℕ) → 0 + k ≡ k = λ k. omega arith in
+    first_among p 0 n i within (λ k lt. ap p (at k) ∙ before k lt) (ap p (at i) ∙ here)
 
 pub none_below : (p : ℕ → Bool) (n : ℕ) → ((k : ℕ) → k < n → p k ≡ false) → position p (range_with_len 0 n) ≡ None
-none_below p n fails =
-    let size = length-range_with_len 0 n in
-    no_place p (range_with_len 0 n) 0
-    (λ k lt. let within : k < n = omega arith in ap p (get_or-range_with_len 0 n k 0 within ∙ omega arith) ∙ fails k within)
+none_below p n fails = none_among p 0 n (λ k lt. let at : 0 + k ≡ k = omega arith in ap p at ∙ fails k lt)
+
+-- where nothing is found among them none passes
+pub fails_below : (p : ℕ → Bool) (n k : ℕ) → position p (range_with_len 0 n) ≡ None → k < n → p k ≡ false
+fails_below p n k none below = let at : 0 + k ≡ k = omega arith in ap p (sym at) ∙ none_found p 0 n k none below
 
 -- in a list made by number
 pub get_or-list_from : {A : Type 0} (f : ℕ → A) (n count i : ℕ) (d : A) → i < count → get_or (list_from f n count) i d ≡ f (n + i)
@@ -40,15 +36,3 @@ none_made f p a n fails =
     let size = length-list_from f a n in
     no_place p (list_from f a n) (f a)
     (λ k lt. let within : k < n = omega arith in ap p (get_or-list_from f a n k (f a) within) ∙ fails k within)
-
--- where nothing is found among the first numbers, none passes
-pub fails_below : (p : ℕ → Bool) (n k : ℕ) → position p (range_with_len 0 n) ≡ None → k < n → p k ≡ false
-fails_below p n k none below =
-    let xs = range_with_len 0 n in
-    let size = length-range_with_len 0 n in
-    let at : get_or xs k 0 ≡ k = get_or-range_with_len 0 n k 0 below ∙ omega arith in
-    let found = position_or_len p xs in
-    elim (cases_Bool (nat_lt found (length xs))) as (λ _. p k ≡ false) [
-      | inl here ↦ absurd (none-some found (sym none ∙ ap (λ b. cond b (Some found) None) here))
-      | inr past ↦ ap p (sym at) ∙ fails_before_first p xs k 0 (omega (arith, ltb-false found (length xs) past))
-    ]

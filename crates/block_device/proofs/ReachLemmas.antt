@@ -37,7 +37,7 @@ use Rattle.block_device.proofs.ImageLemmas.{reads-then}
 pub reads_right : (geo : Geometry) (m : Medium) (P : List Block → Type 0) (image : ℕ → ℕ) → Reads geo m P image → wrong_place geo image ≡ None
 reads_right geo m P image x =
     let where_ : ℕ → ℕ = λ b. place geo (of_block b) in
-    ap (λ wrong. first_there wrong (option_map where_ (table.first_wrong (map word_of (states_read geo image))))) x.log
+    ap (λ wrong. first_there wrong (option_map where_ (table.first_wrong_entry (map word_of (states_read geo image))))) x.log
     ∙ ap (option_map where_) (map_right (states_read geo image) x.map)
 
 -- what each image before reads as, each image reads as

@@ -11,7 +11,7 @@ use Rattle.word_tables.specs.Layout.{block_map, first_line}
 use Rattle.word_tables.specs.Words.{place, of_block}
 use Rattle.word_log.specs.declared.area.LogArea.{LogArea}
 use Rattle.word_log.specs.Area.{IsOf, IsHome, IsWhole, IsStrong, Fits}
-use Rattle.word_log.specs.Changes.{changed, lists, IsDistinct, IsTaken}
+use Rattle.word_log.specs.Changes.{changed, lists, IsDistinct, MayCommit}
 use Rattle.word_log.specs.Replay.{Replays}
 use Rattle.word_log.specs.Rest.{IsAtRest, EachImage}
 use Rattle.word_log.proofs.ChangeLemmas.{changed-cong, changed-unlisted}
@@ -57,7 +57,7 @@ words-home geo states (c ∷ cs) p valid all may is =
       | inr other ↦ words-home geo states cs p valid all may.4 (sym (ap (λ b. b || later) (ne_eqb (place geo (of_block c.block)) p other)) ∙ is)
     ]
 
-pub words-taken : (geo : Geometry) (states : List BlockState) (cs : List Change) → IsValid geo → length states ≡ geo.blocks → 0 < length cs → length cs ≤ 64 → MayChange states cs → IsTaken (block_area geo) (word_changes geo cs)
+pub words-taken : (geo : Geometry) (states : List BlockState) (cs : List Change) → IsValid geo → length states ≡ geo.blocks → 0 < length cs → length cs ≤ 64 → MayChange states cs → MayCommit (block_area geo) (word_changes geo cs)
 words-taken geo states cs valid all some few may =
     let same : length (word_changes geo cs) ≡ length cs = length-map cs (λ (c : Change). (place geo (of_block c.block), word_of c.state)) in
     record {
@@ -123,10 +123,10 @@ module _ (s : BlocksState) (area : LogArea) (old : Medium) (cs : List Change) (r
   pub ready_rest : IsAtRest area old (map_words s.geo s.map)
   ready_rest = subst (λ a. IsAtRest a old (map_words s.geo s.map)) (sym ready.kept.area) ready.serves.rest
 
-  pub ready_taken : (words : List (ℕ × ℕ)) → words ≡ word_changes s.geo cs → 0 < length cs → length cs ≤ 64 → IsTaken area words
+  pub ready_taken : (words : List (ℕ × ℕ)) → words ≡ word_changes s.geo cs → 0 < length cs → length cs ≤ 64 → MayCommit area words
   ready_taken words is some few =
-      subst (λ a. IsTaken a words) (sym ready.kept.area)
-      (subst (IsTaken (block_area s.geo)) (sym is) (words-taken s.geo s.map cs ready.kept.valid ready.kept.all some few ready.may))
+      subst (λ a. MayCommit a words) (sym ready.kept.area)
+      (subst (MayCommit (block_area s.geo)) (sym is) (words-taken s.geo s.map cs ready.kept.valid ready.kept.all some few ready.may))
 
   changed_all : length (changed_map cs s.map) ≡ s.geo.blocks
   changed_all = length-changed_map cs s.map ∙ ready.kept.all

@@ -32,13 +32,13 @@ mount_says Memory = Starves
 -- what is wrong with words of a map: this is the place of the first wrong one
 abbrev pub IsWrongMap : Geometry → List ℕ → Finding → Type 0
 IsWrongMap geo words (bad_line n) = ⊥
-IsWrongMap geo words (wrong_word p) = (block : ℕ) × (table.first_wrong words ≡ Some block) × (p ≡ place geo (of_block block))
+IsWrongMap geo words (wrong_word p) = (block : ℕ) × (table.first_wrong_entry words ≡ Some block) × (p ≡ place geo (of_block block))
 
 -- the first place that is wrong: of the log, or else of the map once its log is replayed
 abbrev pub wrong_place : Geometry → (ℕ → ℕ) → Option ℕ
 wrong_place geo word =
     first_there (log.first_wrong (block_area geo) word)
-    (option_map (λ b. place geo (of_block b)) (table.first_wrong (map word_of (states_read geo word))))
+    (option_map (λ b. place geo (of_block b)) (table.first_wrong_entry (map word_of (states_read geo word))))
 
 -- what is wrong with both
 abbrev pub IsWrong : Geometry → Medium → Finding → Type 0

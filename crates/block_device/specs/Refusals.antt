@@ -57,9 +57,6 @@ OnWorked result P = all.OnWorked block_says result P
 abbrev pub block_outcome : {T : Type 0} → Result T BlockFault → Outcome
 block_outcome result = all.outcome_by block_says result
 
-abbrev pub is_done : Outcome → Bool
-is_done end = all.is_done end
-
 -- this fault tells that reason, and there is none where there is no reason
 abbrev pub Obstructs : Option Refusal → Option BlockFault → Type 0
 Obstructs None None = Unit {0}

@@ -5,7 +5,8 @@ ghost use Rattle.line_words.specs.Words.{WritesBackBeside};
 ghost use Rattle.nvm_model.specs.Blocks.{write};
 ghost use Rattle.block_device.specs.Area.{IsBlockLine};
 ghost use Rattle.block_device.specs.Object.{BlocksServe, blocks_of};
-ghost use Rattle.block_device.specs.Refusals.{Answers, OnRefused, OnWorked, atomic_refusal, block_outcome, is_done};
+ghost use Rattle.block_device.specs.Refusals.{Answers, OnRefused, OnWorked, atomic_refusal, block_outcome};
+ghost use Rattle.line_words.specs.Told.{is_done};
 ghost use Rattle.block_device.specs.Images.{EachReads, IsEither};
 
 use crate::{BlockFault, Blocks};

@@ -11,7 +11,8 @@ ghost use Rattle.nvm_model.specs.Blocks.{IsMixed, change};
 ghost use Rattle.block_device.specs.Area.{IsBlockLine};
 ghost use Rattle.block_device.specs.Object.{BlocksServe, HasGoodMetadata, blocks_of, is_at};
 ghost use Rattle.block_device.specs.Changes.{bare_block, changes_in};
-ghost use Rattle.block_device.specs.Refusals.{Answers, OnRefused, OnWorked, block_outcome, is_done, change_refusal, hint_refusal};
+ghost use Rattle.block_device.specs.Refusals.{Answers, OnRefused, OnWorked, block_outcome, change_refusal, hint_refusal};
+ghost use Rattle.line_words.specs.Told.{is_done};
 ghost use Rattle.block_device.specs.Images.{EachReads, IsEither};
 ghost use Rattle.block_device.specs.Prepared.{AreTogether};
 

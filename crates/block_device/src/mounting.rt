@@ -14,7 +14,7 @@ ghost use Rattle.word_log.specs.Mount.{IsFound};
 ghost use Rattle.word_log.specs.Replay as log;
 ghost use Rattle.word_log.specs.Rest.{IsAtRest};
 ghost use Rattle.block_map.specs.States.{word_of};
-ghost use Rattle.block_map.specs.Wrong.{first_wrong};
+ghost use Rattle.block_map.specs.Wrong.{first_wrong_entry};
 ghost use Rattle.nvm_model.specs.Numbered.{list_from};
 ghost use Rattle.block_device.specs.Area.{block_area};
 ghost use Rattle.block_device.specs.Reading.{states_read, blocks_read};
@@ -115,7 +115,7 @@ fn judge(alloc: Global, geo: Geometry, log: Log, words: &[u64]) -> Result<Blocks
     requires length { length words.now ≡ geo.blocks }
     ensures blocks { IfOk result (λ blocks. (blocks.geo ≡ geo) × (map word_of blocks.map ≡ words.now)) }
     ensures settled { IfOk result (λ blocks. IsTrue blocks.settled) }
-    ensures finds { Explains mount_says (first_wrong words.now ≡ None) (IsWrongMap geo words.now) result }
+    ensures finds { Explains mount_says (first_wrong_entry words.now ≡ None) (IsWrongMap geo words.now) result }
     ensures went { outcome_by mount_says result ≡ went }
 {
     let map = read_map(alloc, geo, words)?;
@@ -134,7 +134,7 @@ fn read_map(alloc: Global, geo: Geometry, words: &[u64]) -> Result<BlockMap, Mou
     requires valid { IsValid geo }
     requires length { length words.now ≡ geo.blocks }
     ensures ok { IfOk result (λ map_. map word_of map_ ≡ words.now) }
-    ensures finds { Explains mount_says (first_wrong words.now ≡ None) (IsWrongMap geo words.now) result }
+    ensures finds { Explains mount_says (first_wrong_entry words.now ≡ None) (IsWrongMap geo words.now) result }
     ensures went { outcome_by mount_says result ≡ went }
 {
     match BlockMap::read(alloc, geo, words) {

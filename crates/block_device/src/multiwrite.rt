@@ -8,7 +8,8 @@ ghost use Rattle.line_words.specs.Ending.{ended};
 ghost use Rattle.nvm_model.specs.Blocks.{write_ranges};
 ghost use Rattle.block_device.specs.Area.{IsBlockLine};
 ghost use Rattle.block_device.specs.Object.{BlocksServe, HasGoodMetadata, blocks_of};
-ghost use Rattle.block_device.specs.Refusals.{Answers, OnRefused, OnWorked, block_outcome, block_spans, is_done, multiwrite_refusal};
+ghost use Rattle.block_device.specs.Refusals.{Answers, OnRefused, OnWorked, block_outcome, block_spans, multiwrite_refusal};
+ghost use Rattle.line_words.specs.Told.{is_done};
 ghost use Rattle.block_device.specs.Images.{EachReads, IsEither};
 ghost use Rattle.block_device.specs.Prepared.{ArePrepared, AreApart, AreAsBefore, blocks_with, numbers_in, numbers_of};
 

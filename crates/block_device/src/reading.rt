@@ -4,18 +4,19 @@ ghost use Rattle.line_device.specs.Medium.{IsHealthy, WritesBack, last_image};
 ghost use Rattle.line_device.specs.Panel.{Runs};
 ghost use Rattle.line_words.specs.Ending.{ended};
 ghost use Rattle.nvm_model.specs.Numbered.{list_from};
-ghost use Rattle.nvm_model.specs.Blocks.{first_obstacle, look, nth, obstacle_in};
+ghost use Rattle.nvm_model.specs.Blocks.{first_obstacle, look_blocks, nth, obstacle_in};
 ghost use Rattle.block_device.specs.Reading.{bytes_read, line_read};
 ghost use Rattle.block_device.specs.Object.{BlocksServe, blocks_of};
-ghost use Rattle.block_device.specs.Refusals.{Answers, Checks, Obstructs, OnRefused, block_outcome, is_done, read_refusal};
+ghost use Rattle.block_device.specs.Refusals.{Answers, Checks, Obstructs, OnRefused, block_outcome, read_refusal};
+ghost use Rattle.line_words.specs.Told.{is_done};
 ghost use Rattle.block_device.specs.Refusals.Refusal.{Unreadable};
 
 use crate::checks::check_bytes;
 use crate::{BlockFault, Blocks};
 use block_map::BlockState;
 use line_device::Lines;
-use line_words::{Interruption, load_line};
-use nvm_base::{BLOCK, LINE, LineNo};
+use line_words::{Interruption, first_bad, load_line};
+use nvm_base::{BLOCK, LINE};
 
 /// Lines of a unit.
 const UNIT_LINES: u64 = 8;
@@ -34,7 +35,7 @@ impl Blocks {
         requires on { IsTrue (L.state dev.old).panel.power }
         ensures refused { Answers (read_refusal self.old (L.state dev.old).medium block (length out.old)) result }
         ensures untouched { OnRefused result ((out.new ≡ out.old) × (dev.new ≡ dev.old)) }
-        ensures ok { OnOk result (out.new ≡ look (blocks_of self.old (L.state dev.old).medium) block (length out.old / 512)) }
+        ensures ok { OnOk result (out.new ≡ look_blocks (blocks_of self.old (L.state dev.old).medium) block (length out.old / 512)) }
         ensures lines { WritesBack (L.state dev.old).medium (L.state dev.new).medium }
         ensures serves { BlocksServe self.new (L.state dev.new).medium }
         ensures object { self.new ≡ record self.old { settled = is_done (block_outcome result) } }
@@ -72,7 +73,7 @@ impl Blocks {
         match self.map.get(block) {
             BlockState::Absent => None,
             BlockState::Scarred => Some(BlockFault::Scarred(block)),
-            BlockState::At(unit) => match first_bad(dev, self.geo.block_line(unit)) {
+            BlockState::At(unit) => match bad_line_of(dev, self.geo.block_line(unit)) {
                 Some(line) => Some(BlockFault::Poison(block, line)),
                 None => None,
             },
@@ -92,7 +93,7 @@ impl Blocks {
         requires few { self.now.geo.blocks ≤ 4096 }
         requires within { block + length out.old / 512 ≤ self.now.geo.blocks }
         requires readable { first_obstacle (blocks_of self.now (L.state dev.old).medium) block (length out.old / 512) ≡ None }
-        ensures ok { OnOk result (out.new ≡ look (blocks_of self.now (L.state dev.old).medium) block (length out.old / 512)) }
+        ensures ok { OnOk result (out.new ≡ look_blocks (blocks_of self.now (L.state dev.old).medium) block (length out.old / 512)) }
         ensures lines { WritesBack (L.state dev.old).medium (L.state dev.new).medium }
         ensures runs { Runs (length out.old / 64) 0 (ended result) (L.state dev.old).panel (L.state dev.new).panel }
     {
@@ -117,7 +118,7 @@ impl Blocks {
         requires within { at + 512 ≤ length out.old }
         requires readable { obstacle_in block (nth (blocks_of self.now (L.state dev.old).medium) block) ≡ None }
         ensures ok { OnOk result (out.new ≡ take at out.old
-            ++ look (blocks_of self.now (L.state dev.old).medium) block 1 ++ drop (at + 512) out.old) }
+            ++ look_blocks (blocks_of self.now (L.state dev.old).medium) block 1 ++ drop (at + 512) out.old) }
         ensures lines { WritesBack (L.state dev.old).medium (L.state dev.new).medium }
         ensures runs { Runs 8 0 (ended result) (L.state dev.old).panel (L.state dev.new).panel }
     {
@@ -137,17 +138,12 @@ impl Blocks {
     }
 }
 
-// The first bad one of a unit's eight lines, counted from its first.
-fn first_bad<L: Lines>(dev: &L, first: u64) -> Option<u64>
+// The lowest bad one of a unit's eight lines, counted from its first.
+fn bad_line_of<L: Lines>(dev: &L, first: u64) -> Option<u64>
     requires { first + 8 ≤ (L.state dev.now).medium.count }
     ensures { result ≡ position is_none (list_from (line_read (L.state dev.now).medium.is_bad (last_image (L.state dev.now).medium)) first 8) }
 {
-    for k in 0..UNIT_LINES {
-        if dev.is_bad(LineNo(first + k)) {
-            return Some(k);
-        }
-    }
-    None
+    first_bad(dev, first, UNIT_LINES)
 }
 
 // Reads a unit's eight lines, none of which is bad.

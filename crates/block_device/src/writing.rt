@@ -8,7 +8,8 @@ ghost use Rattle.word_tables.specs.Bounds.{IsValid};
 ghost use Rattle.nvm_model.specs.Blocks.{IsMixed, write};
 ghost use Rattle.block_device.specs.Area.{IsBlockLine};
 ghost use Rattle.block_device.specs.Object.{BlocksServe, HasGoodMetadata, blocks_of};
-ghost use Rattle.block_device.specs.Refusals.{Answers, OnRefused, OnWorked, block_outcome, is_done, write_refusal};
+ghost use Rattle.block_device.specs.Refusals.{Answers, OnRefused, OnWorked, block_outcome, write_refusal};
+ghost use Rattle.line_words.specs.Told.{is_done};
 ghost use Rattle.block_device.specs.Images.{EachReads};
 
 use crate::checks::{check_bytes, check_meta};

@@ -10,7 +10,7 @@ use Rattle.std.specs.Option.{option_map}
 use Rattle.block_map.specs.declared.state.BlockState.{BlockState}
 use Rattle.block_map.specs.declared.state.BlockState.TheVariants.{Absent, Scarred, At}
 use Rattle.block_map.specs.States.{state_of, word_of, IsAt, IsMap}
-use Rattle.block_map.specs.Wrong.{first_wrong}
+use Rattle.block_map.specs.Wrong.{first_wrong_entry}
 use Rattle.block_map.proofs.WrongLemmas.{wrong_too_high, wrong_twice, right_from_none, first_is_none}
 
 pub word_of-state_of : (word : ℕ) → word_of (state_of word) ≡ word
@@ -25,7 +25,7 @@ words_of_states (w ∷ ws) = ap₂ ◌∷◌ (word_of-state_of w) (words_of_stat
 word_from_unit : (word unit : ℕ) → state_of word ≡ At unit → word ≡ unit + 2
 word_from_unit word unit at_unit = sym (word_of-state_of word) ∙ ap word_of at_unit
 
-module _ (words : List ℕ) (none : first_wrong words ≡ None) where
+module _ (words : List ℕ) (none : first_wrong_entry words ≡ None) where
   word_at : (block unit : ℕ) → IsAt (map state_of words) block unit → (block < length words) × (get_or words block 0 ≡ unit + 2)
   word_at block unit at_unit =
       let within : block < length words = omega (arith, slice_get_within (map state_of words) block (At unit) at_unit, length-map words state_of) in
@@ -85,7 +85,7 @@ module _ (states : List BlockState) (is_map : IsMap states) where
       (λ j lt. let before : j < i = omega (arith, length-take i ws) in
       ne_eqb (get_or (take i ws) j 0) (unit + 2) (λ same. not_named i j unit before within is (sym (get_or-take i ws j 0 before) ∙ same))))))
 
-  pub map_right : first_wrong (map word_of states) ≡ None
+  pub map_right : first_wrong_entry (map word_of states) ≡ None
   map_right =
       first_is_none (map word_of states) (length (map word_of states)) (omega arith)
       (λ i below.

@@ -7,7 +7,7 @@ use Rattle.std.proofs.lemmas.List.{get_or-take, length-take}
 use Rattle.std.proofs.lemmas.List.FromFn.{length-range_with_len, get_or-range_with_len}
 use Rattle.std.proofs.lemmas.List.Folds.{list_any_at}
 use Rattle.std.proofs.lemmas.List.Sums.{position_or_len_is, fails_before_first}
-use Rattle.block_map.specs.Wrong.{is_wrong, first_wrong}
+use Rattle.block_map.specs.Wrong.{is_wrong, first_wrong_entry}
 
 module _ (words : List ℕ) where
   pub wrong_too_high : (i : ℕ) → length words + 65 < get_or words i 0 → is_wrong words i ≡ true
@@ -33,20 +33,20 @@ module _ (words : List ℕ) where
       (λ k below. own k false (omega arith) (right k below))
       (λ inside. own n true (omega (arith, length-range_with_len 0 (length words))) (wrong (omega (arith, length-range_with_len 0 (length words)))))
 
-  first_by_place : first_wrong words ≡ cond (ltb (position_or_len (is_wrong words) (range_with_len 0 (length words))) (length words)) (Some (position_or_len (is_wrong words) (range_with_len 0 (length words)))) None
+  first_by_place : first_wrong_entry words ≡ cond (ltb (position_or_len (is_wrong words) (range_with_len 0 (length words))) (length words)) (Some (position_or_len (is_wrong words) (range_with_len 0 (length words)))) None
   first_by_place = ap (λ n. cond (ltb (position_or_len (is_wrong words) (range_with_len 0 (length words))) n) (Some (position_or_len (is_wrong words) (range_with_len 0 (length words)))) None) (length-range_with_len 0 (length words))
 
-  pub first_is : (n : ℕ) → n < length words → ((k : ℕ) → k < n → is_wrong words k ≡ false) → is_wrong words n ≡ true → first_wrong words ≡ Some n
+  pub first_is : (n : ℕ) → n < length words → ((k : ℕ) → k < n → is_wrong words k ≡ false) → is_wrong words n ≡ true → first_wrong_entry words ≡ Some n
   first_is n within right wrong =
       let place = first_place n (omega arith) right (λ _. wrong) in
       first_by_place ∙ ap (λ p. cond (ltb p (length words)) (Some p) None) place ∙ ap (λ b. cond b (Some n) None) (lt-ltb n (length words) within)
 
-  pub first_is_none : (n : ℕ) → length words ≤ n → ((k : ℕ) → k < n → is_wrong words k ≡ false) → first_wrong words ≡ None
+  pub first_is_none : (n : ℕ) → length words ≤ n → ((k : ℕ) → k < n → is_wrong words k ≡ false) → first_wrong_entry words ≡ None
   first_is_none n all right =
       let place = first_place (length words) (omega arith) (λ k below. right k (omega arith)) (λ past. absurd (omega arith)) in
       first_by_place ∙ ap (λ p. cond (ltb p (length words)) (Some p) None) place ∙ ap (λ b. cond b (Some (length words)) None) (le-ltb (length words) (length words) (omega arith))
 
-  pub right_from_none : first_wrong words ≡ None → (k : ℕ) → k < length words → is_wrong words k ≡ false
+  pub right_from_none : first_wrong_entry words ≡ None → (k : ℕ) → k < length words → is_wrong words k ≡ false
   right_from_none none k within =
       elim (cases_lt (position_or_len (is_wrong words) (range_with_len 0 (length words))) (length words)) [
         | inl some ↦ absurd (some_none (sym (first_by_place ∙ ap (λ b. cond b (Some (position_or_len (is_wrong words) (range_with_len 0 (length words)))) None) (lt-ltb _ _ some)) ∙ none))

@@ -8,5 +8,5 @@ is_wrong words i =
     nat_lt (length words + 65) (slice_index words i) || (nat_le 2 (slice_index words i) && list_any (λ word. word == slice_index words i) (take i words))
 
 -- the index of the first wrong word
-abbrev pub first_wrong : List ℕ → Option ℕ
-first_wrong words = position (is_wrong words) (range_with_len 0 (length words))
+abbrev pub first_wrong_entry : List ℕ → Option ℕ
+first_wrong_entry words = position (is_wrong words) (range_with_len 0 (length words))

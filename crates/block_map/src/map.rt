@@ -2,7 +2,7 @@ ghost use Rattle.std.specs.Prelude.{◌≡◌, ◌<◌, IfErr, IfOk, None, OnOk,
 ghost use Rattle.word_tables.specs.Bounds.{IsValid};
 ghost use Rattle.block_map.specs.Cause.{IsCause};
 ghost use Rattle.block_map.specs.States.{IsBelow, IsMap, MayTake, state_of, word_of};
-ghost use Rattle.block_map.specs.Wrong.{first_wrong};
+ghost use Rattle.block_map.specs.Wrong.{first_wrong_entry};
 
 use crate::{BlockState, TableFault, state, table};
 use std::alloc::{AllocError, Global};
@@ -37,7 +37,7 @@ impl BlockMap {
         requires length { length words.now ≡ geo.blocks }
         ensures ok { IfOk result (λ found. found ≡ map state_of words.now) }
         ensures words { IfOk result (λ found. map word_of found ≡ words.now) }
-        ensures right { OnOk result (first_wrong words.now ≡ None) }
+        ensures right { OnOk result (first_wrong_entry words.now ≡ None) }
         ensures map { IfOk result IsMap }
         ensures err { IfErr result (IsCause words.now) }
     {

@@ -1,6 +1,6 @@
 ghost use Rattle.std.specs.Prelude.{◌≡◌, ◌&&◌, ◌+◌, IfErr, IsTrue, None, OnOk, false, length, nat_le, nat_lt, not, slice_index_or, slice_set};
 ghost use Rattle.block_map.specs.Cause.{IsCause};
-ghost use Rattle.block_map.specs.Wrong.{first_wrong};
+ghost use Rattle.block_map.specs.Wrong.{first_wrong_entry};
 
 use std::alloc::{AllocError, Global};
 
@@ -25,7 +25,7 @@ impl From<AllocError> for TableFault {
 /// Looks for the first wrong word, where `most` is the highest.
 pub(crate) fn check(alloc: Global, words: &[u64], most: u64) -> Result<(), TableFault>
     requires { most ≡ length words.now + 65 }
-    ensures ok { OnOk result (first_wrong words.now ≡ None) }
+    ensures ok { OnOk result (first_wrong_entry words.now ≡ None) }
     ensures err { IfErr result (IsCause words.now) }
 {
     let mut seen = vec![in alloc; false; most as usize + 1]?;

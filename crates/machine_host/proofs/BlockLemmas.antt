@@ -14,7 +14,8 @@ use Rattle.block_device.specs.Area.{IsBlockLine}
 use Rattle.block_device.specs.Object.{BlocksState, HasGoodMetadata, blocks_of}
 use Rattle.block_device.specs.Object as object
 use Rattle.block_device.specs.Images.{EachReads}
-use Rattle.block_device.specs.Refusals.{Refusal, told, Answers, OnRefused, OnWorked, block_outcome, is_done}
+use Rattle.block_device.specs.Refusals.{Refusal, told, Answers, OnRefused, OnWorked, block_outcome}
+use Rattle.line_words.specs.Told.{is_done}
 use Rattle.block_device.specs.Refusals.Refusal.{Range, Length, Limit, Overlap, Meta, Unreadable}
 use Rattle.nvm_model.specs.Blocks.Obstacle.{scar, bad_line}
 use Rattle.std.proofs.lemmas.Option.{same_Some}

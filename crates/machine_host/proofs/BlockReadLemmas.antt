@@ -7,13 +7,14 @@ use Rattle.line_device.specs.Panel.{Runs}
 use Rattle.line_device.specs.Device.{Device}
 use Rattle.line_words.proofs.BesideLemmas.{beside-write_back}
 use Rattle.nvm_model.specs.Storage.{Block}
-use Rattle.nvm_model.specs.Blocks.{first_there, first_obstacle, look}
+use Rattle.nvm_model.specs.Blocks.{first_there, first_obstacle, look_blocks}
 use Rattle.nvm_model.proofs.NumberedLemmas.{length-list_from}
 use Rattle.block_device.specs.Area.{IsBlockLine}
 use Rattle.block_device.specs.Object.{BlocksState, blocks_of}
 use Rattle.block_device.specs.Object.{BlocksServe as ServesBlocks}
 use Rattle.block_device.specs.Images.{EachReads}
-use Rattle.block_device.specs.Refusals.{told, Answers, OnRefused, OnWorked, block_outcome, is_done, bytes_refusal, read_refusal, where_}
+use Rattle.block_device.specs.Refusals.{told, Answers, OnRefused, OnWorked, block_outcome, bytes_refusal, read_refusal, where_}
+use Rattle.line_words.specs.Told.{is_done}
 use Rattle.block_device.specs.Refusals.Refusal.{Range, Length, Unreadable}
 use Rattle.block_device.specs.declared.fault.BlockFault.{BlockFault}
 use Rattle.block_device.specs.declared.fault.BlockFault.TheVariants as fault
@@ -62,16 +63,16 @@ refused_done fault.Device told = absurd (told refl)
 refused_done fault.PowerLost told = absurd (told refl)
 
 -- so many whole blocks that are there
-pub length-look : (blocks : List Block) (at count : ℕ) → length (look blocks at count) ≡ 512 * count
-unfolding look
+pub length-look : (blocks : List Block) (at count : ℕ) → length (look_blocks blocks at count) ≡ 512 * count
+unfolding look_blocks
 length-look blocks at count = length-list_from _ (512 * at) (512 * count)
 
 -- the bytes of a buffer that blocks were read into
-pub read_bytes : (count block : ℕ) (old items out : List ℕ) (blocks : List Block) → length old ≡ length items → length old ≡ 512 * count → out ≡ look blocks block (length old / 512)
-    → take (length items) (out ++ drop (length out) items) ≡ look blocks block count
+pub read_bytes : (count block : ℕ) (old items out : List ℕ) (blocks : List Block) → length old ≡ length items → length old ≡ 512 * count → out ≡ look_blocks blocks block (length old / 512)
+    → take (length items) (out ++ drop (length out) items) ≡ look_blocks blocks block count
 read_bytes count block old items out blocks same size is =
     let many : length old / 512 ≡ count = omega (arith, size) in
-    refill_is count old items out (look blocks block count) same size (is ∙ ap (look blocks block) many) (length-look blocks block count)
+    refill_is count old items out (look_blocks blocks block count) same size (is ∙ ap (look_blocks blocks block) many) (length-look blocks block count)
 
 whole_blocks : (blocks block count : ℕ) → 1 ≤ count → block + count ≤ blocks → bytes_refusal blocks block (512 * count) ≡ None
 whole_blocks blocks block count some within =
@@ -133,7 +134,7 @@ module _ (now host after : HostState) (s : BlocksState) (r : Result (Unit {0}) B
   on_ok (Err f) p = tt
 
   read_comes : (h : Machine) (answer : Answer) → Stands now old h → 1 ≤ count → count ≤ 128 → block + count ≤ now.geometry.blocks
-      → Answers (read_refusal host.blocks old.medium block len) r → (blocks_of host.blocks old.medium ≡ h.blocks → answer ≡ answer_after (Bytes (look h.blocks block count)) r)
+      → Answers (read_refusal host.blocks old.medium block len) r → (blocks_of host.blocks old.medium ≡ h.blocks → answer ≡ answer_after (Bytes (look_blocks h.blocks block count)) r)
       → Comes h (BRead block count) (fate h (BRead block count)) answer after old new
   read_comes h answer stands some most within refused answer_is =
       let stays : blocks_of host.blocks old.medium ≡ h.blocks = ap (λ k. blocks_of k.blocks old.medium) inside ∙ stands.blocks on in
@@ -143,13 +144,13 @@ module _ (now host after : HostState) (s : BlocksState) (r : Result (Unit {0}) B
       ap (λ o. first_there o (option_map Unreadable (first_obstacle (blocks_of host.blocks old.medium) block (512 * count / 512)))) none
       ∙ ap (λ n. option_map Unreadable (first_obstacle (blocks_of host.blocks old.medium) block n)) many
       ∙ ap (λ bs. option_map Unreadable (first_obstacle bs block count)) stays in
-      change_comes now host after s r calls 0 old new inside state on serves (BRead block count) (λ _. few) (λ _. omega arith) call h (Bytes (look h.blocks block count)) answer
+      change_comes now host after s r calls 0 old new inside state on serves (BRead block count) (λ _. few) (λ _. omega arith) call h (Bytes (look_blocks h.blocks block count)) answer
       (option_map Unreadable (first_obstacle h.blocks block count)) (λ bs. bs) refl stands refl
       (λ serves stands on. fate_read h block count (sym stands.mode ∙ on) some (subst (λ g. block + count ≤ g.blocks) (sym (ap (λ k. k.geometry) inside) ∙ stands.geometry) within) most)
       (subst (λ o. Answers o r) why (subst (λ n. Answers (read_refusal host.blocks old.medium block n) r) size refused)) (on_ok r blocks_stay) (answer_is stays)
 
   pub read_answered : (answer : Answer) → 1 ≤ count → count ≤ 128 → block + count ≤ now.geometry.blocks → Answers (read_refusal host.blocks old.medium block len) r
-      → ((h : Machine) → blocks_of host.blocks old.medium ≡ h.blocks → answer ≡ answer_after (Bytes (look h.blocks block count)) r) → most_of answer ≤ longest (BRead block count)
+      → ((h : Machine) → blocks_of host.blocks old.medium ≡ h.blocks → answer ≡ answer_after (Bytes (look_blocks h.blocks block count)) r) → most_of answer ≤ longest (BRead block count)
       → Answered (BRead block count) answer now after old new
   read_answered answer some most within refused answer_is room = record {
     step = λ h stands. read_comes h answer stands some most within refused (answer_is h);

@@ -15,7 +15,7 @@ use Rattle.nvm_base.specs.Data.{runs_of, data_within, data_text}
 use Rattle.word_tables.specs.Layout.{size, first_line, total_lines}
 use Rattle.nvm_model.specs.Storage.{Block}
 use Rattle.nvm_model.specs.Page.{read_pages, bad_lines, KeepsPages}
-use Rattle.nvm_model.specs.Blocks.{first_obstacle, bad_block_lines, write, look}
+use Rattle.nvm_model.specs.Blocks.{first_obstacle, bad_block_lines, write, look_blocks}
 use Rattle.nvm_model.proofs.PageLemmas.{bad_lines-none, cell_of-read_pages}
 use Rattle.word_log.specs.Replay.{listed}
 use Rattle.block_device.specs.Images.{IsEither}
@@ -126,14 +126,14 @@ no_bad_line choice image keeps =
 record Shows (blocks : List Block) (seen : List ℕ) : Type 0 where
   free : first_obstacle blocks 0 2 ≡ None
   whole : bad_block_lines blocks ≡ 0
-  shows : answer_line (Bytes (look blocks 0 2)) ≡ codes "data " ++ (seen ++ 10 ∷ [])
+  shows : answer_line (Bytes (look_blocks blocks 0 2)) ≡ codes "data " ++ (seen ++ 10 ∷ [])
 
 old_shows : Shows (fresh small).blocks (codes "00*1024")
-unfolding digits data_text answer_line size first_line reading states_read blocks_read listed look
+unfolding digits data_text answer_line size first_line reading states_read blocks_read listed look_blocks
 old_shows = record { free = refl; whole = refl; shows = refl }
 
 new_shows : Shows (written (fresh small)).blocks (codes "11*1024")
-unfolding digits data_text answer_line size first_line reading states_read blocks_read listed write look
+unfolding digits data_text answer_line size first_line reading states_read blocks_read listed write look_blocks
 new_shows = record { free = refl; whole = refl; shows = refl }
 
 nothing_more : (h : Machine) (rest : List Answer) → Later h [] rest → rest ≡ []
@@ -148,14 +148,14 @@ module _ (shown : List ℕ) (image : Image) (cut fail : Bool) (blocks : List Blo
   read_shows : (answers : List Answer) → Later back (Asked (BRead 0 2) ∷ []) answers → reply_text answers ≡ text (line shown ∷ []) → shown ≡ seen
   unfolding refusal reading
   read_shows answers later wrote =
-      let one = began_working back (BRead 0 2) [] answers later (Bytes (look blocks 0 2)) back came in
+      let one = began_working back (BRead 0 2) [] answers later (Bytes (look_blocks blocks 0 2)) back came in
       by_end one.0 one.1 one.2 one.4 (nothing_more one.1 one.2 one.5) (sym (ap reply_text one.3) ∙ wrote)
     where
-      came : fate back (BRead 0 2) ≡ Works (Bytes (look blocks 0 2)) back
-      came = ap (λ b. unless_refused back (option_map (λ o. refusal_answer (Unreadable o)) (first_obstacle b 0 2)) (Works (Bytes (look b 0 2)) back)) is
-          ∙ ap (λ o. unless_refused back (option_map (λ o. refusal_answer (Unreadable o)) o) (Works (Bytes (look blocks 0 2)) back)) good_blocks.free
+      came : fate back (BRead 0 2) ≡ Works (Bytes (look_blocks blocks 0 2)) back
+      came = ap (λ b. unless_refused back (option_map (λ o. refusal_answer (Unreadable o)) (first_obstacle b 0 2)) (Works (Bytes (look_blocks b 0 2)) back)) is
+          ∙ ap (λ o. unless_refused back (option_map (λ o. refusal_answer (Unreadable o)) o) (Works (Bytes (look_blocks blocks 0 2)) back)) good_blocks.free
 
-      by_end : (answer : Answer) (next : Machine) (rest : List Answer) → Ends (Bytes (look blocks 0 2)) back (while_interrupted back (BRead 0 2)) answer next
+      by_end : (answer : Answer) (next : Machine) (rest : List Answer) → Ends (Bytes (look_blocks blocks 0 2)) back (while_interrupted back (BRead 0 2)) answer next
           → rest ≡ [] → reply_text (answer ∷ rest) ≡ text (line shown ∷ []) → shown ≡ seen
       by_end answer next rest (inl good) last e =
           let same : codes "data " ++ (seen ++ 10 ∷ []) ≡ text (line shown ∷ []) =

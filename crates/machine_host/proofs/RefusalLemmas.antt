@@ -3,7 +3,7 @@ use Rattle.std.proofs.Common.{◌≡◌, ◌≢◌, ℕ, ◌+◌, ◌*◌, ◌�
 use Rattle.std.proofs.lemmas.Bool.{le-ltb, ne_eqb}
 use Rattle.std.proofs.lemmas.Bool.Decides.{nat_tests}
 use Rattle.word_tables.specs.declared.geometry.Geometry.{Geometry}
-use Rattle.nvm_model.specs.Blocks.{Obstacle, first_there, first_obstacle, look}
+use Rattle.nvm_model.specs.Blocks.{Obstacle, first_there, first_obstacle, look_blocks}
 use Rattle.nvm_model.specs.Storage.{Block}
 use Rattle.block_device.specs.Refusals.{Refusal}
 use Rattle.block_device.specs.Refusals.Refusal.{Unreadable}
@@ -179,11 +179,11 @@ fate_changing h action places to left calls persists row on good =
 
 -- a read of blocks that are there is refused by what can't be read alone
 pub fate_read : (h : Machine) (block count : ℕ) → h.mode ≡ On → 1 ≤ count → block + count ≤ h.geometry.blocks → count ≤ 128
-    → fate h (BRead block count) ≡ unless_refused h (option_map refusal_answer (option_map Unreadable (first_obstacle h.blocks block count))) (Works (Bytes (look h.blocks block count)) h)
+    → fate h (BRead block count) ≡ unless_refused h (option_map refusal_answer (option_map Unreadable (first_obstacle h.blocks block count))) (Works (Bytes (look_blocks h.blocks block count)) h)
 unfolding refusal
 fate_read h block count on some within few =
     let r = (meaning (BRead block count)).reasons h in
-    let comes : Fate = Works (Bytes (look h.blocks block count)) h in
+    let comes : Fate = Works (Bytes (look_blocks h.blocks block count)) h in
     ap (λ mode. unless_refused h (first_reason (mode_refusal mode Usable) h.bad_meta r) comes) on
     ∙ ap (λ o. unless_refused h (first_reason None h.bad_meta (record r { places = option_map Refused o })) comes) (read_right h.geometry.blocks block count some within few)
     ∙ ap (λ o. unless_refused h o comes) (mapped_twice (first_obstacle h.blocks block count))

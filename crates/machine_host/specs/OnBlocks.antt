@@ -4,7 +4,7 @@ use Rattle.nvm_base.specs.declared.units.Span.{Span}
 use Rattle.word_tables.specs.declared.geometry.Geometry.{Geometry}
 use Rattle.nvm_model.specs.Storage.{Block}
 use Rattle.nvm_model.specs.Storage.Block.{Absent, Scarred as Scar}
-use Rattle.nvm_model.specs.Blocks.{first_there, first_obstacle, nth, write, write_ranges, change, is_there, look}
+use Rattle.nvm_model.specs.Blocks.{first_there, first_obstacle, nth, write, write_ranges, change, is_there, look_blocks}
 use Rattle.nvm_model.specs.Blocks.Obstacle.{scar, bad_line}
 use Rattle.block_device.specs.Refusals.{Refusal, bytes_refusal, ranges_refusal, spans_refusal, together_refusal, where_}
 use Rattle.block_device.specs.Refusals.Refusal.{Range, Length, Limit, Overlap, Meta, Unreadable}
@@ -73,7 +73,7 @@ bdiscardif block count = changing_blocks (λ blocks. spans_refusal blocks (block
 abbrev pub bread : ℕ → ℕ → Meaning
 bread block count =
     let past : Geometry → Option Why = λ geo. count_refusal geo.blocks block count in
-    record (quiet Usable past (λ h. Works (Bytes (look h.blocks block count)) h)) {
+    record (quiet Usable past (λ h. Works (Bytes (look_blocks h.blocks block count)) h)) {
       reasons = λ h. record (placed past h) {
         unreadable = option_map (λ obstacle. refusal_answer (Unreadable obstacle)) (first_obstacle h.blocks block count);
       };

@@ -47,12 +47,12 @@ block_byte Absent i = 0
 block_byte Scarred i = 0
 block_byte (Data lines) i = line_byte (slice_index_or lines (i / 64) None) (i % 64)
 
-abbrev pub byte_in : List Block → ℕ → ℕ
-byte_in blocks i = block_byte (nth blocks (i / 512)) (i % 512)
+abbrev pub byte_of_blocks : List Block → ℕ → ℕ
+byte_of_blocks blocks i = block_byte (nth blocks (i / 512)) (i % 512)
 
 -- the bytes of so many blocks
-unfoldable pub look : List Block → ℕ → ℕ → List ℕ
-look blocks at count = list_from (byte_in blocks) (512 * at) (512 * count)
+unfoldable pub look_blocks : List Block → ℕ → ℕ → List ℕ
+look_blocks blocks at count = list_from (byte_of_blocks blocks) (512 * at) (512 * count)
 
 -- what keeps a block from being read: it is scarred, or a line of it is bad, the lowest one
 pub data Obstacle : Type 0 where

@@ -3,7 +3,7 @@ use Rattle.std.proofs.Common.{◌≡◌, inl, inr, ℕ, zero, suc, false, None, 
 use Rattle.std.proofs.lemmas.Bool.{cases_eq}
 use Rattle.word_log.specs.declared.area.LogArea.{LogArea}
 use Rattle.word_log.specs.Area.{gate_place, count_place, entry_place, IsHome, IsLog, IsShaped, is_home}
-use Rattle.word_log.specs.Changes.{changed, lists, IsTaken}
+use Rattle.word_log.specs.Changes.{changed, lists, MayCommit}
 use Rattle.word_log.specs.Replay.{entries, listed, first_wrong, replayed}
 use Rattle.word_log.specs.Lists.{on_lists}
 use Rattle.word_log.proofs.ChangeLemmas.{listed_or, lists-at, distinct_at, changed-push_at, changed-push_other}
@@ -53,7 +53,7 @@ entry_is a log home n k shape whole room below = record {
 }
 
 -- an entry that counts is of a home word
-pub entry_home : (a : LogArea) (log home : List ℕ) (n k : ℕ) → IsShaped a → length log ≡ 8 * a.log.len → 8 + 2 * n ≤ length log → k < n → IsTaken a (entries (on_lists a log home) (entry_place a 0) n) → IsHome a (get_or log (8 + 2 * k) 0)
+pub entry_home : (a : LogArea) (log home : List ℕ) (n k : ℕ) → IsShaped a → length log ≡ 8 * a.log.len → 8 + 2 * n ≤ length log → k < n → MayCommit a (entries (on_lists a log home) (entry_place a 0) n) → IsHome a (get_or log (8 + 2 * k) 0)
 entry_home a log home n k shape whole room below taken =
     let w = on_lists a log home in
     let es = entries w (entry_place a 0) n in
@@ -62,7 +62,7 @@ entry_home a log home n k shape whole room below taken =
     subst (IsHome a) (ap (λ e. e.0) at ∙ (entry_is a log home n k shape whole room below).place) in_home
 
 -- one home word more has its value
-pub home-more : (a : LogArea) (log old home : List ℕ) (n k : ℕ) → IsShaped a → length log ≡ 8 * a.log.len → 8 + 2 * n ≤ length log → k < n → length home ≡ a.home.len → IsTaken a (entries (on_lists a log old) (entry_place a 0) n) → ((j : ℕ) → j < a.home.len → get_or home j 0 ≡ changed (entries (on_lists a log old) (entry_place a 0) k) (on_lists a log old) (a.home.start + j)) → (j : ℕ) → j < a.home.len → get_or (set home (get_or log (8 + 2 * k) 0 - a.home.start) (get_or log (8 + 2 * k + 1) 0)) j 0 ≡ changed (entries (on_lists a log old) (entry_place a 0) (k + 1)) (on_lists a log old) (a.home.start + j)
+pub home-more : (a : LogArea) (log old home : List ℕ) (n k : ℕ) → IsShaped a → length log ≡ 8 * a.log.len → 8 + 2 * n ≤ length log → k < n → length home ≡ a.home.len → MayCommit a (entries (on_lists a log old) (entry_place a 0) n) → ((j : ℕ) → j < a.home.len → get_or home j 0 ≡ changed (entries (on_lists a log old) (entry_place a 0) k) (on_lists a log old) (a.home.start + j)) → (j : ℕ) → j < a.home.len → get_or (set home (get_or log (8 + 2 * k) 0 - a.home.start) (get_or log (8 + 2 * k + 1) 0)) j 0 ≡ changed (entries (on_lists a log old) (entry_place a 0) (k + 1)) (on_lists a log old) (a.home.start + j)
 home-more a log old home n k shape whole room below long taken before j in_home =
     let w = on_lists a log old in
     let at = entry_place a 0 in
@@ -101,7 +101,7 @@ home-more a log old home n k shape whole room below long taken before j in_home 
 -- a valid log with an open gate, as lists
 pub record OpenLists (a : LogArea) (log home : List ℕ) : Type 0 where
   pub room : 8 + 2 * get_or log 1 0 ≤ length log
-  pub taken : IsTaken a (entries (on_lists a log home) (entry_place a 0) (get_or log 1 0))
+  pub taken : MayCommit a (entries (on_lists a log home) (entry_place a 0) (get_or log 1 0))
   pub listed : listed a (on_lists a log home) ≡ entries (on_lists a log home) (entry_place a 0) (get_or log 1 0)
 
 gate_is : (a : LogArea) (log home : List ℕ) → IsShaped a → on_lists a log home (gate_place a) ≡ get_or log 0 0
@@ -117,7 +117,7 @@ open_lists a log home shape whole valid gate =
           let is : listed a w ≡ entries w (entry_place a 0) (get_or log 1 0) = listed-open a w open_.gate ∙ ap (entries w (entry_place a 0)) count in
           record {
             room = omega (arith, shape.len, shape.whole, open_.taken.few, open_.count, count);
-            taken = subst (IsTaken a) is open_.taken;
+            taken = subst (MayCommit a) is open_.taken;
             listed = is;
           }
     ]

@@ -5,7 +5,7 @@ use Rattle.line_device.specs.Medium.{Medium, WritesBack, IsSound, last_image}
 use Rattle.line_device.proofs.HistoryLemmas.{is_in-word_write_back}
 use Rattle.word_log.specs.declared.area.LogArea.{LogArea}
 use Rattle.word_log.specs.Area.{gate_place, count_place, entry_place, Fits, IsLog, IsHome, IsOf, IsWhole}
-use Rattle.word_log.specs.Changes.{changed, lists, IsTaken}
+use Rattle.word_log.specs.Changes.{changed, lists, MayCommit}
 use Rattle.word_log.specs.Replay.{first_wrong, replayed, Replays}
 use Rattle.line_words.specs.Words.{WritesBackOutside}
 use Rattle.word_log.specs.Rest.{IsImageOn, EachImage, IsAtRest, IsReached}
@@ -150,7 +150,7 @@ outside-gate a m old new fits x = outside-wider (λ p. p ≡ gate_place a) (IsOf
 pub outside-behind_gate : (a : LogArea) (old new : Medium) → WritesBackOutside (IsBehindGate a) old new → WritesBackOutside (IsOf a) old new
 outside-behind_gate a old new x = outside-wider (IsBehindGate a) (IsOf a) old new (λ p behind. inl (behind_gate_of a p behind)) x
 
-pub outside-listed : (a : LogArea) (cs : List (ℕ × ℕ)) (old new : Medium) → IsTaken a cs → WritesBackOutside (λ p. IsTrue (lists cs p)) old new → WritesBackOutside (IsOf a) old new
+pub outside-listed : (a : LogArea) (cs : List (ℕ × ℕ)) (old new : Medium) → MayCommit a cs → WritesBackOutside (λ p. IsTrue (lists cs p)) old new → WritesBackOutside (IsOf a) old new
 outside-listed a cs old new taken x = outside-wider (λ p. IsTrue (lists cs p)) (IsOf a) old new (λ p h. inr (taken.home p h)) x
 
 -- after the home words are durable
@@ -179,7 +179,7 @@ reached_last a old image sound fits whole valid replays = record {
 }
 
 -- the gate was opened on entries that were written on a log at rest
-pub opened_from : (a : LogArea) (cs : List (ℕ × ℕ)) (words : ℕ → ℕ) (old entered new : Medium) → Fits a old → IsTaken a cs → IsAtRest a old words → WritesBackOutside (IsBehindGate a) old entered → IsRecorded a cs entered → WritesBackOutside (λ p. p ≡ gate_place a) entered new → IsOnly 1 (new.history (gate_place a)) → IsOpen a cs words new
+pub opened_from : (a : LogArea) (cs : List (ℕ × ℕ)) (words : ℕ → ℕ) (old entered new : Medium) → Fits a old → MayCommit a cs → IsAtRest a old words → WritesBackOutside (IsBehindGate a) old entered → IsRecorded a cs entered → WritesBackOutside (λ p. p ≡ gate_place a) entered new → IsOnly 1 (new.history (gate_place a)) → IsOpen a cs words new
 opened_from a cs words old entered new fits taken rest x recorded y gate =
     let fits_entered = fits-outside a (IsBehindGate a) old entered fits x in
     opened a cs words entered new (record { fits = fits_entered; taken = taken; recorded = recorded }) (rest-outside a words old entered fits rest x)

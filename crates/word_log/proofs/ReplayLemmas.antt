@@ -4,7 +4,7 @@ use Rattle.std.proofs.lemmas.Bool.{eq-eqb, ne_eqb}
 use Rattle.std.proofs.lemmas.Bool.Decides.{nat_tests}
 use Rattle.word_log.specs.declared.area.LogArea.{LogArea}
 use Rattle.word_log.specs.Area.{gate_place, count_place, entry_place, IsHome, is_home}
-use Rattle.word_log.specs.Changes.{changed, lists, IsDistinct, IsTaken}
+use Rattle.word_log.specs.Changes.{changed, lists, IsDistinct, MayCommit}
 use Rattle.word_log.specs.Replay.{entries, listed, listed_if, wrong_entry, wrong_open, wrong_at, first_wrong, Replays}
 use Rattle.word_log.proofs.ChangeLemmas.{listed_or, lists_not, lists-push, changed-cong, changed-listed}
 
@@ -38,7 +38,7 @@ replays_closed a image words gate home = record {
 }
 
 -- behind a gate of 1 all do
-pub replays_open : (a : LogArea) (cs : List (ℕ × ℕ)) (image words : ℕ → ℕ) → image (gate_place a) ≡ 1 → image (count_place a) ≡ length cs → entries image (entry_place a 0) (length cs) ≡ cs → IsTaken a cs → ((p : ℕ) → IsHome a p → lists cs p ≡ false → image p ≡ words p) → Replays a image (changed cs words)
+pub replays_open : (a : LogArea) (cs : List (ℕ × ℕ)) (image words : ℕ → ℕ) → image (gate_place a) ≡ 1 → image (count_place a) ≡ length cs → entries image (entry_place a 0) (length cs) ≡ cs → MayCommit a cs → ((p : ℕ) → IsHome a p → lists cs p ≡ false → image p ≡ words p) → Replays a image (changed cs words)
 unfolding first_wrong listed
 replays_open a cs image words gate count same taken home =
     let counted : entries image (entry_place a 0) (image (count_place a)) ≡ cs = ap (entries image (entry_place a 0)) count ∙ same in

@@ -5,7 +5,7 @@ use Rattle.std.proofs.lemmas.Bool.Decides.{nat_tests}
 use Rattle.line_device.specs.Medium.{Medium, last_image}
 use Rattle.word_log.specs.declared.area.LogArea.{LogArea}
 use Rattle.word_log.specs.Area.{gate_place, count_place, entry_place, IsHome, is_home, IsOf, Fits}
-use Rattle.word_log.specs.Changes.{changed, lists, IsDistinct, IsTaken}
+use Rattle.word_log.specs.Changes.{changed, lists, IsDistinct, MayCommit}
 use Rattle.word_log.specs.Replay.{entries, listed, wrong_entry, wrong_open, wrong_at, first_wrong, replayed}
 use Rattle.word_log.specs.Rest.{IsAtRest}
 use Rattle.line_words.specs.Words.{IsOnly}
@@ -89,7 +89,7 @@ in_order-from a at before (c ∷ cs) h =
 -- an open log that is valid
 pub record ValidOpen (a : LogArea) (words : ℕ → ℕ) : Type 0 where
   pub gate : words (gate_place a) ≡ 1
-  pub taken : IsTaken a (listed a words)
+  pub taken : MayCommit a (listed a words)
   pub count : length (listed a words) ≡ words (count_place a)
 
 valid_open : (a : LogArea) (words : ℕ → ℕ) → words (gate_place a) ≡ 1 → wrong_at 1 a words ≡ None → ValidOpen a words
@@ -101,10 +101,10 @@ valid_open a words gate valid =
       | inl fits ↦
           let order = in_order-from a at [] es (sym (ap (λ b. wrong_open b a words) fits) ∙ valid) in
           let long : length es ≡ n = length-entries words at n in
-          let taken : IsTaken a es = record { some = omega (arith, some n a.cap fits, long); few = omega (arith, few n a.cap fits, long); home = order.home; distinct = order.distinct } in
+          let taken : MayCommit a es = record { some = omega (arith, some n a.cap fits, long); few = omega (arith, few n a.cap fits, long); home = order.home; distinct = order.distinct } in
           record {
             gate = gate;
-            taken = subst (IsTaken a) (sym (listed-open a words gate)) taken;
+            taken = subst (MayCommit a) (sym (listed-open a words gate)) taken;
             count = ap length (listed-open a words gate) ∙ long;
           }
       | inr out ↦

@@ -19,7 +19,7 @@ IsDistinct [] = Unit {0}
 IsDistinct (c ∷ cs) = (lists cs c.0 ≡ false) × IsDistinct cs
 
 -- changes that the log takes at once: some, but no more than it has room for, of home words, none twice
-pub record IsTaken (a : LogArea) (changes : List (ℕ × ℕ)) : Type 0 where
+pub record MayCommit (a : LogArea) (changes : List (ℕ × ℕ)) : Type 0 where
   pub some : 0 < length changes
   pub few : length changes ≤ a.cap
   pub home : (p : ℕ) → IsTrue (lists changes p) → IsHome a p

@@ -3,7 +3,7 @@ use Rattle.std.specs.Prelude.{◌≡◌, ℕ, ◌+◌, ◌*◌, ◌<◌, ◌≤�
 use Rattle.line_device.specs.Medium.{Medium, last_image}
 use Rattle.word_log.specs.declared.area.LogArea.{LogArea}
 use Rattle.word_log.specs.Area.{gate_place, count_place, entry_place, Fits, IsHome}
-use Rattle.word_log.specs.Changes.{lists, IsTaken}
+use Rattle.word_log.specs.Changes.{lists, MayCommit}
 use Rattle.word_log.specs.Replay.{entries}
 use Rattle.line_words.specs.Words.{IsOnly}
 
@@ -20,7 +20,7 @@ pub record IsRecorded (a : LogArea) (changes : List (ℕ × ℕ)) (m : Medium) :
 -- changes that the log takes are written on a log that fits
 pub record IsWritten (a : LogArea) (changes : List (ℕ × ℕ)) (m : Medium) : Type 0 where
   pub fits : Fits a m
-  pub taken : IsTaken a changes
+  pub taken : MayCommit a changes
   pub recorded : IsRecorded a changes m
 
 -- the gate is 1 durably, behind it these changes count, and the other home words have these values

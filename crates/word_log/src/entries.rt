@@ -3,7 +3,7 @@ ghost use Rattle.std.specs.Prelude.{◌≡◌, ◌+◌, ◌*◌, ◌<◌, ◌≤
 ghost use Rattle.line_device.specs.Medium.{last_image};
 ghost use Rattle.line_device.specs.Panel.{Runs};
 ghost use Rattle.word_log.specs.Area.{Fits, IsStrong, IsWhole, entry_place};
-ghost use Rattle.word_log.specs.Changes.{IsTaken};
+ghost use Rattle.word_log.specs.Changes.{MayCommit};
 ghost use Rattle.word_log.specs.Replay.{entries};
 ghost use Rattle.line_words.specs.Words.{WritesBackOutside};
 ghost use Rattle.word_log.specs.Protocol.{IsBehindGate, IsRecorded};
@@ -63,7 +63,7 @@ pub fn write_entries<L: Lines>(
     area: LogArea,
     changes: &[(u64, u64)],
 ) -> Result<(), Interruption>
-    requires taken { IsTaken area changes.now }
+    requires taken { MayCommit area changes.now }
     requires fits { Fits area (L.state dev.old).medium }
     requires strong { IsStrong area (L.state dev.old).medium }
     requires whole { IsWhole area (L.state dev.old).medium }

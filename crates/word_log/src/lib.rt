@@ -12,7 +12,7 @@ ghost use Rattle.std.specs.Result.{is_ok};
 ghost use Rattle.line_device.specs.Medium.{last_image};
 ghost use Rattle.line_device.specs.Panel.{Runs};
 ghost use Rattle.word_log.specs.Area.{Fits, IsStrong, IsWhole, IsOf};
-ghost use Rattle.word_log.specs.Changes.{changed, IsTaken};
+ghost use Rattle.word_log.specs.Changes.{changed, MayCommit};
 ghost use Rattle.word_log.specs.Replay.{Replays};
 ghost use Rattle.line_words.specs.Words.{WritesBackOutside};
 ghost use Rattle.word_log.specs.Rest.{IsAtRest, EachImage};
@@ -84,7 +84,7 @@ impl Log {
         requires strong { IsStrong self.old.area (L.state dev.old).medium }
         requires whole { IsWhole self.old.area (L.state dev.old).medium }
         requires rest { (words : ℕ → ℕ) × IsAtRest self.old.area (L.state dev.old).medium words }
-        requires changes { IsTaken self.old.area changes.now }
+        requires changes { MayCommit self.old.area changes.now }
         ensures ok { OnOk result ((words : ℕ → ℕ) → IsAtRest self.old.area (L.state dev.old).medium words
             → IsAtRest self.old.area (L.state dev.new).medium (changed changes.now words)) }
         ensures images { (words : ℕ → ℕ) → IsAtRest self.old.area (L.state dev.old).medium words

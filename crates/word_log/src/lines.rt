@@ -8,10 +8,10 @@ ghost use Rattle.line_words.specs.Ending.{ended};
 
 use crate::LogArea;
 use line_device::Lines;
-use line_words::{Interruption, persist_lines};
+use line_words::{Interruption, first_bad, persist_lines};
 use nvm_base::{LineNo, Span};
 
-/// The first bad one of these lines.
+/// The lowest bad one of these lines.
 fn bad_line_in<L: Lines>(dev: &L, lines: Span) -> Option<LineNo>
     requires { lines.start + lines.len ≤ (L.state dev.now).medium.count }
     ensures { MatchOption result
@@ -19,13 +19,10 @@ fn bad_line_in<L: Lines>(dev: &L, lines: Span) -> Option<LineNo>
         (λ line. (lines.start ≤ line.0) × (line.0 < lines.start + lines.len)
         × ((L.state dev.now).medium.is_bad line.0 ≡ true)) }
 {
-    for k in 0..lines.len {
-        let line = LineNo(lines.start + k);
-        if dev.is_bad(line) {
-            return Some(line);
-        }
+    match first_bad(dev, lines.start, lines.len) {
+        Some(k) => Some(LineNo(lines.start + k)),
+        None => None,
     }
-    None
 }
 
 /// A bad line of log or home. It makes no counted call.

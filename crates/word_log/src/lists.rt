@@ -1,7 +1,7 @@
 // A replay on lists of words, and a small log worked through.
 ghost use Rattle.std.specs.Prelude.{◌≡◌, ◌+◌, ◌*◌, ◌<◌, ◌≤◌, ◌^◌, ℕ, None, Some, [], ◌∷◌, length, slice_index};
 ghost use Rattle.word_log.specs.Area.{IsShaped, count_place, entry_place};
-ghost use Rattle.word_log.specs.Changes.{changed, IsTaken};
+ghost use Rattle.word_log.specs.Changes.{changed, MayCommit};
 ghost use Rattle.word_log.specs.Replay.{entries, first_wrong, replayed};
 ghost use Rattle.word_log.specs.Lists.{on_lists};
 ghost use Rattle.word_log.specs.Examples.{small_area, zeros_but, home_words};
@@ -15,7 +15,7 @@ fn write_home(area: LogArea, log: &[u64], home: &mut [u64], count: u64)
     requires log { length log.now ≡ 8 * area.log.len }
     requires home { length home.old ≡ area.home.len }
     requires room { 8 + 2 * count ≤ length log.now }
-    requires taken { IsTaken area (entries (on_lists area log.now home.old) (entry_place area 0) count) }
+    requires taken { MayCommit area (entries (on_lists area log.now home.old) (entry_place area 0) count) }
     ensures { (j : ℕ) → j < area.home.len → slice_index home.new j
         ≡ changed (entries (on_lists area log.now home.old) (entry_place area 0) count)
         (on_lists area log.now home.old) (area.home.start + j) }

@@ -3,7 +3,7 @@ ghost use Rattle.std.specs.Prelude.{◌≡◌, ◌⊎◌, ◌+◌, ◌*◌, ℕ,
 ghost use Rattle.line_device.specs.History.{IsIn};
 ghost use Rattle.line_device.specs.Panel.{Runs};
 ghost use Rattle.word_log.specs.Area.{Fits, IsStrong, IsWhole, IsOf, gate_place};
-ghost use Rattle.word_log.specs.Changes.{changed, IsTaken};
+ghost use Rattle.word_log.specs.Changes.{changed, MayCommit};
 ghost use Rattle.word_log.specs.Replay.{Replays};
 ghost use Rattle.line_words.specs.Words.{WritesBackOutside};
 ghost use Rattle.word_log.specs.Rest.{IsAtRest, EachImage};
@@ -72,7 +72,7 @@ pub fn commit_at<L: Lines>(
     requires strong { IsStrong area (L.state dev.old).medium }
     requires whole { IsWhole area (L.state dev.old).medium }
     requires rest { (words : ℕ → ℕ) × IsAtRest area (L.state dev.old).medium words }
-    requires taken { IsTaken area changes.now }
+    requires taken { MayCommit area changes.now }
     ensures ok { OnOk result ((words : ℕ → ℕ) → IsAtRest area (L.state dev.old).medium words
         → IsAtRest area (L.state dev.new).medium (changed changes.now words)) }
     ensures images { (words : ℕ → ℕ) → IsAtRest area (L.state dev.old).medium words

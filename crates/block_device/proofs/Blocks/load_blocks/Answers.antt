@@ -1,6 +1,6 @@
 use Rattle.std.proofs.Common.{◌≡◌, ◌+◌, ◌*◌, ◌++◌, None, List, take, drop, ◌∙◌, subst, sym, arith}
 use Rattle.nvm_model.specs.Storage.{Block}
-use Rattle.nvm_model.specs.Blocks.{nth, obstacle_in, look}
+use Rattle.nvm_model.specs.Blocks.{nth, obstacle_in, look_blocks}
 use Rattle.line_device.proofs.WriteBackLemmas.{write_back-refl, write_back-trans}
 use Rattle.line_device.proofs.PanelLemmas.{runs-refl, runs_then, runs_within}
 use Rattle.block_device.specs.Object.{blocks_of}
@@ -43,7 +43,7 @@ loop-k-preserved g c =
     record {
       bytes =
           looked_more (blocks_of s old) c.args.block k c.args.out.now before c.load_block.new.out c.loop-k.invariant.bytes
-          (subst (λ (bs : List Block). c.load_block.new.out ≡ take (512 * k) before ++ look bs (c.args.block + k) 1 ++ drop (512 * k + 512) before)
+          (subst (λ (bs : List Block). c.load_block.new.out ≡ take (512 * k) before ++ look_blocks bs (c.args.block + k) 1 ++ drop (512 * k + 512) before)
           (blocks_of-write_back s old now c.loop-k.invariant.lines) c.in_ok-load_block.ensures.ok);
       lines = write_back-trans _ _ _ c.loop-k.invariant.lines c.in_ok-load_block.ensures.lines;
       runs = runs_within _ 0 _ 0 _ _ _ (runs_then _ _ 8 0 _ _ _ _ c.loop-k.invariant.runs c.in_ok-load_block.ensures.runs) (omega arith) (omega arith);

@@ -6,8 +6,8 @@ use Rattle.block_device.specs.Object.{BlocksState, IsKept}
 use Rattle.block_device.proofs.BlockLemmas.{obstructs, unit_obstructs, unit_lines}
 use Rattle.block_device.proofs.Blocks.obstacle.Goals as goal
 
-pub first_bad-requires : goal.first_bad-requires
-first_bad-requires g c =
+pub bad_line_of-requires : goal.bad_line_of-requires
+bad_line_of-requires g c =
     let log = c.self.inside.log.area in
     unit_lines c.args.self.now log (g.L.Lines.state c.args.dev.now).medium c.args.block c.in-At.unit c.block_line.result
     (subst (λ (s : BlocksState). IsKept s log) c.self.view_is c.self.invariant)

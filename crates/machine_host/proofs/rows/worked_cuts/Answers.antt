@@ -6,7 +6,7 @@ use Rattle.nvm_base.specs.Numbers.{number_of}
 use Rattle.nvm_base.specs.Data.{data_of, runs_of, data_within, data_text}
 use Rattle.word_tables.specs.Layout.{size, first_line, total_lines, volume_line}
 use Rattle.nvm_model.specs.Page.{read_pages}
-use Rattle.nvm_model.specs.Blocks.{write, look as look_blocks}
+use Rattle.nvm_model.specs.Blocks.{write, look_blocks}
 use Rattle.word_log.specs.Replay.{listed}
 use Rattle.block_device.specs.Reading.{states_read, blocks_read}
 use Rattle.reply_text.specs.Answer.{answer_line}

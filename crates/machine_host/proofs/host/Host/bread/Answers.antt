@@ -1,6 +1,6 @@
 use Rattle.std.proofs.Common.{Ok, Err, length, ap, ◌∙◌, arith}
 use Rattle.block_device.specs.Object.{blocks_of}
-use Rattle.nvm_model.specs.Blocks.{look}
+use Rattle.nvm_model.specs.Blocks.{look_blocks}
 use Rattle.reply_text.specs.Answer.Answer.{Bytes}
 use Rattle.machine_host.specs.Faults.{fault_mode}
 use Rattle.machine_host.proofs.BlockReadLemmas.{buffer_size, read_bytes, length-look, read_answered, room_of_fault}
@@ -15,7 +15,7 @@ returns-in-Ok g c =
     let same = read_bytes c.args.count c.args.block _ _ _ _ (ap length c.as_mut_slice.ensures.value) size said.ok in
     read_answered _ _ _ _ (Ok tt) c.args.block c.args.count _ _ (Unit {0}) _ _ c.self.view_is (ap (λ m. record { geometry = c.self.inside.geometry; mode = m; blocks = c.read_into.new.self }) on)
     c.requires.on c.requires.serves (omega (arith, size)) size tt said.lines said.serves said.object said.runs _ c.requires.some c.requires.few c.requires.within said.refused
-    (λ h stays. ap (λ bytes. Bytes bytes) (same ∙ ap (λ bs. look bs c.args.block c.args.count) stays))
+    (λ h stays. ap (λ bytes. Bytes bytes) (same ∙ ap (λ bs. look_blocks bs c.args.block c.args.count) stays))
     (omega (arith, ap length same ∙ length-look blocks c.args.block c.args.count))
 
 pub returns-in-Err : goal.returns-in-Err
