@@ -84,10 +84,10 @@ found_map m none = by_log (first_wrong (block_area geo) (last_image m)) right
     right : wrong_place geo (last_image m) ≡ None
     right = not_mapped wrong_word (wrong_place geo (last_image m)) (sym (first_late m (nothing_early m none)) ∙ none)
 
-    by_log : (o : Option ℕ) → first_there o (option_map (λ b. place geo (of_block b)) (table.first_wrong (map word_of (states_read geo (last_image m))))) ≡ None
+    by_log : (o : Option ℕ) → first_there o (option_map (λ b. place geo (of_block b)) (table.first_wrong_entry (map word_of (states_read geo (last_image m))))) ≡ None
         → IsMap (states_read geo (last_image m))
     by_log None is =
-        map_from_right (states_read geo (last_image m)) _ refl (not_mapped (λ b. place geo (of_block b)) (table.first_wrong (map word_of (states_read geo (last_image m)))) is)
+        map_from_right (states_read geo (last_image m)) _ refl (not_mapped (λ b. place geo (of_block b)) (table.first_wrong_entry (map word_of (states_read geo (last_image m)))) is)
     by_log (Some at) is = cc is
 
 -- so what it names is on the device, and durable with all words
