@@ -1,7 +1,7 @@
 -- Blocks of a map, as what their units' lines are.
 use Rattle.std.proofs.Common.{◌≡◌, ◌+◌, ◌-◌, ◌*◌, ◌/◌, ◌%◌, ◌<◌, ◌≤◌, ℕ, Bool, false, List, ◌++◌, ◌⊎◌, length, get_or, slice_get, take, drop, cond, is_none, position, if◌then◌else◌, Option, Some, None, option_map, OnOk, Result, Ok, Err, inl, inr, refl, sym, ap, ap₂, ◌∙◌, subst, append-nil, arith}
 use borrow.Rule.Slice.PartMut.{put_mid}
-use Rattle.std.specs.List.{position_or_len}
+use Rattle.std.specs.List.{position_or_len, range_with_len}
 use Rattle.std.proofs.lemmas.Bool.{cases_lt, lt-ltb}
 use Rattle.std.proofs.lemmas.Option.{get_or_from_slice_get, slice_get-map, none-some}
 use Rattle.std.proofs.lemmas.List.{drop_all}
@@ -25,7 +25,7 @@ use Rattle.block_device.specs.Object.{BlocksState, BlocksServe, IsKept, blocks_o
 use Rattle.block_device.specs.Refusals.{Obstructs}
 use Rattle.block_device.specs.Refusals.Refusal.{Unreadable}
 use Rattle.block_device.proofs.AreaLemmas.{unit_within}
-use Rattle.block_device.proofs.PositionLemmas.{get_or-list_from}
+use Rattle.block_device.proofs.PositionLemmas.{found_made, get_or-list_from}
 use Rattle.block_device.proofs.BufferLemmas.{is_none-line_read, mid_is, part_more}
 
 -- the block of a state
@@ -172,3 +172,7 @@ pub looked_all : (blocks : List Block) (at k count : ℕ) (s a : List ℕ) → a
     → a ≡ look_blocks blocks at count
 looked_all blocks at k count s a before is size =
     before ∙ ap (λ n. look_blocks blocks at n ++ drop (512 * n) s) is ∙ ap (λ x. look_blocks blocks at count ++ x) (drop_all (512 * count) s (omega arith)) ∙ append-nil (look_blocks blocks at count)
+
+-- the first bad line of a unit
+pub unit_bad : (m : Medium) (first : ℕ) (o : Option ℕ) → o ≡ position m.is_bad (range_with_len first 8) → o ≡ position is_none (list_from (line_read m.is_bad (last_image m)) first 8)
+unit_bad m first o is = found_made (line_read m.is_bad (last_image m)) is_none m.is_bad first 8 o (is_none-line_read m.is_bad (last_image m)) is

@@ -1,11 +1,9 @@
 -- Bytes of lines read into a buffer.
-use Rattle.std.proofs.Common.{◌≡◌, ◌+◌, ◌-◌, ◌*◌, ◌<◌, ◌≤◌, ℕ, Bool, true, false, List, ◌++◌, Option, Some, None, is_none, position, if◌then◌else◌, length, get_or, take, drop, Result, Ok, Err, OnOk, lit<, inl, inr, refl, sym, ap, ap₂, ◌∙◌, subst, append-nil, arith}
+use Rattle.std.proofs.Common.{◌≡◌, ◌+◌, ◌-◌, ◌*◌, ◌<◌, ◌≤◌, ℕ, Bool, true, false, List, ◌++◌, Some, None, is_none, position, if◌then◌else◌, length, get_or, take, drop, Result, Ok, Err, OnOk, lit<, inl, inr, refl, sym, ap, ap₂, ◌∙◌, subst, append-nil, arith}
 use borrow.Rule.Slice.PartMut.{put_mid, post_of}
 use Rattle.std.proofs.lemmas.Bool.{cases_lt}
 use Rattle.std.proofs.lemmas.List.{append_assoc, get_or_past, get_or-append-add, get_or_append_left, drop-drop, take-append-le, drop-append-le, take_all, drop_all}
-use Rattle.std.specs.List.{range_with_len}
 use Rattle.line_device.specs.Medium.{Medium, IsLine, last_image}
-use Rattle.line_words.proofs.PositionLemmas.{none_found, one_found}
 use Rattle.nvm_model.specs.Numbered.{list_from}
 use Rattle.nvm_model.proofs.NumberedLemmas.{list_from-append, length-list_from}
 use Rattle.nvm_model.proofs.LineLemmas.{line_shown}
@@ -81,18 +79,3 @@ read_all word start n len s a before is size =
 -- a line is None where it is bad
 pub is_none-line_read : (bad : ℕ → Bool) (word : ℕ → ℕ) (n : ℕ) → is_none (line_read bad word n) ≡ bad n
 is_none-line_read bad word n = elim (bad n) as (λ b. is_none (if b then None else Some (list_from (byte_of word) (64 * n) 64)) ≡ b) [ true ↦ refl | false ↦ refl ]
-
-pub bad_line_found : (bad : ℕ → Bool) (word : ℕ → ℕ) (first n k : ℕ) → k < n → ((j : ℕ) → j < k → bad (first + j) ≡ false) → bad (first + k) ≡ true
-    → position is_none (list_from (line_read bad word) first n) ≡ Some k
-bad_line_found bad word first n k within before here =
-    first_made (line_read bad word) is_none first n k within (λ j lt. is_none-line_read bad word (first + j) ∙ before j lt) (is_none-line_read bad word (first + k) ∙ here)
-
-pub no_bad_line : (bad : ℕ → Bool) (word : ℕ → ℕ) (first n : ℕ) → ((j : ℕ) → j < n → bad (first + j) ≡ false) → position is_none (list_from (line_read bad word) first n) ≡ None
-no_bad_line bad word first n good = none_made (line_read bad word) is_none first n (λ j lt. is_none-line_read bad word (first + j) ∙ good j lt)
-
--- a search by marks is one among the lines as they are read
-pub bad_line_searched : (bad : ℕ → Bool) (word : ℕ → ℕ) (first n : ℕ) (found : Option ℕ) → found ≡ position bad (range_with_len first n)
-    → found ≡ position is_none (list_from (line_read bad word) first n)
-bad_line_searched bad word first n None is = sym (no_bad_line bad word first n (λ j lt. none_found bad first n j (sym is) lt))
-bad_line_searched bad word first n (Some k) is =
-    let x = one_found bad first n k (sym is) in sym (bad_line_found bad word first n k x.within x.before x.here)

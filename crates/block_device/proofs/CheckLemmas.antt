@@ -1,6 +1,6 @@
 -- What tests before a call say.
-use Rattle.std.proofs.Common.{◌≡◌, ◌+◌, ◌*◌, ◌<◌, ◌≤◌, ◌==◌, ◌||◌, ℕ, Bool, true, false, not, All, List, [], ◌∷◌, length, sum_by, nat_lt, Option, Some, None, Result, Ok, Err, option_map, refl, subst, sym, arith}
-use Rattle.std.specs.List.{list_any}
+use Rattle.std.proofs.Common.{◌≡◌, ◌+◌, ◌*◌, ◌<◌, ◌≤◌, ◌==◌, ◌||◌, ℕ, Bool, true, false, not, All, List, [], ◌∷◌, length, sum_by, nat_lt, Option, Some, None, Result, Ok, Err, option_map, position, refl, ap, ◌∙◌, subst, sym, arith}
+use Rattle.std.specs.List.{list_any, range_with_len}
 use Rattle.std.proofs.lemmas.Bool.{false≢true, or_parts}
 use Rattle.std.proofs.lemmas.Bool.Decides.{nat_tests}
 use Rattle.std.proofs.lemmas.List.Elements.{All-nil, All-cons}
@@ -15,7 +15,6 @@ use Rattle.block_device.specs.declared.fault.BlockFault.{BlockFault}
 use Rattle.block_device.specs.declared.fault.BlockFault.TheVariants as fault
 use Rattle.block_device.specs.Refusals.Refusal.{Limit, Overlap, Meta}
 use Rattle.block_device.specs.Refusals.{Refusal, Checks, where_, spans_refusal, meta_refusal}
-use Rattle.block_device.proofs.PositionLemmas.{first_below, none_below}
 
 -- what the first of two tests finds, and what the second does where the first passes
 pub checks_first : (T : Type 0) (a b : Option Refusal) (f : BlockFault) → Checks {T = T} a (Err f) → Checks {T = T} (first_there a b) (Err f)
@@ -68,10 +67,10 @@ ranges_of_passed count spans x few h =
     let both = both_pass (list_any (λ (s : Span). nat_lt count (s.start + s.len)) spans) (list_any (λ (s : Span). s.len == 0) spans) _ _ x h in
     ranges count spans few both.0 both.1
 
--- a test of the lines of metadata, one by one
-pub meta_found : (T : Type 0) (geo : Geometry) (m : Medium) (n : ℕ) → n < meta_lines geo → ((k : ℕ) → k < n → m.is_bad k ≡ false) → m.is_bad n ≡ true → Checks {T = T} (meta_refusal geo m) (Err (fault.Meta record { 0 = n }))
-meta_found T geo m n within before bad =
-    subst (λ o. Checks {T = T} (option_map Meta o) (Err (fault.Meta record { 0 = n }))) (sym (first_below m.is_bad (meta_lines geo) n within before bad)) refl
+-- a test of the lines of metadata
+pub meta_found : (T : Type 0) (geo : Geometry) (m : Medium) (lines n : ℕ) → lines ≡ meta_lines geo → Some n ≡ position m.is_bad (range_with_len 0 lines) → Checks {T = T} (meta_refusal geo m) (Err (fault.Meta record { 0 = n }))
+meta_found T geo m lines n all is =
+    subst (λ o. Checks {T = T} (option_map Meta o) (Err (fault.Meta record { 0 = n }))) (is ∙ ap (λ k. position m.is_bad (range_with_len 0 k)) all) refl
 
-pub meta_passes : (T : Type 0) (x : T) (geo : Geometry) (m : Medium) → ((k : ℕ) → k < meta_lines geo → m.is_bad k ≡ false) → Checks (meta_refusal geo m) (Ok x)
-meta_passes T x geo m good = subst (λ o. Checks (option_map Meta o) (Ok x)) (sym (none_below m.is_bad (meta_lines geo) good)) tt
+pub meta_passes : (T : Type 0) (x : T) (geo : Geometry) (m : Medium) (lines : ℕ) → lines ≡ meta_lines geo → None ≡ position m.is_bad (range_with_len 0 lines) → Checks (meta_refusal geo m) (Ok x)
+meta_passes T x geo m lines all is = subst (λ o. Checks (option_map Meta o) (Ok x)) (is ∙ ap (λ k. position m.is_bad (range_with_len 0 k)) all) tt

@@ -1,7 +1,7 @@
 -- The first place that passes a test, in numbers that follow each other and in what is made from them.
-use Rattle.std.proofs.Common.{◌≡◌, ◌+◌, ◌<◌, ℕ, zero, suc, Bool, true, false, List, length, get_or, position, Some, None, sym, ap, ◌∙◌, arith}
+use Rattle.std.proofs.Common.{◌≡◌, ◌+◌, ◌<◌, ℕ, zero, suc, Bool, true, false, List, length, get_or, position, Option, Some, None, sym, ap, ◌∙◌, arith}
 use Rattle.std.specs.List.{range_with_len}
-use Rattle.line_words.proofs.PositionLemmas.{first_place, no_place, first_among, none_among, none_found}
+use Rattle.line_words.proofs.PositionLemmas.{first_place, no_place, first_among, none_among, none_found, one_found}
 use Rattle.nvm_model.specs.Numbered.{list_from}
 use Rattle.nvm_model.proofs.NumberedLemmas.{length-list_from}
 
@@ -36,3 +36,10 @@ none_made f p a n fails =
     let size = length-list_from f a n in
     no_place p (list_from f a n) (f a)
     (λ k lt. let within : k < n = omega arith in ap p (get_or-list_from f a n k (f a) within) ∙ fails k within)
+
+-- what is found among numbers is found in what is made of them
+pub found_made : {A : Type 0} (f : ℕ → A) (p : A → Bool) (q : ℕ → Bool) (a n : ℕ) (o : Option ℕ) → ((k : ℕ) → p (f k) ≡ q k) → o ≡ position q (range_with_len a n) → o ≡ position p (list_from f a n)
+found_made f p q a n None same is = sym (none_made f p a n (λ k below. same (a + k) ∙ none_found q a n k (sym is) below))
+found_made f p q a n (Some i) same is =
+    let found = one_found q a n i (sym is) in
+    sym (first_made f p a n i found.within (λ k lt. same (a + k) ∙ found.before k lt) (same (a + i) ∙ found.here))

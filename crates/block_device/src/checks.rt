@@ -10,6 +10,7 @@ ghost use Rattle.block_device.specs.Refusals.{Checks, block_spans, blocks_touche
 use crate::BlockFault;
 use crate::area::MOST_TOGETHER;
 use line_device::Lines;
+use line_words::first_bad;
 use nvm_base::{BLOCK, LineNo, Span};
 use range_sets::{first_overlap, total_of};
 use word_tables::Geometry;
@@ -148,10 +149,8 @@ pub fn check_meta<L: Lines>(dev: &L, geo: Geometry) -> Result<(), BlockFault>
     requires lines { (L.state dev.now).medium.count ≡ total_lines geo }
     ensures { Checks (meta_refusal geo (L.state dev.now).medium) result }
 {
-    for n in 0..geo.meta_lines() {
-        if dev.is_bad(LineNo(n)) {
-            return Err(BlockFault::Meta(LineNo(n)));
-        }
+    match first_bad(dev, 0, geo.meta_lines()) {
+        Some(line) => Err(BlockFault::Meta(LineNo(line))),
+        None => Ok(()),
     }
-    Ok(())
 }

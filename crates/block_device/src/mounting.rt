@@ -24,7 +24,7 @@ ghost use Rattle.block_device.specs.Images.{KeepsReads};
 
 use crate::area::block_area;
 use crate::{Blocks, MountFault};
-use block_map::{BlockMap, BlockState, TableFault};
+use block_map::{BlockMap, BlockState, EXTRA_UNITS, TableFault};
 use free_pool::Pool;
 use line_device::Lines;
 use line_words::load_words;
@@ -32,9 +32,6 @@ use nvm_base::Words;
 use std::alloc::{AllocError, Global};
 use word_log::Log;
 use word_tables::Geometry;
-
-/// Units beyond the blocks: as many as change together.
-const EXTRA_UNITS: u64 = 64;
 
 impl Blocks {
     /// Mounts the blocks of a device: replays their log where it is open, and reads their map.

@@ -1,11 +1,10 @@
 // Reading blocks.
-ghost use Rattle.std.specs.Prelude.{◌≡◌, ◌+◌, ◌*◌, ◌/◌, ◌%◌, ◌<◌, ◌≤◌, ◌++◌, ℕ, None, EachIndex, IsTrue, OnOk, drop, is_none, length, option_map, position, slice_index, take};
+ghost use Rattle.std.specs.Prelude.{◌≡◌, ◌+◌, ◌*◌, ◌/◌, ◌%◌, ◌<◌, ◌≤◌, ◌++◌, ℕ, None, EachIndex, IsTrue, OnOk, drop, length, option_map, slice_index, take};
 ghost use Rattle.line_device.specs.Medium.{IsHealthy, WritesBack, last_image};
 ghost use Rattle.line_device.specs.Panel.{Runs};
 ghost use Rattle.line_words.specs.Ending.{ended};
-ghost use Rattle.nvm_model.specs.Numbered.{list_from};
 ghost use Rattle.nvm_model.specs.Blocks.{first_obstacle, look_blocks, nth, obstacle_in};
-ghost use Rattle.block_device.specs.Reading.{bytes_read, line_read};
+ghost use Rattle.block_device.specs.Reading.{bytes_read};
 ghost use Rattle.block_device.specs.Object.{BlocksServe, blocks_of};
 ghost use Rattle.block_device.specs.Refusals.{Answers, Checks, Obstructs, OnRefused, block_outcome, read_refusal};
 ghost use Rattle.line_words.specs.Told.{is_done};
@@ -73,7 +72,7 @@ impl Blocks {
         match self.map.get(block) {
             BlockState::Absent => None,
             BlockState::Scarred => Some(BlockFault::Scarred(block)),
-            BlockState::At(unit) => match bad_line_of(dev, self.geo.block_line(unit)) {
+            BlockState::At(unit) => match first_bad(dev, self.geo.block_line(unit), UNIT_LINES) {
                 Some(line) => Some(BlockFault::Poison(block, line)),
                 None => None,
             },
@@ -136,14 +135,6 @@ impl Blocks {
             }
         }
     }
-}
-
-// The lowest bad one of a unit's eight lines, counted from its first.
-fn bad_line_of<L: Lines>(dev: &L, first: u64) -> Option<u64>
-    requires { first + 8 ≤ (L.state dev.now).medium.count }
-    ensures { result ≡ position is_none (list_from (line_read (L.state dev.now).medium.is_bad (last_image (L.state dev.now).medium)) first 8) }
-{
-    first_bad(dev, first, UNIT_LINES)
 }
 
 // Reads a unit's eight lines, none of which is bad.

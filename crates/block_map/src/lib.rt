@@ -5,7 +5,7 @@ mod map;
 mod state;
 mod table;
 
-pub use map::BlockMap;
+pub use map::{BlockMap, EXTRA_UNITS};
 pub use state::BlockState;
 pub use table::TableFault;
 

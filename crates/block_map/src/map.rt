@@ -9,8 +9,11 @@ use std::alloc::{AllocError, Global};
 use std::marker::Model;
 use word_tables::Geometry;
 
-// What the highest word exceeds the number of blocks by: two words name no unit, and 64 units are spare.
-const EXTRA_WORDS: u64 = 65;
+/// Units beyond the blocks.
+pub const EXTRA_UNITS: u64 = 64;
+
+// What the highest word exceeds the number of blocks by: two words name no unit.
+const EXTRA_WORDS: u64 = EXTRA_UNITS + 1;
 
 /// Where each block is. Contracts see the state of each.
 #[derive(Debug, Drop)]

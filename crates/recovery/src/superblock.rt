@@ -12,7 +12,10 @@ use crate::MountFault;
 use line_device::Lines;
 use line_words::load_words;
 use nvm_base::LineNo;
-use word_tables::{Geometry, LAYOUT, MARK, WORD_BYTES};
+use word_tables::{
+    Geometry, LAYOUT, LEAST_BLOCKS, LEAST_FPAGES, LEAST_VPAGES, MARK, MOST_BLOCKS, MOST_FPAGES,
+    MOST_VPAGES, WORD_BYTES,
+};
 
 /// The sizes that the superblock tells, where it is as it has to be.
 pub fn read_superblock<L: Lines>(dev: &mut L) -> Result<Geometry, MountFault>
@@ -45,10 +48,10 @@ fn check_words(words: &[u64; 8], lines: u64) -> Result<Geometry, MountFault>
     if !are_blocks(words[2]) {
         return Err(MountFault::Layout(2));
     }
-    if !is_within(2, 256, words[3]) {
+    if !is_within(LEAST_VPAGES, MOST_VPAGES, words[3]) {
         return Err(MountFault::Layout(3));
     }
-    if !is_within(32, 1024, words[4]) {
+    if !is_within(LEAST_FPAGES, MOST_FPAGES, words[4]) {
         return Err(MountFault::Layout(4));
     }
     let geo = Geometry {
@@ -72,7 +75,7 @@ fn check_words(words: &[u64; 8], lines: u64) -> Result<Geometry, MountFault>
 fn are_blocks(count: u64) -> bool
     ensures { result ≡ (is_within 8 4096 count && count % 8 == 0) }
 {
-    is_within(8, 4096, count) && count % 8 == 0
+    is_within(LEAST_BLOCKS, MOST_BLOCKS, count) && count % 8 == 0
 }
 
 fn is_within(least: u64, most: u64, count: u64) -> bool

@@ -1,6 +1,21 @@
 ghost use Rattle.std.specs.Prelude.{◌↔◌, IsTrue};
 ghost use Rattle.word_tables.specs.Bounds.{IsValid};
 
+/// The fewest logical blocks of a medium, and the most.
+pub const LEAST_BLOCKS: u64 = 8;
+
+pub const MOST_BLOCKS: u64 = 4096;
+
+/// The same of volume pages.
+pub const LEAST_VPAGES: u64 = 2;
+
+pub const MOST_VPAGES: u64 = 256;
+
+/// The same of physical file pages.
+pub const LEAST_FPAGES: u64 = 32;
+
+pub const MOST_FPAGES: u64 = 1024;
+
 /// How many logical blocks, volume pages and physical file pages a medium has.
 #[derive(Clone, Copy, Debug, PartialEq, Eq)]
 pub struct Geometry {
@@ -13,12 +28,12 @@ impl Geometry {
     pub fn valid(&self) -> bool
         ensures { IsTrue result ↔ IsValid self.now }
     {
-        self.blocks >= 8
-            && self.blocks <= 4096
+        self.blocks >= LEAST_BLOCKS
+            && self.blocks <= MOST_BLOCKS
             && self.blocks % 8 == 0
-            && self.vpages >= 2
-            && self.vpages <= 256
-            && self.fpages >= 32
-            && self.fpages <= 1024
+            && self.vpages >= LEAST_VPAGES
+            && self.vpages <= MOST_VPAGES
+            && self.fpages >= LEAST_FPAGES
+            && self.fpages <= MOST_FPAGES
     }
 }
