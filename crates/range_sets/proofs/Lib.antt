@@ -1,2 +1,3 @@
 pub mod DisjointLemmas
+pub mod LineLemmas
 pub mod PlaceLemmas

@@ -10,7 +10,7 @@ use Rattle.nvm_base.specs.declared.units.Span.{Span}
 use Rattle.nvm_base.specs.Units.{overlap, Holds}
 use Rattle.range_sets.specs.Ranges.{total_of, has_address, address_of, offset_of, is_disjoint}
 
-total_of-cons : (r : Span) (rs : List Span) → total_of (r ∷ rs) ≡ r.len + total_of rs
+pub total_of-cons : (r : Span) (rs : List Span) → total_of (r ∷ rs) ≡ r.len + total_of rs
 total_of-cons r rs = sum_by-cons (λ (s : Span). s.len) r rs
 
 -- in the first range, or past it
@@ -80,7 +80,7 @@ mapped_none : (f : ℕ → ℕ) (o : Option ℕ) → option_map f o ≡ None →
 mapped_none f None none = refl
 mapped_none f (Some x) none = absurd (none-some (f x) (sym none))
 
-mapped_some : (f : ℕ → ℕ) (o : Option ℕ) (y : ℕ) → option_map f o ≡ Some y → (x : ℕ) × (o ≡ Some x) × (f x ≡ y)
+pub mapped_some : (f : ℕ → ℕ) (o : Option ℕ) (y : ℕ) → option_map f o ≡ Some y → (x : ℕ) × (o ≡ Some x) × (f x ≡ y)
 mapped_some f None y some = absurd (none-some y some)
 mapped_some f (Some x) y some = (x, refl, same_Some _ _ some)
 
@@ -118,13 +118,13 @@ one_has r s address has apart =
       | inr lacks ↦ lacks
     ]
 
-none_has : (r : Span) (rs : List Span) (address : ℕ) → has_address r address ≡ true → list_any (overlap r) rs ≡ false → All (λ s. has_address s address ≡ false) rs
+pub none_has : (r : Span) (rs : List Span) (address : ℕ) → has_address r address ≡ true → list_any (overlap r) rs ≡ false → All (λ s. has_address s address ≡ false) rs
 none_has r [] address has none = All-nil (λ (s : Span). has_address s address ≡ false)
 none_has r (s ∷ rs) address has none =
     let parts = or_parts (overlap r s) (list_any (overlap r) rs) none in
     All-cons (λ (q : Span). has_address q address ≡ false) s rs (one_has r s address has parts.0) (none_has r rs address has parts.1)
 
-disjoint_parts : (r : Span) (rs : List Span) → is_disjoint (r ∷ rs) ≡ true → (not (list_any (overlap r) rs) ≡ true) × (is_disjoint rs ≡ true)
+pub disjoint_parts : (r : Span) (rs : List Span) → is_disjoint (r ∷ rs) ≡ true → (not (list_any (overlap r) rs) ≡ true) × (is_disjoint rs ≡ true)
 disjoint_parts r rs disjoint = and_parts (not (list_any (overlap r) rs)) (is_disjoint rs) disjoint
 
 -- the address of a byte leads back to it

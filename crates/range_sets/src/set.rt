@@ -1,6 +1,7 @@
 ghost use Rattle.std.specs.Prelude.{◌≡◌, ◌^◌, ◌≤◌, ◌↔◌, All, IfErr, IfOk, IfSome, IsNone, None, OnOk, Some, true};
 ghost use Rattle.nvm_base.specs.Units.{Holds};
 ghost use Rattle.range_sets.specs.Faults.{IsRangeCause, first_empty};
+ghost use Rattle.range_sets.specs.Lines.{fits};
 ghost use Rattle.range_sets.specs.Ranges.{IsInReach, IsRangeSet, is_disjoint, offset_of, address_of, total_of};
 
 use crate::{faults, walk};
@@ -81,6 +82,7 @@ impl RangeSet {
         ensures place { result ≡ address_of self.now offset }
         ensures none { IsNone result ↔ (total_of self.now ≤ offset) }
         ensures inverse { IfSome result (λ address. offset_of self.now address ≡ Some offset) }
+        ensures set { IsRangeSet self.now }
     {
         walk::place(self.ranges.as_slice(), offset)
     }
@@ -92,5 +94,12 @@ impl RangeSet {
         ensures inverse { IfSome result (λ offset. address_of self.now offset ≡ Some address) }
     {
         walk::offset_of(self.ranges.as_slice(), address)
+    }
+    /// Whether each range is made of whole lines of a device of so many.
+    pub fn fits(&self, lines: u64) -> bool
+        ensures fits { result ≡ fits self.now lines }
+        ensures set { IsRangeSet self.now }
+    {
+        walk::fits(self.ranges.as_slice(), lines)
     }
 }

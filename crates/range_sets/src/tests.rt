@@ -63,3 +63,18 @@ fn the_smallest_and_the_largest_set_are_made(rt: HostRuntime) -> Result<(), Fail
     assert_eq!(rt; whole.offset_of(1 << 40), None);
     Ok(())
 }
+
+#[test]
+fn a_set_of_whole_lines_fits_a_device_that_has_them(rt: HostRuntime) -> Result<(), Fail> {
+    for (ranges, fits) in [
+        ([span(64, 64), span(256, 128)], true),
+        ([span(256, 128), span(64, 64)], true),
+        ([span(64, 64), span(256, 192)], false),
+        ([span(65, 64), span(256, 64)], false),
+        ([span(64, 65), span(256, 64)], false),
+    ] {
+        let set = two(&rt, rt.alloc(), ranges)?;
+        assert_eq!(rt; set.fits(6), fits, "at {ranges:?}");
+    }
+    Ok(())
+}

@@ -1,8 +1,9 @@
 // Bytes and addresses, counted through ranges in their order.
 ghost use Rattle.std.specs.Prelude.{◌≡◌, ◌^◌, ◌≤◌, All};
+ghost use Rattle.range_sets.specs.Lines.{fits};
 ghost use Rattle.range_sets.specs.Ranges.{IsInReach, offset_of, address_of, total_of};
 
-use nvm_base::Span;
+use nvm_base::{LINE, Span};
 
 /// The bytes of all ranges.
 pub fn total_of(ranges: &[Span]) -> u64
@@ -38,4 +39,16 @@ pub(crate) fn offset_of(ranges: &[Span], address: u64) -> Option<u64>
         before += range.len;
     }
     None
+}
+
+// Whether each range is made of whole lines of a device of so many.
+pub(crate) fn fits(ranges: &[Span], lines: u64) -> bool
+    requires { All IsInReach ranges.now }
+    ensures { result ≡ fits ranges.now lines }
+{
+    ranges.iter().all(|range| {
+        range.start % LINE == 0
+            && range.len % LINE == 0
+            && (range.start + range.len) / LINE <= lines
+    })
 }
