@@ -135,3 +135,44 @@ pub total_of-fits : (ranges : List Span) (count : ℕ) → is_disjoint ranges �
 total_of-fits ranges count disjoint is =
     let few = below-few ranges (64 * count) disjoint in
     omega (arith, below-all ranges count is, few)
+
+-- a set's lines are on the device
+pub lines_in_all : (ranges : List Span) (count : ℕ) → is_disjoint ranges ≡ true → fits ranges count ≡ true → total_of ranges / 64 ≤ count
+lines_in_all ranges count disjoint is =
+    let few = total_of-fits ranges count disjoint is in
+    omega (arith, few)
+
+pub line_within : (ranges : List Span) (n : ℕ) → n < total_of ranges / 64 → 64 * n < total_of ranges
+line_within ranges n within = omega arith
+
+pub line_past : (ranges : List Span) (count n : ℕ) → fits ranges count ≡ true → total_of ranges ≤ 64 * n → n ≡ total_of ranges / 64 + (n - total_of ranges / 64)
+line_past ranges count n is past =
+    let lines = total_of-lines ranges count is in
+    omega (arith, lines)
+
+pub address_of-some : (ranges : List Span) (offset : ℕ) → offset < total_of ranges → (address : ℕ) × (address_of ranges offset ≡ Some address)
+address_of-some [] offset within = absurd (omega arith)
+address_of-some (r ∷ rs) offset within =
+    let total = total_of-cons r rs in
+    elim (cases_lt offset r.len) [
+      | inl here ↦ (r.start + offset, place_first r rs offset here)
+      | inr past ↦
+          let rest = address_of-some rs (offset - r.len) (omega arith) in
+          (rest.0, place_later r rs offset past ∙ rest.1)
+    ]
+
+-- where a line of the set lies on the device
+pub line_behind : (ranges : List Span) (count n : ℕ) → fits ranges count ≡ true → n < total_of ranges / 64 → (address : ℕ) × (address_of ranges (64 * n) ≡ Some address) × (address / 64 < count) × (64 * (address / 64) ≡ address)
+line_behind ranges count n is within =
+    let found = address_of-some ranges (64 * n) (line_within ranges n within) in
+    let begins : 64 * n % 64 ≡ 0 = omega arith in
+    let line = address_of-line ranges count (64 * n) found.0 is begins found.1 in
+    (found.0, found.1, omega (arith, line.0, line.1), omega (arith, line.0))
+
+-- and which line of the set is a line of the device
+pub line_ahead : (ranges : List Span) (count line offset : ℕ) → fits ranges count ≡ true → offset_of ranges (64 * line) ≡ Some offset → (64 * (offset / 64) ≡ offset) × (64 * (offset / 64) < total_of ranges)
+line_ahead ranges count line offset is found =
+    let begins : 64 * line % 64 ≡ 0 = omega arith in
+    let lines = offset_of-line ranges count (64 * line) offset is begins found in
+    let within = offset_of-within ranges (64 * line) offset found in
+    (omega (arith, lines), omega (arith, lines, within))
