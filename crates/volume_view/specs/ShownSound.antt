@@ -11,16 +11,11 @@ use Rattle.line_device.specs.Medium.{Medium, IsSound, IsHealthy}
 use Rattle.range_sets.specs.Lines.{fits}
 use Rattle.range_sets.specs.Ranges.{total_of, address_of, offset_of, is_disjoint}
 use Rattle.range_sets.proofs.LineLemmas.{lines_in_all, line_within, line_behind}
-use Rattle.volume_view.specs.Shown.{shown, shown_count, line_shown, beside, mark_of, history_of}
+use Rattle.volume_view.specs.Shown.{AreLent, IsBehind, shown, shown_count, line_shown, beside, mark_of, history_of}
 
 -- a word of a line, and the line of it
 pub line_of_word : (line p : ℕ) → (8 * line + p % 8) / 8 ≡ line
 line_of_word line p = ap (λ n. (n + p % 8) / 8) (mul_comm 8 line) ∙ div-mul-add line 8 (p % 8) (mod-lt p {m = 8} (lit< tt))
-
--- ranges that are a set of whole lines of the device
-pub record AreLent (ranges : List Span) (count : ℕ) : Type 0 where
-  pub disjoint : is_disjoint ranges ≡ true
-  pub fit : fits ranges count ≡ true
 
 pub shown_count-lent : (ranges : List Span) (count : ℕ) → AreLent ranges count → shown_count ranges count ≡ total_of ranges / 64
 unfolding shown_count
@@ -45,10 +40,6 @@ shown-lent ranges count n within =
       | inl is ↦ let parts = and_parts (is_disjoint ranges) (fits ranges count) is in record { disjoint = parts.0; fit = parts.1 }
       | inr not_lent ↦ absurd (not-suc-le-zero (subst (λ b. n < (if b then total_of ranges / 64 else 0)) not_lent within))
     ]
-
-pub record IsBehind (ranges : List Span) (count n line : ℕ) : Type 0 where
-  pub shown : line_shown ranges n ≡ Some line
-  pub within : line < count
 
 pub line_shown-some : (ranges : List Span) (count n : ℕ) → n < shown_count ranges count → (line : ℕ) × IsBehind ranges count n line
 unfolding line_shown

@@ -6,10 +6,12 @@ ghost use Rattle.range_sets.specs.Lines.{fits};
 ghost use Rattle.volume_view.specs.Shown.{shown_count, line_shown};
 
 mod faults;
+mod laws;
 mod lines;
 #[cfg(test)]
 mod tests;
 
+pub use laws::{each_line_is_shown_once, frames_of_a_view_are_frames_of_the_device};
 use line_device::Lines;
 use nvm_base::{LINE, LineNo};
 use range_sets::RangeSet;
