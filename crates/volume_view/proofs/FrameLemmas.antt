@@ -1,12 +1,8 @@
 -- Frames of a view and of the device behind it.
-use Rattle.std.proofs.Common.{◌≡◌, ◌+◌, ◌-◌, ◌*◌, ◌/◌, ◌%◌, ◌<◌, ◌≤◌, ℕ, Bool, true, false, List, [], ◌∷◌, Option, Some, None, refl, sym, ap, ◌∙◌, subst, arith}
-use Rattle.std.proofs.lemmas.Option.{same_Some, none-some}
-use Rattle.std.specs.Borrow.{GName}
+use Rattle.std.proofs.Common.{◌≡◌, ◌+◌, ◌*◌, ◌/◌, ◌%◌, ◌≤◌, ℕ, Bool, true, false, List, [], Option, Some, None, refl, sym, ap, ◌∙◌, subst, arith}
 use Rattle.nvm_base.specs.declared.units.Span.{Span}
 use Rattle.line_device.specs.History.{WordWritesBack}
 use Rattle.line_device.specs.Medium.{Medium, WritesBack}
-use Rattle.line_device.specs.Panel.{Loan}
-use Rattle.line_device.specs.Device.{Device}
 use Rattle.line_device.proofs.HistoryLemmas.{word_write_back-refl}
 use Rattle.line_words.specs.Words.{WritesBackBeside, WritesBackOutside}
 use Rattle.range_sets.specs.Lines.{fits}
@@ -14,7 +10,6 @@ use Rattle.range_sets.specs.Ranges.{IsRangeSet, total_of, offset_of}
 use Rattle.range_sets.proofs.LineLemmas.{line_ahead}
 use Rattle.volume_view.specs.Shown.{AreLent, shown, shown_count, line_shown, shown_as, shown_by, mark_of, history_of}
 use Rattle.volume_view.specs.ShownSound.{line_of_word, shown_count-lent}
-use Rattle.volume_view.specs.View.{view}
 use Rattle.volume_view.proofs.ShownLemmas.{shown_as-is, shown_as-shown}
 
 pub are_lent : (ranges : List Span) (count : ℕ) → IsRangeSet ranges → fits ranges count ≡ true → AreLent ranges count
@@ -121,22 +116,3 @@ unfolding shown_as
 shown_as-outside ranges count line lent none =
     let few = shown_count-lent ranges count lent in
     subst (λ o. shown_count ranges count ≤ shown_by (total_of ranges) line o) (sym none) (omega (arith, few))
-
-later : List Loan → List Loan
-later [] = []
-later (loan ∷ loans) = loans
-
-nearest : Loan → List Loan → Loan
-nearest other [] = other
-nearest other (loan ∷ loans) = loan
-
--- a view that tells of the same loans shows the same lines of the same borrow
-pub same_loan : (name other : GName) (ranges others : List Span) (old new : Device) → (view other others new).panel.loans ≡ (view name ranges old).panel.loans → (other ≡ name) × (others ≡ ranges) × (new.medium.count ≡ old.medium.count)
-unfolding nearest
-same_loan name other ranges others old new same =
-    let loan : Loan = record { name = name; ranges = ranges; count = old.medium.count } in
-    (ap (λ loans. (nearest loan loans).name) same, ap (λ loans. (nearest loan loans).ranges) same, ap (λ loans. (nearest loan loans).count) same)
-
-pub same_loans : (name other : GName) (ranges others : List Span) (old new : Device) → (view other others new).panel.loans ≡ (view name ranges old).panel.loans → new.panel.loans ≡ old.panel.loans
-unfolding later
-same_loans name other ranges others old new same = ap later same

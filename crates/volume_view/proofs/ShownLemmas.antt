@@ -1,10 +1,9 @@
 -- Each line of the device is shown once, so what is done to a shown line is done to the line behind it.
-use Rattle.std.proofs.Common.{◌≡◌, ◌+◌, ◌-◌, ◌*◌, ◌/◌, ◌%◌, ◌<◌, ◌≤◌, ◌^◌, ◌==◌, ◌&&◌, ℕ, Bool, true, false, not, List, [], ◌∷◌, Option, Some, None, Result, Ok, Err, MatchResult, if◌then◌else◌, length, refl, sym, ap, ◌∙◌, subst, inl, inr, arith}
+use Rattle.std.proofs.Common.{◌≡◌, ◌+◌, ◌-◌, ◌*◌, ◌/◌, ◌%◌, ◌<◌, ◌≤◌, ◌^◌, ◌&&◌, ℕ, Bool, true, false, not, List, [], ◌∷◌, Option, Some, None, Result, Ok, Err, MatchResult, if◌then◌else◌, refl, sym, ap, ◌∙◌, subst, inl, inr, arith}
 use Rattle.std.specs.Option.{option_map}
 use Rattle.std.proofs.lemmas.Bool.{cases_lt, cases_eq, lt-ltb, le-ltb, eq-eqb, ne_eqb}
 use Rattle.std.proofs.lemmas.Option.{same_Some, none-some}
 use Rattle.nvm_base.specs.declared.units.Span.{Span}
-use Rattle.line_device.specs.Word.{word_at}
 use Rattle.line_device.specs.History.{newest, latest, WordWritesBack}
 use Rattle.line_device.specs.Medium.{Medium, IsSound, WritesBack, Weakens, IsLine, with_at, on_line, word_stored, stored, renewed, poisoned, flushed, persisted, cleared}
 use Rattle.line_device.specs.Device.{IsPoison}
@@ -12,7 +11,7 @@ use Rattle.line_device.specs.declared.fault.DeviceFault.{DeviceFault}
 use Rattle.line_device.proofs.HistoryLemmas.{word_write_back-refl}
 use Rattle.line_device.proofs.WriteBackLemmas.{on_line-in, on_line-out}
 use Rattle.range_sets.specs.Lines.{fits}
-use Rattle.range_sets.specs.Ranges.{total_of, address_of, offset_of, is_disjoint, IsRangeSet}
+use Rattle.range_sets.specs.Ranges.{total_of, address_of, offset_of, IsRangeSet}
 use Rattle.range_sets.proofs.PlaceLemmas.{place-offset_of, offset_of-place}
 use Rattle.range_sets.proofs.LineLemmas.{total_of-lines, line_within, line_past, line_behind, line_ahead}
 use Rattle.volume_view.specs.Shown.{AreLent, IsBehind, shown, shown_count, line_shown, shown_as, shown_by, beside, mark_of, history_of}

@@ -1,5 +1,5 @@
 -- What is shown of sound lines is sound.
-use Rattle.std.specs.Prelude.{◌≡◌, ◌+◌, ◌-◌, ◌*◌, ◌/◌, ◌%◌, ◌<◌, ◌≤◌, ◌&&◌, ◌^◌, ℕ, Bool, true, false, List, [], Option, Some, None, nat_lt, if◌then◌else◌, refl}
+use Rattle.std.specs.Prelude.{◌≡◌, ◌+◌, ◌-◌, ◌*◌, ◌/◌, ◌%◌, ◌<◌, ◌≤◌, ◌&&◌, ◌^◌, ℕ, true, false, List, [], Option, Some, None, if◌then◌else◌, refl}
 use Rattle.std.specs.Option.{option_map}
 use Rattle.std.proofs.Math.Nat.{le_trans, mul_comm, mod-lt, not-suc-le-zero}
 use Rattle.std.proofs.Common.{lit≤, lit<, sym, ◌∙◌, ap, subst, inl, inr}
@@ -7,7 +7,7 @@ use Rattle.std.proofs.lemmas.Nat.{div-mul-add}
 use Rattle.std.proofs.lemmas.Bool.{false≢true, cases_Bool, and_parts, lt-ltb}
 use Rattle.nvm_base.specs.declared.units.Span.{Span}
 use Rattle.line_device.specs.History.{newest, IsIn}
-use Rattle.line_device.specs.Medium.{Medium, IsSound, IsHealthy}
+use Rattle.line_device.specs.Medium.{Medium, IsSound}
 use Rattle.range_sets.specs.Lines.{fits}
 use Rattle.range_sets.specs.Ranges.{total_of, address_of, offset_of, is_disjoint}
 use Rattle.range_sets.proofs.LineLemmas.{lines_in_all, line_within, line_behind}
