@@ -41,9 +41,15 @@ Leaves _ host after old new = (after ≡ host) × (new ≡ old)
 
 -- the mode after a fault of the blocks, and what it is answered
 abbrev pub fault_mode : Mode → BlockFault → Mode
+fault_mode mode fault.Range = mode
+fault_mode mode fault.Length = mode
+fault_mode mode fault.Limit = mode
+fault_mode mode fault.Overlap = mode
+fault_mode mode (fault.Meta line) = mode
+fault_mode mode (fault.Scarred block) = mode
+fault_mode mode (fault.Poison block line) = mode
 fault_mode mode fault.Device = modes.Unsettled
 fault_mode mode fault.PowerLost = modes.Off
-fault_mode mode _ = mode
 
 abbrev pub fault_answer : BlockFault → Answer
 fault_answer fault.Range = Refused because.Range
@@ -67,9 +73,15 @@ answer_after good (Err f) = fault_answer f
 
 -- what a restart is answered after a mount that was not done, and the mode
 abbrev pub unmounted_answer : MountFault → Answer
+unmounted_answer (mount.Meta line) = DeviceFailed
+unmounted_answer (mount.Layout place) = DeviceFailed
+unmounted_answer mount.Device = DeviceFailed
 unmounted_answer mount.PowerLost = PowerLost
-unmounted_answer _ = DeviceFailed
+unmounted_answer mount.Memory = DeviceFailed
 
 abbrev pub unmounted_mode : MountFault → Mode
+unmounted_mode (mount.Meta line) = modes.Unsettled
+unmounted_mode (mount.Layout place) = modes.Unsettled
+unmounted_mode mount.Device = modes.Unsettled
 unmounted_mode mount.PowerLost = modes.Off
-unmounted_mode _ = modes.Unsettled
+unmounted_mode mount.Memory = modes.Unsettled

@@ -3,7 +3,7 @@ use Rattle.std.specs.Prelude.{◌≡◌, Bool, IsTrue, Option, Some, None}
 use Rattle.line_words.specs.declared.interruption.Interruption.{Interruption}
 use Rattle.line_words.specs.declared.interruption.Interruption.TheVariants.{Failed, PowerLost as Lost}
 use Rattle.reply_text.specs.Answer.{Answer}
-use Rattle.reply_text.specs.Answer.Answer.{DeviceFailed, PowerLost}
+use Rattle.reply_text.specs.Answer.Answer.{Done, DoneBad, Bytes, Yes, No, Scarred, PoisonBlock, DeviceFailed, PowerLost, Refused, RefusedMeta}
 use Rattle.machine_host.specs.declared.mode.Mode.{Mode}
 use Rattle.machine_host.specs.declared.mode.Mode.TheVariants as modes
 use Rattle.machine_host.specs.Machine.{Machine}
@@ -19,9 +19,17 @@ interrupted_mode Lost = modes.Off
 
 -- and which interruption an answer tells of
 abbrev pub stop_in : Answer → Option Interruption
+stop_in Done = None
+stop_in (DoneBad n) = None
+stop_in (Bytes bytes) = None
+stop_in Yes = None
+stop_in No = None
+stop_in (Scarred block) = None
+stop_in (PoisonBlock block line) = None
 stop_in DeviceFailed = Some Failed
 stop_in PowerLost = Some Lost
-stop_in _ = None
+stop_in (Refused why) = None
+stop_in (RefusedMeta line) = None
 
 -- whether it may come: a failure where one is armed, a loss of power where a cut is
 abbrev pub may_come : Interruption → Machine → Bool

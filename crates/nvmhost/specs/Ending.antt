@@ -45,5 +45,8 @@ of_reset reset.Failed = Device
 of_reset reset.Memory = Memory
 
 abbrev pub of_mount : MountFault → Ending
+of_mount (mount.Meta line) = Device
+of_mount (mount.Layout place) = Device
+of_mount mount.Device = Device
+of_mount mount.PowerLost = Device
 of_mount mount.Memory = Memory
-of_mount _ = Device
