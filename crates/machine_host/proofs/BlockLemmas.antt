@@ -1,5 +1,5 @@
 -- What a host and its device stand for, after a call on the blocks.
-use Rattle.std.proofs.Common.{◌≡◌, ◌≢◌, ◌⊎◌, ◌/◌, ◌≤◌, ℕ, true, IsTrue, nat_lt, Option, Some, None, option_map, Result, Ok, Err, OnOk, List, [], ◌∷◌, length, inl, inr, refl, sym, ap, ap₂, subst, ◌∙◌, arith}
+use Rattle.std.proofs.Common.{◌≡◌, ◌≢◌, ◌⊎◌, ◌/◌, ◌≤◌, ℕ, true, IsTrue, nat_lt, Option, Some, None, option_map, Result, Ok, Err, OnOk, List, [], ◌∷◌, inl, inr, refl, sym, ap, ap₂, subst, ◌∙◌, arith}
 use Rattle.line_device.specs.Medium.{Medium}
 use Rattle.line_device.specs.Panel.{Runs}
 use Rattle.line_device.specs.Device.{Device}

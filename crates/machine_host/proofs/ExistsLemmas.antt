@@ -9,7 +9,6 @@ use Rattle.block_map.specs.declared.state.BlockState.{BlockState}
 use Rattle.block_map.specs.declared.state.BlockState.TheVariants as state
 use Rattle.block_device.specs.Object.{blocks_of}
 use Rattle.block_device.specs.Reading.{block_read, map_read}
-use Rattle.block_device.specs.Refusals.Refusal.{Range}
 use Rattle.script_text.specs.Action.Action.{BExists}
 use Rattle.reply_text.specs.Answer.{Answer}
 use Rattle.reply_text.specs.Answer.Answer.{Yes, No, Refused}

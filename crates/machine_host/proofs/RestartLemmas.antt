@@ -40,7 +40,7 @@ use Rattle.machine_host.specs.declared.mode.Mode.{Mode}
 use Rattle.machine_host.specs.declared.mode.Mode.TheVariants as modes
 use Rattle.machine_host.specs.Machine.{Machine}
 use Rattle.machine_host.specs.Machine.Fate.{Restarts}
-use Rattle.machine_host.specs.Commands.{MayLeaveBlocks, fate, meaning, spending}
+use Rattle.machine_host.specs.Commands.{MayLeaveBlocks, fate, spending}
 use Rattle.machine_host.specs.Interrupted.{interrupted_answer, interrupted_mode}
 use Rattle.machine_host.specs.Restarting.{RestartMayLeave, reading, restarted}
 use Rattle.machine_host.specs.Costs.{Spending, mount_calls, mount_persists}

@@ -1,5 +1,5 @@
 -- What a host and its device stand for, after work on the volume.
-use Rattle.std.proofs.Common.{◌≡◌, ℕ, ◌⊎◌, ◌+◌, ◌*◌, ◌/◌, ◌≤◌, inl, inr, true, false, IsTrue, Option, Some, None, option_map, Err, List, length, refl, sym, ap, subst, ◌∙◌, arith}
+use Rattle.std.proofs.Common.{◌≡◌, ℕ, ◌+◌, ◌*◌, ◌/◌, ◌≤◌, inl, inr, true, false, IsTrue, Option, Some, None, option_map, Err, List, length, refl, sym, ap, subst, ◌∙◌, arith}
 use Rattle.line_device.specs.Medium.{WritesBack, word_stored}
 use Rattle.line_device.specs.Panel.{Panel, Runs, after_arm_cut, after_power_off}
 use Rattle.line_device.specs.declared.order.Order.TheVariants.{Cut as ForCut}
@@ -17,9 +17,9 @@ use Rattle.script_text.specs.Action.Action.{Cut, CutIn, VLoad, VStore, VSync}
 use Rattle.reply_text.specs.Answer.{Answer}
 use Rattle.reply_text.specs.Answer.Answer.{Done, Bytes, Refused}
 use Rattle.reply_text.specs.declared.reply.Why.{Why}
-use Rattle.machine_host.specs.Machine.{Machine, Fate}
+use Rattle.machine_host.specs.Machine.{Machine}
 use Rattle.machine_host.specs.Commands.{MayLeaveBlocks, MayLeaveVolume, early_refusal, fate, longest, meaning, spending, unless_refused, while_interrupted}
-use Rattle.machine_host.specs.Machine.Fate.{Gives, Works, Orders, Cuts}
+use Rattle.machine_host.specs.Machine.Fate.{Works, Orders, Cuts}
 use Rattle.machine_host.specs.Interrupted.{Interrupts, may_come, interrupted_answer, interrupted_mode, stop_in}
 use Rattle.machine_host.specs.Costs.{Spending, lines_touched}
 use Rattle.machine_host.specs.Run.{answered, with_cut, with_order, worked}
@@ -37,7 +37,6 @@ use Rattle.block_device.specs.Area.{IsBlockPlace}
 use Rattle.block_device.specs.Object.{blocks_of}
 use Rattle.block_device.specs.Images.{EachReads}
 use Rattle.block_device.proofs.FrameLemmas.{each_reads-outside}
-use Rattle.block_device.proofs.ImageLemmas.{each_reads-then}
 use Rattle.machine_host.proofs.ElsewhereLemmas.{first_not_volume, volume_apart, blocks_of-outside}
 use Rattle.machine_host.proofs.MetadataLemmas.{metadata-outside}
 use Rattle.machine_host.proofs.RefusalLemmas.{early_first, fate_placed}

@@ -1,5 +1,5 @@
 -- Cuts and restarts. What a restart leaves, the medium decides.
-use Rattle.std.specs.Prelude.{◌==◌, ℕ, true, false, Option, Some, None, if◌then◌else◌}
+use Rattle.std.specs.Prelude.{◌==◌, ℕ, true, false, Some, None, if◌then◌else◌}
 use Rattle.line_device.specs.declared.line.Choice.{Choice}
 use Rattle.line_device.specs.declared.order.Order.TheVariants.{Cut as ForCut}
 use Rattle.reply_text.specs.declared.reply.Why.TheVariants as because
