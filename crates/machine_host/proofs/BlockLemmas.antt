@@ -1,5 +1,5 @@
 -- What a host and its device stand for, after a call on the blocks.
-use Rattle.std.proofs.Common.{◌≡◌, ◌≢◌, ◌⊎◌, ◌/◌, ◌≤◌, ℕ, true, IsTrue, nat_lt, Option, Some, None, option_map, Result, Ok, Err, OnOk, List, [], ◌∷◌, inl, inr, refl, sym, ap, ap₂, subst, ◌∙◌, arith}
+use Rattle.std.proofs.Common.{◌≡◌, ◌≢◌, ◌/◌, ◌≤◌, ℕ, true, IsTrue, nat_lt, Option, Some, None, option_map, Result, Ok, Err, OnOk, List, [], ◌∷◌, inl, refl, sym, ap, ap₂, subst, ◌∙◌, arith}
 use Rattle.line_device.specs.Medium.{Medium}
 use Rattle.line_device.specs.Panel.{Runs}
 use Rattle.line_device.specs.Device.{Device}
@@ -44,7 +44,10 @@ use Rattle.machine_host.specs.Interrupted.{interrupted_answer, interrupted_mode,
 use Rattle.machine_host.specs.Run.{answered, worked}
 use Rattle.machine_host.specs.Volume.{HasLayout, volume_of}
 use Rattle.machine_host.specs.Stands.{HostState, HostServes, MetadataStands, AreMounted, Stands, Comes, is_powered}
-use Rattle.machine_host.specs.Faults.{answer_after, fault_answer, fault_mode, mode_after}
+use Rattle.machine_host.specs.Faults.{answer_after, fault_answer, fault_mode, mode_after, told_answer, told_mode}
+use Rattle.line_words.specs.Told.{Told, refusal_of, told_outcome}
+use Rattle.line_words.specs.Told.Told.{Refuses, Stops, Starves}
+use Rattle.block_device.specs.Refusals.{block_says}
 use Rattle.machine_host.proofs.ElsewhereLemmas.{first_not_blocks, layout-beside, write_back_volume-beside}
 use Rattle.machine_host.proofs.MetadataLemmas.{good_metadata, metadata-beside, nothing_bad}
 use Rattle.machine_host.proofs.VolumeLemmas.{volume_intact}
@@ -59,44 +62,28 @@ pub record Called {T : Type 0} (host : HostState) (s : BlocksState) (r : Result 
   pub object : (s.geo ≡ host.blocks.geo) × (s.settled ≡ is_done (block_outcome r))
   pub runs : Runs calls persists (block_outcome r) old.panel new.panel
 
--- a fault refuses and leaves the mode, or the device stopped
-pub record Refuses (f : BlockFault) : Type 0 where
-  pub told : told f ≢ None
-  pub mode : fault_mode On f ≡ On
-
-pub refuses_or_stops : (f : BlockFault) → Refuses f ⊎ (f ≡ fault.Device) ⊎ (f ≡ fault.PowerLost)
-refuses_or_stops fault.Range = inl (record { told = λ e. cc; mode = refl })
-refuses_or_stops fault.Length = inl (record { told = λ e. cc; mode = refl })
-refuses_or_stops fault.Limit = inl (record { told = λ e. cc; mode = refl })
-refuses_or_stops fault.Overlap = inl (record { told = λ e. cc; mode = refl })
-refuses_or_stops (fault.Meta line) = inl (record { told = λ e. cc; mode = refl })
-refuses_or_stops (fault.Scarred block) = inl (record { told = λ e. cc; mode = refl })
-refuses_or_stops (fault.Poison block line) = inl (record { told = λ e. cc; mode = refl })
-refuses_or_stops fault.Device = inr (inl refl)
-refuses_or_stops fault.PowerLost = inr (inr refl)
+-- no call on the blocks wants memory
+never_starves : (f : BlockFault) → block_says f ≡ Starves → ⊥
+never_starves fault.Range e = cc e
+never_starves fault.Length e = cc e
+never_starves fault.Limit e = cc e
+never_starves fault.Overlap e = cc e
+never_starves (fault.Meta line) e = cc e
+never_starves (fault.Scarred block) e = cc e
+never_starves (fault.Poison block line) e = cc e
+never_starves fault.Device e = cc e
+never_starves fault.PowerLost e = cc e
 
 -- a fault that refuses is answered as its reason is, and leaves the mode
-answer_told : (f : BlockFault) (w : Refusal) → told f ≡ Some w → fault_answer f ≡ refusal_answer w
-answer_told fault.Range w e = ap refusal_answer (same_Some Range w e)
-answer_told fault.Length w e = ap refusal_answer (same_Some Length w e)
-answer_told fault.Limit w e = ap refusal_answer (same_Some Limit w e)
-answer_told fault.Overlap w e = ap refusal_answer (same_Some Overlap w e)
-answer_told (fault.Meta line) w e = ap refusal_answer (same_Some (Meta line.0) w e)
-answer_told (fault.Scarred block) w e = ap refusal_answer (same_Some (Unreadable (scar block)) w e)
-answer_told (fault.Poison block line) w e = ap refusal_answer (same_Some (Unreadable (bad_line block line)) w e)
-answer_told fault.Device w e = absurd (cc)
-answer_told fault.PowerLost w e = absurd (cc)
+answer_told : (t : Told Refusal) (w : Refusal) → refusal_of t ≡ Some w → told_answer t ≡ refusal_answer w
+answer_told (Refuses why) w e = ap refusal_answer (same_Some why w e)
+answer_told (Stops by) w e = cc e
+answer_told Starves w e = cc e
 
-told_stays : (f : BlockFault) (w : Refusal) → told f ≡ Some w → fault_mode On f ≡ On
-told_stays fault.Range w e = refl
-told_stays fault.Length w e = refl
-told_stays fault.Limit w e = refl
-told_stays fault.Overlap w e = refl
-told_stays (fault.Meta line) w e = refl
-told_stays (fault.Scarred block) w e = refl
-told_stays (fault.Poison block line) w e = refl
-told_stays fault.Device w e = absurd (cc)
-told_stays fault.PowerLost w e = absurd (cc)
+told_stays : (t : Told Refusal) (w : Refusal) → refusal_of t ≡ Some w → told_mode On t ≡ On
+told_stays (Refuses why) w e = refl
+told_stays (Stops by) w e = cc e
+told_stays Starves w e = cc e
 
 -- an answer to a refusal tells of no interruption
 pub no_stop : (w : Refusal) → stop_in (refusal_answer w) ≡ None
@@ -109,17 +96,24 @@ no_stop (Unreadable (scar block)) = refl
 no_stop (Unreadable (bad_line block line)) = refl
 
 -- what a call is answered that gives no bytes is short
-pub short_after : (r : Result (Unit {0}) BlockFault) → most_of (answer_after Done r) ≤ 64
+short_refusal : (w : Refusal) → most_of (refusal_answer w) ≤ 64
+short_refusal Range = omega arith
+short_refusal Length = omega arith
+short_refusal Limit = omega arith
+short_refusal Overlap = omega arith
+short_refusal (Meta line) = omega arith
+short_refusal (Unreadable (scar block)) = omega arith
+short_refusal (Unreadable (bad_line block line)) = omega arith
+
+pub short_told : (t : Told Refusal) → most_of (told_answer t) ≤ 64
+short_told (Refuses why) = short_refusal why
+short_told (Stops Failed) = omega arith
+short_told (Stops PowerLost) = omega arith
+short_told Starves = omega arith
+
+short_after : (r : Result (Unit {0}) BlockFault) → most_of (answer_after Done r) ≤ 64
 short_after (Ok x) = omega arith
-short_after (Err fault.Range) = omega arith
-short_after (Err fault.Length) = omega arith
-short_after (Err fault.Limit) = omega arith
-short_after (Err fault.Overlap) = omega arith
-short_after (Err (fault.Meta line)) = omega arith
-short_after (Err (fault.Scarred block)) = omega arith
-short_after (Err (fault.Poison block line)) = omega arith
-short_after (Err fault.Device) = omega arith
-short_after (Err fault.PowerLost) = omega arith
+short_after (Err f) = short_told (block_says f)
 
 -- the host after the call
 abbrev pub host_after : {T : Type 0} → HostState → BlocksState → Result T BlockFault → HostState
@@ -152,29 +146,18 @@ module _ (host : HostState) (s : BlocksState) (P : List Block → Type 0) (calls
         power = c.runs.cause.0 ∙ power_was;
         mounted = λ _. mounted_after c.object.0 c.object.1 served;
       }
-  serves_called {T} (Err f) c = elim (refuses_or_stops f) as (λ _. HostServes (host_after {T = T} host s (Err f)) new) [
-    | inl refuses ↦ refused refuses (c.untouched refuses.told)
-    | inr stops ↦ elim stops as (λ _. HostServes (host_after {T = T} host s (Err f)) new) [
-      | inl is ↦ failed_ is (subst (λ g. Called {T = T} host s (Err g) P calls persists old new) is c)
-      | inr is ↦ lost_ is (subst (λ g. Called {T = T} host s (Err g) P calls persists old new) is c)
-    ]
-  ]
+  serves_called {T} (Err f) c = by_told (block_says f) (never_starves f) c.untouched c.runs
     where
-      refused : Refuses f → (s ≡ host.blocks) × (new ≡ old) → HostServes (record { geometry = host.geometry; mode = fault_mode On f; blocks = s }) new
-      refused refuses same =
-          subst (λ m. HostServes (record { geometry = host.geometry; mode = m; blocks = s }) new) (on ∙ sym refuses.mode)
+      by_told : (t : Told Refusal) → (t ≡ Starves → ⊥) → (refusal_of t ≢ None → (s ≡ host.blocks) × (new ≡ old)) → Runs calls persists (told_outcome t) old.panel new.panel
+          → HostServes (record { geometry = host.geometry; mode = told_mode On t; blocks = s }) new
+      by_told (Refuses why) never untouched runs =
+          let same = untouched (λ e. cc e) in
+          subst (λ m. HostServes (record { geometry = host.geometry; mode = m; blocks = s }) new) on
           (subst (λ d. HostServes (record { geometry = host.geometry; mode = host.mode; blocks = s }) d) (sym same.1)
           (subst (λ b. HostServes (record { geometry = host.geometry; mode = host.mode; blocks = b }) old) (sym same.0) serves))
-
-      failed_ : f ≡ fault.Device → Called {T = T} host s (Err fault.Device) P calls persists old new → HostServes (record { geometry = host.geometry; mode = fault_mode On f; blocks = s }) new
-      failed_ is c =
-          subst (λ g. HostServes (record { geometry = host.geometry; mode = fault_mode On g; blocks = s }) new) (sym is)
-          (record { layout = layout_after c.outside; power = c.runs.cause.0 ∙ power_was; mounted = λ e. cc })
-
-      lost_ : f ≡ fault.PowerLost → Called {T = T} host s (Err fault.PowerLost) P calls persists old new → HostServes (record { geometry = host.geometry; mode = fault_mode On f; blocks = s }) new
-      lost_ is c =
-          subst (λ g. HostServes (record { geometry = host.geometry; mode = fault_mode On g; blocks = s }) new) (sym is)
-          (record { layout = layout_after c.outside; power = c.runs.cause.0; mounted = λ e. cc })
+      by_told (Stops Failed) never untouched runs = record { layout = layout_after c.outside; power = runs.cause.0 ∙ power_was; mounted = λ e. cc e }
+      by_told (Stops PowerLost) never untouched runs = record { layout = layout_after c.outside; power = runs.cause.0; mounted = λ e. cc e }
+      by_told Starves never untouched runs = absurd (never refl)
 
 -- A call on the blocks comes to what the machine makes of it: done, refused, or interrupted.
 module _ (host : HostState) (s : BlocksState) (action : Action) (calls persists : ℕ) (h : Machine) (few : calls ≤ (spending h action).calls) (few_persists : persists ≤ (spending h action).persists)
@@ -229,10 +212,6 @@ module _ (host : HostState) (s : BlocksState) (action : Action) (calls persists 
       subst (λ bs. EachReads h.geometry new.medium (MayLeaveBlocks (Some action) bs)) (stands.blocks on)
       (subst (λ g. EachReads g new.medium may) ((serves.mounted on).geometry ∙ stands.geometry) each)
 
-  -- what a fault comes to
-  abbrev Stopped : Answer → BlockFault → Type 0
-  Stopped good g = Comes h action (Works good (record h { blocks = f h.blocks })) (fault_answer g) (record { geometry = host.geometry; mode = fault_mode On g; blocks = s }) old new
-
   comes_of_stop : (by : Interruption) (good : Answer) → MayLeaveVolume (Some action) h.volume h.volume → Runs calls persists (ended {T = Unit {0}} (Err by)) old.panel new.panel
       → EachReads host.blocks.geo new.medium may → WritesBackBeside (IsBlockLine host.blocks.geo) old.medium new.medium
       → Comes h action (Works good (record h { blocks = f h.blocks })) (interrupted_answer by) (record { geometry = host.geometry; mode = interrupted_mode by; blocks = s }) old new
@@ -260,14 +239,14 @@ module _ (host : HostState) (s : BlocksState) (action : Action) (calls persists 
   comes_of_change good (Err e) (Some w) quiet left answers ok c = refused_here (c.untouched (λ none. cc))
     where
       mode_stays : fault_mode On e ≡ host.mode
-      mode_stays = told_stays e w answers ∙ sym on
+      mode_stays = told_stays (block_says e) w answers ∙ sym on
 
       refused_here : (s ≡ host.blocks) × (new ≡ old) → Comes h action (Gives (refusal_answer w) h) (fault_answer e) (record { geometry = host.geometry; mode = fault_mode On e; blocks = s }) old new
       refused_here same =
           subst (λ m. Comes h action (Gives (refusal_answer w) h) (fault_answer e) (record { geometry = host.geometry; mode = m; blocks = s }) old new) (sym mode_stays)
           (subst (λ b. Comes h action (Gives (refusal_answer w) h) (fault_answer e) (record { geometry = host.geometry; mode = host.mode; blocks = b }) old new) (sym same.0)
           (subst (λ d. Comes h action (Gives (refusal_answer w) h) (fault_answer e) host old d) (sym same.1)
-          (subst (λ a. Comes h action (Gives (refusal_answer w) h) a host old old) (sym (answer_told e w answers)) (record {
+          (subst (λ a. Comes h action (Gives (refusal_answer w) h) a host old old) (sym (answer_told (block_says e) w answers)) (record {
             said = answered (refusal_answer w);
             next = h;
             answers = refl;
@@ -275,15 +254,13 @@ module _ (host : HostState) (s : BlocksState) (action : Action) (calls persists 
             tells = tells_nothing (refusal_answer w) (no_stop w) old.panel;
             stands = stands;
           }))))
-  comes_of_change good (Err e) None quiet left answers ok c = elim (refuses_or_stops e) as (λ _. Stopped good e) [
-    | inl refuses ↦ absurd (refuses.told answers)
-    | inr stops ↦ elim stops as (λ _. Stopped good e) [
-      | inl is ↦ subst (Stopped good) (sym is)
-          (comes_of_stop Failed good left (subst (λ g. Runs calls persists (block_outcome {T = Unit {0}} (Err g)) old.panel new.panel) is c.runs) (c.images answers) c.outside)
-      | inr is ↦ subst (Stopped good) (sym is)
-          (comes_of_stop PowerLost good left (subst (λ g. Runs calls persists (block_outcome {T = Unit {0}} (Err g)) old.panel new.panel) is c.runs) (c.images answers) c.outside)
-    ]
-  ]
+  comes_of_change good (Err e) None quiet left answers ok c = by_told (block_says e) (never_starves e) answers c.runs
+    where
+      by_told : (t : Told Refusal) → (t ≡ Starves → ⊥) → refusal_of t ≡ None → Runs calls persists (told_outcome t) old.panel new.panel
+          → Comes h action (Works good (record h { blocks = f h.blocks })) (told_answer t) (record { geometry = host.geometry; mode = told_mode On t; blocks = s }) old new
+      by_told (Refuses why) never none runs = cc none
+      by_told (Stops by) never none runs = comes_of_stop by good left runs (c.images answers) c.outside
+      by_told Starves never none runs = absurd (never refl)
 
 on_refused-then : {T P Q : Type 0} (r : Result T BlockFault) → (P → Q) → OnRefused r P → OnRefused r Q
 on_refused-then (Ok x) then_ p = tt

@@ -33,7 +33,8 @@ use Rattle.machine_host.proofs.RefusalLemmas.{fate_read}
 use Rattle.machine_host.specs.Faults.{answer_after, fault_answer}
 use Rattle.machine_host.specs.Responding.{Answered}
 use Rattle.reply_text.specs.Room.{most_of}
-use Rattle.machine_host.proofs.BlockLemmas.{Called, host_after, change_serves, change_comes, short_after}
+use Rattle.machine_host.proofs.BlockLemmas.{Called, host_after, change_serves, change_comes, short_told}
+use Rattle.block_device.specs.Refusals.{block_says}
 use Rattle.machine_host.proofs.MetadataLemmas.{good_metadata}
 
 -- a buffer that a call filled
@@ -160,4 +161,4 @@ module _ (now host after : HostState) (s : BlocksState) (r : Result (Unit {0}) B
 
 -- the answer of a fault is short
 pub room_of_fault : (f : BlockFault) (answer : Answer) (count : ℕ) → answer ≡ fault_answer f → most_of answer ≤ 64 + 3 * (512 * count)
-room_of_fault f answer count is = let short = subst (λ a. most_of a ≤ 64) (sym is) (short_after (Err f)) in omega (arith, short)
+room_of_fault f answer count is = let short = subst (λ a. most_of a ≤ 64) (sym is) (short_told (block_says f)) in omega (arith, short)

@@ -7,14 +7,17 @@ use Rattle.machine_host.specs.declared.mode.Mode.{Mode}
 use Rattle.machine_host.specs.declared.mode.Mode.TheVariants as modes
 use Rattle.script_text.specs.Action.{Action}
 use Rattle.script_text.specs.Action.Action.{Restart}
-use Rattle.reply_text.specs.declared.reply.Why.TheVariants as because
 use Rattle.reply_text.specs.Answer.{Answer}
-use Rattle.reply_text.specs.Answer.Answer.{DeviceFailed, PoisonBlock, PowerLost, Refused, RefusedMeta, Scarred}
+use Rattle.reply_text.specs.Answer.Answer.{DeviceFailed, PowerLost}
 use Rattle.block_device.specs.declared.fault.BlockFault.{BlockFault}
-use Rattle.block_device.specs.declared.fault.BlockFault.TheVariants as fault
+use Rattle.block_device.specs.Refusals.{Refusal, block_says}
+use Rattle.line_words.specs.Told.{Told}
+use Rattle.line_words.specs.Told.Told.{Refuses, Stops, Starves}
 use Rattle.recovery.specs.declared.fault.MountFault.{MountFault}
 use Rattle.recovery.specs.declared.fault.MountFault.TheVariants as mount
 use Rattle.machine_host.specs.Machine.{Machine}
+use Rattle.machine_host.specs.OnBlocks.{refusal_answer}
+use Rattle.machine_host.specs.Interrupted.{interrupted_answer, interrupted_mode}
 use Rattle.machine_host.specs.Restarting.{RestartMayLeave, restarted}
 use Rattle.machine_host.specs.Costs.{Opens}
 use Rattle.machine_host.specs.Stands.{HostState, Stands}
@@ -39,28 +42,23 @@ abbrev pub Leaves : Action → HostState → HostState → Device → Device →
 Leaves (Restart choice) host after old new = (after ≡ host) × ((new ≡ old) ⊎ Waited old new) ⊎ LeftUnmounted choice host after old new
 Leaves _ host after old new = (after ≡ host) × (new ≡ old)
 
--- the mode after a fault of the blocks, and what it is answered
+-- the mode after a call whose fault told this, and what it is answered; no call on the blocks wants memory
+abbrev pub told_mode : Mode → Told Refusal → Mode
+told_mode mode (Refuses why) = mode
+told_mode mode (Stops by) = interrupted_mode by
+told_mode mode Starves = mode
+
+abbrev pub told_answer : Told Refusal → Answer
+told_answer (Refuses why) = refusal_answer why
+told_answer (Stops by) = interrupted_answer by
+told_answer Starves = DeviceFailed
+
+-- the same of a fault of the blocks
 abbrev pub fault_mode : Mode → BlockFault → Mode
-fault_mode mode fault.Range = mode
-fault_mode mode fault.Length = mode
-fault_mode mode fault.Limit = mode
-fault_mode mode fault.Overlap = mode
-fault_mode mode (fault.Meta line) = mode
-fault_mode mode (fault.Scarred block) = mode
-fault_mode mode (fault.Poison block line) = mode
-fault_mode mode fault.Device = modes.Unsettled
-fault_mode mode fault.PowerLost = modes.Off
+fault_mode mode fault = told_mode mode (block_says fault)
 
 abbrev pub fault_answer : BlockFault → Answer
-fault_answer fault.Range = Refused because.Range
-fault_answer fault.Length = Refused because.Length
-fault_answer fault.Limit = Refused because.Limit
-fault_answer fault.Overlap = Refused because.Overlap
-fault_answer (fault.Meta line) = RefusedMeta line.0
-fault_answer (fault.Scarred block) = Scarred block
-fault_answer (fault.Poison block line) = PoisonBlock block line
-fault_answer fault.Device = DeviceFailed
-fault_answer fault.PowerLost = PowerLost
+fault_answer fault = told_answer (block_says fault)
 
 -- the mode after a call on the blocks, and what it is answered where it gives this at Ok
 abbrev pub mode_after : {T : Type 0} → Result T BlockFault → Mode
