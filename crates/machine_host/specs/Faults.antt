@@ -1,12 +1,11 @@
 -- How faults of the layers below are answered, and what want of memory leaves.
-use Rattle.std.specs.Prelude.{◌≡◌, ◌⊎◌, Result, Ok, Err}
+use Rattle.std.specs.Prelude.{◌≡◌, ◌⊎◌, Option, Some, None, Result, Ok, Err}
 use Rattle.line_device.specs.Panel.{Start}
 use Rattle.line_device.specs.Device.{Device, Restarted, Waited}
 use Rattle.line_device.specs.declared.line.Choice.{Choice}
 use Rattle.machine_host.specs.declared.mode.Mode.{Mode}
 use Rattle.machine_host.specs.declared.mode.Mode.TheVariants as modes
 use Rattle.script_text.specs.Action.{Action}
-use Rattle.script_text.specs.Action.Action.{Restart}
 use Rattle.reply_text.specs.Answer.{Answer}
 use Rattle.reply_text.specs.Answer.Answer.{DeviceFailed, PowerLost}
 use Rattle.block_device.specs.declared.fault.BlockFault.{BlockFault}
@@ -17,6 +16,7 @@ use Rattle.recovery.specs.declared.fault.MountFault.{MountFault}
 use Rattle.recovery.specs.declared.fault.MountFault.TheVariants as mount
 use Rattle.machine_host.specs.Machine.{Machine}
 use Rattle.machine_host.specs.OnBlocks.{refusal_answer}
+use Rattle.machine_host.specs.Commands.{meaning}
 use Rattle.machine_host.specs.Interrupted.{interrupted_answer, interrupted_mode}
 use Rattle.machine_host.specs.Restarting.{RestartMayLeave, restarted}
 use Rattle.machine_host.specs.Costs.{Opens}
@@ -38,9 +38,12 @@ pub record LeftUnmounted (choice : Choice) (host after : HostState) (old new : D
 
 -- What a command that ran out of memory leaves of host and device: all as it was, but that a restart may have been refused, or
 -- done without a mount.
+abbrev pub LeavesStarved : Option Choice → HostState → HostState → Device → Device → Type 0
+LeavesStarved None host after old new = (after ≡ host) × (new ≡ old)
+LeavesStarved (Some choice) host after old new = (after ≡ host) × ((new ≡ old) ⊎ Waited old new) ⊎ LeftUnmounted choice host after old new
+
 abbrev pub Leaves : Action → HostState → HostState → Device → Device → Type 0
-Leaves (Restart choice) host after old new = (after ≡ host) × ((new ≡ old) ⊎ Waited old new) ⊎ LeftUnmounted choice host after old new
-Leaves _ host after old new = (after ≡ host) × (new ≡ old)
+Leaves action = LeavesStarved (meaning action).remounts
 
 -- the mode after a call whose fault told this, and what it is answered; no call on the blocks wants memory
 abbrev pub told_mode : Mode → Told Refusal → Mode

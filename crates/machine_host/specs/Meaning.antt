@@ -1,5 +1,6 @@
 -- What a row of the table says of a command, and in which order reasons refuse it.
 use Rattle.std.specs.Prelude.{◌+◌, ◌==◌, ℕ, Bool, true, false, List, [], ◌∷◌, Option, Some, None, nat_lt, option_map, if◌then◌else◌}
+use Rattle.line_device.specs.declared.line.Choice.{Choice}
 use Rattle.word_tables.specs.declared.geometry.Geometry.{Geometry}
 use Rattle.nvm_model.specs.Blocks.{first_there}
 use Rattle.nvm_model.specs.Page.{Page}
@@ -44,8 +45,8 @@ pub data VolumeLeft : Type 0 where
   PartSynced : ℕ → ℕ → VolumeLeft
 
 -- A command: the mode that it needs, the places that the host looks at before anything else does, all that refuses it, what
--- comes of it where nothing does, what it makes of blocks and volume, what an interruption may leave of them, what it may
--- spend, and the room of its reply.
+-- comes of it where nothing does, what it makes of blocks and volume, what an interruption may leave of them, whether it mounts
+-- the device anew, what it may spend, and the room of its reply.
 pub record Meaning : Type 0 where
   pub needs : Needs
   pub checked : Geometry → Option Why
@@ -55,6 +56,7 @@ pub record Meaning : Type 0 where
   pub volume : List Page → List Page
   pub blocks_left : BlocksLeft
   pub volume_left : VolumeLeft
+  pub remounts : Option Choice
   pub spends : Machine → Spending
   pub room : ℕ
 
@@ -73,6 +75,7 @@ quiet needs checked comes = record {
   volume = λ pages. pages;
   blocks_left = Same;
   volume_left = Kept;
+  remounts = None;
   spends = λ h. no_spending;
   room = 64;
 }

@@ -17,4 +17,7 @@ abbrev pub cut_in : ℕ → Meaning
 cut_in calls = quiet Powered (λ geo. if calls == 0 then Some because.Range else None) (λ h. Orders (ForCut calls) (record h { cut_armed = true }))
 
 abbrev pub restart : Choice → Meaning
-restart choice = record (quiet Unpowered anywhere (λ h. Restarts choice)) { spends = λ h. record { calls = mount_calls; persists = mount_persists } }
+restart choice = record (quiet Unpowered anywhere (λ h. Restarts choice)) {
+  remounts = Some choice;
+  spends = λ h. record { calls = mount_calls; persists = mount_persists };
+}
