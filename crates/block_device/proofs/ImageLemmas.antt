@@ -17,7 +17,7 @@ use Rattle.nvm_model.specs.Storage.{Block}
 use Rattle.block_device.specs.Area.{block_area}
 use Rattle.block_device.specs.Object.{BlocksState, BlocksServe, AreDurable, HasGoodMetadata, blocks_of, map_words}
 use Rattle.block_device.specs.Reading.{map_read, states_read, blocks_read}
-use Rattle.block_device.specs.Images.{IsBlockImage, Reads, EachReads}
+use Rattle.block_device.specs.Images.{IsBlockImage, ReadsAs, EachReads}
 use Rattle.block_device.proofs.ReadLemmas.{map_read-same}
 use Rattle.block_device.proofs.PlaceLemmas.{area_fits, area_whole, block_is_home, named_is_data, image_on_area}
 
@@ -52,7 +52,7 @@ states_read-is geo states image valid all replays =
     ap (list_from f 0) (sym all) ∙ list_from-items states Absent 0 f at
 
 -- An image that replays to the words of a map reads as the map's blocks, since what it names is durable.
-pub reads : (geo : Geometry) (m : Medium) (states : List BlockState) (image : ℕ → ℕ) → IsValid geo → length states ≡ geo.blocks → IsMap states → AreDurable geo m states → IsBlockImage geo m image → Replays (block_area geo) image (map_words geo states) → Reads geo m (λ bs. bs ≡ map_read geo m.is_bad (last_image m) states) image
+pub reads : (geo : Geometry) (m : Medium) (states : List BlockState) (image : ℕ → ℕ) → IsValid geo → length states ≡ geo.blocks → IsMap states → AreDurable geo m states → IsBlockImage geo m image → Replays (block_area geo) image (map_words geo states) → ReadsAs geo m (λ bs. bs ≡ map_read geo m.is_bad (last_image m) states) image
 unfolding blocks_read
 reads geo m states image valid all is_map durable is replays =
     let same = states_read-is geo states image valid all replays in
@@ -67,7 +67,7 @@ reads geo m states image valid all is_map durable is replays =
           (λ p named good. durable named.block named.unit named.at p named.from named.to (image p) (is p (inr (inr (named_is_data geo valid states (p / 8) all is_map named))) good));
     }
 
-pub reads-then : (geo : Geometry) (m : Medium) (P Q : List Block → Type 0) (image : ℕ → ℕ) → ((bs : List Block) → P bs → Q bs) → Reads geo m P image → Reads geo m Q image
+pub reads-then : (geo : Geometry) (m : Medium) (P Q : List Block → Type 0) (image : ℕ → ℕ) → ((bs : List Block) → P bs → Q bs) → ReadsAs geo m P image → ReadsAs geo m Q image
 reads-then geo m P Q image then_ x = record { log = x.log; map = x.map; durable = x.durable; blocks = then_ (blocks_read geo m.is_bad image) x.blocks }
 
 pub each_reads-then : (geo : Geometry) (m : Medium) (P Q : List Block → Type 0) → ((bs : List Block) → P bs → Q bs) → EachReads geo m P → EachReads geo m Q

@@ -25,7 +25,7 @@ use Rattle.nvm_model.specs.Storage.{Block}
 use Rattle.block_device.specs.Area.{block_area, IsBlockPlace}
 use Rattle.block_device.specs.Object.{AreDurable}
 use Rattle.block_device.specs.Reading.{map_read, states_read, blocks_read}
-use Rattle.block_device.specs.Images.{IsBlockImage, IsSameLog, Reads, EachReads, KeepsReads}
+use Rattle.block_device.specs.Images.{IsBlockImage, IsSameLog, ReadsAs, EachReads, KeepsReads}
 use Rattle.block_device.specs.Mounting.{wrong_place}
 use Rattle.block_device.proofs.ReadLemmas.{IsNamed, list_from-cong, map_read-same, durable-outside, durable-write_back}
 use Rattle.block_device.proofs.PlaceLemmas.{area_in_metadata, block_is_home, data_behind_metadata, image_on_area, named_apart, named_is_data}
@@ -34,7 +34,7 @@ use Rattle.block_device.proofs.FrameLemmas.{length-states_read}
 use Rattle.block_device.proofs.ImageLemmas.{reads-then}
 
 -- nothing is wrong with an image of blocks
-pub reads_right : (geo : Geometry) (m : Medium) (P : List Block → Type 0) (image : ℕ → ℕ) → Reads geo m P image → wrong_place geo image ≡ None
+pub reads_right : (geo : Geometry) (m : Medium) (P : List Block → Type 0) (image : ℕ → ℕ) → ReadsAs geo m P image → wrong_place geo image ≡ None
 reads_right geo m P image x =
     let where_ : ℕ → ℕ = λ b. place geo (of_block b) in
     ap (λ wrong. first_there wrong (option_map where_ (table.first_wrong_entry (map word_of (states_read geo image))))) x.log
@@ -145,7 +145,7 @@ module _ (geo : Geometry) (old new : Medium) (valid : IsValid geo) (x : WritesBa
       ]
 
   -- they read alike
-  joined_reads : Replays (block_area geo) image (replayed (block_area geo) (joined geo before image)) → Reads geo old (λ _. Unit {0}) (joined geo before image) → Reads geo new (λ bs. bs ≡ blocks_read geo old.is_bad (joined geo before image)) image
+  joined_reads : Replays (block_area geo) image (replayed (block_area geo) (joined geo before image)) → ReadsAs geo old (λ _. Unit {0}) (joined geo before image) → ReadsAs geo new (λ bs. bs ≡ blocks_read geo old.is_bad (joined geo before image)) image
   unfolding blocks_read
   joined_reads replays r =
       let j : ℕ → ℕ = joined geo before image in

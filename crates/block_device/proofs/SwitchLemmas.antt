@@ -25,7 +25,7 @@ use Rattle.block_device.specs.Area.{block_area}
 use Rattle.block_device.specs.Reading.{map_read}
 use Rattle.block_device.specs.Object.{BlocksState, IsKept, BlocksServe, AreDurable, HasGoodMetadata, map_words}
 use Rattle.block_device.specs.Changes.{changed_map, names, MayChange, word_changes}
-use Rattle.block_device.specs.Images.{IsBlockImage, Reads, EachReads, IsEither}
+use Rattle.block_device.specs.Images.{IsBlockImage, ReadsAs, EachReads, IsEither}
 use Rattle.block_device.proofs.ReadLemmas.{IsNamed, map_read-outside, durable-outside}
 use Rattle.block_device.proofs.PlaceLemmas.{area_fits, area_whole, area_strong, block_is_home, named_apart, image_on_area}
 use Rattle.block_device.proofs.ImageLemmas.{map_words-at, reads, reads-then}
@@ -138,7 +138,7 @@ module _ (s : BlocksState) (area : LogArea) (old : Medium) (cs : List Change) (r
 
   module _ (new : Medium) (x : WritesBackOutside (IsOf area) old new) where
     -- an image that replays to the words of one of the two maps
-    image_reads : (states : List BlockState) (words image : ℕ → ℕ) → length states ≡ s.geo.blocks → IsMap states → AreDurable s.geo old states → ((p : ℕ) → IsHome (block_area s.geo) p → words p ≡ map_words s.geo states p) → IsBlockImage s.geo new image → Replays area image words → Reads s.geo new (λ bs. bs ≡ map_read s.geo old.is_bad (last_image old) states) image
+    image_reads : (states : List BlockState) (words image : ℕ → ℕ) → length states ≡ s.geo.blocks → IsMap states → AreDurable s.geo old states → ((p : ℕ) → IsHome (block_area s.geo) p → words p ≡ map_words s.geo states p) → IsBlockImage s.geo new image → Replays area image words → ReadsAs s.geo new (λ bs. bs ≡ map_read s.geo old.is_bad (last_image old) states) image
     image_reads states words image all is_map durable same is replays =
         reads-then s.geo new (λ bs. bs ≡ map_read s.geo new.is_bad (last_image new) states) (λ bs. bs ≡ map_read s.geo old.is_bad (last_image old) states) image
         (λ bs e. e ∙ map_read-outside s.geo states old new (IsOf area) x (apart_of states all is_map))
@@ -156,7 +156,7 @@ module _ (s : BlocksState) (area : LogArea) (old : Medium) (cs : List Change) (r
         let whole = whole-outside area (IsOf area) old new ready_whole x in
         let on = subst (λ a. IsWhole a new) ready.kept.area whole in
         let of_area = image_on_area s.geo ready.kept.valid new image on is in
-        elim (images (map_words s.geo s.map) ready_rest image (subst (λ a. (p : ℕ) → IsOf a p → IsIn (image p) (new.history p)) (sym ready.kept.area) of_area)) as (λ _. Reads s.geo new (IsEither one other) image) [
+        elim (images (map_words s.geo s.map) ready_rest image (subst (λ a. (p : ℕ) → IsOf a p → IsIn (image p) (new.history p)) (sym ready.kept.area) of_area)) as (λ _. ReadsAs s.geo new (IsEither one other) image) [
           | inl was ↦
               reads-then s.geo new (λ bs. bs ≡ one) (IsEither one other) image (λ bs e. inl e)
               (image_reads s.map (map_words s.geo s.map) image ready.kept.all ready.kept.is_map ready.serves.durable (λ p _. refl) is was)

@@ -16,7 +16,7 @@ abbrev pub IsBlockImage : Geometry → Medium → (ℕ → ℕ) → Type 0
 IsBlockImage geo m image = (p : ℕ) → IsBlockPlace geo p → m.is_bad (p / 8) ≡ false → IsIn (image p) (m.history p)
 
 -- such an image has a valid log and a map, what it names is durable, and its blocks are like that
-pub record Reads (geo : Geometry) (m : Medium) (P : List Block → Type 0) (image : ℕ → ℕ) : Type 0 where
+pub record ReadsAs (geo : Geometry) (m : Medium) (P : List Block → Type 0) (image : ℕ → ℕ) : Type 0 where
   pub log : first_wrong (block_area geo) image ≡ None
   pub map : IsMap (states_read geo image)
   pub durable : AreDurable geo m (states_read geo image)
@@ -24,7 +24,7 @@ pub record Reads (geo : Geometry) (m : Medium) (P : List Block → Type 0) (imag
 
 -- each image of the blocks reads so
 abbrev pub EachReads : Geometry → Medium → (List Block → Type 0) → Type 0
-EachReads geo m P = (image : ℕ → ℕ) → IsBlockImage geo m image → Reads geo m P image
+EachReads geo m P = (image : ℕ → ℕ) → IsBlockImage geo m image → ReadsAs geo m P image
 
 -- the one, or the other
 abbrev pub IsEither : List Block → List Block → List Block → Type 0
@@ -46,7 +46,7 @@ pub record ReadsAsBefore (geo : Geometry) (old new : Medium) (image : ℕ → �
   pub before : ℕ → ℕ
   pub was : IsBlockImage geo old before
   pub same : IsSameLog geo before image
-  pub reads : Reads geo old (λ blocks. Unit {0}) before → Reads geo new (λ blocks. blocks ≡ blocks_read geo old.is_bad before) image
+  pub reads : ReadsAs geo old (λ blocks. Unit {0}) before → ReadsAs geo new (λ blocks. blocks ≡ blocks_read geo old.is_bad before) image
 
 -- each image does
 abbrev pub KeepsReads : Geometry → Medium → Medium → Type 0

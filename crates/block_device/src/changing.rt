@@ -6,6 +6,7 @@ ghost use Rattle.nvm_base.specs.declared.units.Span.{Span as Stretch};
 ghost use Rattle.line_device.specs.Panel.{Runs};
 ghost use Rattle.line_words.specs.Words.{WritesBackBeside};
 ghost use Rattle.line_words.specs.Ending.{ended};
+ghost use Rattle.word_log.specs.Changes.{commit_calls, commit_persists};
 ghost use Rattle.nvm_model.specs.Storage.Block.{Absent, Scarred};
 ghost use Rattle.nvm_model.specs.Blocks.{IsMixed, change};
 ghost use Rattle.block_device.specs.Area.{IsBlockLine};
@@ -41,7 +42,7 @@ impl Blocks {
         ensures outside { WritesBackBeside (IsBlockLine self.old.geo) (L.state dev.old).medium (L.state dev.new).medium }
         ensures serves { IsTrue self.new.settled → BlocksServe self.new (L.state dev.new).medium }
         ensures object { (self.new.geo ≡ self.old.geo) × (self.new.settled ≡ is_done (block_outcome result)) }
-        ensures runs { Runs 326 131 (block_outcome result) (L.state dev.old).panel (L.state dev.new).panel }
+        ensures runs { Runs (commit_calls 64) (commit_persists 64) (block_outcome result) (L.state dev.old).panel (L.state dev.new).panel }
     {
         self.change_together(dev, &[blocks], BlockState::Absent)
     }
@@ -62,7 +63,7 @@ impl Blocks {
         ensures outside { WritesBackBeside (IsBlockLine self.old.geo) (L.state dev.old).medium (L.state dev.new).medium }
         ensures serves { IsTrue self.new.settled → BlocksServe self.new (L.state dev.new).medium }
         ensures object { (self.new.geo ≡ self.old.geo) × (self.new.settled ≡ is_done (block_outcome result)) }
-        ensures runs { Runs 326 131 (block_outcome result) (L.state dev.old).panel (L.state dev.new).panel }
+        ensures runs { Runs (commit_calls 64) (commit_persists 64) (block_outcome result) (L.state dev.old).panel (L.state dev.new).panel }
     {
         self.change_together(dev, spans, BlockState::Scarred)
     }
@@ -119,7 +120,7 @@ impl Blocks {
         ensures outside { WritesBackBeside (IsBlockLine self.old.geo) (L.state dev.old).medium (L.state dev.new).medium }
         ensures serves { IsTrue self.new.settled → BlocksServe self.new (L.state dev.new).medium }
         ensures object { (self.new.geo ≡ self.old.geo) × (self.new.settled ≡ is_done (block_outcome result)) }
-        ensures runs { Runs 326 131 (block_outcome result) (L.state dev.old).panel (L.state dev.new).panel }
+        ensures runs { Runs (commit_calls 64) (commit_persists 64) (block_outcome result) (L.state dev.old).panel (L.state dev.new).panel }
     {
         check_together(self.geo.blocks, spans)?;
         check_meta(dev, self.geo)?;
@@ -149,7 +150,7 @@ impl Blocks {
         ensures outside { WritesBackBeside (IsBlockLine self.old.geo) (L.state dev.old).medium (L.state dev.new).medium }
         ensures serves { OnOk result (BlocksServe self.new (L.state dev.new).medium) }
         ensures object { (self.new.geo ≡ self.old.geo) × (self.new.settled ≡ is_ok result) }
-        ensures runs { Runs (5 * sum_by (λ (s : Stretch). s.len) spans.now + 6) (2 * sum_by (λ (s : Stretch). s.len) spans.now + 3)
+        ensures runs { Runs (commit_calls (sum_by (λ (s : Stretch). s.len) spans.now)) (commit_persists (sum_by (λ (s : Stretch). s.len) spans.now))
             (ended result) (L.state dev.old).panel (L.state dev.new).panel }
     {
         let _ = &self.geo;

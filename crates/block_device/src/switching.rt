@@ -6,6 +6,7 @@ ghost use Rattle.line_device.specs.Panel.{Runs};
 ghost use Rattle.line_words.specs.Words.{WritesBackOutside};
 ghost use Rattle.line_words.specs.Ending.{ended};
 ghost use Rattle.word_log.specs.Area.{IsOf};
+ghost use Rattle.word_log.specs.Changes.{commit_calls, commit_persists};
 ghost use Rattle.word_tables.specs.Bounds.{IsValid};
 ghost use Rattle.block_device.specs.Area.{block_area};
 ghost use Rattle.block_device.specs.Reading.{map_read};
@@ -50,7 +51,7 @@ impl Blocks {
         ensures serves { OnOk result (BlocksServe self.new (L.state dev.new).medium) }
         ensures in_step { OnOk result (IsTrue self.new.quiet × IsInStep self.new.map self.new.free 0) }
         ensures object { (self.new.geo ≡ self.old.geo) × (self.new.settled ≡ is_ok result) }
-        ensures runs { Runs (5 * length changes.now + 6) (2 * length changes.now + 3) (ended result)
+        ensures runs { Runs (commit_calls (length changes.now)) (commit_persists (length changes.now)) (ended result)
             (L.state dev.old).panel (L.state dev.new).panel }
     {
         self.settled = false;

@@ -13,7 +13,7 @@ use Rattle.block_map.specs.declared.state.BlockState.{BlockState}
 use Rattle.nvm_model.specs.Storage.{Block}
 use Rattle.block_device.specs.Area.{block_area, IsBlockPlace}
 use Rattle.block_device.specs.Reading.{map_read, states_read, blocks_read}
-use Rattle.block_device.specs.Images.{IsBlockImage, Reads, EachReads, AreReadable, KeepsReads}
+use Rattle.block_device.specs.Images.{IsBlockImage, ReadsAs, EachReads, AreReadable, KeepsReads}
 use Rattle.block_device.proofs.AreaLemmas.{area_shaped}
 use Rattle.block_device.proofs.FrameLemmas.{length-states_read}
 use Rattle.block_device.proofs.PlaceLemmas.{area_is_block, data_on_device, named_is_data}
@@ -34,7 +34,7 @@ module _ (geo : Geometry) (m : Medium) (image : Image) (layout : HasLayout geo m
       sym (is_in-one (word p) (image.word p) (subst (IsIn (word p)) (shows.words p (on, good)) (is p of good)))
 
   -- so each reads as the image that was told
-  pub blocks_depicted : (word : ℕ → ℕ) (P : List Block → Type 0) → IsBlockImage geo m word → Reads geo m P word → blocks_read geo m.is_bad word ≡ blocks_read geo image.is_bad image.word
+  pub blocks_depicted : (word : ℕ → ℕ) (P : List Block → Type 0) → IsBlockImage geo m word → ReadsAs geo m P word → blocks_read geo m.is_bad word ≡ blocks_read geo image.is_bad image.word
   unfolding blocks_read
   blocks_depicted word P is r =
       let states : List BlockState = states_read geo word in

@@ -1,5 +1,5 @@
 -- Changes of words: a list of places and the values that they get.
-use Rattle.std.specs.Prelude.{◌≡◌, ℕ, ◌<◌, ◌≤◌, ◌==◌, Bool, false, List, [], ◌∷◌, length, if◌then◌else◌, IsTrue}
+use Rattle.std.specs.Prelude.{◌≡◌, ℕ, ◌<◌, ◌≤◌, ◌==◌, Bool, false, List, [], ◌∷◌, length, if◌then◌else◌, IsTrue, ◌+◌, ◌*◌}
 use Rattle.std.specs.List.{list_any}
 use Rattle.word_log.specs.declared.area.LogArea.{LogArea}
 use Rattle.word_log.specs.Area.{IsHome}
@@ -24,3 +24,10 @@ pub record MayCommit (a : LogArea) (changes : List (ℕ × ℕ)) : Type 0 where
   pub few : length changes ≤ a.cap
   pub home : (p : ℕ) → IsTrue (lists changes p) → IsHome a p
   pub distinct : IsDistinct changes
+
+-- counted calls of a commit of so many changes, at most, and persists
+abbrev pub commit_calls : ℕ → ℕ
+commit_calls n = 5 * n + 6
+
+abbrev pub commit_persists : ℕ → ℕ
+commit_persists n = 2 * n + 3

@@ -12,7 +12,7 @@ ghost use Rattle.std.specs.Result.{is_ok};
 ghost use Rattle.line_device.specs.Medium.{last_image};
 ghost use Rattle.line_device.specs.Panel.{Runs};
 ghost use Rattle.word_log.specs.Area.{Fits, IsStrong, IsWhole, IsOf};
-ghost use Rattle.word_log.specs.Changes.{changed, MayCommit};
+ghost use Rattle.word_log.specs.Changes.{changed, commit_calls, commit_persists, MayCommit};
 ghost use Rattle.word_log.specs.Replay.{Replays};
 ghost use Rattle.line_words.specs.Words.{WritesBackOutside};
 ghost use Rattle.word_log.specs.Rest.{IsAtRest, EachImage};
@@ -91,7 +91,7 @@ impl Log {
             → EachImage self.old.area (L.state dev.new).medium (λ image.
             Replays self.old.area image words ⊎ Replays self.old.area image (changed changes.now words)) }
         ensures outside { WritesBackOutside (IsOf self.old.area) (L.state dev.old).medium (L.state dev.new).medium }
-        ensures runs { Runs (5 * length changes.now + 6) (2 * length changes.now + 3) (ended result)
+        ensures runs { Runs (commit_calls (length changes.now)) (commit_persists (length changes.now)) (ended result)
             (L.state dev.old).panel (L.state dev.new).panel }
         ensures log { self.new ≡ record self.old { settled = is_ok result } }
     {

@@ -3,7 +3,7 @@ ghost use Rattle.std.specs.Prelude.{◌≡◌, ◌⊎◌, ◌+◌, ◌*◌, ℕ,
 ghost use Rattle.line_device.specs.History.{IsIn};
 ghost use Rattle.line_device.specs.Panel.{Runs};
 ghost use Rattle.word_log.specs.Area.{Fits, IsStrong, IsWhole, IsOf, gate_place};
-ghost use Rattle.word_log.specs.Changes.{changed, MayCommit};
+ghost use Rattle.word_log.specs.Changes.{changed, commit_calls, commit_persists, MayCommit};
 ghost use Rattle.word_log.specs.Replay.{Replays};
 ghost use Rattle.line_words.specs.Words.{WritesBackOutside};
 ghost use Rattle.word_log.specs.Rest.{IsAtRest, EachImage};
@@ -79,7 +79,7 @@ pub fn commit_at<L: Lines>(
         → EachImage area (L.state dev.new).medium (λ image.
         Replays area image words ⊎ Replays area image (changed changes.now words)) }
     ensures outside { WritesBackOutside (IsOf area) (L.state dev.old).medium (L.state dev.new).medium }
-    ensures runs { Runs (5 * length changes.now + 6) (2 * length changes.now + 3) (ended result)
+    ensures runs { Runs (commit_calls (length changes.now)) (commit_persists (length changes.now)) (ended result)
         (L.state dev.old).panel (L.state dev.new).panel }
 {
     write_entries(dev, area, changes)?;
