@@ -7,37 +7,6 @@ use Rattle.line_device.specs.Panel.Outcome.{went, failed, lost}
 use Rattle.line_device.specs.Device.{Device}
 use Rattle.volume_view.specs.View.{lent, view}
 
-has_cause-lent : (end : Outcome) (name : GName) (ranges : List Span) (count more : ℕ) (old new : Panel) → HasCause end old new → HasCause end (lent name ranges count old) (lent name ranges more new)
-has_cause-lent went name ranges count more old new cause = cause
-has_cause-lent failed name ranges count more old new cause = cause
-has_cause-lent lost name ranges count more old new cause = cause
-
-pub runs_lent : (a b : ℕ) (end : Outcome) (name : GName) (ranges : List Span) (old new : Device) → new.medium.count ≡ old.medium.count → Runs a b end old.panel new.panel → Runs a b end (view name ranges old).panel (view name ranges new).panel
-runs_lent a b end name ranges old new same x = record {
-  cause = has_cause-lent end name ranges old.medium.count new.medium.count old.panel new.panel x.cause;
-  armed = record { cut = x.armed.cut; fail = x.armed.fail };
-  faults = x.faults;
-  cuts = x.cuts;
-  calls = x.calls;
-  few_calls = x.few_calls;
-  persists = x.persists;
-  few_persists = x.few_persists;
-  setups = x.setups;
-  orders = record {
-    offs = x.orders.offs;
-    arms = x.orders.arms;
-    evicts = x.orders.evicts;
-    restarts = x.orders.restarts;
-    disarms = x.orders.disarms;
-    starts = x.orders.starts;
-    last_order = x.orders.last_order;
-    loans = λ i. (record { name = name; ranges = ranges; count = same i }) ∷ x.orders.loans i;
-  };
-}
-
-pub panel_lent : (name : GName) (ranges : List Span) (old new : Device) → new.medium.count ≡ old.medium.count → new.panel ≡ old.panel → (view name ranges new).panel ≡ (view name ranges old).panel
-panel_lent name ranges old new same panel = λ i. lent name ranges (same i) (panel i)
-
 later : List Loan → List Loan
 later [] = []
 later (loan ∷ loans) = loans

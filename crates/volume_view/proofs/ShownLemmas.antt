@@ -14,8 +14,8 @@ use Rattle.range_sets.specs.Lines.{fits}
 use Rattle.range_sets.specs.Ranges.{total_of, address_of, offset_of, IsRangeSet}
 use Rattle.range_sets.proofs.PlaceLemmas.{place-offset_of, offset_of-place}
 use Rattle.range_sets.proofs.LineLemmas.{total_of-lines, line_within, line_past, line_behind, line_ahead}
-use Rattle.volume_view.specs.Shown.{AreLent, IsBehind, shown, shown_count, line_shown, shown_as, shown_by, beside, mark_of, history_of}
-use Rattle.volume_view.specs.ShownSound.{line_of_word, shown_count-lent, shown-lent, line_shown-some, shown_sound}
+use Rattle.volume_view.specs.Shown.{AreLent, shown, shown_count, line_shown, shown_as, shown_by, beside, mark_of, history_of}
+use Rattle.volume_view.specs.ShownSound.{IsBehind, line_of_word, shown_count-lent, shown-lent, line_shown-some, shown_sound}
 
 among : List Span → ℕ → Option ℕ
 among ranges n = option_map (λ address. address / 64) (address_of ranges (64 * n))

@@ -1,6 +1,6 @@
 -- The lines of ranges as a medium of their own. Past its end it has all other lines of the device, each once, so that what
 -- a clause says of the whole medium says what becomes of the others.
-use Rattle.std.specs.Prelude.{◌≡◌, ◌<◌, ◌+◌, ◌-◌, ◌*◌, ◌/◌, ◌%◌, ◌&&◌, ℕ, Bool, true, false, List, [], Option, Some, None, nat_lt, if◌then◌else◌}
+use Rattle.std.specs.Prelude.{◌≡◌, ◌+◌, ◌-◌, ◌*◌, ◌/◌, ◌%◌, ◌&&◌, ℕ, Bool, true, false, List, [], Option, Some, None, nat_lt, if◌then◌else◌}
 use Rattle.std.specs.Option.{option_map}
 use Rattle.nvm_base.specs.declared.units.Span.{Span}
 use Rattle.line_device.specs.Medium.{Medium}
@@ -27,11 +27,6 @@ line_shown ranges n =
     if nat_lt (64 * n) (total_of ranges)
     then option_map (λ address. address / 64) (address_of ranges (64 * n))
     else (let line = n - total_of ranges / 64 in beside line (offset_of ranges (64 * line)))
-
--- this line of a device of so many is shown as line n
-pub record IsBehind (ranges : List Span) (count n line : ℕ) : Type 0 where
-  pub shown : line_shown ranges n ≡ Some line
-  pub within : line < count
 
 -- as which line this line of the device is shown, by the byte of the ranges that its first one is
 abbrev pub shown_by : ℕ → ℕ → Option ℕ → ℕ

@@ -11,7 +11,7 @@ use Rattle.line_device.specs.Medium.{Medium, IsSound}
 use Rattle.range_sets.specs.Lines.{fits}
 use Rattle.range_sets.specs.Ranges.{total_of, address_of, offset_of, is_disjoint}
 use Rattle.range_sets.proofs.LineLemmas.{lines_in_all, line_within, line_behind}
-use Rattle.volume_view.specs.Shown.{AreLent, IsBehind, shown, shown_count, line_shown, beside, mark_of, history_of}
+use Rattle.volume_view.specs.Shown.{AreLent, shown, shown_count, line_shown, beside, mark_of, history_of}
 
 -- a word of a line, and the line of it
 pub line_of_word : (line p : ℕ) → (8 * line + p % 8) / 8 ≡ line
@@ -40,6 +40,11 @@ shown-lent ranges count n within =
       | inl is ↦ let parts = and_parts (is_disjoint ranges) (fits ranges count) is in record { disjoint = parts.0; fit = parts.1 }
       | inr not_lent ↦ absurd (not-suc-le-zero (subst (λ b. n < (if b then total_of ranges / 64 else 0)) not_lent within))
     ]
+
+-- this line of a device of so many is shown as line n
+pub record IsBehind (ranges : List Span) (count n line : ℕ) : Type 0 where
+  pub shown : line_shown ranges n ≡ Some line
+  pub within : line < count
 
 pub line_shown-some : (ranges : List Span) (count n : ℕ) → n < shown_count ranges count → (line : ℕ) × IsBehind ranges count n line
 unfolding line_shown

@@ -11,7 +11,9 @@ mod lines;
 #[cfg(test)]
 mod tests;
 
-pub use laws::{each_line_is_shown_once, frames_of_a_view_are_frames_of_the_device};
+pub use laws::{
+    a_view_counts_as_its_device, each_line_is_shown_once, frames_of_a_view_are_frames_of_the_device,
+};
 use line_device::Lines;
 use nvm_base::{LINE, LineNo};
 use range_sets::RangeSet;
