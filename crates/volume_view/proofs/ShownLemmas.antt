@@ -4,8 +4,8 @@ use Rattle.std.specs.Option.{option_map}
 use Rattle.std.proofs.lemmas.Bool.{cases_lt, cases_eq, lt-ltb, le-ltb, eq-eqb, ne_eqb}
 use Rattle.std.proofs.lemmas.Option.{same_Some, none-some}
 use Rattle.nvm_base.specs.declared.units.Span.{Span}
-use Rattle.line_device.specs.History.{newest, latest, WordWritesBack}
-use Rattle.line_device.specs.Medium.{Medium, IsSound, WritesBack, Weakens, IsLine, with_at, on_line, word_stored, stored, renewed, poisoned, flushed, persisted, cleared}
+use Rattle.line_device.specs.History.{latest, WordWritesBack}
+use Rattle.line_device.specs.Medium.{Medium, IsSound, WritesBack, Weakens, with_at, on_line, word_stored, stored, renewed, poisoned, flushed, persisted, cleared}
 use Rattle.line_device.specs.Device.{IsPoison}
 use Rattle.line_device.specs.declared.fault.DeviceFault.{DeviceFault}
 use Rattle.line_device.proofs.HistoryLemmas.{word_write_back-refl}
@@ -204,18 +204,7 @@ weakens_shown ranges old new n line within is x =
       write_back = shown-write_back ranges old (record new { is_weak = old.is_weak }) x.write_back;
     }
 
--- and a load gives the bytes of the line behind
-pub is_line_shown : (ranges : List Span) (m : Medium) (n line : ℕ) (bytes : List ℕ) → line_shown ranges n ≡ Some line → IsLine m line bytes → IsLine (shown ranges m) n bytes
-is_line_shown ranges m n line bytes is x = record {
-  length = x.length;
-  words = λ w few.
-      let on : (8 * n + w) / 8 ≡ n = omega arith in
-      let word : (8 * n + w) % 8 ≡ w = omega arith in
-      ap (λ o. newest (history_of m.history ((8 * n + w) % 8) o)) (ap (line_shown ranges) on ∙ is)
-      ∙ ap (λ v. newest (m.history (8 * line + v))) word
-      ∙ x.words w few;
-}
-
+-- marks of a line that is shown
 pub bad_shown : (ranges : List Span) (m : Medium) (n line : ℕ) → line_shown ranges n ≡ Some line → (shown ranges m).is_bad n ≡ m.is_bad line
 bad_shown ranges m n line is = ap (mark_of m.is_bad) is
 
