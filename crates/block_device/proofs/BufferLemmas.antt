@@ -1,5 +1,5 @@
 -- Bytes of lines read into a buffer.
-use Rattle.std.proofs.Common.{◌≡◌, ◌+◌, ◌-◌, ◌*◌, ◌<◌, ◌≤◌, ℕ, Bool, true, false, List, ◌++◌, Some, None, is_none, position, if◌then◌else◌, length, get_or, take, drop, Result, Ok, Err, OnOk, lit<, inl, inr, refl, sym, ap, ap₂, ◌∙◌, subst, append-nil, arith}
+use Rattle.std.proofs.Common.{◌≡◌, ◌+◌, ◌-◌, ◌*◌, ◌<◌, ◌≤◌, ℕ, Bool, true, false, List, ◌++◌, Some, None, is_none, if◌then◌else◌, length, get_or, take, drop, Result, Ok, Err, OnOk, lit<, inl, inr, refl, sym, ap, ap₂, ◌∙◌, subst, append-nil, arith}
 use borrow.Rule.Slice.PartMut.{put_mid, post_of}
 use Rattle.std.proofs.lemmas.Bool.{cases_lt}
 use Rattle.std.proofs.lemmas.List.{append_assoc, get_or_past, get_or-append-add, get_or_append_left, drop-drop, take-append-le, drop-append-le, take_all, drop_all}
@@ -8,7 +8,6 @@ use Rattle.nvm_model.specs.Numbered.{list_from}
 use Rattle.nvm_model.proofs.NumberedLemmas.{list_from-append, length-list_from}
 use Rattle.nvm_model.proofs.LineLemmas.{line_shown}
 use Rattle.block_device.specs.Reading.{byte_of, bytes_read, line_read}
-use Rattle.block_device.proofs.PositionLemmas.{first_made, none_made}
 
 -- bytes put in the middle of a list are small where all of the list are
 mid_small : (at k : ℕ) (s ys : List ℕ) → at ≤ length s → ((i : ℕ) → get_or (put_mid at k s ys) i 0 < 256) → (i : ℕ) → get_or ys i 0 < 256

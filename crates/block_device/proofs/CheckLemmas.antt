@@ -1,5 +1,5 @@
 -- What tests before a call say.
-use Rattle.std.proofs.Common.{◌≡◌, ◌+◌, ◌*◌, ◌<◌, ◌≤◌, ◌==◌, ◌||◌, ℕ, Bool, true, false, not, All, List, [], ◌∷◌, length, sum_by, nat_lt, Option, Some, None, Result, Ok, Err, option_map, position, refl, ap, ◌∙◌, subst, sym, arith}
+use Rattle.std.proofs.Common.{◌≡◌, ◌+◌, ◌*◌, ◌≤◌, ◌==◌, ◌||◌, ℕ, Bool, true, false, not, All, List, [], ◌∷◌, length, sum_by, nat_lt, Option, Some, None, Result, Ok, Err, option_map, position, refl, ap, ◌∙◌, subst, sym, arith}
 use Rattle.std.specs.List.{list_any, range_with_len}
 use Rattle.std.proofs.lemmas.Bool.{false≢true, or_parts}
 use Rattle.std.proofs.lemmas.Bool.Decides.{nat_tests}

@@ -9,7 +9,6 @@ use Rattle.line_words.specs.Words.{IsOnly, WritesBackOutside}
 use Rattle.line_words.proofs.FrameLemmas.{outside-trans, outside-write_back}
 use Rattle.word_tables.specs.declared.geometry.Geometry.{Geometry}
 use Rattle.word_tables.specs.Bounds.{IsValid}
-use Rattle.std.proofs.lemmas.List.{length-map}
 use Rattle.word_tables.specs.Layout.{block_log, block_map, first_line, size, total_lines}
 use Rattle.word_tables.specs.Words.{place, of_block}
 use Rattle.word_log.specs.declared.area.LogArea.{LogArea}
@@ -17,7 +16,6 @@ use Rattle.word_log.specs.Area.{IsOf, IsHome, IsWhole, Fits, gate_place}
 use Rattle.word_log.specs.Replay.{first_wrong, replayed}
 use Rattle.word_log.specs.Rest.{IsAtRest, IsReached, EachImage}
 use Rattle.word_log.proofs.FrameLemmas.{whole-outside}
-use Rattle.word_log.proofs.PhaseLemmas.{rest-write_back}
 use Rattle.word_log.proofs.RestLemmas.{rest-last_image}
 use Rattle.block_map.specs.declared.state.BlockState.{BlockState}
 use Rattle.block_map.specs.declared.state.BlockState.TheVariants.{Absent}
@@ -38,9 +36,6 @@ use Rattle.line_words.specs.Told.Told.{Refuses, Stops, Starves}
 use Rattle.line_device.specs.Panel.{Outcome, Panel, Runs}
 use Rattle.line_device.specs.Panel.Outcome.{went}
 use Rattle.line_device.proofs.PanelLemmas.{runs_then, runs_within}
-use Rattle.word_log.specs.declared.fault.LogFault.{LogFault}
-use Rattle.word_log.specs.declared.fault.LogFault.TheVariants as log
-use Rattle.word_log.specs.Outcomes.{log_outcome}
 use Rattle.block_device.proofs.ReadLemmas.{IsNamed, list_from-cong, map_read-outside, durable-outside}
 use Rattle.block_device.proofs.PlaceLemmas.{area_fits, block_is_home, named_apart}
 use Rattle.block_device.proofs.PositionLemmas.{get_or-list_from}

@@ -1,5 +1,5 @@
 -- The first place that passes a test, in numbers that follow each other and in what is made from them.
-use Rattle.std.proofs.Common.{◌≡◌, ◌+◌, ◌<◌, ℕ, zero, suc, Bool, true, false, List, length, get_or, position, Option, Some, None, sym, ap, ◌∙◌, arith}
+use Rattle.std.proofs.Common.{◌≡◌, ◌+◌, ◌<◌, ℕ, zero, suc, Bool, true, false, get_or, position, Option, Some, None, sym, ap, ◌∙◌, arith}
 use Rattle.std.specs.List.{range_with_len}
 use Rattle.line_words.proofs.PositionLemmas.{first_place, no_place, first_among, none_among, none_found, one_found}
 use Rattle.nvm_model.specs.Numbered.{list_from}

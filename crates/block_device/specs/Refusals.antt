@@ -1,5 +1,5 @@
 -- When calls are refused, and why.
-use Rattle.std.specs.Prelude.{◌≡◌, ◌≢◌, ◌+◌, ◌/◌, ◌%◌, ◌==◌, ◌||◌, ℕ, Bool, true, false, not, List, [], ◌∷◌, length, map, sum_by, nat_lt, Option, Some, None, option_map, position, Result, Ok, Err, if◌then◌else◌}
+use Rattle.std.specs.Prelude.{◌≡◌, ◌+◌, ◌/◌, ◌%◌, ◌==◌, ◌||◌, ℕ, Bool, not, List, [], ◌∷◌, length, map, sum_by, nat_lt, Option, Some, None, option_map, position, Result, if◌then◌else◌}
 use Rattle.std.specs.List.{list_any, range_with_len}
 use Rattle.nvm_base.specs.declared.units.Span.{Span}
 use Rattle.line_device.specs.Medium.{Medium}

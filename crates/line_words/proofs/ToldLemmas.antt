@@ -1,7 +1,6 @@
 -- What follows from what faults tell, whatever the crate's faults and refusals are.
-use Rattle.std.proofs.Common.{◌≡◌, ◌≢◌, Bool, true, Option, Some, None, Result, Ok, Err, refl, sym, ◌∙◌, ap, subst}
-use Rattle.line_device.specs.Panel.{Outcome}
-use Rattle.line_device.specs.Panel.Outcome.{went, failed, lost}
+use Rattle.std.proofs.Common.{◌≡◌, ◌≢◌, true, Option, Some, None, Result, Ok, Err, refl, sym, ◌∙◌, ap}
+use Rattle.line_device.specs.Panel.Outcome.{went}
 use Rattle.line_words.specs.declared.interruption.Interruption.{Interruption}
 use Rattle.line_words.specs.Ending.{stop_outcome}
 use Rattle.line_words.specs.Told.{Told, refusal_of, told_outcome, outcome_by, is_done, IsStop, IfRefused, Answers, Checks, Finds, OnRefused, OnWorked}

@@ -1,5 +1,5 @@
 -- What keeps a device from being mounted, in the order in which it is found.
-use Rattle.std.specs.Prelude.{◌*◌, ℕ, Option, Some, option_map, position, if◌then◌else◌}
+use Rattle.std.specs.Prelude.{◌*◌, Option, Some, option_map, position, if◌then◌else◌}
 use Rattle.std.specs.List.{range_with_len}
 use Rattle.line_device.specs.Medium.{Medium, last_image}
 use Rattle.word_tables.specs.declared.geometry.Geometry.{Geometry}

@@ -1,5 +1,5 @@
-use Rattle.std.proofs.Common.{◌≡◌, ◌+◌, ◌*◌, ◌/◌, ◌++◌, ℕ, refl, sym, ◌∙◌, ap, subst, arith}
-use Rattle.line_device.specs.Medium.{IsHealthy, last_image}
+use Rattle.std.proofs.Common.{◌≡◌, ◌+◌, ◌*◌, ◌/◌, ◌++◌, ℕ, ◌∙◌, ap, arith}
+use Rattle.line_device.specs.Medium.{last_image}
 use Rattle.line_device.proofs.WriteBackLemmas.{write_back-refl, write_back-trans, newest-write_back, is_healthy-write_back}
 use Rattle.line_device.proofs.PanelLemmas.{runs-refl, runs_then}
 use Rattle.word_tables.specs.Words.{place, of_block}

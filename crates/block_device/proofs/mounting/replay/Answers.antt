@@ -1,4 +1,4 @@
-use Rattle.std.proofs.Common.{Err, ◌≡◌, ◌+◌, ◌/◌, sym, ◌∙◌, ap, subst, arith}
+use Rattle.std.proofs.Common.{Err, ◌+◌, ◌/◌, sym, subst, arith}
 use Rattle.line_device.specs.Medium.{last_image}
 use Rattle.line_device.specs.Panel.{Outcome, Runs}
 use Rattle.line_device.specs.Panel.Outcome.{went}

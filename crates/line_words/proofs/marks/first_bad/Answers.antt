@@ -1,4 +1,4 @@
-use Rattle.std.proofs.Common.{◌+◌, sym, below_more, arith}
+use Rattle.std.proofs.Common.{sym, below_more, arith}
 use Rattle.line_words.proofs.PositionLemmas.{first_among, none_among}
 use Rattle.line_words.proofs.marks.first_bad.Goals as goal
 

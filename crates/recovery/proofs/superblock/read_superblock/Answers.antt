@@ -1,7 +1,6 @@
-use Rattle.std.proofs.Common.{◌∙◌, sym, subst, option_map, slice_index}
-use Rattle.line_device.specs.Panel.{Outcome, Runs}
+use Rattle.std.proofs.Common.{◌∙◌, sym}
 use Rattle.line_device.proofs.WriteBackLemmas.{write_back-refl}
-use Rattle.recovery.proofs.FindingLemmas.{superblock_checked, sizes_loaded}
+use Rattle.recovery.proofs.FindingLemmas.{superblock_checked}
 use Rattle.recovery.proofs.superblock.read_superblock.Goals as goal
 
 pub returns-then-is_bad-clause-lines : goal.returns-then-is_bad-clause-lines

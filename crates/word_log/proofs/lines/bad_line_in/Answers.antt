@@ -1,4 +1,4 @@
-use Rattle.std.proofs.Common.{◌≡◌, ◌+◌, ◌-◌, false, sym, ap, subst, ◌∙◌, arith}
+use Rattle.std.proofs.Common.{◌≡◌, ◌+◌, ◌-◌, false, sym, subst, ◌∙◌, arith}
 use Rattle.line_words.proofs.PositionLemmas.{none_found, one_found}
 use Rattle.word_log.proofs.lines.bad_line_in.Goals as goal
 
