@@ -1,5 +1,5 @@
 -- A device that was made a fresh one, and a host that mounted it.
-use Rattle.std.proofs.Common.{◌≡◌, ◌⊎◌, inl, inr, Err, ℕ, ◌*◌, ◌/◌, ◌<◌, false, None, cond, ltb, [], ◌∷◌, refl, ap, subst, ◌∙◌, arith}
+use Rattle.std.proofs.Common.{◌≡◌, ◌⊎◌, inl, inr, Err, ℕ, ◌*◌, ◌/◌, ◌<◌, ◌≤◌, false, None, cond, ltb, [], ◌∷◌, refl, ap, subst, ◌∙◌, arith}
 use Rattle.std.proofs.lemmas.Bool.Decides.{nat_tests}
 use Rattle.line_device.specs.Medium.{Medium, IsSound, last_image}
 use Rattle.line_device.specs.Panel.{Panel, ArmsNothing, Outcome, Runs, SetsUp}
@@ -27,6 +27,7 @@ use Rattle.block_device.proofs.RestartLemmas.{blocks_read-last}
 use Rattle.recovery.specs.Findings.{geometry_told, early_finding}
 use Rattle.recovery.specs.Fresh.{IsFresh}
 use Rattle.recovery.proofs.FreshLemmas.{fresh_early, fresh_reads, fresh_told}
+use Rattle.recovery.proofs.SuperblockLemmas.{some_lines}
 use Rattle.machine_host.specs.declared.mode.Mode.TheVariants.{On}
 use Rattle.machine_host.specs.Restarting.{fresh, reading, zero_image}
 use Rattle.machine_host.specs.Volume.{volume_place, volume_of, volume_image, HasLayout}
@@ -46,6 +47,10 @@ use Rattle.nvmhost.proofs.TellLemmas.{tells_opening}
 -- the lines of a fresh device are those of the layout
 pub layout_of_fresh : (geo : Geometry) (m : Medium) → IsFresh geo m → HasLayout geo m
 layout_of_fresh geo m is = record { valid = is.valid; lines = is.count; intact = λ n lt. (is.good n, λ _. is.strong n) }
+
+-- it has some
+pub some_of_fresh : (geo : Geometry) (m : Medium) → IsFresh geo m → 1 ≤ m.count
+some_of_fresh geo m is = omega (arith, is.count, some_lines geo)
 
 -- the volume lies behind the superblock
 volume_behind : (geo : Geometry) (p : ℕ) → ltb (volume_place geo p) 8 ≡ false
