@@ -145,7 +145,13 @@ going-broken script rest before host out written_old written written' old now ne
           joined = append_assoc was.part (take some.count out) (drop some.count out) ∙ ap (λ t. was.part ++ t) (take-append-drop some.count out) ∙ was.text;
         };
         wrote = appends_then written_old written written' was.part (take some.count out) was.wrote some.part;
-        outcome = record { between = now.panel; tells = was.tells; left = left };
+        outcome = record {
+          between = now.panel;
+          tells = was.tells;
+          cut_armed = was.stands.device.cut_armed;
+          fail_armed = was.stands.device.fail_armed;
+          left = left;
+        };
       };
 }
 

@@ -1,10 +1,12 @@
 -- What a device told as it was set up, and of a run that ended early.
 use Rattle.std.proofs.Common.{◌≡◌, [], ◌∷◌, inl, inr, refl, sym, ap, subst, ◌∙◌, arith}
-use Rattle.line_device.specs.Panel.{Panel, SetsUp, Outcome}
+use Rattle.line_device.specs.Panel.{Panel, ArmsNothing, SetsUp, Outcome, after_restart}
+use Rattle.line_device.proofs.PanelLemmas.{arms_nothing-refl}
 use Rattle.line_device.specs.Device.{Device}
 use Rattle.line_device.specs.declared.line.Choice.{Choice}
 use Rattle.script_text.specs.Action.{Action}
 use Rattle.script_text.specs.Action.Action.{BRead, BWrite, BAtomic, BMulti, BDiscard, BDiscardIf, BExists, BScar, VLoad, VStore, VSync, Cut, CutIn, Restart}
+use Rattle.machine_host.specs.Machine.{Machine}
 use Rattle.machine_host.specs.Run.{Transcript, followed_by, silence}
 use Rattle.machine_host.specs.Telling.{Tells}
 use Rattle.machine_host.specs.Stands.{HostState}
@@ -43,6 +45,7 @@ pub unanswered-none : (p : Panel) → GoesUnanswered p p
 unanswered-none p = record {
   more = [];
   few = omega arith;
+  armed = arms_nothing-refl p;
   starts = refl;
   restarts = omega arith;
   once = omega arith;
@@ -58,21 +61,29 @@ unanswered-none p = record {
 }
 
 -- set up, and no line performed
-pub tells_first-opened : (p q : Panel) → Opens p q → TellsFirst (followed_by opening silence) p q
-tells_first-opened p q opens = record { between = q; tells = tells_opening p q opens; left = unanswered-none q }
+pub tells_first-opened : (h : Machine) (p q : Panel) → Opens p q → q.cut_armed ≡ h.cut_armed → q.fail_armed ≡ h.fail_armed → TellsFirst (followed_by opening silence) h p q
+tells_first-opened h p q opens cut fail = record { between = q; tells = tells_opening p q opens; cut_armed = cut; fail_armed = fail; left = unanswered-none q }
 
 -- set up, and then a run
-pub tells_first-after : (s : Transcript) (p q r : Panel) → Tells opening p q → TellsFirst s q r → TellsFirst (followed_by opening s) p r
-tells_first-after s p q r opened first = record { between = first.between; tells = tells_then opening s p q first.between opened first.tells; left = first.left }
+pub tells_first-after : (s : Transcript) (h : Machine) (p q r : Panel) → Tells opening p q → TellsFirst s h q r → TellsFirst (followed_by opening s) h p r
+tells_first-after s h p q r opened first = record {
+  between = first.between;
+  tells = tells_then opening s p q first.between opened first.tells;
+  cut_armed = first.cut_armed;
+  fail_armed = first.fail_armed;
+  left = first.left;
+}
 
 -- a restart without a mount
-unanswered-unmounted : (choice : Choice) (host after : HostState) (old new : Device) → LeftUnmounted choice host after old new → GoesUnanswered old.panel new.panel
-unanswered-unmounted choice host after old new left =
+unanswered-unmounted : (choice : Choice) (host state : HostState) (old new : Device) → LeftUnmounted choice host state old new → GoesUnanswered old.panel new.panel
+unanswered-unmounted choice host state old new left =
     let opens = left.opens in
     let panel = left.restarted.panel in
+    let after : ArmsNothing (after_restart old.panel left.start) new.panel = subst (λ p. ArmsNothing p new.panel) panel opens.armed in
     let counts = ap (λ (p : Panel). p.counts) panel in
     record {
       more = left.start ∷ [];
+      armed = record { cut = after.cut; fail = after.fail };
       few = omega arith;
       starts = opens.orders.starts ∙ ap (λ p. p.starts) panel;
       restarts = omega (arith, opens.orders.restarts, ap (λ c. c.restarts) counts);
@@ -100,6 +111,7 @@ unanswered-left (Restart choice) host after old new (inl (same, inr waits)) =
       starts = refused.starts;
       restarts = refused.restarts;
       once = refused.once;
+      armed = refused.armed;
       last_order = refused.last_order;
       arms = ap (λ c. c.arms) counts;
       offs = ap (λ c. c.offs) counts;

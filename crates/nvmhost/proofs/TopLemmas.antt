@@ -11,6 +11,7 @@ use Rattle.word_tables.specs.declared.geometry.Geometry.{Geometry}
 use Rattle.nvm_base.specs.Stock.{Stock}
 use Rattle.nvm_base.specs.Counts.{Rose}
 use Rattle.script_text.specs.Script.{inputs_of, lines_of}
+use Rattle.machine_host.specs.Machine.{Machine}
 use Rattle.machine_host.specs.Restarting.{reading, fresh}
 use Rattle.machine_host.specs.Run.{Run, silence}
 use Rattle.machine_host.specs.Stands.{HostState}
@@ -40,6 +41,10 @@ writes_line ending text r a b c old new is all later cause = record {
     rose (Ok x) cause is = cc is
     rose (Err e) cause is = let risen = cause (cc is) in omega (arith, risen, later)
 
+-- the machine over zeros, with what is armed on the device
+abbrev armed_as : Geometry → Panel → Machine
+armed_as geo p = record (fresh geo) { cut_armed = p.cut_armed; fail_armed = p.fail_armed }
+
 -- a call that performed no line
 pub halts-silent : (geo : Geometry) (left_old left_new written : Option (List ℕ)) (script : List ℕ) (old new : Device) → Consumes left_old left_new script
     → Opens old.panel new.panel → Halts geo left_old left_new written written old new
@@ -48,11 +53,11 @@ halts-silent geo left_old left_new written script old new read opens = record {
   script = script;
   lines = [];
   said = silence;
-  end = fresh geo;
+  end = armed_as geo new.panel;
   read = read;
   first = record { others = lines_of script; split = refl; whole = inl (record { rest = script; joined = refl }) };
-  run = record { begin = fresh geo; begins = record { state = refl; cut = λ t. cc; fail = λ t. cc }; run = (refl, refl) };
-  tells = tells_first-opened old.panel new.panel opens;
+  run = record { begin = armed_as geo new.panel; begins = record { state = refl; cut = opens.armed.cut; fail = opens.armed.fail }; run = (refl, refl) };
+  tells = tells_first-opened (armed_as geo new.panel) old.panel new.panel opens refl refl;
   wrote = record { part = []; front = record { rest = []; joined = refl }; wrote = appends-none written };
 }
 
@@ -92,7 +97,7 @@ ends_performed geo host left_old left_new written_old written_new script (Err e)
       read = reads.read;
       first = record { others = says.others; split = ap lines_of (sym reads.outcome.0) ∙ says.split; whole = inr reads.outcome.1 };
       run = record { begin = is_ready.begin; begins = is_ready.begins; run = says.run };
-      tells = tells_first-after says.said old.panel ready.panel new.panel is_ready.tells says.outcome;
+      tells = tells_first-after says.said says.end old.panel ready.panel new.panel is_ready.tells says.outcome;
       wrote = record { part = says.part; front = says.front; wrote = says.wrote };
     }
 

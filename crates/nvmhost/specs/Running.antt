@@ -44,7 +44,7 @@ pub record Says (first : Machine) (script : List ℕ) (result : Result (Unit {0}
   pub run : Run first (inputs_of lines) said end
   pub front : IsFront part (reply_text said.answers)
   pub wrote : Appends written_old written_new part
-  pub outcome : MatchResult result (λ _. IsFinished said end part others old new) (λ _. TellsFirst said old.panel new.panel)
+  pub outcome : MatchResult result (λ _. IsFinished said end part others old new) (λ _. TellsFirst said end old.panel new.panel)
 
 -- A script was performed up to some line: from each state that host and device stood for, it is a run.
 pub record Performs (host : HostState) (script : List ℕ) (result : Result (Unit {0}) Ending) (written_old written_new : Option (List ℕ)) (old new : Device) : Type 0 where

@@ -2,7 +2,7 @@
 use Rattle.std.specs.Prelude.{◌≡◌, ◌⊎◌, ◌≤◌, ◌<◌, ◌+◌, ℕ, List, [], ◌∷◌, ◌++◌, length, IsTrue, Option, IfSome, Result, Err}
 use Rattle.std.specs.Io.KnownBytes.{Appends, Consumes, IsAtEnd}
 use Rattle.nvm_base.specs.Counts.{Rose}
-use Rattle.line_device.specs.Panel.{Panel, Start, told}
+use Rattle.line_device.specs.Panel.{Panel, ArmsNothing, Start, told}
 use Rattle.line_device.specs.Device.{Device}
 use Rattle.host_io.specs.Writing.{WritesAll}
 use Rattle.host_io.specs.declared.sink.WriteFault.{WriteFault}
@@ -83,6 +83,7 @@ pub record GoesUnanswered (old new : Panel) : Type 0 where
   pub starts : new.starts ≡ told old.starts more
   pub restarts : bumped_by more old.counts.restarts ≤ new.counts.restarts
   pub once : new.counts.restarts ≤ old.counts.restarts + 1
+  pub armed : ArmsNothing old new
   pub last_order : new.last_order ≡ old.last_order
   pub arms : new.counts.arms ≡ old.counts.arms
   pub offs : new.counts.offs ≡ old.counts.offs
@@ -93,10 +94,12 @@ pub record GoesUnanswered (old new : Panel) : Type 0 where
   pub evicts : new.counts.evicts ≡ old.counts.evicts
   pub disarms : new.counts.disarms ≡ old.counts.disarms
 
--- The device told first what was said, and then at most such a command.
-pub record TellsFirst (said : Transcript) (old new : Panel) : Type 0 where
+-- The device told first what was said, and what was armed then is as in the machine's state; and then at most such a command.
+pub record TellsFirst (said : Transcript) (end : Machine) (old new : Panel) : Type 0 where
   pub between : Panel
   pub tells : Tells said old between
+  pub cut_armed : between.cut_armed ≡ end.cut_armed
+  pub fail_armed : between.fail_armed ≡ end.fail_armed
   pub left : GoesUnanswered between new
 
 -- A call that came to no end: what was written is how the text of a run of the device begins, over some first lines of what was read.
@@ -108,7 +111,7 @@ pub record Halts (geo : Geometry) (left_old left_new written_old written_new : O
   pub read : Consumes left_old left_new script
   pub first : AreWholeLines script left_new lines
   pub run : IsRun geo old.panel lines said end
-  pub tells : TellsFirst (followed_by opening said) old.panel new.panel
+  pub tells : TellsFirst (followed_by opening said) end old.panel new.panel
   pub wrote : WritesFront (reply_text said.answers) written_old written_new
 
 -- The ending's line was written: all of it, unless the sink's count rose or it wanted memory.
