@@ -51,7 +51,8 @@ use Rattle.block_device.specs.Refusals.{block_says}
 use Rattle.machine_host.proofs.ElsewhereLemmas.{first_not_blocks, layout-beside, write_back_volume-beside}
 use Rattle.machine_host.proofs.MetadataLemmas.{good_metadata, metadata-beside, nothing_bad}
 use Rattle.machine_host.proofs.VolumeLemmas.{volume_intact}
-use Rattle.machine_host.proofs.StepLemmas.{comes_of_interruption, is_whole, pages_left, stands_whole, tells_nothing, tells_work, whole_length, whole_pages}
+use Rattle.machine_host.proofs.StepLemmas.{comes_of_interruption, is_whole, pages_left, stands_whole, whole_length, whole_pages}
+use Rattle.machine_host.proofs.TellingLemmas.{tells_nothing, tells_work}
 
 -- what a call on the blocks says, whichever it is
 pub record Called {T : Type 0} (host : HostState) (s : BlocksState) (r : Result T BlockFault) (P : List Block → Type 0) (calls persists : ℕ) (old new : Device) : Type 0 where

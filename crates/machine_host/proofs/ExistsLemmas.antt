@@ -23,7 +23,7 @@ use Rattle.machine_host.proofs.RefusalLemmas.{first_alone}
 use Rattle.machine_host.specs.Stands.{HostState, HostServes, Stands, Comes}
 use Rattle.machine_host.specs.Run.{answered}
 use Rattle.machine_host.specs.Interrupted.{stop_in}
-use Rattle.machine_host.proofs.StepLemmas.{tells_nothing}
+use Rattle.machine_host.proofs.TellingLemmas.{tells_nothing}
 
 -- a block that is read is there where its state is not absent
 there_by_state : (geo : Geometry) (bad : ℕ → Bool) (word : ℕ → ℕ) (s : BlockState) (there : Bool) → (IsTrue there ↔ (Some s ≢ Some state.Absent)) → is_there (block_read geo bad word s) ≡ there

@@ -1,6 +1,7 @@
 pub mod VolumeLemmas
 pub mod SpanLemmas
 pub mod LoadLemmas
+pub mod TellingLemmas
 pub mod StepLemmas
 pub mod RefusalLemmas
 pub mod RunLemmas

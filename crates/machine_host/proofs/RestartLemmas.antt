@@ -54,7 +54,7 @@ use Rattle.machine_host.proofs.CostLemmas.{opens-runs}
 use Rattle.machine_host.proofs.VolumeLemmas.{has_layout-outside, volume_intact, survivors-volume, depicts-volume}
 use Rattle.machine_host.proofs.ElsewhereLemmas.{write_back_volume-beside}
 use Rattle.machine_host.proofs.MetadataLemmas.{metadata-outside, metadata-restarted, nothing_bad}
-use Rattle.machine_host.proofs.StepLemmas.{interrupts, never_on, power_struck, struck, tells_interrupted, tells_work}
+use Rattle.machine_host.proofs.TellingLemmas.{interrupts, never_on, power_struck, struck, tells_interrupted, tells_work}
 use Rattle.machine_host.proofs.DepictedLemmas.{blocks_depicted, reads_remounted}
 use Rattle.machine_host.specs.Meaning.{mode_refusal}
 use Rattle.machine_host.specs.Meaning.Needs.{Unpowered}

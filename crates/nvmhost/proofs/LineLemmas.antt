@@ -11,7 +11,7 @@ use Rattle.machine_host.specs.Machine.{Machine}
 use Rattle.machine_host.specs.Run.{answered, silence}
 use Rattle.machine_host.specs.Stands.{HostState, Stands, Steps}
 use Rattle.machine_host.proofs.RunLemmas.{tells_silence}
-use Rattle.machine_host.proofs.StepLemmas.{tells_nothing}
+use Rattle.machine_host.proofs.TellingLemmas.{tells_nothing}
 use Rattle.nvmhost.specs.Running.{LineGoes}
 
 pub line_goes-skipped : (h : Machine) (input : Input) (out : List ℕ) (host : HostState) (d : Device) → input ≡ Skipped → Stands host d h → LineGoes h input out out host d d
