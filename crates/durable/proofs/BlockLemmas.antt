@@ -1,0 +1,78 @@
+-- Blocks that an action does not reach.
+use Rattle.std.proofs.Common.{◌≡◌, inl, inr, ℕ, zero, suc, ◌+◌, ◌-◌, ◌/◌, ◌≤◌, false, cond, List, [], ◌∷◌, length, take, drop, refl, sym, ap, ◌∙◌, arith}
+use Rattle.std.specs.List.{list_any}
+use Rattle.std.proofs.lemmas.Bool.{or_parts}
+use Rattle.std.proofs.lemmas.Bool.Decides.{nat_tests}
+use Rattle.std.proofs.lemmas.List.{length-take}
+use Rattle.nvm_base.specs.declared.units.Span.{Span}
+use Rattle.nvm_model.specs.Blocks.{change, change_block, data_from, is_among, nth, write, write_block, write_ranges}
+use Rattle.nvm_model.specs.Numbered.{map_from}
+use Rattle.nvm_model.specs.Storage.{Block}
+use Rattle.nvm_model.specs.Storage.Block.{Absent, Scarred}
+use Rattle.block_device.specs.Refusals.{block_spans}
+use Rattle.script_text.specs.Action.{Action}
+use Rattle.script_text.specs.Action.Action.{BRead, BWrite, BAtomic, BMulti, BDiscard, BDiscardIf, BExists, BScar, VLoad, VStore, VSync, Cut, CutIn, Restart}
+use Rattle.machine_host.specs.OnBlocks.{blocks_from}
+use Rattle.machine_host.specs.Commands.{LeavesBlocks, meaning}
+use Rattle.machine_host.specs.Meaning.{BlocksLeft}
+use Rattle.machine_host.specs.Meaning.BlocksLeft.{Same, Either, Mixed}
+use Rattle.durable.specs.Place.Place.{of_blocks}
+use Rattle.durable.specs.Touching.{changes}
+
+nth-map : (f : ℕ → Block → Block) (k n : ℕ) (blocks : List Block) → ((old : Block) → f (k + n) old ≡ old) → nth (map_from f k blocks) n ≡ nth blocks n
+nth-map f k n [] same = refl
+nth-map f k zero (x ∷ xs) same = let e : k + 0 ≡ k = omega arith in ap (λ j. f j x) (sym e) ∙ same x
+nth-map f k (suc n) (x ∷ xs) same =
+    let e : suc k + n ≡ k + suc n = omega arith in nth-map f (suc k) n xs (λ old. ap (λ j. f j old) e ∙ same old)
+
+fewer : (start less more b : ℕ) → less ≤ more → is_among start more b ≡ false → is_among start less b ≡ false
+fewer start less more b le out = grind (arith, nat_tests)
+
+nth-write : (at n : ℕ) (bytes : List ℕ) (blocks : List Block) → is_among at (length bytes / 512) n ≡ false → nth (write at bytes blocks) n ≡ nth blocks n
+unfolding write
+nth-write at n bytes blocks out = nth-map (write_block at bytes) 0 n blocks (λ old. by_number (0 + n) old (omega arith))
+  where
+    by_number : (m : ℕ) (old : Block) → m ≡ n → write_block at bytes m old ≡ old
+    by_number m old is = ap (λ b. cond b (data_from bytes (m - at)) old) (ap (is_among at (length bytes / 512)) is ∙ out)
+
+nth-write_ranges : (ranges : List Span) (bytes : List ℕ) (n : ℕ) (blocks : List Block)
+    → list_any (λ (span : Span). is_among span.start span.len n) (block_spans ranges) ≡ false → nth (write_ranges ranges bytes blocks) n ≡ nth blocks n
+nth-write_ranges [] bytes n blocks out = refl
+nth-write_ranges (range ∷ ranges) bytes n blocks out =
+    let parts = or_parts (is_among range.start (range.len / 512) n) (list_any (λ (span : Span). is_among span.start span.len n) (block_spans ranges)) out in
+    let size = length-take range.len bytes in
+    nth-write_ranges ranges (drop range.len bytes) n (write range.start (take range.len bytes) blocks) parts.1
+    ∙ nth-write range.start n (take range.len bytes) blocks
+    (fewer range.start (length (take range.len bytes) / 512) (range.len / 512) n (omega (arith, size)) parts.0)
+
+nth-change : (spans : List Span) (to : Block) (n : ℕ) (blocks : List Block) → list_any (λ (span : Span). is_among span.start span.len n) spans ≡ false
+    → nth (change spans to blocks) n ≡ nth blocks n
+unfolding change
+nth-change spans to n blocks out = nth-map (change_block spans to) 0 n blocks (λ old. by_number (0 + n) old (omega arith))
+  where
+    by_number : (m : ℕ) (old : Block) → m ≡ n → change_block spans to m old ≡ old
+    by_number m old is = ap (λ b. cond b to old) (ap (λ j. list_any (λ (span : Span). is_among span.start span.len j) spans) is ∙ out)
+
+-- a block that an action does not change
+pub nth-spared : (action : Action) (i : ℕ) (blocks : List Block) → changes action (of_blocks i) ≡ false → nth ((meaning action).blocks blocks) (i / 512) ≡ nth blocks (i / 512)
+nth-spared (BRead block count) i blocks out = refl
+nth-spared (BWrite block bytes) i blocks out = nth-write block (i / 512) bytes blocks (or_parts _ false out).0
+nth-spared (BAtomic block bytes) i blocks out = nth-write block (i / 512) bytes blocks (or_parts _ false out).0
+nth-spared (BMulti ranges bytes) i blocks out = nth-write_ranges ranges bytes (i / 512) blocks out
+nth-spared (BDiscard block count) i blocks out = nth-change (blocks_from block count) Absent (i / 512) blocks out
+nth-spared (BDiscardIf block count) i blocks out = nth-change (blocks_from block count) Absent (i / 512) blocks out
+nth-spared (BExists block) i blocks out = refl
+nth-spared (BScar ranges) i blocks out = nth-change ranges Scarred (i / 512) blocks out
+nth-spared (VLoad offset len) i blocks out = refl
+nth-spared (VStore offset bytes) i blocks out = refl
+nth-spared (VSync offset len) i blocks out = refl
+nth-spared Cut i blocks out = refl
+nth-spared (CutIn calls) i blocks out = refl
+nth-spared (Restart choice) i blocks out = refl
+
+-- what an interruption leaves of one that is the same either way
+pub nth-left : (left : BlocksLeft) (n : ℕ) (old to new : List Block) → nth to n ≡ nth old n → LeavesBlocks left old to new → nth new n ≡ nth old n
+nth-left Same n old to new same is = ap (λ bs. nth bs n) is
+nth-left Either n old to new same (inl is) = ap (λ bs. nth bs n) is
+nth-left Either n old to new same (inr is) = ap (λ bs. nth bs n) is ∙ same
+nth-left Mixed n old to new same may = elim (may.each n) as (λ _. nth new n ≡ nth old n) [ inl is ↦ is | inr is ↦ is ∙ same ]

@@ -1,0 +1,155 @@
+-- What a step keeps: the byte at a place that it spares, and that the state is whole.
+use Rattle.std.proofs.Common.{◌≡◌, ◌⊎◌, inl, inr, ℕ, ◌*◌, ◌/◌, ◌%◌, ◌<◌, Bool, true, false, Option, Some, None, List, refl, sym, ap, subst, ◌∙◌}
+use Rattle.std.proofs.lemmas.Bool.{both_ways}
+use Rattle.line_words.specs.declared.interruption.Interruption.{Interruption}
+use Rattle.line_words.specs.declared.interruption.Interruption.TheVariants.{Failed, PowerLost as Lost}
+use Rattle.machine_host.specs.Interrupted.{interrupted_answer}
+use Rattle.nvm_model.specs.Blocks.{nth}
+use Rattle.nvm_model.specs.Page.{Page}
+use Rattle.nvm_model.specs.Storage.{Block}
+use Rattle.reply_text.specs.Answer.{Answer}
+use Rattle.reply_text.specs.Answer.Answer.{Done}
+use Rattle.script_text.specs.Action.{Action}
+use Rattle.script_text.specs.Action.Action.{BRead, BWrite, BAtomic, BMulti, BDiscard, BDiscardIf, BExists, BScar, VLoad, VStore, VSync, Cut, CutIn, Restart}
+use Rattle.machine_host.specs.declared.mode.Mode.TheVariants.{On}
+use Rattle.machine_host.specs.Machine.{Machine}
+use Rattle.machine_host.specs.Commands.{MayLeaveBlocks, MayLeaveVolume, meaning}
+use Rattle.machine_host.specs.Volume.{volume_image}
+use Rattle.durable.specs.Place.{Place, block_has, byte_of}
+use Rattle.durable.specs.Place.Place.{of_volume, of_blocks}
+use Rattle.durable.specs.Touching.{changes, is_begun}
+use Rattle.durable.specs.Durable.{BringsBytes}
+use Rattle.durable.proofs.StepLemmas.{Alters, ChangesNothing, Returns, Step}
+use Rattle.durable.proofs.StepLemmas.Step.{idles, alters, stops, returns}
+use Rattle.durable.proofs.LineLemmas.{VolumeKeeps, line_has-kept, keeps-persist, keeps-stored, keeps-may_store, keeps-may_sync, keeps-read}
+use Rattle.durable.proofs.BlockLemmas.{nth-spared, nth-left}
+
+-- the place has this byte, whatever a cut leaves
+abbrev pub PlaceKeeps : Machine → Place → Option ℕ → Type 0
+PlaceKeeps h (of_volume i) v = (i / 64 < 64 * h.geometry.vpages) × VolumeKeeps h.volume i v
+PlaceKeeps h (of_blocks i) v = block_has (nth h.blocks (i / 512)) (i % 512) ≡ v
+
+-- the action that is interrupted, if there is one, spares the place
+abbrev pub SparedBy : Option Action → Place → Type 0
+SparedBy None x = Unit {0}
+SparedBy (Some action) x = (changes action x ≡ false) × BringsBytes action
+
+pub record Keeps (h : Machine) (x : Place) (v : Option ℕ) : Type 0 where
+  pub place : PlaceKeeps h x v
+  pub spared : SparedBy h.interrupted x
+  pub settled : h.mode ≡ On → h.interrupted ≡ None
+
+pub keeps_byte : (h : Machine) (x : Place) (v : Option ℕ) → Keeps h x v → byte_of h x ≡ v
+keeps_byte h (of_volume i) v keeps = line_has-kept _ (i % 64) v keeps.place.1
+keeps_byte h (of_blocks i) v keeps = keeps.place
+
+-- an action that spares a byte of the volume
+altered_volume : (action : Action) (i : ℕ) (v : Option ℕ) (pages : List Page) → changes action (of_volume i) ≡ false → BringsBytes action → VolumeKeeps pages i v
+    → VolumeKeeps ((meaning action).volume pages) i v
+altered_volume (BRead block count) i v pages out small keeps = keeps
+altered_volume (BWrite block bytes) i v pages out small keeps = keeps
+altered_volume (BAtomic block bytes) i v pages out small keeps = keeps
+altered_volume (BMulti ranges bytes) i v pages out small keeps = keeps
+altered_volume (BDiscard block count) i v pages out small keeps = keeps
+altered_volume (BDiscardIf block count) i v pages out small keeps = keeps
+altered_volume (BExists block) i v pages out small keeps = keeps
+altered_volume (BScar ranges) i v pages out small keeps = keeps
+altered_volume (VLoad offset len) i v pages out small keeps = keeps
+altered_volume (VStore offset bytes) i v pages out small keeps = keeps-stored offset i v bytes pages small out keeps
+altered_volume (VSync offset len) i v pages out small keeps = keeps-persist offset len i v pages keeps
+altered_volume Cut i v pages out small keeps = keeps
+altered_volume (CutIn calls) i v pages out small keeps = keeps
+altered_volume (Restart choice) i v pages out small keeps = keeps
+
+-- and one that was interrupted
+left_volume : (action : Action) (i : ℕ) (v : Option ℕ) (pages left : List Page) → changes action (of_volume i) ≡ false → BringsBytes action → VolumeKeeps pages i v
+    → MayLeaveVolume (Some action) pages left → VolumeKeeps left i v
+left_volume (BRead block count) i v pages left out small keeps is = subst (λ p. VolumeKeeps p i v) {x = pages} (sym is) keeps
+left_volume (BWrite block bytes) i v pages left out small keeps is = subst (λ p. VolumeKeeps p i v) {x = pages} (sym is) keeps
+left_volume (BAtomic block bytes) i v pages left out small keeps is = subst (λ p. VolumeKeeps p i v) {x = pages} (sym is) keeps
+left_volume (BMulti ranges bytes) i v pages left out small keeps is = subst (λ p. VolumeKeeps p i v) {x = pages} (sym is) keeps
+left_volume (BDiscard block count) i v pages left out small keeps is = subst (λ p. VolumeKeeps p i v) {x = pages} (sym is) keeps
+left_volume (BDiscardIf block count) i v pages left out small keeps is = subst (λ p. VolumeKeeps p i v) {x = pages} (sym is) keeps
+left_volume (BExists block) i v pages left out small keeps is = subst (λ p. VolumeKeeps p i v) {x = pages} (sym is) keeps
+left_volume (BScar ranges) i v pages left out small keeps is = subst (λ p. VolumeKeeps p i v) {x = pages} (sym is) keeps
+left_volume (VLoad offset len) i v pages left out small keeps is = subst (λ p. VolumeKeeps p i v) {x = pages} (sym is) keeps
+left_volume (VStore offset bytes) i v pages left out small keeps may = keeps-may_store offset i v bytes pages left small out keeps may
+left_volume (VSync offset len) i v pages left out small keeps may = keeps-may_sync offset len i v pages left keeps may
+left_volume Cut i v pages left out small keeps is = subst (λ p. VolumeKeeps p i v) {x = pages} (sym is) keeps
+left_volume (CutIn calls) i v pages left out small keeps is = subst (λ p. VolumeKeeps p i v) {x = pages} (sym is) keeps
+left_volume (Restart choice) i v pages left out small keeps is = subst (λ p. VolumeKeeps p i v) {x = pages} (sym is) keeps
+
+volume_left : (o : Option Action) (i : ℕ) (v : Option ℕ) (pages left : List Page) → SparedBy o (of_volume i) → VolumeKeeps pages i v → MayLeaveVolume o pages left → VolumeKeeps left i v
+volume_left None i v pages left spared keeps is = subst (λ p. VolumeKeeps p i v) {x = pages} (sym is) keeps
+volume_left (Some action) i v pages left spared keeps may = left_volume action i v pages left spared.0 spared.1 keeps may
+
+blocks_left : (o : Option Action) (i : ℕ) (old new : List Block) → SparedBy o (of_blocks i) → MayLeaveBlocks o old new → nth new (i / 512) ≡ nth old (i / 512)
+blocks_left None i old new spared is = ap (λ bs. nth bs (i / 512)) is
+blocks_left (Some action) i old new spared may =
+    nth-left (meaning action).blocks_left (i / 512) old ((meaning action).blocks old) new (nth-spared action i old spared.0) may
+
+-- the place after a step that leaves it
+same_place : (h next : Machine) (x : Place) (v : Option ℕ) → next.geometry ≡ h.geometry → next.blocks ≡ h.blocks → next.volume ≡ h.volume → PlaceKeeps h x v → PlaceKeeps next x v
+same_place h next (of_volume i) v geometry blocks volume keeps =
+    (subst (λ g. i / 64 < 64 * g.vpages) (sym geometry) keeps.0, subst (λ p. VolumeKeeps p i v) {x = h.volume} (sym volume) keeps.1)
+same_place h next (of_blocks i) v geometry blocks volume keeps = ap (λ bs. block_has (nth bs (i / 512)) (i % 512)) blocks ∙ keeps
+
+altered_place : (h : Machine) (action : Action) (next : Machine) (x : Place) (v : Option ℕ) → Alters h action next → changes action x ≡ false → BringsBytes action
+    → PlaceKeeps h x v → PlaceKeeps next x v
+altered_place h action next (of_volume i) v to out small keeps = (
+  subst (λ g. i / 64 < 64 * g.vpages) (sym to.geometry) keeps.0,
+  subst (λ p. VolumeKeeps p i v) {x = (meaning action).volume h.volume} (sym to.volume) (altered_volume action i v h.volume out small keeps.1),
+)
+altered_place h action next (of_blocks i) v to out small keeps =
+    ap (λ bs. block_has (nth bs (i / 512)) (i % 512)) to.blocks ∙ ap (λ b. block_has b (i % 512)) (nth-spared action i h.blocks out) ∙ keeps
+
+returned_place : (h next : Machine) (x : Place) (v : Option ℕ) → Returns h next → SparedBy h.interrupted x → PlaceKeeps h x v → PlaceKeeps next x v
+returned_place h next (of_volume i) v back spared keeps = (
+  subst (λ g. i / 64 < 64 * g.vpages) (sym back.geometry) keeps.0,
+  subst (λ p. VolumeKeeps p i v) (sym back.volume)
+      (keeps-read back.choice (volume_image h.geometry back.image) h.geometry.vpages i v back.may.left keeps.0
+      (volume_left h.interrupted i v h.volume back.may.left spared keeps.1 back.may.may) back.may.volume),
+)
+returned_place h next (of_blocks i) v back spared keeps =
+    ap (λ bs. block_has (nth bs (i / 512)) (i % 512)) back.blocks
+    ∙ ap (λ b. block_has b (i % 512)) (blocks_left h.interrupted i h.blocks _ spared back.may.blocks) ∙ keeps
+
+-- an action that changes the place and was begun is none that spares it
+spares : (action : Action) (x : Place) (answer : Answer) → (changes action x ≡ true → is_begun answer ≡ false) → is_begun answer ≡ true → changes action x ≡ false
+spares action x answer only begun = by_test (changes action x) refl
+  where
+    by_test : (b : Bool) → changes action x ≡ b → b ≡ false
+    by_test true is = absurd (both_ways (is_begun answer) (only is) begun)
+    by_test false is = refl
+
+spares_when : (action : Action) (x : Place) (answer : Answer) → (changes action x ≡ true → is_begun answer ≡ false) → (answer ≡ Done) ⊎ ChangesNothing action → changes action x ≡ false
+spares_when action x answer only (inl done) = spares action x answer only (ap is_begun done)
+spares_when action x answer only (inr none) = none x
+
+pub stop_begun : (by : Interruption) → is_begun (interrupted_answer by) ≡ true
+stop_begun Failed = refl
+stop_begun Lost = refl
+
+-- A step that spares the place keeps its byte.
+pub keeps-step : (h : Machine) (action : Action) (answer : Answer) (next : Machine) (x : Place) (v : Option ℕ) → (changes action x ≡ true → is_begun answer ≡ false) → BringsBytes action
+    → Keeps h x v → Step h action answer next → Keeps next x v
+keeps-step h action answer next x v only small keeps (idles why to) = record {
+  place = same_place h next x v to.geometry to.blocks to.volume keeps.place;
+  spared = subst (λ o. SparedBy o x) (sym to.interrupted) keeps.spared;
+  settled = λ on. to.interrupted ∙ keeps.settled (to.mode on);
+}
+keeps-step h action answer next x v only small keeps (alters begun none to) = record {
+  place = altered_place h action next x v to (spares_when action x answer only begun) small keeps.place;
+  spared = subst (λ o. SparedBy o x) (sym to.interrupted) keeps.spared;
+  settled = λ on. to.interrupted ∙ keeps.settled (sym to.mode ∙ on);
+}
+keeps-step h action answer next x v only small keeps (stops by is to) = record {
+  place = same_place h next x v to.geometry to.blocks to.volume keeps.place;
+  spared = subst (λ o. SparedBy o x) (sym to.interrupted) (spares action x answer only (ap is_begun is ∙ stop_begun by), small);
+  settled = λ on. absurd (to.mode on);
+}
+keeps-step h action answer next x v only small keeps (returns covers back) = record {
+  place = returned_place h next x v back keeps.spared keeps.place;
+  spared = subst (λ o. SparedBy o x) (sym back.interrupted) tt;
+  settled = λ on. back.interrupted;
+}

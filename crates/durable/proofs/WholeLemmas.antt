@@ -1,0 +1,119 @@
+-- Whole states lead to whole states.
+use Rattle.std.proofs.Common.{◌≡◌, ℕ, ◌*◌, ◌<◌, Bool, true, false, cond, Option, Some, None, option_map, List, [], ◌∷◌, length, replicate, refl, sym, subst, ◌∙◌}
+use Rattle.std.proofs.lemmas.List.{length-map}
+use Rattle.line_device.specs.History.{latest}
+use Rattle.line_device.specs.Medium.{word_stored}
+use Rattle.line_device.specs.Panel.{Image}
+use Rattle.word_tables.specs.declared.geometry.Geometry.{Geometry}
+use Rattle.word_tables.specs.Layout.{total_lines}
+use Rattle.nvm_model.specs.Numbered.{list_from, map_from}
+use Rattle.nvm_model.specs.Cell.{Cell, covers, flush_cell, persist_cell, put_cell, touches}
+use Rattle.nvm_model.specs.Cell.Cell.{Bad, Kept}
+use Rattle.nvm_model.specs.Page.{Page, cell_of, fill, read_pages}
+use Rattle.nvm_model.proofs.NumberedLemmas.{length-list_from, length-map_from}
+use Rattle.nvm_model.proofs.PageLemmas.{cell_of-fill, cell_of-persist, cell_of-put, cell_of-read_pages}
+use Rattle.reply_text.specs.Answer.{Answer}
+use Rattle.script_text.specs.Action.{Action}
+use Rattle.script_text.specs.Action.Action.{BRead, BWrite, BAtomic, BMulti, BDiscard, BDiscardIf, BExists, BScar, VLoad, VStore, VSync, Cut, CutIn, Restart}
+use Rattle.script_text.specs.Script.{Input}
+use Rattle.script_text.specs.Script.Input.{Skipped, Malformed, Asked}
+use Rattle.machine_host.specs.Machine.{Machine}
+use Rattle.machine_host.specs.Commands.{meaning}
+use Rattle.machine_host.specs.Restarting.{fresh, reading, zero_image}
+use Rattle.machine_host.specs.Volume.{volume_image}
+use Rattle.machine_host.specs.Run.{Hears, Run, Transcript}
+use Rattle.durable.specs.Durable.{IsLineThere, IsWhole}
+use Rattle.durable.proofs.StepLemmas.{Step, step_of}
+use Rattle.durable.proofs.StepLemmas.Step.{idles, alters, stops, returns}
+
+there-persist : (start len n : ℕ) (o : Option Cell) → IsLineThere o → IsLineThere (option_map (persist_cell start len n) o)
+there-persist start len n None there = there
+there-persist start len n (Some cell) there = by_test (touches start len n)
+  where
+    flushed : (c : Cell) → IsLineThere (Some c) → IsLineThere (Some (flush_cell c))
+    flushed Bad size = tt
+    flushed (Kept true words) size = tt
+    flushed (Kept false words) size = length-map words latest ∙ size
+
+    by_test : (b : Bool) → IsLineThere (Some (cond b (flush_cell cell) cell))
+    by_test true = flushed cell there
+    by_test false = there
+
+there-put : (at n : ℕ) (bytes : List ℕ) (o : Option Cell) → IsLineThere o → IsLineThere (option_map (put_cell at bytes n) o)
+there-put at n bytes None there = there
+there-put at n bytes (Some (Kept weak words)) there = length-map_from (word_stored at bytes) (8 * n) words ∙ there
+there-put at n bytes (Some Bad) there = by_test (covers at (length bytes) n)
+  where
+    by_test : (b : Bool) → IsLineThere (Some (cond b (Kept false (map_from (word_stored at bytes) (8 * n) (replicate 8 (0 ∷ [])))) Bad))
+    by_test true = length-map_from (word_stored at bytes) (8 * n) (replicate 8 (0 ∷ []))
+    by_test false = tt
+
+there-fill : (at len n : ℕ) (pages : List Page) → IsLineThere (cell_of pages n) → IsLineThere (cell_of (fill at len pages) n)
+there-fill at len n pages there = by_cell (cell_of pages n) refl there
+  where
+    by_cell : (o : Option Cell) → cell_of pages n ≡ o → IsLineThere o → IsLineThere (cell_of (fill at len pages) n)
+    by_cell None is none = absurd none
+    by_cell (Some cell) is size = subst IsLineThere (sym (cell_of-fill at len pages n cell is)) size
+
+there-read : (image : Image) (count n : ℕ) → n < 64 * count → IsLineThere (cell_of (read_pages image count) n)
+there-read image count n lt = subst IsLineThere (sym (cell_of-read_pages image count n lt)) (by_mark (image.is_bad n))
+  where
+    by_mark : (b : Bool) → IsLineThere (Some (cond b Bad (Kept (image.is_weak n) (list_from (λ p. image.word p ∷ []) (8 * n) 8))))
+    by_mark true = tt
+    by_mark false = length-list_from (λ p. image.word p ∷ []) (8 * n) 8
+
+there-altered : (action : Action) (n : ℕ) (pages : List Page) → IsLineThere (cell_of pages n) → IsLineThere (cell_of ((meaning action).volume pages) n)
+there-altered (BRead block count) n pages there = there
+there-altered (BWrite block bytes) n pages there = there
+there-altered (BAtomic block bytes) n pages there = there
+there-altered (BMulti ranges bytes) n pages there = there
+there-altered (BDiscard block count) n pages there = there
+there-altered (BDiscardIf block count) n pages there = there
+there-altered (BExists block) n pages there = there
+there-altered (BScar ranges) n pages there = there
+there-altered (VLoad offset len) n pages there = there
+there-altered (VStore offset bytes) n pages there =
+    subst IsLineThere (sym (cell_of-put offset bytes (fill offset (length bytes) pages) n))
+    (there-put offset n bytes (cell_of (fill offset (length bytes) pages) n) (there-fill offset (length bytes) n pages there))
+there-altered (VSync offset len) n pages there =
+    subst IsLineThere (sym (cell_of-persist offset len pages n)) (there-persist offset len n (cell_of pages n) there)
+there-altered Cut n pages there = there
+there-altered (CutIn calls) n pages there = there
+there-altered (Restart choice) n pages there = there
+
+same_volume : (h next : Machine) → IsWhole h → next.geometry ≡ h.geometry → next.volume ≡ h.volume
+    → (n : ℕ) → n < 64 * next.geometry.vpages → IsLineThere (cell_of next.volume n)
+same_volume h next whole geometry volume n lt =
+    subst (λ p. IsLineThere (cell_of p n)) (sym volume) (whole.volume n (subst (λ g. n < 64 * g.vpages) geometry lt))
+
+pub whole-step : (h : Machine) (action : Action) (answer : Answer) (next : Machine) → IsWhole h → Step h action answer next → IsWhole next
+whole-step h action answer next whole (idles why to) =
+    record { volume = same_volume h next whole to.geometry to.volume; settled = λ on. to.interrupted ∙ whole.settled (to.mode on) }
+whole-step h action answer next whole (alters begun none to) = record {
+  volume = λ n lt. subst (λ p. IsLineThere (cell_of p n)) (sym to.volume)
+      (there-altered action n h.volume (whole.volume n (subst (λ g. n < 64 * g.vpages) to.geometry lt)));
+  settled = λ on. to.interrupted ∙ whole.settled (sym to.mode ∙ on);
+}
+whole-step h action answer next whole (stops by is to) =
+    record { volume = same_volume h next whole to.geometry to.volume; settled = λ on. absurd (to.mode on) }
+whole-step h action answer next whole (returns covers back) = record {
+  volume = λ n lt. subst (λ p. IsLineThere (cell_of p n)) (sym back.volume)
+      (there-read (volume_image h.geometry back.image) h.geometry.vpages n (subst (λ g. n < 64 * g.vpages) back.geometry lt));
+  settled = λ on. back.interrupted;
+}
+
+-- a step, whatever is heard
+pub whole-heard : (h : Machine) (input : Input) (said : Transcript) (next : Machine) → IsWhole h → Hears h input said next → IsWhole next
+whole-heard h Skipped said next whole heard = subst IsWhole (sym heard.1) whole
+whole-heard h Malformed said next whole heard = subst IsWhole (sym heard.1) whole
+whole-heard h (Asked action) said next whole heard =
+    let taken = step_of h action said next heard in whole-step h action taken.answer next whole taken.step
+
+pub whole-run : (inputs : List Input) (h later : Machine) (said : Transcript) → IsWhole h → Run h inputs said later → IsWhole later
+whole-run [] h later said whole run = subst IsWhole (sym run.1) whole
+whole-run (input ∷ inputs) h later said whole run =
+    whole-run inputs run.2 later run.1 (whole-heard h input run.0 run.2 whole run.4) run.5
+
+pub whole-fresh : (geo : Geometry) → IsWhole (fresh geo)
+unfolding reading
+whole-fresh geo = record { volume = λ n lt. there-read (volume_image geo (zero_image (total_lines geo))) geo.vpages n lt; settled = λ on. refl }

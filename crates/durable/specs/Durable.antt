@@ -1,0 +1,90 @@
+-- What was made durable stays.
+use Rattle.std.specs.Prelude.{◌≡◌, ◌*◌, ◌-◌, ◌/◌, ◌<◌, ℕ, true, false, List, [], ◌∷◌, length, slice_index, Option, None, Some, IfSome}
+use Rattle.nvm_model.specs.Blocks.{is_among}
+use Rattle.nvm_model.specs.Cell.{Cell}
+use Rattle.nvm_model.specs.Cell.Cell.{Bad, Kept}
+use Rattle.nvm_model.specs.Page.{cell_of}
+use Rattle.reply_text.specs.Answer.{Answer}
+use Rattle.reply_text.specs.Answer.Answer.{Done, Bytes}
+use Rattle.script_text.specs.Action.{Action}
+use Rattle.script_text.specs.Action.Action.{BRead, BWrite, BAtomic, BMulti, BDiscard, BDiscardIf, BExists, BScar, VLoad, VStore, VSync, Cut, CutIn, Restart}
+use Rattle.script_text.specs.Script.{Input}
+use Rattle.script_text.specs.Script.Input.{Skipped, Malformed, Asked}
+use Rattle.machine_host.specs.declared.mode.Mode.TheVariants.{On}
+use Rattle.machine_host.specs.Machine.{Machine}
+use Rattle.machine_host.specs.Run.{Transcript, Hears, Run}
+use Rattle.durable.specs.Place.{Place, byte_of}
+use Rattle.durable.specs.Place.Place.{of_volume, of_blocks}
+use Rattle.durable.specs.Touching.{changes, covers, is_begun}
+
+-- a line of the volume is there: it is bad, or has its eight words
+abbrev pub IsLineThere : Option Cell → Type 0
+IsLineThere None = ⊥
+IsLineThere (Some Bad) = Unit {0}
+IsLineThere (Some (Kept weak words)) = length words ≡ 8
+
+-- A state that a run may come to: each line of the volume is there, and nothing is interrupted while the power is on.
+pub record IsWhole (h : Machine) : Type 0 where
+  pub volume : (n : ℕ) → n < 64 * h.geometry.vpages → IsLineThere (cell_of h.volume n)
+  pub settled : h.mode ≡ On → h.interrupted ≡ None
+
+-- the data that a command stores are bytes
+abbrev pub BringsBytes : Action → Type 0
+BringsBytes (BRead block count) = Unit {0}
+BringsBytes (BWrite block bytes) = Unit {0}
+BringsBytes (BAtomic block bytes) = Unit {0}
+BringsBytes (BMulti ranges bytes) = Unit {0}
+BringsBytes (BDiscard block count) = Unit {0}
+BringsBytes (BDiscardIf block count) = Unit {0}
+BringsBytes (BExists block) = Unit {0}
+BringsBytes (BScar ranges) = Unit {0}
+BringsBytes (VLoad offset len) = Unit {0}
+BringsBytes (VStore offset bytes) = (k : ℕ) → slice_index bytes k < 256
+BringsBytes (VSync offset len) = Unit {0}
+BringsBytes Cut = Unit {0}
+BringsBytes (CutIn calls) = Unit {0}
+BringsBytes (Restart choice) = Unit {0}
+
+abbrev pub BringBytes : List Input → Type 0
+BringBytes [] = Unit {0}
+BringBytes (Skipped ∷ inputs) = BringBytes inputs
+BringBytes (Malformed ∷ inputs) = BringBytes inputs
+BringBytes (Asked action ∷ inputs) = BringsBytes action × BringBytes inputs
+
+-- no command of these that changes the place was begun, by what they were answered
+abbrev pub Spares : Place → List Input → List Answer → Type 0
+Spares x [] answers = Unit {0}
+Spares x (Skipped ∷ inputs) answers = Spares x inputs answers
+Spares x (Malformed ∷ inputs) [] = Unit {0}
+Spares x (Malformed ∷ inputs) (answer ∷ answers) = Spares x inputs answers
+Spares x (Asked action ∷ inputs) [] = Unit {0}
+Spares x (Asked action ∷ inputs) (answer ∷ answers) =
+    (changes action x ≡ true → is_begun answer ≡ false) × Spares x inputs answers
+
+-- a read at the place that is answered with bytes has this one there
+abbrev pub Reads : Machine → Place → ℕ → Type 0
+Reads h (of_volume i) byte = (offset len : ℕ) (bytes : List ℕ) (said : Transcript) (next : Machine)
+    → Hears h (Asked (VLoad offset len)) said next → said.answers ≡ Bytes bytes ∷ [] → is_among offset len i ≡ true
+    → slice_index bytes (i - offset) ≡ byte
+Reads h (of_blocks i) byte = (block count : ℕ) (bytes : List ℕ) (said : Transcript) (next : Machine)
+    → Hears h (Asked (BRead block count)) said next → said.answers ≡ Bytes bytes ∷ [] → is_among block count (i / 512) ≡ true
+    → slice_index bytes (i - 512 * block) ≡ byte
+
+-- The place has this byte, and shows it. It has none where its line is bad or its block is scarred.
+pub record Has (h : Machine) (x : Place) (byte : Option ℕ) : Type 0 where
+  pub kept : byte_of h x ≡ byte
+  pub shown : IfSome byte (Reads h x)
+
+-- In every later state of every run that spares the place it has the byte that it has now, whatever is cut and restarted.
+abbrev pub IsDurable : Machine → Place → Type 0
+IsDurable h x = (inputs : List Input) (said : Transcript) (later : Machine) → BringBytes inputs → Run h inputs said later
+    → Spares x inputs said.answers → Has later x (byte_of h x)
+
+-- A command that covers the place was done in h and led to this state.
+pub record IsMadeDurable (h next : Machine) (x : Place) : Type 0 where
+  pub action : Action
+  pub said : Transcript
+  pub whole : IsWhole h
+  pub came : Hears h (Asked action) said next
+  pub done : said.answers ≡ Done ∷ []
+  pub covered : covers action x ≡ true

@@ -1,0 +1,30 @@
+-- A byte of storage, and what is read there.
+use Rattle.std.specs.Prelude.{◌/◌, ◌%◌, ℕ, Option, Some, None, option_map, slice_index, slice_index_or}
+use Rattle.nvm_model.specs.Blocks.{nth}
+use Rattle.nvm_model.specs.Cell.{Cell, cell_byte}
+use Rattle.nvm_model.specs.Cell.Cell.{Bad, Kept}
+use Rattle.nvm_model.specs.Page.{cell_of}
+use Rattle.nvm_model.specs.Storage.{Block}
+use Rattle.nvm_model.specs.Storage.Block.{Absent, Scarred, Data}
+use Rattle.machine_host.specs.Machine.{Machine}
+
+-- a byte of the volume, or of the blocks, by its number
+pub data Place : Type 0 where
+  of_volume : ℕ → Place
+  of_blocks : ℕ → Place
+
+-- byte i of a line of the volume and of a block: 0 where nothing is kept, None where it can't be read
+abbrev pub line_has : Option Cell → ℕ → Option ℕ
+line_has None i = Some 0
+line_has (Some Bad) i = None
+line_has (Some (Kept weak words)) i = Some (cell_byte (Kept weak words) i)
+
+abbrev pub block_has : Block → ℕ → Option ℕ
+block_has Absent i = Some 0
+block_has Scarred i = None
+block_has (Data lines) i = option_map (λ bytes. slice_index bytes (i % 64)) (slice_index_or lines (i / 64) None)
+
+-- the byte at a place
+abbrev pub byte_of : Machine → Place → Option ℕ
+byte_of h (of_volume i) = line_has (cell_of h.volume (i / 64)) (i % 64)
+byte_of h (of_blocks i) = block_has (nth h.blocks (i / 512)) (i % 512)

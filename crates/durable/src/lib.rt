@@ -1,0 +1,6 @@
+//! What was made durable stays: a law over every run of the machine, with no device in it.
+#![tactic(auto)]
+
+mod laws;
+
+pub use laws::{runs_come_to_whole_states, what_was_made_durable_stays};
