@@ -6,3 +6,4 @@ pub mod KeepLemmas
 pub mod RefusalLemmas
 pub mod WholeLemmas
 pub mod LawLemmas
+pub mod ScriptLemmas

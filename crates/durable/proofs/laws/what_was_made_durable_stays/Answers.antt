@@ -1,5 +1,9 @@
 use Rattle.durable.proofs.LawLemmas.{durable}
+use Rattle.durable.proofs.ScriptLemmas.{bring-script}
 use Rattle.durable.proofs.laws.what_was_made_durable_stays.Goals as goal
 
-pub returns : goal.returns
-returns c = durable
+pub returns-clause-stays : goal.returns-clause-stays
+returns-clause-stays c = durable
+
+pub returns-clause-scripts : goal.returns-clause-scripts
+returns-clause-scripts c = bring-script

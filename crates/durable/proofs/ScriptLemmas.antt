@@ -1,0 +1,238 @@
+-- What a script stores are bytes.
+use Rattle.std.proofs.Common.{◌≡◌, ℕ, zero, suc, ◌+◌, ◌*◌, ◌<◌, ◌&&◌, ◌==◌, Bool, true, false, cond, ltb, Option, Some, None, option_map, Result, Ok, Err, List, [], ◌∷◌, ◌++◌, length, get_or, replicate, nat_lt, nat_le, refl, arith}
+use Rattle.std.specs.Prelude.{codes}
+use Rattle.std.specs.Char.{digit_value}
+use Rattle.std.specs.List.{slice_split}
+use Rattle.std.specs.Io.BufRead.{strip_last}
+use Rattle.std.specs.Str.{bytes_eq}
+use Rattle.std.proofs.lemmas.Bool.{and_parts, ltb-true}
+use Rattle.nvm_base.specs.declared.units.Span.{Span}
+use Rattle.nvm_base.specs.declared.reading.TextFault.{TextFault}
+use Rattle.nvm_base.specs.declared.reading.TextFault.TheVariants.{TooLong}
+use Rattle.line_device.specs.declared.line.Choice.TheVariants.{Firsts, Lasts}
+use Rattle.nvm_base.specs.Data.{ByteRun, byte_count, data_within, followed, item_of, items_of, pair_of, pairs_of, repeated, run, runs_of, spelled, within}
+use Rattle.nvm_base.specs.Numbers.{number_of}
+use Rattle.script_text.specs.Action.{Action}
+use Rattle.script_text.specs.Action.Action.{BRead, BWrite, BAtomic, BMulti, BDiscard, BDiscardIf, BExists, BScar, VLoad, VStore, VSync, CutIn, Restart}
+use Rattle.script_text.specs.Script.{Input, asked, command_action, cut_action, data_action, fitting, inputs, inputs_of, is_comment, line_input, lines_of, number_action, of_data, of_numbers, plain_action, ranges_action, ranges_of, restart_action, span_action, spans_action, spans_of, volume_action, words_input, words_of}
+use Rattle.script_text.specs.Script.Input.{Skipped, Malformed}
+use Rattle.durable.specs.Durable.{BringBytes, BringsBytes}
+
+-- each number is below 256, and that of each run
+abbrev AllBytes : List ℕ → Type 0
+AllBytes [] = Unit {0}
+AllBytes (b ∷ bytes) = (b < 256) × AllBytes bytes
+
+bytes-append : (xs ys : List ℕ) → AllBytes xs → AllBytes ys → AllBytes (xs ++ ys)
+bytes-append [] ys first second = second
+bytes-append (x ∷ xs) ys first second = (first.0, bytes-append xs ys first.1 second)
+
+bytes-replicate : (n b : ℕ) → b < 256 → AllBytes (replicate n b)
+bytes-replicate zero b small = tt
+bytes-replicate (suc n) b small = (small, bytes-replicate n b small)
+
+bytes-at : (bytes : List ℕ) → AllBytes bytes → (k : ℕ) → get_or bytes k 0 < 256
+bytes-at [] small k = omega arith
+bytes-at (b ∷ bytes) small zero = small.0
+bytes-at (b ∷ bytes) small (suc k) = bytes-at bytes small.1 k
+
+abbrev AllRuns : List ByteRun → Type 0
+AllRuns [] = Unit {0}
+AllRuns (r ∷ rs) = (r.byte < 256) × AllRuns rs
+
+runs-append : (xs ys : List ByteRun) → AllRuns xs → AllRuns ys → AllRuns (xs ++ ys)
+runs-append [] ys first second = second
+runs-append (x ∷ xs) ys first second = (first.0, runs-append xs ys first.1 second)
+
+abbrev AreByteRuns : Option (List ByteRun) → Type 0
+AreByteRuns None = Unit {0}
+AreByteRuns (Some runs) = AllRuns runs
+
+runs-followed : (a b : Option (List ByteRun)) → AreByteRuns a → AreByteRuns b → AreByteRuns (followed a b)
+runs-followed None b first second = tt
+runs-followed (Some xs) None first second = tt
+runs-followed (Some xs) (Some ys) first second = runs-append xs ys first second
+
+abbrev IsOneByte : Option ℕ → Type 0
+IsOneByte None = Unit {0}
+IsOneByte (Some byte) = byte < 256
+
+byte-pair : (high low : ℕ) → IsOneByte (pair_of high low)
+byte-pair high low = by_test (ltb (digit_value high) 16 && ltb (digit_value low) 16) (λ t. t)
+  where
+    by_test : (b : Bool) → (b ≡ true → (ltb (digit_value high) 16 && ltb (digit_value low) 16) ≡ true)
+        → IsOneByte (cond b (Some (16 * digit_value high + digit_value low)) None)
+    by_test true is =
+        let parts = and_parts (ltb (digit_value high) 16) (ltb (digit_value low) 16) (is refl) in
+        omega (arith, ltb-true (digit_value high) 16 parts.0, ltb-true (digit_value low) 16 parts.1)
+    by_test false is = tt
+
+runs-pair : (o : Option ℕ) → IsOneByte o → AreByteRuns (option_map (λ byte. run byte 1) o)
+runs-pair None small = tt
+runs-pair (Some byte) small = (small, tt)
+
+runs-pairs : (text : List ℕ) → AreByteRuns (pairs_of text)
+runs-pairs [] = tt
+runs-pairs (a ∷ []) = tt
+runs-pairs (a ∷ b ∷ text) =
+    runs-followed (option_map (λ byte. run byte 1) (pair_of a b)) (pairs_of text) (runs-pair (pair_of a b) (byte-pair a b)) (runs-pairs text)
+
+runs-repeated : (byte count : Option ℕ) → IsOneByte byte → AreByteRuns (repeated byte count)
+runs-repeated None count small = tt
+runs-repeated (Some byte) None small = tt
+runs-repeated (Some byte) (Some count) small = by_test (nat_lt 0 count)
+  where
+    by_test : (b : Bool) → AreByteRuns (cond b (Some (run byte count)) None)
+    by_test true = (small, tt)
+    by_test false = tt
+
+runs-item : (item : List ℕ) → AreByteRuns (item_of item)
+runs-item [] = tt
+runs-item (a ∷ []) = tt
+runs-item (a ∷ b ∷ []) = runs-pairs (a ∷ b ∷ [])
+runs-item (a ∷ b ∷ c ∷ text) = by_test (c == 42)
+  where
+    by_test : (t : Bool) → AreByteRuns (elim t [ true ↦ repeated (pair_of a b) (number_of text) | false ↦ pairs_of (a ∷ b ∷ c ∷ text) ])
+    by_test true = runs-repeated (pair_of a b) (number_of text) (byte-pair a b)
+    by_test false = runs-pairs (a ∷ b ∷ c ∷ text)
+
+runs-items : (items : List (List ℕ)) → AreByteRuns (items_of items)
+runs-items [] = tt
+runs-items (item ∷ items) = runs-followed (item_of item) (items_of items) (runs-item item) (runs-items items)
+
+runs-text : (text : List ℕ) → AreByteRuns (runs_of text)
+unfolding runs_of
+runs-text text = runs-items (slice_split (λ c. c == 44) text)
+
+bytes-spelled : (runs : List ByteRun) → AllRuns runs → AllBytes (spelled runs)
+bytes-spelled [] small = tt
+bytes-spelled (r ∷ rs) small = bytes-append (replicate r.count r.byte) (spelled rs) (bytes-replicate r.count r.byte small.0) (bytes-spelled rs small.1)
+
+-- the bytes of DATA
+abbrev AreBytes : Result (List ℕ) TextFault → Type 0
+AreBytes (Ok bytes) = AllBytes bytes
+AreBytes (Err fault) = Unit {0}
+
+data-bytes : (room : ℕ) (text : List ℕ) → AreBytes (data_within room text)
+unfolding data_within
+data-bytes room text = by_runs (runs_of text) (runs-text text)
+  where
+    by_runs : (o : Option (List ByteRun)) → AreByteRuns o → AreBytes (within room o)
+    by_runs None small = tt
+    by_runs (Some runs) small = by_room (nat_le (byte_count runs) room)
+      where
+        by_room : (b : Bool) → AreBytes (elim b [ true ↦ Ok (spelled runs) | false ↦ Err TooLong ])
+        by_room true = bytes-spelled runs small
+        by_room false = tt
+
+-- the action, if there is one, stores bytes
+abbrev Brings : Option Action → Type 0
+Brings None = Unit {0}
+Brings (Some action) = BringsBytes action
+
+brings-cond : (b : Bool) (x y : Option Action) → Brings x → Brings y → Brings (cond b x y)
+brings-cond true x y first second = first
+brings-cond false x y first second = second
+
+brings-map : {A : Type 0} (make : A → Action) (o : Option A) → ((a : A) → BringsBytes (make a)) → Brings (option_map make o)
+brings-map make None each = tt
+brings-map make (Some a) each = each a
+
+brings-numbers : (make : ℕ → ℕ → Action) (a b : Option ℕ) → ((a b : ℕ) → BringsBytes (make a b)) → Brings (of_numbers make a b)
+brings-numbers make None b each = tt
+brings-numbers make (Some a) None each = tt
+brings-numbers make (Some a) (Some b) each = each a b
+
+brings-span : (make : ℕ → ℕ → Action) (words : List (List ℕ)) → ((a b : ℕ) → BringsBytes (make a b)) → Brings (span_action make words)
+brings-span make [] each = tt
+brings-span make (x ∷ []) each = tt
+brings-span make (x ∷ y ∷ []) each = brings-numbers make (number_of x) (number_of y) each
+brings-span make (x ∷ y ∷ z ∷ more) each = tt
+
+brings-number : (make : ℕ → Action) (words : List (List ℕ)) → ((a : ℕ) → BringsBytes (make a)) → Brings (number_action make words)
+brings-number make [] each = tt
+brings-number make (x ∷ []) each = brings-map make (number_of x) each
+brings-number make (x ∷ y ∷ more) each = tt
+
+abbrev BringsData : (ℕ → List ℕ → Action) → Type 0
+BringsData make = (a : ℕ) (bytes : List ℕ) → ((k : ℕ) → get_or bytes k 0 < 256) → BringsBytes (make a bytes)
+
+brings-of_data : (make : ℕ → List ℕ → Action) (a : Option ℕ) (r : Result (List ℕ) TextFault) → BringsData make → AreBytes r → Brings (of_data make a r)
+brings-of_data make None r each small = tt
+brings-of_data make (Some a) (Err fault) each small = tt
+brings-of_data make (Some a) (Ok bytes) each small = each a bytes (bytes-at bytes small)
+
+brings-data : (make : ℕ → List ℕ → Action) (words : List (List ℕ)) → BringsData make → Brings (data_action make words)
+brings-data make [] each = tt
+brings-data make (x ∷ []) each = tt
+brings-data make (x ∷ text ∷ []) each = brings-of_data make (number_of x) (data_within 65536 text) each (data-bytes 65536 text)
+brings-data make (x ∷ text ∷ z ∷ more) each = tt
+
+brings-spans : (words : List (List ℕ)) → Brings (spans_action BScar words)
+brings-spans [] = tt
+brings-spans (x ∷ words) = brings-map BScar (spans_of (x ∷ words)) (λ spans. tt)
+
+brings-ranges : (words : List (List ℕ)) → Brings (ranges_action BMulti words)
+brings-ranges [] = tt
+brings-ranges (x ∷ words) = brings-map (λ (p : List Span × List ℕ). BMulti p.0 p.1) (fitting 65536 (ranges_of (x ∷ words))) (λ p. tt)
+
+brings-cut : (words : List (List ℕ)) → Brings (cut_action words)
+brings-cut [] = tt
+brings-cut (x ∷ words) = brings-cond (bytes_eq x (codes "in")) (number_action CutIn words) None (brings-number CutIn words (λ a. tt)) tt
+
+brings-restart : (words : List (List ℕ)) → Brings (restart_action words)
+brings-restart [] = tt
+brings-restart (x ∷ []) =
+    brings-cond (bytes_eq x (codes "none")) (Some (Restart Firsts)) _ tt (brings-cond (bytes_eq x (codes "all")) (Some (Restart Lasts)) None tt tt)
+brings-restart (x ∷ y ∷ more) = tt
+
+brings-volume : (name : List ℕ) (words : List (List ℕ)) → Brings (volume_action name words)
+brings-volume name words =
+    brings-cond (bytes_eq name (codes "vload")) (span_action VLoad words) _ (brings-span VLoad words (λ a b. tt))
+    (brings-cond (bytes_eq name (codes "vsync")) (span_action VSync words) _ (brings-span VSync words (λ a b. tt))
+    (brings-cond (bytes_eq name (codes "cut")) (cut_action words) _ (brings-cut words)
+    (brings-cond (bytes_eq name (codes "restart")) (restart_action words) None (brings-restart words) tt)))
+
+brings-plain : (name : List ℕ) (words : List (List ℕ)) → Brings (plain_action name words)
+brings-plain name words =
+    brings-cond (bytes_eq name (codes "bread")) (span_action BRead words) _ (brings-span BRead words (λ a b. tt))
+    (brings-cond (bytes_eq name (codes "bdiscard")) (span_action BDiscard words) _ (brings-span BDiscard words (λ a b. tt))
+    (brings-cond (bytes_eq name (codes "bdiscardif")) (span_action BDiscardIf words) _ (brings-span BDiscardIf words (λ a b. tt))
+    (brings-cond (bytes_eq name (codes "bexists")) (number_action BExists words) _ (brings-number BExists words (λ a. tt)) (brings-volume name words))))
+
+brings-command : (name : List ℕ) (words : List (List ℕ)) → Brings (command_action name words)
+unfolding command_action
+brings-command name words =
+    brings-cond (bytes_eq name (codes "bwrite")) (data_action BWrite words) _ (brings-data BWrite words (λ a bytes small. tt))
+    (brings-cond (bytes_eq name (codes "vstore")) (data_action VStore words) _ (brings-data VStore words (λ a bytes small. small))
+    (brings-cond (bytes_eq name (codes "bscar")) (spans_action BScar words) _ (brings-spans words)
+    (brings-cond (bytes_eq name (codes "batomic")) (data_action BAtomic words) _ (brings-data BAtomic words (λ a bytes small. tt))
+    (brings-cond (bytes_eq name (codes "bmulti")) (ranges_action BMulti words) _ (brings-ranges words) (brings-plain name words)))))
+
+-- one input before others that do
+bring-asked : (o : Option Action) (rest : List Input) → Brings o → BringBytes rest → BringBytes (asked o ∷ rest)
+bring-asked None rest one more = more
+bring-asked (Some action) rest one more = (one, more)
+
+bring-words : (words : List (List ℕ)) (rest : List Input) → BringBytes rest → BringBytes (words_input words ∷ rest)
+bring-words [] rest more = more
+bring-words (name ∷ words) rest more = by_test (is_comment name)
+  where
+    by_test : (b : Bool) → BringBytes (cond b Skipped (asked (command_action name words)) ∷ rest)
+    by_test true = more
+    by_test false = bring-asked (command_action name words) rest (brings-command name words) more
+
+bring-line : (line : List ℕ) (rest : List Input) → BringBytes rest → BringBytes (line_input line ∷ rest)
+unfolding line_input
+bring-line line rest more = by_test (nat_lt 65536 (length line))
+  where
+    by_test : (b : Bool) → BringBytes (cond b Malformed (words_input (words_of (strip_last 13 line))) ∷ rest)
+    by_test true = more
+    by_test false = bring-words (words_of (strip_last 13 line)) rest more
+
+bring-lines : (lines : List (List ℕ)) → BringBytes (inputs_of lines)
+bring-lines [] = tt
+bring-lines (line ∷ lines) = bring-line line (inputs_of lines) (bring-lines lines)
+
+pub bring-script : (script : List ℕ) → BringBytes (inputs script)
+bring-script script = bring-lines (lines_of script)
