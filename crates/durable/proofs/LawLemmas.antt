@@ -33,7 +33,7 @@ use Rattle.machine_host.proofs.RefusalLemmas.{span_allowed}
 use Rattle.durable.specs.Place.{Place, block_has, byte_of, line_has}
 use Rattle.durable.specs.Place.Place.{of_volume, of_blocks}
 use Rattle.durable.specs.Touching.{covers}
-use Rattle.durable.specs.Durable.{BringBytes, Has, IsDurable, IsLineThere, IsMadeDurable, IsWhole, Reads, Spares}
+use Rattle.durable.specs.Durable.{BringBytes, Has, Does, IsDurable, IsLineThere, IsWhole, Reads, Spares}
 use Rattle.durable.proofs.StepLemmas.{Alters, Step, step_of}
 use Rattle.durable.proofs.StepLemmas.Step.{idles, alters, stops, returns}
 use Rattle.durable.proofs.LineLemmas.{LineKeeps, VolumeKeeps, line_keeps-flushed}
@@ -100,7 +100,7 @@ synced_line start len i pages touched there =
         (line_keeps-flushed cell (i % 64) (omega arith) size)
 
 -- a line that a span of the volume touches is there
-within : (h : Machine) (offset len i : ℕ) → refusal h (VSync offset len) ≡ None → touches offset len (i / 64) ≡ true → i / 64 < 64 * h.geometry.vpages
+pub within : (h : Machine) (offset len i : ℕ) → refusal h (VSync offset len) ≡ None → touches offset len (i / 64) ≡ true → i / 64 < 64 * h.geometry.vpages
 within h offset len i none touched =
     let allowed = span_allowed (volume_size h.geometry) offset len
     (places_allowed h (VSync offset len) (span_refusal (volume_size h.geometry) offset len) refl none) in
@@ -129,7 +129,7 @@ covered_place h Cut next (of_volume i) whole covered none to = cc covered
 covered_place h (CutIn calls) next (of_volume i) whole covered none to = cc covered
 covered_place h (Restart choice) next (of_volume i) whole covered none to = cc covered
 
-stop_done : (by : Interruption) → Done ≡ interrupted_answer by → ⊥
+pub stop_done : (by : Interruption) → Done ≡ interrupted_answer by → ⊥
 stop_done Failed is = cc is
 stop_done Lost is = cc is
 
@@ -147,10 +147,10 @@ covered_step h action answer next x whole covered done (alters begun none to) =
       settled = λ on. free;
     }
 
-made : (h next : Machine) (x : Place) → IsMadeDurable h next x → Keeps next x (byte_of next x)
-made h next x was =
-    let taken = step_of h was.action was.said next was.came in
-    let done : taken.answer ≡ Done = cc (taken.answers, was.done) in covered_step h was.action taken.answer next x was.whole was.covered done taken.step
+made : (h next : Machine) (action : Action) (x : Place) → Does h action next → covers action x ≡ true → Keeps next x (byte_of next x)
+made h next action x does covered =
+    let taken = step_of h action does.said next does.came in
+    let done : taken.answer ≡ Done = cc (taken.answers, does.done) in covered_step h action taken.answer next x does.whole covered done taken.step
 
 -- what a read shows
 line_shown : (o : Option Cell) (i byte : ℕ) → line_has o i ≡ Some byte → elim o [ None ↦ 0 | Some cell ↦ cell_byte cell i ] ≡ byte
@@ -227,6 +227,6 @@ has h x v is = record { kept = is; shown = by_value v is }
     by_value None none = tt
     by_value (Some byte) some = reads h x byte some
 
-pub durable : (h next : Machine) (x : Place) → IsMadeDurable h next x → IsDurable next x
-durable h next x was inputs said later bytes run spares =
-    has later x (byte_of next x) (keeps_byte later x (byte_of next x) (keeps-run inputs next later said x (byte_of next x) bytes run spares (made h next x was)))
+pub durable : (h next : Machine) (action : Action) (x : Place) → Does h action next → covers action x ≡ true → IsDurable next x
+durable h next action x does covered inputs said later bytes run spares =
+    has later x (byte_of next x) (keeps_byte later x (byte_of next x) (keeps-run inputs next later said x (byte_of next x) bytes run spares (made h next action x does covered)))

@@ -7,3 +7,4 @@ pub mod RefusalLemmas
 pub mod WholeLemmas
 pub mod LawLemmas
 pub mod ScriptLemmas
+pub mod WrittenLemmas

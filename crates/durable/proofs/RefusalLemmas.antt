@@ -141,3 +141,9 @@ places_allowed h action o is none =
     let rest = (first_none (option_map Refused (mode_refusal h.mode (meaning action).needs)) _ none).1 in
     let places = (first_none ((meaning action).reasons h).places _ (first_none ((meaning action).reasons h).named _ rest).1).0 in
     why_none o (sym (ap (λ r. r.places) is) ∙ places)
+
+pub places_none : (h : Machine) (action : Action) → refusal h action ≡ None → ((meaning action).reasons h).places ≡ None
+unfolding refusal
+places_none h action none =
+    let rest = (first_none (option_map Refused (mode_refusal h.mode (meaning action).needs)) _ none).1 in
+    (first_none ((meaning action).reasons h).places _ (first_none ((meaning action).reasons h).named _ rest).1).0

@@ -1,5 +1,5 @@
 -- Whole states lead to whole states.
-use Rattle.std.proofs.Common.{◌≡◌, ℕ, ◌*◌, ◌<◌, Bool, true, false, cond, Option, Some, None, option_map, List, [], ◌∷◌, length, replicate, refl, sym, subst, ◌∙◌}
+use Rattle.std.proofs.Common.{◌≡◌, ℕ, ◌*◌, ◌<◌, Bool, true, false, cond, Option, Some, None, option_map, List, [], ◌∷◌, length, take, drop, replicate, refl, sym, ap, subst, ◌∙◌}
 use Rattle.std.proofs.lemmas.List.{length-map}
 use Rattle.line_device.specs.History.{latest}
 use Rattle.line_device.specs.Medium.{word_stored}
@@ -12,6 +12,12 @@ use Rattle.nvm_model.specs.Cell.Cell.{Bad, Kept}
 use Rattle.nvm_model.specs.Page.{Page, cell_of, fill, read_pages}
 use Rattle.nvm_model.proofs.NumberedLemmas.{length-list_from, length-map_from}
 use Rattle.nvm_model.proofs.PageLemmas.{cell_of-fill, cell_of-persist, cell_of-put, cell_of-read_pages}
+use Rattle.nvm_base.specs.declared.units.Span.{Span}
+use Rattle.nvm_model.specs.Blocks.{change, change_block, write, write_block, write_ranges}
+use Rattle.nvm_model.specs.Storage.{Block}
+use Rattle.nvm_model.specs.Storage.Block.{Absent, Scarred}
+use Rattle.block_device.specs.Reading.{block_read, blocks_read, states_read}
+use Rattle.machine_host.specs.OnBlocks.{blocks_from}
 use Rattle.reply_text.specs.Answer.{Answer}
 use Rattle.script_text.specs.Action.{Action}
 use Rattle.script_text.specs.Action.Action.{BRead, BWrite, BAtomic, BMulti, BDiscard, BDiscardIf, BExists, BScar, VLoad, VStore, VSync, Cut, CutIn, Restart}
@@ -81,6 +87,42 @@ there-altered Cut n pages there = there
 there-altered (CutIn calls) n pages there = there
 there-altered (Restart choice) n pages there = there
 
+length-write : (at : ℕ) (bytes : List ℕ) (blocks : List Block) → length (write at bytes blocks) ≡ length blocks
+unfolding write
+length-write at bytes blocks = length-map_from (write_block at bytes) 0 blocks
+
+length-write_ranges : (ranges : List Span) (bytes : List ℕ) (blocks : List Block) → length (write_ranges ranges bytes blocks) ≡ length blocks
+length-write_ranges [] bytes blocks = refl
+length-write_ranges (range ∷ ranges) bytes blocks =
+    length-write_ranges ranges (drop range.len bytes) (write range.start (take range.len bytes) blocks) ∙ length-write range.start (take range.len bytes) blocks
+
+length-change : (spans : List Span) (to : Block) (blocks : List Block) → length (change spans to blocks) ≡ length blocks
+unfolding change
+length-change spans to blocks = length-map_from (change_block spans to) 0 blocks
+
+length-altered : (action : Action) (blocks : List Block) → length ((meaning action).blocks blocks) ≡ length blocks
+length-altered (BRead block count) blocks = refl
+length-altered (BWrite block bytes) blocks = length-write block bytes blocks
+length-altered (BAtomic block bytes) blocks = length-write block bytes blocks
+length-altered (BMulti ranges bytes) blocks = length-write_ranges ranges bytes blocks
+length-altered (BDiscard block count) blocks = length-change (blocks_from block count) Absent blocks
+length-altered (BDiscardIf block count) blocks = length-change (blocks_from block count) Absent blocks
+length-altered (BExists block) blocks = refl
+length-altered (BScar ranges) blocks = length-change ranges Scarred blocks
+length-altered (VLoad offset len) blocks = refl
+length-altered (VStore offset bytes) blocks = refl
+length-altered (VSync offset len) blocks = refl
+length-altered Cut blocks = refl
+length-altered (CutIn calls) blocks = refl
+length-altered (Restart choice) blocks = refl
+
+length-read : (geo : Geometry) (bad : ℕ → Bool) (word : ℕ → ℕ) → length (blocks_read geo bad word) ≡ geo.blocks
+unfolding blocks_read states_read
+length-read geo bad word = length-map (states_read geo word) (block_read geo bad word) ∙ length-list_from _ 0 geo.blocks
+
+same_blocks : (h next : Machine) → IsWhole h → next.geometry ≡ h.geometry → next.blocks ≡ h.blocks → length next.blocks ≡ next.geometry.blocks
+same_blocks h next whole geometry blocks = ap length blocks ∙ whole.blocks ∙ sym (ap (λ g. g.blocks) geometry)
+
 same_volume : (h next : Machine) → IsWhole h → next.geometry ≡ h.geometry → next.volume ≡ h.volume
     → (n : ℕ) → n < 64 * next.geometry.vpages → IsLineThere (cell_of next.volume n)
 same_volume h next whole geometry volume n lt =
@@ -88,15 +130,17 @@ same_volume h next whole geometry volume n lt =
 
 pub whole-step : (h : Machine) (action : Action) (answer : Answer) (next : Machine) → IsWhole h → Step h action answer next → IsWhole next
 whole-step h action answer next whole (idles why to) =
-    record { volume = same_volume h next whole to.geometry to.volume; settled = λ on. to.interrupted ∙ whole.settled (to.mode on) }
+    record { blocks = same_blocks h next whole to.geometry to.blocks; volume = same_volume h next whole to.geometry to.volume; settled = λ on. to.interrupted ∙ whole.settled (to.mode on) }
 whole-step h action answer next whole (alters begun none to) = record {
+  blocks = ap length to.blocks ∙ length-altered action h.blocks ∙ whole.blocks ∙ sym (ap (λ g. g.blocks) to.geometry);
   volume = λ n lt. subst (λ p. IsLineThere (cell_of p n)) (sym to.volume)
       (there-altered action n h.volume (whole.volume n (subst (λ g. n < 64 * g.vpages) to.geometry lt)));
   settled = λ on. to.interrupted ∙ whole.settled (sym to.mode ∙ on);
 }
 whole-step h action answer next whole (stops by is to) =
-    record { volume = same_volume h next whole to.geometry to.volume; settled = λ on. absurd (to.mode on) }
+    record { blocks = same_blocks h next whole to.geometry to.blocks; volume = same_volume h next whole to.geometry to.volume; settled = λ on. absurd (to.mode on) }
 whole-step h action answer next whole (returns covers back) = record {
+  blocks = ap length back.blocks ∙ length-read h.geometry back.image.is_bad back.image.word ∙ sym (ap (λ g. g.blocks) back.geometry);
   volume = λ n lt. subst (λ p. IsLineThere (cell_of p n)) (sym back.volume)
       (there-read (volume_image h.geometry back.image) h.geometry.vpages n (subst (λ g. n < 64 * g.vpages) back.geometry lt));
   settled = λ on. back.interrupted;
@@ -116,4 +160,4 @@ whole-run (input ∷ inputs) h later said whole run =
 
 pub whole-fresh : (geo : Geometry) → IsWhole (fresh geo)
 unfolding reading
-whole-fresh geo = record { volume = λ n lt. there-read (volume_image geo (zero_image (total_lines geo))) geo.vpages n lt; settled = λ on. refl }
+whole-fresh geo = record { blocks = length-read geo (λ n. false) (λ p. 0); volume = λ n lt. there-read (volume_image geo (zero_image (total_lines geo))) geo.vpages n lt; settled = λ on. refl }

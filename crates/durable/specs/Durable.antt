@@ -15,7 +15,7 @@ use Rattle.machine_host.specs.Machine.{Machine}
 use Rattle.machine_host.specs.Run.{Transcript, Hears, Run}
 use Rattle.durable.specs.Place.{Place, byte_of}
 use Rattle.durable.specs.Place.Place.{of_volume, of_blocks}
-use Rattle.durable.specs.Touching.{changes, covers, is_begun}
+use Rattle.durable.specs.Touching.{changes, is_begun}
 
 -- a line of the volume is there: it is bad, or has its eight words
 abbrev pub IsLineThere : Option Cell → Type 0
@@ -23,8 +23,9 @@ IsLineThere None = ⊥
 IsLineThere (Some Bad) = Unit {0}
 IsLineThere (Some (Kept weak words)) = length words ≡ 8
 
--- A state that a run may come to: each line of the volume is there, and nothing is interrupted while the power is on.
+-- A state that a run may come to: all blocks and each line of the volume are there, and nothing is interrupted in mode On.
 pub record IsWhole (h : Machine) : Type 0 where
+  pub blocks : length h.blocks ≡ h.geometry.blocks
   pub volume : (n : ℕ) → n < 64 * h.geometry.vpages → IsLineThere (cell_of h.volume n)
   pub settled : h.mode ≡ On → h.interrupted ≡ None
 
@@ -75,16 +76,18 @@ pub record Has (h : Machine) (x : Place) (byte : Option ℕ) : Type 0 where
   pub kept : byte_of h x ≡ byte
   pub shown : IfSome byte (Reads h x)
 
--- In every later state of every run that spares the place it has the byte that it has now, whatever is cut and restarted.
-abbrev pub IsDurable : Machine → Place → Type 0
-IsDurable h x = (inputs : List Input) (said : Transcript) (later : Machine) → BringBytes inputs → Run h inputs said later
-    → Spares x inputs said.answers → Has later x (byte_of h x)
+-- In every later state of every run that spares the place it has this byte, whatever is cut and restarted.
+abbrev pub Lasts : Machine → Place → Option ℕ → Type 0
+Lasts h x byte = (inputs : List Input) (said : Transcript) (later : Machine) → BringBytes inputs → Run h inputs said later
+    → Spares x inputs said.answers → Has later x byte
 
--- A command that covers the place was done in h and led to this state.
-pub record IsMadeDurable (h next : Machine) (x : Place) : Type 0 where
-  pub action : Action
-  pub said : Transcript
+-- it has the byte that it has now
+abbrev pub IsDurable : Machine → Place → Type 0
+IsDurable h x = Lasts h x (byte_of h x)
+
+-- a command was answered `ok` in h and led to this state
+pub record Does (h : Machine) (action : Action) (next : Machine) : Type 0 where
   pub whole : IsWhole h
+  pub said : Transcript
   pub came : Hears h (Asked action) said next
   pub done : said.answers ≡ Done ∷ []
-  pub covered : covers action x ≡ true

@@ -3,4 +3,4 @@
 
 mod laws;
 
-pub use laws::{runs_come_to_whole_states, what_was_made_durable_stays};
+pub use laws::{runs_come_to_whole_states, what_was_made_durable_stays, what_was_written_lasts};

@@ -1,0 +1,209 @@
+-- What was written is what lasts.
+use Rattle.std.proofs.Common.{◌≡◌, ◌⊎◌, inl, inr, ℕ, zero, suc, ◌||◌, ◌+◌, ◌-◌, ◌*◌, ◌/◌, ◌%◌, ◌<◌, ◌≤◌, Bool, true, false, cond, Option, Some, None, option_map, List, [], ◌∷◌, length, map, replicate, get_or, nat_lt, slice_get, slice_index_or, refl, sym, ap, subst, ◌∙◌, arith}
+use Rattle.std.specs.Prelude.{slice_index}
+use Rattle.std.proofs.lemmas.Bool.{both_ways}
+use Rattle.std.proofs.lemmas.Bool.Decides.{nat_tests}
+use Rattle.std.proofs.lemmas.Option.{get_or_from_slice_get, slice_get-get_or}
+use Rattle.std.specs.Int.{byte_at}
+use Rattle.line_device.specs.History.{latest, newest}
+use Rattle.line_device.specs.Medium.{word_stored}
+use Rattle.line_device.proofs.WordLemmas.{byte_over-in}
+use Rattle.line_device.proofs.HistoryLemmas.{newest-latest}
+use Rattle.nvm_model.specs.Blocks.{data_from, first_there, is_among, nth, write, write_block}
+use Rattle.nvm_model.specs.Cell.{Cell, TakesPut, cell_byte, covers as holds_line, flush_cell, persist_cell, put_cell, touches}
+use Rattle.nvm_model.specs.Cell.Cell.{Bad, Kept}
+use Rattle.nvm_model.specs.Numbered.{list_from, map_from}
+use Rattle.nvm_model.specs.Page.{Page, byte_in, cell_of, fill, persist, put}
+use Rattle.nvm_model.specs.Storage.{Block}
+use Rattle.nvm_model.specs.Storage.Block.{Absent}
+use Rattle.nvm_model.proofs.NumberedLemmas.{slice_get-list_from, slice_get-map_from}
+use Rattle.nvm_model.proofs.PageLemmas.{cell_of-fill, cell_of-persist, cell_of-put}
+use Rattle.nvm_model.proofs.PutLemmas.{byte_in-put}
+use Rattle.block_device.specs.Refusals.{Refusal, blocks_touched, bytes_refusal, where_}
+use Rattle.block_device.specs.Refusals.Refusal.{Range, Limit}
+use Rattle.reply_text.specs.Answer.{Answer}
+use Rattle.reply_text.specs.Answer.Answer.{Done}
+use Rattle.script_text.specs.Action.{Action}
+use Rattle.script_text.specs.Action.Action.{BWrite, BAtomic, VStore, VSync}
+use Rattle.machine_host.specs.Machine.{Machine}
+use Rattle.machine_host.specs.Machine.Fate.{Works}
+use Rattle.machine_host.specs.Commands.{meaning, refusal, unless_refused}
+use Rattle.machine_host.specs.OnBlocks.{refusal_answer}
+use Rattle.machine_host.specs.Run.{Takes}
+use Rattle.durable.specs.Place.{block_has, byte_of, line_has}
+use Rattle.durable.specs.Place.Place.{of_volume, of_blocks}
+use Rattle.durable.specs.Durable.{Does, IsLineThere, Lasts}
+use Rattle.durable.proofs.RefusalLemmas.{is_refused, places_none, refused_told}
+use Rattle.durable.proofs.LawLemmas.{durable, stop_done, within}
+
+-- a command that was done
+works_done : (h : Machine) (action : Action) (to next : Machine) → (meaning action).comes h ≡ Works Done to → Does h action next → (refusal h action ≡ None) × (next ≡ to)
+works_done h action to next works does = by_refusal (refusal h action) refl does.came
+  where
+    by_refusal : (o : Option Answer) → refusal h action ≡ o → Takes h action (unless_refused h o ((meaning action).comes h)) does.said next
+        → (refusal h action ≡ None) × (next ≡ to)
+    by_refusal (Some answer) is took =
+        let same : answer ≡ Done = cc (ap (λ s. s.answers) took.0, does.done) in
+        absurd (both_ways (is_refused answer) (ap is_refused same) (refused_told h action answer is))
+    by_refusal None is took =
+        let t = subst (λ f. Takes h action f does.said next) works took in
+        let same : t.0 ≡ Done = cc (ap (λ s. s.answers) t.1, does.done) in
+        elim t.2 as (λ _. (refusal h action ≡ None) × (next ≡ to)) [ inl end ↦ (is, end.1) | inr end ↦ absurd (stop_done end.0 (sym same ∙ end.1)) ]
+
+-- blocks that are there
+blocks_none : (o : Option Refusal) → option_map refusal_answer o ≡ None → o ≡ None
+blocks_none None none = refl
+blocks_none (Some why) none = cc none
+
+first_none : (a b : Option Refusal) → first_there a b ≡ None → a ≡ None
+first_none None b none = refl
+first_none (Some why) b none = cc none
+
+bytes_within : (count block len : ℕ) → bytes_refusal count block len ≡ None → block + len / 512 ≤ count
+bytes_within count block len none = by_test (nat_lt count (block + blocks_touched len)) refl (first_none (where_ (nat_lt count (block + blocks_touched len)) Range) _ none)
+  where
+    by_test : (b : Bool) → nat_lt count (block + blocks_touched len) ≡ b → where_ b Range ≡ None → block + len / 512 ≤ count
+    by_test true is none_there = cc none_there
+    by_test false is none_there =
+        let le : block + blocks_touched len ≤ count = grind (arith, nat_tests) in
+        let more : len / 512 ≤ blocks_touched len = omega arith in omega arith
+
+-- a byte that was written
+written_byte : (block i : ℕ) (bytes : List ℕ) (blocks : List Block) → is_among block (length bytes / 512) (i / 512) ≡ true → block + length bytes / 512 ≤ length blocks
+    → block_has (nth (write block bytes blocks) (i / 512)) (i % 512) ≡ Some (slice_index bytes (i - 512 * block))
+unfolding write
+written_byte block i bytes blocks among fits =
+    let low : block ≤ i / 512 = grind (arith, nat_tests) in
+    let high : i / 512 < block + length bytes / 512 = grind (arith, nat_tests) in
+    let old = nth blocks (i / 512) in
+    let found : slice_get (map_from (write_block block bytes) 0 blocks) (i / 512) ≡ Some (write_block block bytes (0 + i / 512) old) =
+    slice_get-map_from (write_block block bytes) 0 blocks (i / 512)
+    ∙ ap (option_map (write_block block bytes (0 + i / 512))) (slice_get-get_or blocks (i / 512) Absent (omega arith)) in
+    let number : 0 + i / 512 ≡ i / 512 = omega arith in
+    let is : nth (map_from (write_block block bytes) 0 blocks) (i / 512) ≡ data_from bytes (i / 512 - block) =
+    get_or_from_slice_get _ (i / 512) _ Absent found
+    ∙ ap (λ j. write_block block bytes j old) number
+    ∙ ap (λ b. cond b (data_from bytes (i / 512 - block)) old) among in
+    ap (λ b. block_has b (i % 512)) is ∙ of_data (i / 512 - block) ((i % 512) / 64) ((i % 512) % 64) (omega arith) (omega arith)
+    ∙ ap (λ k. Some (slice_index bytes k)) (place low)
+  where
+    place : block ≤ i / 512 → 64 * (8 * (i / 512 - block) + (i % 512) / 64) + (i % 512) % 64 ≡ i - 512 * block
+    place low = omega arith
+
+    of_data : (n m k : ℕ) → m < 8 → k < 64
+        → option_map (λ b. slice_index b k) (slice_index_or (list_from (λ j. Some (list_from (slice_index bytes) (64 * j) 64)) (8 * n) 8) m None)
+        ≡ Some (slice_index bytes (64 * (8 * n + m) + k))
+    of_data n m k lt small =
+        ap (option_map (λ b. slice_index b k))
+        (get_or_from_slice_get (list_from (λ j. Some (list_from (slice_index bytes) (64 * j) 64)) (8 * n) 8) m (Some (list_from (slice_index bytes) (64 * (8 * n + m)) 64)) None
+        (slice_get-list_from (λ j. Some (list_from (slice_index bytes) (64 * j) 64)) (8 * n) 8 m lt))
+        ∙ ap Some (get_or_from_slice_get (list_from (slice_index bytes) (64 * (8 * n + m)) 64) k _ 0 (slice_get-list_from (slice_index bytes) (64 * (8 * n + m)) 64 k small))
+
+or_true : (b : Bool) → b ≡ true → (b || false) ≡ true
+or_true true is = refl
+or_true false is = cc is
+
+pub written : (h next : Machine) (block i : ℕ) (bytes : List ℕ) → Does h (BWrite block bytes) next → is_among block (length bytes / 512) (i / 512) ≡ true
+    → Lasts next (of_blocks i) (Some (slice_index bytes (i - 512 * block)))
+written h next block i bytes does among =
+    let done = works_done h (BWrite block bytes) (record h { blocks = write block bytes h.blocks }) next refl does in
+    let fits = bytes_within h.geometry.blocks block (length bytes) (blocks_none _ (places_none h (BWrite block bytes) done.0)) in
+    let is : byte_of next (of_blocks i) ≡ Some (slice_index bytes (i - 512 * block)) =
+    ap (λ m. byte_of m (of_blocks i)) done.1 ∙ written_byte block i bytes h.blocks among (omega (arith, does.whole.blocks)) in
+    subst (Lasts next (of_blocks i)) is (durable h next (BWrite block bytes) (of_blocks i) does (or_true _ among))
+
+pub written_together : (h next : Machine) (block i : ℕ) (bytes : List ℕ) → Does h (BAtomic block bytes) next → is_among block (length bytes / 512) (i / 512) ≡ true
+    → Lasts next (of_blocks i) (Some (slice_index bytes (i - 512 * block)))
+written_together h next block i bytes does among =
+    let done = works_done h (BAtomic block bytes) (record h { blocks = write block bytes h.blocks }) next refl does in
+    let places = blocks_none _ (places_none h (BAtomic block bytes) done.0) in
+    let fits = bytes_within h.geometry.blocks block (length bytes)
+    (first_none (bytes_refusal h.geometry.blocks block (length bytes)) (where_ (nat_lt 64 (length bytes / 512)) Limit) places) in
+    let is : byte_of next (of_blocks i) ≡ Some (slice_index bytes (i - 512 * block)) =
+    ap (λ m. byte_of m (of_blocks i)) done.1 ∙ written_byte block i bytes h.blocks among (omega (arith, does.whole.blocks)) in
+    subst (Lasts next (of_blocks i)) is (durable h next (BAtomic block bytes) (of_blocks i) does (or_true _ among))
+
+-- a line that was made durable shows what it had, unless it is lost
+get_or-latest : (words : List (List ℕ)) (w : ℕ) → slice_index_or (map latest words) w [] ≡ latest (slice_index_or words w [])
+get_or-latest [] w = refl
+get_or-latest (h ∷ words) zero = refl
+get_or-latest (h ∷ words) (suc w) = get_or-latest words w
+
+flush_shown : (cell : Cell) (k : ℕ) → (line_has (Some (flush_cell cell)) k ≡ None) ⊎ (line_has (Some (flush_cell cell)) k ≡ Some (cell_byte cell k))
+flush_shown Bad k = inl refl
+flush_shown (Kept true words) k = inl refl
+flush_shown (Kept false words) k =
+    inr (ap (λ h. Some (byte_at (k % 8) (newest h))) (get_or-latest words (k / 8)) ∙ ap (λ v. Some (byte_at (k % 8) v)) (newest-latest (slice_index_or words (k / 8) [])))
+
+-- the line is lost, or shows the byte that was put
+abbrev ShowsPut : ℕ → ℕ → List ℕ → Option Cell → Type 0
+ShowsPut at i bytes o = (line_has o (i % 64) ≡ None) ⊎ (line_has o (i % 64) ≡ Some (slice_index bytes (i - at)))
+
+-- a byte that was stored in a line that is there, and then synced
+synced_byte : (at start len i : ℕ) (bytes : List ℕ) (pages : List Page) → ((k : ℕ) → get_or bytes k 0 < 256) → is_among at (length bytes) i ≡ true
+    → touches start len (i / 64) ≡ true → IsLineThere (cell_of pages (i / 64))
+    → ShowsPut at i bytes (cell_of (persist start len (put at bytes (fill at (length bytes) pages))) (i / 64))
+synced_byte at start len i bytes pages small among touched there = by_line (cell_of pages (i / 64)) refl there
+  where
+    filled : List Page
+    filled = fill at (length bytes) pages
+
+    stored : List Page
+    stored = put at bytes filled
+
+    synced : (cell : Cell) → cell_of stored (i / 64) ≡ Some cell → cell_of (persist start len stored) (i / 64) ≡ Some (flush_cell cell)
+    synced cell is =
+        cell_of-persist start len stored (i / 64) ∙ ap (option_map (persist_cell start len (i / 64))) is ∙ ap (λ t. Some (cond t (flush_cell cell) cell)) touched
+
+    seen : Option Cell → ℕ
+    seen None = 0
+    seen (Some cell) = cell_byte cell (i % 64)
+
+    taken : (cell : Cell) → cell_of pages (i / 64) ≡ Some cell → TakesPut at (length bytes) (i / 64) cell → ShowsPut at i bytes (cell_of (persist start len stored) (i / 64))
+    taken cell is takes =
+        let there_is = cell_of-fill at (length bytes) pages (i / 64) cell is in
+        let put_is : cell_of stored (i / 64) ≡ Some (put_cell at bytes (i / 64) cell) =
+        cell_of-put at bytes filled (i / 64) ∙ ap (option_map (put_cell at bytes (i / 64))) there_is in
+        let from : at ≤ i = grind (arith, nat_tests) in
+        let to : i < at + length bytes = grind (arith, nat_tests) in
+        let byte : cell_byte (put_cell at bytes (i / 64) cell) (i % 64) ≡ slice_index bytes (i - at) =
+        sym (ap seen put_is) ∙ byte_in-put at i bytes filled cell small there_is takes ∙ byte_over-in at i (byte_in filled i) bytes from to in
+        subst (ShowsPut at i bytes) (sym (synced (put_cell at bytes (i / 64) cell) put_is))
+        (elim (flush_shown (put_cell at bytes (i / 64) cell) (i % 64)) as (λ _. ShowsPut at i bytes (Some (flush_cell (put_cell at bytes (i / 64) cell)))) [
+          | inl none ↦ inl none
+          | inr shown ↦ inr (shown ∙ ap Some byte)
+        ])
+
+    lost : cell_of pages (i / 64) ≡ Some Bad → holds_line at (length bytes) (i / 64) ≡ false → ShowsPut at i bytes (cell_of (persist start len stored) (i / 64))
+    lost is out =
+        let there_is = cell_of-fill at (length bytes) pages (i / 64) Bad is in
+        let put_is : cell_of stored (i / 64) ≡ Some Bad =
+        cell_of-put at bytes filled (i / 64) ∙ ap (option_map (put_cell at bytes (i / 64))) there_is
+        ∙ ap (λ b. Some (cond b (Kept false (map_from (word_stored at bytes) (8 * (i / 64)) (replicate 8 (0 ∷ [])))) Bad)) out in
+        subst (ShowsPut at i bytes) (sym (synced Bad put_is)) (inl refl)
+
+    by_line : (o : Option Cell) → cell_of pages (i / 64) ≡ o → IsLineThere o → ShowsPut at i bytes (cell_of (persist start len stored) (i / 64))
+    by_line None is none = absurd none
+    by_line (Some (Kept weak words)) is size = taken (Kept weak words) is size
+    by_line (Some Bad) is size = by_cover (holds_line at (length bytes) (i / 64)) refl
+      where
+        by_cover : (b : Bool) → holds_line at (length bytes) (i / 64) ≡ b → ShowsPut at i bytes (cell_of (persist start len stored) (i / 64))
+        by_cover true covered = taken Bad is covered
+        by_cover false out = lost is out
+
+pub synced : (h stored next : Machine) (at start len i : ℕ) (bytes : List ℕ) → ((k : ℕ) → get_or bytes k 0 < 256) → Does h (VStore at bytes) stored → Does stored (VSync start len) next
+    → is_among at (length bytes) i ≡ true → touches start len (i / 64) ≡ true
+    → (byte_of next (of_volume i) ≡ None) ⊎ Lasts next (of_volume i) (Some (slice_index bytes (i - at)))
+synced h stored next at start len i bytes small stores syncs among touched =
+    let put_is = works_done h (VStore at bytes) (record h { volume = put at bytes (fill at (length bytes) h.volume) }) stored refl stores in
+    let sync_is = works_done stored (VSync start len) (record stored { volume = persist start len stored.volume }) next refl syncs in
+    let lt = within stored start len i sync_is.0 touched in
+    let geometry : stored.geometry ≡ h.geometry = ap (λ m. m.geometry) put_is.1 in
+    let there = stores.whole.volume (i / 64) (subst (λ g. i / 64 < 64 * g.vpages) geometry lt) in
+    let shown : byte_of next (of_volume i) ≡ line_has (cell_of (persist start len (put at bytes (fill at (length bytes) h.volume))) (i / 64)) (i % 64) =
+    ap (λ m. byte_of m (of_volume i)) sync_is.1 ∙ ap (λ (m : Machine). line_has (cell_of (persist start len m.volume) (i / 64)) (i % 64)) put_is.1 in
+    elim (synced_byte at start len i bytes h.volume small among touched there)
+    as (λ _. (byte_of next (of_volume i) ≡ None) ⊎ Lasts next (of_volume i) (Some (slice_index bytes (i - at)))) [
+      | inl none ↦ inl (shown ∙ none)
+      | inr byte ↦ inr (subst (Lasts next (of_volume i)) (shown ∙ byte) (durable stored next (VSync start len) (of_volume i) syncs touched))
+    ]

@@ -1,0 +1,11 @@
+use Rattle.durable.proofs.WrittenLemmas.{synced, written, written_together}
+use Rattle.durable.proofs.laws.what_was_written_lasts.Goals as goal
+
+pub returns-clause-write : goal.returns-clause-write
+returns-clause-write c = written
+
+pub returns-clause-together : goal.returns-clause-together
+returns-clause-together c = written_together
+
+pub returns-clause-synced : goal.returns-clause-synced
+returns-clause-synced c = synced
