@@ -11,7 +11,7 @@ use Rattle.nvm_model.specs.Storage.{Block}
 use Rattle.nvm_model.specs.Storage.Block.{Absent, Scarred}
 use Rattle.block_device.specs.Refusals.{block_spans}
 use Rattle.script_text.specs.Action.{Action}
-use Rattle.script_text.specs.Action.Action.{BRead, BWrite, BAtomic, BMulti, BDiscard, BDiscardIf, BExists, BScar, VLoad, VStore, VSync, Cut, CutIn, Restart}
+use Rattle.script_text.specs.Action.Action.{BWrite, BAtomic, BMulti, BDiscard, BDiscardIf, BScar}
 use Rattle.machine_host.specs.OnBlocks.{blocks_from}
 use Rattle.machine_host.specs.Commands.{LeavesBlocks, meaning}
 use Rattle.machine_host.specs.Meaning.{BlocksLeft}
@@ -55,20 +55,13 @@ nth-change spans to n blocks out = nth-map (change_block spans to) 0 n blocks (�
 
 -- a block that an action does not change
 pub nth-spared : (action : Action) (i : ℕ) (blocks : List Block) → changes action (of_blocks i) ≡ false → nth ((meaning action).blocks blocks) (i / 512) ≡ nth blocks (i / 512)
-nth-spared (BRead block count) i blocks out = refl
 nth-spared (BWrite block bytes) i blocks out = nth-write block (i / 512) bytes blocks (or_parts _ false out).0
 nth-spared (BAtomic block bytes) i blocks out = nth-write block (i / 512) bytes blocks (or_parts _ false out).0
 nth-spared (BMulti ranges bytes) i blocks out = nth-write_ranges ranges bytes (i / 512) blocks out
 nth-spared (BDiscard block count) i blocks out = nth-change (blocks_from block count) Absent (i / 512) blocks out
 nth-spared (BDiscardIf block count) i blocks out = nth-change (blocks_from block count) Absent (i / 512) blocks out
-nth-spared (BExists block) i blocks out = refl
 nth-spared (BScar ranges) i blocks out = nth-change ranges Scarred (i / 512) blocks out
-nth-spared (VLoad offset len) i blocks out = refl
-nth-spared (VStore offset bytes) i blocks out = refl
-nth-spared (VSync offset len) i blocks out = refl
-nth-spared Cut i blocks out = refl
-nth-spared (CutIn calls) i blocks out = refl
-nth-spared (Restart choice) i blocks out = refl
+nth-spared action i blocks out = refl
 
 -- what an interruption leaves of one that is the same either way
 pub nth-left : (left : BlocksLeft) (n : ℕ) (old to new : List Block) → nth to n ≡ nth old n → LeavesBlocks left old to new → nth new n ≡ nth old n

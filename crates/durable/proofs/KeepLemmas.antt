@@ -10,7 +10,7 @@ use Rattle.nvm_model.specs.Storage.{Block}
 use Rattle.reply_text.specs.Answer.{Answer}
 use Rattle.reply_text.specs.Answer.Answer.{Done}
 use Rattle.script_text.specs.Action.{Action}
-use Rattle.script_text.specs.Action.Action.{BRead, BWrite, BAtomic, BMulti, BDiscard, BDiscardIf, BExists, BScar, VLoad, VStore, VSync, Cut, CutIn, Restart}
+use Rattle.script_text.specs.Action.Action.{VStore, VSync}
 use Rattle.machine_host.specs.declared.mode.Mode.TheVariants.{On}
 use Rattle.machine_host.specs.Machine.{Machine}
 use Rattle.machine_host.specs.Commands.{MayLeaveBlocks, MayLeaveVolume, meaning}
@@ -46,38 +46,16 @@ keeps_byte h (of_blocks i) v keeps = keeps.place
 -- an action that spares a byte of the volume
 altered_volume : (action : Action) (i : ℕ) (v : Option ℕ) (pages : List Page) → changes action (of_volume i) ≡ false → BringsBytes action → VolumeKeeps pages i v
     → VolumeKeeps ((meaning action).volume pages) i v
-altered_volume (BRead block count) i v pages out small keeps = keeps
-altered_volume (BWrite block bytes) i v pages out small keeps = keeps
-altered_volume (BAtomic block bytes) i v pages out small keeps = keeps
-altered_volume (BMulti ranges bytes) i v pages out small keeps = keeps
-altered_volume (BDiscard block count) i v pages out small keeps = keeps
-altered_volume (BDiscardIf block count) i v pages out small keeps = keeps
-altered_volume (BExists block) i v pages out small keeps = keeps
-altered_volume (BScar ranges) i v pages out small keeps = keeps
-altered_volume (VLoad offset len) i v pages out small keeps = keeps
 altered_volume (VStore offset bytes) i v pages out small keeps = keeps-stored offset i v bytes pages small out keeps
 altered_volume (VSync offset len) i v pages out small keeps = keeps-persist offset len i v pages keeps
-altered_volume Cut i v pages out small keeps = keeps
-altered_volume (CutIn calls) i v pages out small keeps = keeps
-altered_volume (Restart choice) i v pages out small keeps = keeps
+altered_volume action i v pages out small keeps = keeps
 
 -- and one that was interrupted
 left_volume : (action : Action) (i : ℕ) (v : Option ℕ) (pages left : List Page) → changes action (of_volume i) ≡ false → BringsBytes action → VolumeKeeps pages i v
     → MayLeaveVolume (Some action) pages left → VolumeKeeps left i v
-left_volume (BRead block count) i v pages left out small keeps is = subst (λ p. VolumeKeeps p i v) {x = pages} (sym is) keeps
-left_volume (BWrite block bytes) i v pages left out small keeps is = subst (λ p. VolumeKeeps p i v) {x = pages} (sym is) keeps
-left_volume (BAtomic block bytes) i v pages left out small keeps is = subst (λ p. VolumeKeeps p i v) {x = pages} (sym is) keeps
-left_volume (BMulti ranges bytes) i v pages left out small keeps is = subst (λ p. VolumeKeeps p i v) {x = pages} (sym is) keeps
-left_volume (BDiscard block count) i v pages left out small keeps is = subst (λ p. VolumeKeeps p i v) {x = pages} (sym is) keeps
-left_volume (BDiscardIf block count) i v pages left out small keeps is = subst (λ p. VolumeKeeps p i v) {x = pages} (sym is) keeps
-left_volume (BExists block) i v pages left out small keeps is = subst (λ p. VolumeKeeps p i v) {x = pages} (sym is) keeps
-left_volume (BScar ranges) i v pages left out small keeps is = subst (λ p. VolumeKeeps p i v) {x = pages} (sym is) keeps
-left_volume (VLoad offset len) i v pages left out small keeps is = subst (λ p. VolumeKeeps p i v) {x = pages} (sym is) keeps
 left_volume (VStore offset bytes) i v pages left out small keeps may = keeps-may_store offset i v bytes pages left small out keeps may
 left_volume (VSync offset len) i v pages left out small keeps may = keeps-may_sync offset len i v pages left keeps may
-left_volume Cut i v pages left out small keeps is = subst (λ p. VolumeKeeps p i v) {x = pages} (sym is) keeps
-left_volume (CutIn calls) i v pages left out small keeps is = subst (λ p. VolumeKeeps p i v) {x = pages} (sym is) keeps
-left_volume (Restart choice) i v pages left out small keeps is = subst (λ p. VolumeKeeps p i v) {x = pages} (sym is) keeps
+left_volume action i v pages left out small keeps is = subst (λ p. VolumeKeeps p i v) {x = pages} (sym is) keeps
 
 volume_left : (o : Option Action) (i : ℕ) (v : Option ℕ) (pages left : List Page) → SparedBy o (of_volume i) → VolumeKeeps pages i v → MayLeaveVolume o pages left → VolumeKeeps left i v
 volume_left None i v pages left spared keeps is = subst (λ p. VolumeKeeps p i v) {x = pages} (sym is) keeps

@@ -18,7 +18,7 @@ use Rattle.nvm_model.proofs.PageLemmas.{cell_of-persist}
 use Rattle.reply_text.specs.Answer.{Answer}
 use Rattle.reply_text.specs.Answer.Answer.{Done, Bytes}
 use Rattle.script_text.specs.Action.{Action}
-use Rattle.script_text.specs.Action.Action.{BRead, BWrite, BAtomic, BMulti, BDiscard, BDiscardIf, BExists, BScar, VLoad, VStore, VSync, Cut, CutIn, Restart}
+use Rattle.script_text.specs.Action.Action.{BRead, VLoad, VSync, Cut, CutIn, Restart}
 use Rattle.script_text.specs.Script.{Input}
 use Rattle.script_text.specs.Script.Input.{Skipped, Malformed, Asked}
 use Rattle.machine_host.specs.Machine.{Machine}
@@ -68,23 +68,13 @@ keeps-run (input ∷ inputs) h later said x v bytes run spares keeps =
 
 -- a command that covers something needs a machine that is on
 covers_usable : (action : Action) (x : Place) → covers action x ≡ true → (meaning action).needs ≡ Usable
-covers_usable (BWrite block bytes) x covered = refl
-covers_usable (BAtomic block bytes) x covered = refl
-covers_usable (BMulti ranges bytes) x covered = refl
-covers_usable (VSync offset len) x covered = refl
-covers_usable (BRead block count) x covered = refl
-covers_usable (BDiscard block count) x covered = refl
-covers_usable (BDiscardIf block count) x covered = refl
-covers_usable (BExists block) x covered = refl
-covers_usable (BScar ranges) x covered = refl
-covers_usable (VLoad offset len) x covered = refl
-covers_usable (VStore offset bytes) x covered = refl
 covers_usable Cut (of_volume i) covered = cc covered
 covers_usable Cut (of_blocks i) covered = cc covered
 covers_usable (CutIn calls) (of_volume i) covered = cc covered
 covers_usable (CutIn calls) (of_blocks i) covered = cc covered
 covers_usable (Restart choice) (of_volume i) covered = cc covered
 covers_usable (Restart choice) (of_blocks i) covered = cc covered
+covers_usable action x covered = refl
 
 -- what a sync left of a line that it touches
 synced_line : (start len i : ℕ) (pages : List Page) → touches start len (i / 64) ≡ true → IsLineThere (cell_of pages (i / 64))
@@ -115,19 +105,7 @@ covered_place h (VSync offset len) next (of_volume i) whole covered none to =
       subst (λ g. i / 64 < 64 * g.vpages) (sym to.geometry) lt,
       subst (λ p. VolumeKeeps p i (line_has (cell_of p (i / 64)) (i % 64))) (sym to.volume) (synced_line offset len i h.volume covered (whole.volume (i / 64) lt)),
     )
-covered_place h (BRead block count) next (of_volume i) whole covered none to = cc covered
-covered_place h (BWrite block bytes) next (of_volume i) whole covered none to = cc covered
-covered_place h (BAtomic block bytes) next (of_volume i) whole covered none to = cc covered
-covered_place h (BMulti ranges bytes) next (of_volume i) whole covered none to = cc covered
-covered_place h (BDiscard block count) next (of_volume i) whole covered none to = cc covered
-covered_place h (BDiscardIf block count) next (of_volume i) whole covered none to = cc covered
-covered_place h (BExists block) next (of_volume i) whole covered none to = cc covered
-covered_place h (BScar ranges) next (of_volume i) whole covered none to = cc covered
-covered_place h (VLoad offset len) next (of_volume i) whole covered none to = cc covered
-covered_place h (VStore offset bytes) next (of_volume i) whole covered none to = cc covered
-covered_place h Cut next (of_volume i) whole covered none to = cc covered
-covered_place h (CutIn calls) next (of_volume i) whole covered none to = cc covered
-covered_place h (Restart choice) next (of_volume i) whole covered none to = cc covered
+covered_place h action next (of_volume i) whole covered none to = cc covered
 
 pub stop_done : (by : Interruption) → Done ≡ interrupted_answer by → ⊥
 stop_done Failed is = cc is

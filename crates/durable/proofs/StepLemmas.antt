@@ -9,7 +9,7 @@ use Rattle.block_device.specs.Reading.{blocks_read}
 use Rattle.reply_text.specs.Answer.{Answer}
 use Rattle.reply_text.specs.Answer.Answer.{Done}
 use Rattle.script_text.specs.Action.{Action}
-use Rattle.script_text.specs.Action.Action.{BRead, BWrite, BAtomic, BMulti, BDiscard, BDiscardIf, BExists, BScar, VLoad, VStore, VSync, Cut, CutIn, Restart}
+use Rattle.script_text.specs.Action.Action.{BRead, BExists, VLoad, Cut, CutIn, Restart}
 use Rattle.machine_host.specs.declared.mode.Mode.TheVariants.{On}
 use Rattle.machine_host.specs.Machine.{Machine, Fate}
 use Rattle.machine_host.specs.Machine.Fate.{Gives, Works, Orders, Cuts, Restarts}
@@ -86,19 +86,12 @@ same h = record { geometry = refl; blocks = refl; volume = refl; interrupted = r
 
 suits : (h : Machine) (action : Action) → Suits h action ((meaning action).comes h)
 suits h (BRead block count) = (inr nowhere, record { geometry = refl; blocks = refl; volume = refl; interrupted = refl; mode = refl })
-suits h (BWrite block bytes) = (inl refl, record { geometry = refl; blocks = refl; volume = refl; interrupted = refl; mode = refl })
-suits h (BAtomic block bytes) = (inl refl, record { geometry = refl; blocks = refl; volume = refl; interrupted = refl; mode = refl })
-suits h (BMulti ranges bytes) = (inl refl, record { geometry = refl; blocks = refl; volume = refl; interrupted = refl; mode = refl })
-suits h (BDiscard block count) = (inl refl, record { geometry = refl; blocks = refl; volume = refl; interrupted = refl; mode = refl })
-suits h (BDiscardIf block count) = (inl refl, record { geometry = refl; blocks = refl; volume = refl; interrupted = refl; mode = refl })
 suits h (BExists block) = (nowhere, same h)
-suits h (BScar ranges) = (inl refl, record { geometry = refl; blocks = refl; volume = refl; interrupted = refl; mode = refl })
 suits h (VLoad offset len) = (inr nowhere, record { geometry = refl; blocks = refl; volume = refl; interrupted = refl; mode = refl })
-suits h (VStore offset bytes) = (inl refl, record { geometry = refl; blocks = refl; volume = refl; interrupted = refl; mode = refl })
-suits h (VSync offset len) = (inl refl, record { geometry = refl; blocks = refl; volume = refl; interrupted = refl; mode = refl })
 suits h Cut = (nowhere, record { geometry = refl; blocks = refl; volume = refl; interrupted = refl; mode = λ on. cc on })
 suits h (CutIn calls) = (nowhere, record { geometry = refl; blocks = refl; volume = refl; interrupted = refl; mode = λ on. on })
 suits h (Restart choice) = nowhere
+suits h action = (inl refl, record { geometry = refl; blocks = refl; volume = refl; interrupted = refl; mode = refl })
 
 stops_on : (by : Interruption) → interrupted_mode by ≡ On → ⊥
 stops_on Failed on = cc on

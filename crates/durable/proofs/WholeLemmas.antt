@@ -20,7 +20,7 @@ use Rattle.block_device.specs.Reading.{block_read, blocks_read, states_read}
 use Rattle.machine_host.specs.OnBlocks.{blocks_from}
 use Rattle.reply_text.specs.Answer.{Answer}
 use Rattle.script_text.specs.Action.{Action}
-use Rattle.script_text.specs.Action.Action.{BRead, BWrite, BAtomic, BMulti, BDiscard, BDiscardIf, BExists, BScar, VLoad, VStore, VSync, Cut, CutIn, Restart}
+use Rattle.script_text.specs.Action.Action.{BWrite, BAtomic, BMulti, BDiscard, BDiscardIf, BScar, VStore, VSync}
 use Rattle.script_text.specs.Script.{Input}
 use Rattle.script_text.specs.Script.Input.{Skipped, Malformed, Asked}
 use Rattle.machine_host.specs.Machine.{Machine}
@@ -69,23 +69,12 @@ there-read image count n lt = subst IsLineThere (sym (cell_of-read_pages image c
     by_mark false = length-list_from (λ p. image.word p ∷ []) (8 * n) 8
 
 there-altered : (action : Action) (n : ℕ) (pages : List Page) → IsLineThere (cell_of pages n) → IsLineThere (cell_of ((meaning action).volume pages) n)
-there-altered (BRead block count) n pages there = there
-there-altered (BWrite block bytes) n pages there = there
-there-altered (BAtomic block bytes) n pages there = there
-there-altered (BMulti ranges bytes) n pages there = there
-there-altered (BDiscard block count) n pages there = there
-there-altered (BDiscardIf block count) n pages there = there
-there-altered (BExists block) n pages there = there
-there-altered (BScar ranges) n pages there = there
-there-altered (VLoad offset len) n pages there = there
 there-altered (VStore offset bytes) n pages there =
     subst IsLineThere (sym (cell_of-put offset bytes (fill offset (length bytes) pages) n))
     (there-put offset n bytes (cell_of (fill offset (length bytes) pages) n) (there-fill offset (length bytes) n pages there))
 there-altered (VSync offset len) n pages there =
     subst IsLineThere (sym (cell_of-persist offset len pages n)) (there-persist offset len n (cell_of pages n) there)
-there-altered Cut n pages there = there
-there-altered (CutIn calls) n pages there = there
-there-altered (Restart choice) n pages there = there
+there-altered action n pages there = there
 
 length-write : (at : ℕ) (bytes : List ℕ) (blocks : List Block) → length (write at bytes blocks) ≡ length blocks
 unfolding write
@@ -101,20 +90,13 @@ unfolding change
 length-change spans to blocks = length-map_from (change_block spans to) 0 blocks
 
 length-altered : (action : Action) (blocks : List Block) → length ((meaning action).blocks blocks) ≡ length blocks
-length-altered (BRead block count) blocks = refl
 length-altered (BWrite block bytes) blocks = length-write block bytes blocks
 length-altered (BAtomic block bytes) blocks = length-write block bytes blocks
 length-altered (BMulti ranges bytes) blocks = length-write_ranges ranges bytes blocks
 length-altered (BDiscard block count) blocks = length-change (blocks_from block count) Absent blocks
 length-altered (BDiscardIf block count) blocks = length-change (blocks_from block count) Absent blocks
-length-altered (BExists block) blocks = refl
 length-altered (BScar ranges) blocks = length-change ranges Scarred blocks
-length-altered (VLoad offset len) blocks = refl
-length-altered (VStore offset bytes) blocks = refl
-length-altered (VSync offset len) blocks = refl
-length-altered Cut blocks = refl
-length-altered (CutIn calls) blocks = refl
-length-altered (Restart choice) blocks = refl
+length-altered action blocks = refl
 
 length-read : (geo : Geometry) (bad : ℕ → Bool) (word : ℕ → ℕ) → length (blocks_read geo bad word) ≡ geo.blocks
 unfolding blocks_read states_read

@@ -7,7 +7,7 @@ use Rattle.nvm_model.specs.Page.{cell_of}
 use Rattle.reply_text.specs.Answer.{Answer}
 use Rattle.reply_text.specs.Answer.Answer.{Done, Bytes}
 use Rattle.script_text.specs.Action.{Action}
-use Rattle.script_text.specs.Action.Action.{BRead, BWrite, BAtomic, BMulti, BDiscard, BDiscardIf, BExists, BScar, VLoad, VStore, VSync, Cut, CutIn, Restart}
+use Rattle.script_text.specs.Action.Action.{BRead, VLoad, VStore}
 use Rattle.script_text.specs.Script.{Input}
 use Rattle.script_text.specs.Script.Input.{Skipped, Malformed, Asked}
 use Rattle.machine_host.specs.declared.mode.Mode.TheVariants.{On}
@@ -29,22 +29,10 @@ pub record IsWhole (h : Machine) : Type 0 where
   pub volume : (n : ℕ) → n < 64 * h.geometry.vpages → IsLineThere (cell_of h.volume n)
   pub settled : h.mode ≡ On → h.interrupted ≡ None
 
--- the data that a command stores are bytes
+-- what a command stores are bytes
 abbrev pub BringsBytes : Action → Type 0
-BringsBytes (BRead block count) = Unit {0}
-BringsBytes (BWrite block bytes) = Unit {0}
-BringsBytes (BAtomic block bytes) = Unit {0}
-BringsBytes (BMulti ranges bytes) = Unit {0}
-BringsBytes (BDiscard block count) = Unit {0}
-BringsBytes (BDiscardIf block count) = Unit {0}
-BringsBytes (BExists block) = Unit {0}
-BringsBytes (BScar ranges) = Unit {0}
-BringsBytes (VLoad offset len) = Unit {0}
 BringsBytes (VStore offset bytes) = (k : ℕ) → slice_index bytes k < 256
-BringsBytes (VSync offset len) = Unit {0}
-BringsBytes Cut = Unit {0}
-BringsBytes (CutIn calls) = Unit {0}
-BringsBytes (Restart choice) = Unit {0}
+BringsBytes action = Unit {0}
 
 abbrev pub BringBytes : List Input → Type 0
 BringBytes [] = Unit {0}
