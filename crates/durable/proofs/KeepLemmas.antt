@@ -15,7 +15,7 @@ use Rattle.machine_host.specs.declared.mode.Mode.TheVariants.{On}
 use Rattle.machine_host.specs.Machine.{Machine}
 use Rattle.machine_host.specs.Commands.{MayLeaveBlocks, MayLeaveVolume, meaning}
 use Rattle.machine_host.specs.Volume.{volume_image}
-use Rattle.durable.specs.Place.{Place, block_has, byte_of}
+use Rattle.durable.specs.Place.{Place, block_has, byte_at_place}
 use Rattle.durable.specs.Place.Place.{of_volume, of_blocks}
 use Rattle.durable.specs.Touching.{changes, is_begun}
 use Rattle.durable.specs.Durable.{BringsBytes}
@@ -39,7 +39,7 @@ pub record Keeps (h : Machine) (x : Place) (v : Option ℕ) : Type 0 where
   pub spared : SparedBy h.interrupted x
   pub settled : h.mode ≡ On → h.interrupted ≡ None
 
-pub keeps_byte : (h : Machine) (x : Place) (v : Option ℕ) → Keeps h x v → byte_of h x ≡ v
+pub keeps_byte : (h : Machine) (x : Place) (v : Option ℕ) → Keeps h x v → byte_at_place h x ≡ v
 keeps_byte h (of_volume i) v keeps = line_has-kept _ (i % 64) v keeps.place.1
 keeps_byte h (of_blocks i) v keeps = keeps.place
 
@@ -126,7 +126,7 @@ keeps-step h action answer next x v only small keeps (stops by is to) = record {
   spared = subst (λ o. SparedBy o x) (sym to.interrupted) (spares action x answer only (ap is_begun is ∙ stop_begun by), small);
   settled = λ on. absurd (to.mode on);
 }
-keeps-step h action answer next x v only small keeps (returns covers back) = record {
+keeps-step h action answer next x v only small keeps (returns is_made_durable back) = record {
   place = returned_place h next x v back keeps.spared keeps.place;
   spared = subst (λ o. SparedBy o x) (sym back.interrupted) tt;
   settled = λ on. back.interrupted;

@@ -30,10 +30,10 @@ use Rattle.machine_host.specs.Meaning.Needs.{Usable}
 use Rattle.machine_host.specs.OnVolume.{volume_size}
 use Rattle.machine_host.specs.Run.{Hears, Run, Takes, Transcript}
 use Rattle.machine_host.proofs.RefusalLemmas.{span_allowed}
-use Rattle.durable.specs.Place.{Place, block_has, byte_of, line_has}
+use Rattle.durable.specs.Place.{Place, block_has, byte_at_place, line_has}
 use Rattle.durable.specs.Place.Place.{of_volume, of_blocks}
-use Rattle.durable.specs.Touching.{covers}
-use Rattle.durable.specs.Durable.{BringBytes, Has, Does, IsDurable, IsLineThere, IsWhole, Reads, Spares}
+use Rattle.durable.specs.Touching.{is_made_durable}
+use Rattle.durable.specs.Durable.{BringBytes, Has, Does, IsDurable, IsLineThere, IsComplete, Reads, Spares}
 use Rattle.durable.proofs.StepLemmas.{Alters, Step, step_of}
 use Rattle.durable.proofs.StepLemmas.Step.{idles, alters, stops, returns}
 use Rattle.durable.proofs.LineLemmas.{LineKeeps, VolumeKeeps, line_keeps-flushed}
@@ -67,7 +67,7 @@ keeps-run (input ∷ inputs) h later said x v bytes run spares keeps =
     keeps-run inputs run.2 later run.1 x v heard.2 run.5 heard.1 heard.0
 
 -- a command that covers something needs a machine that is on
-covers_usable : (action : Action) (x : Place) → covers action x ≡ true → (meaning action).needs ≡ Usable
+covers_usable : (action : Action) (x : Place) → is_made_durable action x ≡ true → (meaning action).needs ≡ Usable
 covers_usable Cut (of_volume i) covered = cc covered
 covers_usable Cut (of_blocks i) covered = cc covered
 covers_usable (CutIn calls) (of_volume i) covered = cc covered
@@ -97,8 +97,8 @@ within h offset len i none touched =
     let end = allowed.1 in grind (arith, nat_tests)
 
 -- A command that covers the place was done: each value of its word has the byte.
-covered_place : (h : Machine) (action : Action) (next : Machine) (x : Place) → IsWhole h → covers action x ≡ true → refusal h action ≡ None → Alters h action next
-    → PlaceKeeps next x (byte_of next x)
+covered_place : (h : Machine) (action : Action) (next : Machine) (x : Place) → IsComplete h → is_made_durable action x ≡ true → refusal h action ≡ None → Alters h action next
+    → PlaceKeeps next x (byte_at_place next x)
 covered_place h action next (of_blocks i) whole covered none to = refl
 covered_place h (VSync offset len) next (of_volume i) whole covered none to =
     let lt = within h offset len i none covered in (
@@ -111,12 +111,12 @@ pub stop_done : (by : Interruption) → Done ≡ interrupted_answer by → ⊥
 stop_done Failed is = cc is
 stop_done Lost is = cc is
 
-covered_step : (h : Machine) (action : Action) (answer : Answer) (next : Machine) (x : Place) → IsWhole h → covers action x ≡ true → answer ≡ Done → Step h action answer next
-    → Keeps next x (byte_of next x)
+covered_step : (h : Machine) (action : Action) (answer : Answer) (next : Machine) (x : Place) → IsComplete h → is_made_durable action x ≡ true → answer ≡ Done → Step h action answer next
+    → Keeps next x (byte_at_place next x)
 covered_step h action answer next x whole covered done (idles (inl why) to) = absurd (both_ways (is_refused answer) (ap is_refused done) (refused_told h action answer why))
-covered_step h action answer next x whole covered done (idles (inr covers) to) = absurd (both_ways _ (covers x) covered)
+covered_step h action answer next x whole covered done (idles (inr is_made_durable) to) = absurd (both_ways _ (is_made_durable x) covered)
 covered_step h action answer next x whole covered done (stops by is to) = absurd (stop_done by (sym done ∙ is))
-covered_step h action answer next x whole covered done (returns covers back) = absurd (both_ways _ (covers x) covered)
+covered_step h action answer next x whole covered done (returns is_made_durable back) = absurd (both_ways _ (is_made_durable x) covered)
 covered_step h action answer next x whole covered done (alters begun none to) =
     let free = to.interrupted ∙ whole.settled (is_on h action (covers_usable action x covered) none) in
     record {
@@ -125,7 +125,7 @@ covered_step h action answer next x whole covered done (alters begun none to) =
       settled = λ on. free;
     }
 
-made : (h next : Machine) (action : Action) (x : Place) → Does h action next → covers action x ≡ true → Keeps next x (byte_of next x)
+made : (h next : Machine) (action : Action) (x : Place) → Does h action next → is_made_durable action x ≡ true → Keeps next x (byte_at_place next x)
 made h next action x does covered =
     let taken = step_of h action does.said next does.came in
     let done : taken.answer ≡ Done = cc (taken.answers, does.done) in covered_step h action taken.answer next x does.whole covered done taken.step
@@ -169,7 +169,7 @@ read_bytes h action shown bytes said next reads takes told = by_refusal (refusal
         let same : t.0 ≡ Bytes bytes = cc (ap (λ s. s.answers) t.1, told) in
         elim t.2 as (λ _. bytes ≡ shown) [ inl end ↦ cc (same, end.0) | inr end ↦ absurd (stop_bytes end.0 bytes (sym same ∙ end.1)) ]
 
-reads_volume : (h : Machine) (i byte : ℕ) → byte_of h (of_volume i) ≡ Some byte → Reads h (of_volume i) byte
+reads_volume : (h : Machine) (i byte : ℕ) → byte_at_place h (of_volume i) ≡ Some byte → Reads h (of_volume i) byte
 unfolding look
 reads_volume h i byte is = λ offset len bytes said next heard told among.
     ap (λ xs. slice_index xs (i - offset)) (read_bytes h (VLoad offset len) (look h.volume offset len) bytes said next refl heard told)
@@ -181,7 +181,7 @@ reads_volume h i byte is = λ offset len bytes said next heard told among.
     to : (offset len : ℕ) → is_among offset len i ≡ true → i < offset + len
     to offset len among = grind (arith, nat_tests)
 
-reads_blocks : (h : Machine) (i byte : ℕ) → byte_of h (of_blocks i) ≡ Some byte → Reads h (of_blocks i) byte
+reads_blocks : (h : Machine) (i byte : ℕ) → byte_at_place h (of_blocks i) ≡ Some byte → Reads h (of_blocks i) byte
 unfolding look_blocks
 reads_blocks h i byte is = λ block count bytes said next heard told among.
     ap (λ xs. slice_index xs (i - 512 * block)) (read_bytes h (BRead block count) (look_blocks h.blocks block count) bytes said next refl heard told)
@@ -194,17 +194,17 @@ reads_blocks h i byte is = λ block count bytes said next heard told among.
     to : (block count : ℕ) → is_among block count (i / 512) ≡ true → i < 512 * block + 512 * count
     to block count among = let high : i / 512 < block + count = grind (arith, nat_tests) in omega arith
 
-reads : (h : Machine) (x : Place) (byte : ℕ) → byte_of h x ≡ Some byte → Reads h x byte
+reads : (h : Machine) (x : Place) (byte : ℕ) → byte_at_place h x ≡ Some byte → Reads h x byte
 reads h (of_volume i) byte is = reads_volume h i byte is
 reads h (of_blocks i) byte is = reads_blocks h i byte is
 
-pub has : (h : Machine) (x : Place) (v : Option ℕ) → byte_of h x ≡ v → Has h x v
+pub has : (h : Machine) (x : Place) (v : Option ℕ) → byte_at_place h x ≡ v → Has h x v
 has h x v is = record { kept = is; shown = by_value v is }
   where
-    by_value : (o : Option ℕ) → byte_of h x ≡ o → IfSome o (Reads h x)
+    by_value : (o : Option ℕ) → byte_at_place h x ≡ o → IfSome o (Reads h x)
     by_value None none = tt
     by_value (Some byte) some = reads h x byte some
 
-pub durable : (h next : Machine) (action : Action) (x : Place) → Does h action next → covers action x ≡ true → IsDurable next x
+pub durable : (h next : Machine) (action : Action) (x : Place) → Does h action next → is_made_durable action x ≡ true → IsDurable next x
 durable h next action x does covered inputs said later bytes run spares =
-    has later x (byte_of next x) (keeps_byte later x (byte_of next x) (keeps-run inputs next later said x (byte_of next x) bytes run spares (made h next action x does covered)))
+    has later x (byte_at_place next x) (keeps_byte later x (byte_at_place next x) (keeps-run inputs next later said x (byte_at_place next x) bytes run spares (made h next action x does covered)))

@@ -20,7 +20,7 @@ use Rattle.machine_host.specs.Volume.{volume_image}
 use Rattle.machine_host.specs.Run.{Ends, Takes, Transcript}
 use Rattle.durable.specs.Place.{Place}
 use Rattle.durable.specs.Place.Place.{of_volume, of_blocks}
-use Rattle.durable.specs.Touching.{changes, covers, holds, nothing}
+use Rattle.durable.specs.Touching.{changes, is_made_durable, holds, nothing}
 
 -- it leaves blocks and volume, and what is interrupted
 pub record Idles (h next : Machine) : Type 0 where
@@ -58,7 +58,7 @@ pub record Returns (h next : Machine) : Type 0 where
 
 -- it makes nothing durable
 abbrev pub CoversNothing : Action → Type 0
-CoversNothing action = (x : Place) → covers action x ≡ false
+CoversNothing action = (x : Place) → is_made_durable action x ≡ false
 
 abbrev pub ChangesNothing : Action → Type 0
 ChangesNothing action = (x : Place) → changes action x ≡ false

@@ -28,7 +28,7 @@ use Rattle.machine_host.specs.Commands.{meaning}
 use Rattle.machine_host.specs.Restarting.{fresh, reading, zero_image}
 use Rattle.machine_host.specs.Volume.{volume_image}
 use Rattle.machine_host.specs.Run.{Hears, Run, Transcript}
-use Rattle.durable.specs.Durable.{IsLineThere, IsWhole}
+use Rattle.durable.specs.Durable.{IsLineThere, IsComplete}
 use Rattle.durable.proofs.StepLemmas.{Step, step_of}
 use Rattle.durable.proofs.StepLemmas.Step.{idles, alters, stops, returns}
 
@@ -102,15 +102,15 @@ length-read : (geo : Geometry) (bad : ℕ → Bool) (word : ℕ → ℕ) → len
 unfolding blocks_read states_read
 length-read geo bad word = length-map (states_read geo word) (block_read geo bad word) ∙ length-list_from _ 0 geo.blocks
 
-same_blocks : (h next : Machine) → IsWhole h → next.geometry ≡ h.geometry → next.blocks ≡ h.blocks → length next.blocks ≡ next.geometry.blocks
+same_blocks : (h next : Machine) → IsComplete h → next.geometry ≡ h.geometry → next.blocks ≡ h.blocks → length next.blocks ≡ next.geometry.blocks
 same_blocks h next whole geometry blocks = ap length blocks ∙ whole.blocks ∙ sym (ap (λ g. g.blocks) geometry)
 
-same_volume : (h next : Machine) → IsWhole h → next.geometry ≡ h.geometry → next.volume ≡ h.volume
+same_volume : (h next : Machine) → IsComplete h → next.geometry ≡ h.geometry → next.volume ≡ h.volume
     → (n : ℕ) → n < 64 * next.geometry.vpages → IsLineThere (cell_of next.volume n)
 same_volume h next whole geometry volume n lt =
     subst (λ p. IsLineThere (cell_of p n)) (sym volume) (whole.volume n (subst (λ g. n < 64 * g.vpages) geometry lt))
 
-pub whole-step : (h : Machine) (action : Action) (answer : Answer) (next : Machine) → IsWhole h → Step h action answer next → IsWhole next
+pub whole-step : (h : Machine) (action : Action) (answer : Answer) (next : Machine) → IsComplete h → Step h action answer next → IsComplete next
 whole-step h action answer next whole (idles why to) =
     record { blocks = same_blocks h next whole to.geometry to.blocks; volume = same_volume h next whole to.geometry to.volume; settled = λ on. to.interrupted ∙ whole.settled (to.mode on) }
 whole-step h action answer next whole (alters begun none to) = record {
@@ -129,17 +129,17 @@ whole-step h action answer next whole (returns covers back) = record {
 }
 
 -- a step, whatever is heard
-pub whole-heard : (h : Machine) (input : Input) (said : Transcript) (next : Machine) → IsWhole h → Hears h input said next → IsWhole next
-whole-heard h Skipped said next whole heard = subst IsWhole (sym heard.1) whole
-whole-heard h Malformed said next whole heard = subst IsWhole (sym heard.1) whole
+pub whole-heard : (h : Machine) (input : Input) (said : Transcript) (next : Machine) → IsComplete h → Hears h input said next → IsComplete next
+whole-heard h Skipped said next whole heard = subst IsComplete (sym heard.1) whole
+whole-heard h Malformed said next whole heard = subst IsComplete (sym heard.1) whole
 whole-heard h (Asked action) said next whole heard =
     let taken = step_of h action said next heard in whole-step h action taken.answer next whole taken.step
 
-pub whole-run : (inputs : List Input) (h later : Machine) (said : Transcript) → IsWhole h → Run h inputs said later → IsWhole later
-whole-run [] h later said whole run = subst IsWhole (sym run.1) whole
+pub whole-run : (inputs : List Input) (h later : Machine) (said : Transcript) → IsComplete h → Run h inputs said later → IsComplete later
+whole-run [] h later said whole run = subst IsComplete (sym run.1) whole
 whole-run (input ∷ inputs) h later said whole run =
     whole-run inputs run.2 later run.1 (whole-heard h input run.0 run.2 whole run.4) run.5
 
-pub whole-fresh : (geo : Geometry) → IsWhole (fresh geo)
+pub whole-fresh : (geo : Geometry) → IsComplete (fresh geo)
 unfolding reading
 whole-fresh geo = record { blocks = length-read geo (λ n. false) (λ p. 0); volume = λ n lt. there-read (volume_image geo (zero_image (total_lines geo))) geo.vpages n lt; settled = λ on. refl }

@@ -30,7 +30,7 @@ use Rattle.machine_host.specs.Machine.Fate.{Works}
 use Rattle.machine_host.specs.Commands.{meaning, refusal, unless_refused}
 use Rattle.machine_host.specs.OnBlocks.{refusal_answer}
 use Rattle.machine_host.specs.Run.{Takes}
-use Rattle.durable.specs.Place.{block_has, byte_of, line_has}
+use Rattle.durable.specs.Place.{block_has, byte_at_place, line_has}
 use Rattle.durable.specs.Place.Place.{of_volume, of_blocks}
 use Rattle.durable.specs.Durable.{Does, IsLineThere, Lasts}
 use Rattle.durable.proofs.RefusalLemmas.{is_refused, places_none, refused_told}
@@ -108,8 +108,8 @@ pub written : (h next : Machine) (block i : ℕ) (bytes : List ℕ) → Does h (
 written h next block i bytes does among =
     let done = works_done h (BWrite block bytes) (record h { blocks = write block bytes h.blocks }) next refl does in
     let fits = bytes_within h.geometry.blocks block (length bytes) (blocks_none _ (places_none h (BWrite block bytes) done.0)) in
-    let is : byte_of next (of_blocks i) ≡ Some (slice_index bytes (i - 512 * block)) =
-    ap (λ m. byte_of m (of_blocks i)) done.1 ∙ written_byte block i bytes h.blocks among (omega (arith, does.whole.blocks)) in
+    let is : byte_at_place next (of_blocks i) ≡ Some (slice_index bytes (i - 512 * block)) =
+    ap (λ m. byte_at_place m (of_blocks i)) done.1 ∙ written_byte block i bytes h.blocks among (omega (arith, does.whole.blocks)) in
     subst (Lasts next (of_blocks i)) is (durable h next (BWrite block bytes) (of_blocks i) does (or_true _ among))
 
 pub written_together : (h next : Machine) (block i : ℕ) (bytes : List ℕ) → Does h (BAtomic block bytes) next → is_among block (length bytes / 512) (i / 512) ≡ true
@@ -119,8 +119,8 @@ written_together h next block i bytes does among =
     let places = blocks_none _ (places_none h (BAtomic block bytes) done.0) in
     let fits = bytes_within h.geometry.blocks block (length bytes)
     (first_none (bytes_refusal h.geometry.blocks block (length bytes)) (where_ (nat_lt 64 (length bytes / 512)) Limit) places) in
-    let is : byte_of next (of_blocks i) ≡ Some (slice_index bytes (i - 512 * block)) =
-    ap (λ m. byte_of m (of_blocks i)) done.1 ∙ written_byte block i bytes h.blocks among (omega (arith, does.whole.blocks)) in
+    let is : byte_at_place next (of_blocks i) ≡ Some (slice_index bytes (i - 512 * block)) =
+    ap (λ m. byte_at_place m (of_blocks i)) done.1 ∙ written_byte block i bytes h.blocks among (omega (arith, does.whole.blocks)) in
     subst (Lasts next (of_blocks i)) is (durable h next (BAtomic block bytes) (of_blocks i) does (or_true _ among))
 
 -- a line that was made durable shows what it had, unless it is lost
@@ -193,17 +193,17 @@ synced_byte at start len i bytes pages small among touched there = by_line (cell
 
 pub synced : (h stored next : Machine) (at start len i : ℕ) (bytes : List ℕ) → ((k : ℕ) → get_or bytes k 0 < 256) → Does h (VStore at bytes) stored → Does stored (VSync start len) next
     → is_among at (length bytes) i ≡ true → touches start len (i / 64) ≡ true
-    → (byte_of next (of_volume i) ≡ None) ⊎ Lasts next (of_volume i) (Some (slice_index bytes (i - at)))
+    → (byte_at_place next (of_volume i) ≡ None) ⊎ Lasts next (of_volume i) (Some (slice_index bytes (i - at)))
 synced h stored next at start len i bytes small stores syncs among touched =
     let put_is = works_done h (VStore at bytes) (record h { volume = put at bytes (fill at (length bytes) h.volume) }) stored refl stores in
     let sync_is = works_done stored (VSync start len) (record stored { volume = persist start len stored.volume }) next refl syncs in
     let lt = within stored start len i sync_is.0 touched in
     let geometry : stored.geometry ≡ h.geometry = ap (λ m. m.geometry) put_is.1 in
     let there = stores.whole.volume (i / 64) (subst (λ g. i / 64 < 64 * g.vpages) geometry lt) in
-    let shown : byte_of next (of_volume i) ≡ line_has (cell_of (persist start len (put at bytes (fill at (length bytes) h.volume))) (i / 64)) (i % 64) =
-    ap (λ m. byte_of m (of_volume i)) sync_is.1 ∙ ap (λ (m : Machine). line_has (cell_of (persist start len m.volume) (i / 64)) (i % 64)) put_is.1 in
+    let shown : byte_at_place next (of_volume i) ≡ line_has (cell_of (persist start len (put at bytes (fill at (length bytes) h.volume))) (i / 64)) (i % 64) =
+    ap (λ m. byte_at_place m (of_volume i)) sync_is.1 ∙ ap (λ (m : Machine). line_has (cell_of (persist start len m.volume) (i / 64)) (i % 64)) put_is.1 in
     elim (synced_byte at start len i bytes h.volume small among touched there)
-    as (λ _. (byte_of next (of_volume i) ≡ None) ⊎ Lasts next (of_volume i) (Some (slice_index bytes (i - at)))) [
+    as (λ _. (byte_at_place next (of_volume i) ≡ None) ⊎ Lasts next (of_volume i) (Some (slice_index bytes (i - at)))) [
       | inl none ↦ inl (shown ∙ none)
       | inr byte ↦ inr (subst (Lasts next (of_volume i)) (shown ∙ byte) (durable stored next (VSync start len) (of_volume i) syncs touched))
     ]

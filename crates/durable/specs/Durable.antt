@@ -13,7 +13,7 @@ use Rattle.script_text.specs.Script.Input.{Skipped, Malformed, Asked}
 use Rattle.machine_host.specs.declared.mode.Mode.TheVariants.{On}
 use Rattle.machine_host.specs.Machine.{Machine}
 use Rattle.machine_host.specs.Run.{Transcript, Hears, Run}
-use Rattle.durable.specs.Place.{Place, byte_of}
+use Rattle.durable.specs.Place.{Place, byte_at_place}
 use Rattle.durable.specs.Place.Place.{of_volume, of_blocks}
 use Rattle.durable.specs.Touching.{changes, is_begun}
 
@@ -24,7 +24,7 @@ IsLineThere (Some Bad) = Unit {0}
 IsLineThere (Some (Kept weak words)) = length words ≡ 8
 
 -- A state that a run may come to: all blocks and each line of the volume are there, and nothing is interrupted in mode On.
-pub record IsWhole (h : Machine) : Type 0 where
+pub record IsComplete (h : Machine) : Type 0 where
   pub blocks : length h.blocks ≡ h.geometry.blocks
   pub volume : (n : ℕ) → n < 64 * h.geometry.vpages → IsLineThere (cell_of h.volume n)
   pub settled : h.mode ≡ On → h.interrupted ≡ None
@@ -61,7 +61,7 @@ Reads h (of_blocks i) byte = (block count : ℕ) (bytes : List ℕ) (said : Tran
 
 -- The place has this byte, and shows it. It has none where its line is bad or its block is scarred.
 pub record Has (h : Machine) (x : Place) (byte : Option ℕ) : Type 0 where
-  pub kept : byte_of h x ≡ byte
+  pub kept : byte_at_place h x ≡ byte
   pub shown : IfSome byte (Reads h x)
 
 -- In every later state of every run that spares the place it has this byte, whatever is cut and restarted.
@@ -71,11 +71,11 @@ Lasts h x byte = (inputs : List Input) (said : Transcript) (later : Machine) →
 
 -- it has the byte that it has now
 abbrev pub IsDurable : Machine → Place → Type 0
-IsDurable h x = Lasts h x (byte_of h x)
+IsDurable h x = Lasts h x (byte_at_place h x)
 
 -- a command was answered `ok` in h and led to this state
 pub record Does (h : Machine) (action : Action) (next : Machine) : Type 0 where
-  pub whole : IsWhole h
+  pub whole : IsComplete h
   pub said : Transcript
   pub came : Hears h (Asked action) said next
   pub done : said.answers ≡ Done ∷ []

@@ -25,6 +25,6 @@ block_has Scarred i = None
 block_has (Data lines) i = option_map (λ bytes. slice_index bytes (i % 64)) (slice_index_or lines (i / 64) None)
 
 -- the byte at a place
-abbrev pub byte_of : Machine → Place → Option ℕ
-byte_of h (of_volume i) = line_has (cell_of h.volume (i / 64)) (i % 64)
-byte_of h (of_blocks i) = block_has (nth h.blocks (i / 512)) (i % 512)
+abbrev pub byte_at_place : Machine → Place → Option ℕ
+byte_at_place h (of_volume i) = line_has (cell_of h.volume (i / 64)) (i % 64)
+byte_at_place h (of_blocks i) = block_has (nth h.blocks (i / 512)) (i % 512)

@@ -54,27 +54,27 @@ made_durable (CutIn calls) = nothing
 made_durable (Restart choice) = nothing
 
 -- what a command writes, discards, scars or stores
-abbrev pub changed : Action → Region
-changed (BRead block count) = nothing
-changed (BWrite block bytes) = spanned (blocks_from block (length bytes / 512))
-changed (BAtomic block bytes) = spanned (blocks_from block (length bytes / 512))
-changed (BMulti ranges bytes) = spanned (block_spans ranges)
-changed (BDiscard block count) = spanned (blocks_from block count)
-changed (BDiscardIf block count) = spanned (blocks_from block count)
-changed (BExists block) = nothing
-changed (BScar ranges) = spanned ranges
-changed (VLoad offset len) = nothing
-changed (VStore offset bytes) = stored_bytes offset (length bytes)
-changed (VSync offset len) = nothing
-changed Cut = nothing
-changed (CutIn calls) = nothing
-changed (Restart choice) = nothing
+abbrev pub region_changed : Action → Region
+region_changed (BRead block count) = nothing
+region_changed (BWrite block bytes) = spanned (blocks_from block (length bytes / 512))
+region_changed (BAtomic block bytes) = spanned (blocks_from block (length bytes / 512))
+region_changed (BMulti ranges bytes) = spanned (block_spans ranges)
+region_changed (BDiscard block count) = spanned (blocks_from block count)
+region_changed (BDiscardIf block count) = spanned (blocks_from block count)
+region_changed (BExists block) = nothing
+region_changed (BScar ranges) = spanned ranges
+region_changed (VLoad offset len) = nothing
+region_changed (VStore offset bytes) = stored_bytes offset (length bytes)
+region_changed (VSync offset len) = nothing
+region_changed Cut = nothing
+region_changed (CutIn calls) = nothing
+region_changed (Restart choice) = nothing
 
-abbrev pub covers : Action → Place → Bool
-covers action x = holds (made_durable action) x
+abbrev pub is_made_durable : Action → Place → Bool
+is_made_durable action x = holds (made_durable action) x
 
 abbrev pub changes : Action → Place → Bool
-changes action x = holds (changed action) x
+changes action x = holds (region_changed action) x
 
 -- a change that was answered so was begun: it was done, or stopped on the way
 abbrev pub is_begun : Answer → Bool

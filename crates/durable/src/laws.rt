@@ -1,7 +1,7 @@
 // Laws of whole runs, each a function without a body.
 ghost use Rattle.std.specs.Prelude.{◌≡◌, ◌⊎◌, ◌-◌, ◌*◌, ◌/◌, ℕ, true, List, length, slice_index, Some, None};
 ghost use Rattle.word_tables.specs.declared.geometry.Geometry.{Geometry};
-ghost use Rattle.durable.specs.Touching.{covers};
+ghost use Rattle.durable.specs.Touching.{is_made_durable};
 ghost use Rattle.nvm_model.specs.Blocks.{is_among};
 ghost use Rattle.nvm_model.specs.Cell.{touches};
 ghost use Rattle.script_text.specs.Action.{Action};
@@ -10,14 +10,14 @@ ghost use Rattle.script_text.specs.Script.{Input, inputs};
 ghost use Rattle.machine_host.specs.Machine.{Machine};
 ghost use Rattle.machine_host.specs.Restarting.{fresh};
 ghost use Rattle.machine_host.specs.Run.{Transcript, Run};
-ghost use Rattle.durable.specs.Place.{Place, byte_of};
+ghost use Rattle.durable.specs.Place.{Place, byte_at_place};
 ghost use Rattle.durable.specs.Place.Place.{of_volume, of_blocks};
-ghost use Rattle.durable.specs.Durable.{BringBytes, BringsBytes, Does, IsDurable, IsWhole, Lasts};
+ghost use Rattle.durable.specs.Durable.{BringBytes, BringsBytes, Does, IsDurable, IsComplete, Lasts};
 
 /// A command that covers a byte was answered `ok`: the byte is the same in every later state, whatever is cut and restarted,
 /// until a command that changes it is begun.
 pub fn what_was_made_durable_stays()
-    ensures stays { (h next : Machine) (action : Action) (x : Place) → Does h action next → covers action x ≡ true → IsDurable next x }
+    ensures stays { (h next : Machine) (action : Action) (x : Place) → Does h action next → is_made_durable action x ≡ true → IsDurable next x }
     ensures scripts { (script : List ℕ) → BringBytes (inputs script) }
 {}
 
@@ -33,11 +33,11 @@ pub fn what_was_written_lasts()
     ensures synced { (h stored next : Machine) (offset start len i : ℕ) (bytes : List ℕ) → BringsBytes (VStore offset bytes)
         → Does h (VStore offset bytes) stored → Does stored (VSync start len) next
         → is_among offset (length bytes) i ≡ true → touches start len (i / 64) ≡ true
-        → (byte_of next (of_volume i) ≡ None) ⊎ Lasts next (of_volume i) (Some (slice_index bytes (i - offset))) }
+        → (byte_at_place next (of_volume i) ≡ None) ⊎ Lasts next (of_volume i) (Some (slice_index bytes (i - offset))) }
 {}
 
 /// A new machine is in such a state, and no run leaves them.
 pub fn runs_come_to_whole_states()
-    ensures fresh { (geo : Geometry) → IsWhole (fresh geo) }
-    ensures runs { (h later : Machine) (inputs : List Input) (said : Transcript) → IsWhole h → Run h inputs said later → IsWhole later }
+    ensures fresh { (geo : Geometry) → IsComplete (fresh geo) }
+    ensures runs { (h later : Machine) (inputs : List Input) (said : Transcript) → IsComplete h → Run h inputs said later → IsComplete later }
 {}
