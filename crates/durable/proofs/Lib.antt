@@ -8,3 +8,5 @@ pub mod WholeLemmas
 pub mod LawLemmas
 pub mod ScriptLemmas
 pub mod WrittenLemmas
+pub mod UnsyncedLemmas
+pub mod PassLemmas

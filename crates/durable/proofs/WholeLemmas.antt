@@ -140,6 +140,13 @@ whole-run [] h later said whole run = subst IsComplete (sym run.1) whole
 whole-run (input ∷ inputs) h later said whole run =
     whole-run inputs run.2 later run.1 (whole-heard h input run.0 run.2 whole run.4) run.5
 
-pub whole-fresh : (geo : Geometry) → IsComplete (fresh geo)
+whole-zeros : (geo : Geometry) (cut fail : Bool) → IsComplete (record (fresh geo) { cut_armed = cut; fail_armed = fail })
 unfolding reading
-whole-fresh geo = record { blocks = length-read geo (λ n. false) (λ p. 0); volume = λ n lt. there-read (volume_image geo (zero_image (total_lines geo))) geo.vpages n lt; settled = λ on. refl }
+whole-zeros geo cut fail = record {
+  blocks = length-read geo (λ n. false) (λ p. 0);
+  volume = λ n lt. there-read (volume_image geo (zero_image (total_lines geo))) geo.vpages n lt;
+  settled = λ on. refl;
+}
+
+pub whole-fresh : (geo : Geometry) (h : Machine) → h ≡ record (fresh geo) { cut_armed = h.cut_armed; fail_armed = h.fail_armed } → IsComplete h
+whole-fresh geo h is = subst IsComplete {x = record (fresh geo) { cut_armed = h.cut_armed; fail_armed = h.fail_armed }} (sym is) (whole-zeros geo h.cut_armed h.fail_armed)

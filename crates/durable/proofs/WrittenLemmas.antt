@@ -37,7 +37,7 @@ use Rattle.durable.proofs.RefusalLemmas.{is_refused, places_none, refused_told}
 use Rattle.durable.proofs.LawLemmas.{durable, stop_done, within}
 
 -- a command that was done
-works_done : (h : Machine) (action : Action) (to next : Machine) → (meaning action).comes h ≡ Works Done to → Does h action next → (refusal h action ≡ None) × (next ≡ to)
+pub works_done : (h : Machine) (action : Action) (to next : Machine) → (meaning action).comes h ≡ Works Done to → Does h action next → (refusal h action ≡ None) × (next ≡ to)
 works_done h action to next works does = by_refusal (refusal h action) refl does.came
   where
     by_refusal : (o : Option Answer) → refusal h action ≡ o → Takes h action (unless_refused h o ((meaning action).comes h)) does.said next

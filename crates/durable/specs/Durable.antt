@@ -1,5 +1,5 @@
 -- What was made durable stays.
-use Rattle.std.specs.Prelude.{◌≡◌, ◌*◌, ◌-◌, ◌/◌, ◌<◌, ℕ, true, false, List, [], ◌∷◌, length, slice_index, Option, None, Some, IfSome}
+use Rattle.std.specs.Prelude.{◌≡◌, ◌*◌, ◌-◌, ◌/◌, ◌<◌, ℕ, true, false, List, [], ◌∷◌, ◌++◌, length, slice_index, Option, None, Some, IfSome}
 use Rattle.nvm_model.specs.Blocks.{is_among}
 use Rattle.nvm_model.specs.Cell.{Cell}
 use Rattle.nvm_model.specs.Cell.Cell.{Bad, Kept}
@@ -29,11 +29,12 @@ pub record IsComplete (h : Machine) : Type 0 where
   pub volume : (n : ℕ) → n < 64 * h.geometry.vpages → IsLineThere (cell_of h.volume n)
   pub settled : h.mode ≡ On → h.interrupted ≡ None
 
--- what a command stores are bytes
+-- what a store to the volume brings are bytes; nothing is asked of other data
 abbrev pub BringsBytes : Action → Type 0
 BringsBytes (VStore offset bytes) = (k : ℕ) → slice_index bytes k < 256
 BringsBytes action = Unit {0}
 
+-- the same of all commands that are asked for
 abbrev pub BringBytes : List Input → Type 0
 BringBytes [] = Unit {0}
 BringBytes (Skipped ∷ inputs) = BringBytes inputs
@@ -79,3 +80,20 @@ pub record Does (h : Machine) (action : Action) (next : Machine) : Type 0 where
   pub said : Transcript
   pub came : Hears h (Asked action) said next
   pub done : said.answers ≡ Done ∷ []
+
+-- A run over some inputs, a command and others, as it comes to the command.
+pub record Passes (h : Machine) (before : List Input) (action : Action) (after : List Input) (said : Transcript) (end : Machine) : Type 0 where
+  pub early : Transcript
+  pub here : Machine
+  pub run : Run h before early here
+  pub middle : Transcript
+  pub next : Machine
+  pub came : Hears here (Asked action) middle next
+  pub late : Transcript
+  pub rest : Run next after late end
+  pub answers : said.answers ≡ early.answers ++ (middle.answers ++ late.answers)
+
+-- where the command was done, and the rest spares the place, its byte is the one that the command left
+pub record KeepsThrough (h : Machine) (before : List Input) (action : Action) (after : List Input) (said : Transcript) (end : Machine) (x : Place) : Type 0 where
+  pub passes : Passes h before action after said end
+  pub keeps : passes.middle.answers ≡ Done ∷ [] → Spares x after passes.late.answers → Has end x (byte_at_place passes.next x)

@@ -1,23 +1,28 @@
 // Laws of whole runs, each a function without a body.
-ghost use Rattle.std.specs.Prelude.{◌≡◌, ◌⊎◌, ◌-◌, ◌*◌, ◌/◌, ℕ, true, List, length, slice_index, Some, None};
+ghost use Rattle.std.specs.Prelude.{◌≡◌, ◌⊎◌, ◌-◌, ◌*◌, ◌/◌, ℕ, true, List, [], ◌∷◌, ◌++◌, length, slice_index, Some, None};
 ghost use Rattle.word_tables.specs.declared.geometry.Geometry.{Geometry};
 ghost use Rattle.durable.specs.Touching.{is_made_durable};
 ghost use Rattle.nvm_model.specs.Blocks.{is_among};
 ghost use Rattle.nvm_model.specs.Cell.{touches};
 ghost use Rattle.script_text.specs.Action.{Action};
-ghost use Rattle.script_text.specs.Action.Action.{BWrite, BAtomic, VStore, VSync};
+ghost use Rattle.script_text.specs.Action.Action.{BWrite, BAtomic, Cut, Restart, VStore, VSync};
 ghost use Rattle.script_text.specs.Script.{Input, inputs};
+ghost use Rattle.script_text.specs.Script.Input.{Asked};
+ghost use Rattle.line_device.specs.declared.line.Choice.TheVariants.{Firsts};
 ghost use Rattle.machine_host.specs.Machine.{Machine};
 ghost use Rattle.machine_host.specs.Restarting.{fresh};
 ghost use Rattle.machine_host.specs.Run.{Transcript, Run};
 ghost use Rattle.durable.specs.Place.{Place, byte_at_place};
 ghost use Rattle.durable.specs.Place.Place.{of_volume, of_blocks};
-ghost use Rattle.durable.specs.Durable.{BringBytes, BringsBytes, Does, IsDurable, IsComplete, Lasts};
+ghost use Rattle.durable.specs.Durable.{BringBytes, BringsBytes, Does, IsDurable, IsComplete, KeepsThrough, Lasts};
 
 /// A command that covers a byte was answered `ok`: the byte is the same in every later state, whatever is cut and restarted,
 /// until a command that changes it is begun.
 pub fn what_was_made_durable_stays()
     ensures stays { (h next : Machine) (action : Action) (x : Place) → Does h action next → is_made_durable action x ≡ true → IsDurable next x }
+    ensures whole { (h end : Machine) (before after : List Input) (action : Action) (said : Transcript) (x : Place) → IsComplete h
+        → BringBytes after → is_made_durable action x ≡ true → Run h (before ++ Asked action ∷ after) said end
+        → KeepsThrough h before action after said end x }
     ensures scripts { (script : List ℕ) → BringBytes (inputs script) }
 {}
 
@@ -36,8 +41,15 @@ pub fn what_was_written_lasts()
         → (byte_at_place next (of_volume i) ≡ None) ⊎ Lasts next (of_volume i) (Some (slice_index bytes (i - offset))) }
 {}
 
-/// A new machine is in such a state, and no run leaves them.
+/// No more lasts than that: a store that is not synced may be lost, though no later command changes anything. A run leads back
+/// to where it began.
+pub fn what_is_not_synced_may_go()
+    ensures { (geo : Geometry) (stored : Machine) (offset : ℕ) (bytes : List ℕ) → Does (fresh geo) (VStore offset bytes) stored
+        → (said : Transcript) × Run stored (Asked Cut ∷ Asked (Restart Firsts) ∷ []) said (fresh geo) }
+{}
+
+/// A new machine is in such a state, whatever is armed, and no run leaves them.
 pub fn runs_come_to_whole_states()
-    ensures fresh { (geo : Geometry) → IsComplete (fresh geo) }
+    ensures fresh { (geo : Geometry) (h : Machine) → h ≡ record (fresh geo) { cut_armed = h.cut_armed; fail_armed = h.fail_armed } → IsComplete h }
     ensures runs { (h later : Machine) (inputs : List Input) (said : Transcript) → IsComplete h → Run h inputs said later → IsComplete later }
 {}

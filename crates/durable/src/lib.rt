@@ -3,4 +3,7 @@
 
 mod laws;
 
-pub use laws::{runs_come_to_whole_states, what_was_made_durable_stays, what_was_written_lasts};
+pub use laws::{
+    runs_come_to_whole_states, what_is_not_synced_may_go, what_was_made_durable_stays,
+    what_was_written_lasts,
+};

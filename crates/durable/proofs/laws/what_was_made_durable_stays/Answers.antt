@@ -1,4 +1,5 @@
 use Rattle.durable.proofs.LawLemmas.{durable}
+use Rattle.durable.proofs.PassLemmas.{keeps_through}
 use Rattle.durable.proofs.ScriptLemmas.{bring-script}
 use Rattle.durable.proofs.laws.what_was_made_durable_stays.Goals as goal
 
@@ -7,3 +8,6 @@ returns-clause-stays c = durable
 
 pub returns-clause-scripts : goal.returns-clause-scripts
 returns-clause-scripts c = bring-script
+
+pub returns-clause-whole : goal.returns-clause-whole
+returns-clause-whole c = keeps_through
