@@ -1,0 +1,20 @@
+-- What becomes of single lines of a device, as cells.
+use Rattle.std.specs.Prelude.{◌≡◌, ◌/◌, ℕ}
+use Rattle.line_device.specs.History.{WordWritesBack}
+use Rattle.line_device.specs.Medium.{Medium}
+use Rattle.nvm_model.specs.Cell.{Cell, CellStands}
+
+-- what the line stood for became this of it
+pub record Turns (f : Cell → Cell) (line : ℕ) (old new : Medium) : Type 0 where
+  pub stands : (cell : Cell) → CellStands old line cell → CellStands new line (f cell)
+
+-- what the line stood for became one of those that R leaves of it
+pub record MayTurn (R : Cell → Cell → Type 0) (line : ℕ) (old new : Medium) : Type 0 where
+  pub leaves : (cell : Cell) → CellStands old line cell → (left : Cell) × R cell left × CellStands new line left
+
+-- the marks of all lines but these stay, and their words are only written back
+pub record WritesBackOthers (lines : ℕ → Type 0) (old new : Medium) : Type 0 where
+  pub count : new.count ≡ old.count
+  pub bad : (n : ℕ) → (lines n → ⊥) → new.is_bad n ≡ old.is_bad n
+  pub weak : (n : ℕ) → (lines n → ⊥) → new.is_weak n ≡ old.is_weak n
+  pub word_write_back : (p : ℕ) → (lines (p / 8) → ⊥) → WordWritesBack (old.is_weak (p / 8)) (old.history p) (new.history p)

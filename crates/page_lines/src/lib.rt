@@ -1,0 +1,10 @@
+//! Spans of storage whose lines lie at given places of a device: put, made durable and loaded.
+// Line n of the storage has its bytes 64 * n to 64 * n + 63. It lies at one line of the device, or nowhere: such a line is
+// passed over. No two lie at the same one.
+#![tactic(auto)]
+
+mod persisting;
+mod places;
+
+pub use persisting::persist_lines;
+pub use places::{Places, Whole, whole_lines_are_apart};
