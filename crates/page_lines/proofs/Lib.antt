@@ -1,3 +1,5 @@
 pub mod TurnLemmas
 pub mod LoopLemmas
 pub mod SpanLemmas
+pub mod PieceLemmas
+pub mod PutLemmas

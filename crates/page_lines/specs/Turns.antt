@@ -2,7 +2,8 @@
 use Rattle.std.specs.Prelude.{◌≡◌, ◌/◌, ℕ}
 use Rattle.line_device.specs.History.{WordWritesBack}
 use Rattle.line_device.specs.Medium.{Medium}
-use Rattle.nvm_model.specs.Cell.{Cell, CellStands}
+use Rattle.nvm_model.specs.Cell.{Cell, CellStands, zero_cell}
+use Rattle.nvm_model.specs.Cell.Cell.{Bad, Kept}
 
 -- what the line stood for became this of it
 pub record Turns (f : Cell → Cell) (line : ℕ) (old new : Medium) : Type 0 where
@@ -18,3 +19,8 @@ pub record WritesBackOthers (lines : ℕ → Type 0) (old new : Medium) : Type 0
   pub bad : (n : ℕ) → (lines n → ⊥) → new.is_bad n ≡ old.is_bad n
   pub weak : (n : ℕ) → (lines n → ⊥) → new.is_weak n ≡ old.is_weak n
   pub word_write_back : (p : ℕ) → (lines (p / 8) → ⊥) → WordWritesBack (old.is_weak (p / 8)) (old.history p) (new.history p)
+
+-- a bad line cleared
+abbrev pub healed : Cell → Cell
+healed Bad = zero_cell
+healed (Kept weak words) = Kept weak words

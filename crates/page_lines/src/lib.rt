@@ -5,6 +5,8 @@
 
 mod persisting;
 mod places;
+mod putting;
 
 pub use persisting::persist_lines;
 pub use places::{Places, Whole, whole_lines_are_apart};
+pub use putting::put_lines;
