@@ -6,6 +6,8 @@
 mod persisting;
 mod places;
 mod putting;
+#[cfg(test)]
+mod tests;
 
 pub use persisting::persist_lines;
 pub use places::{Places, Whole, whole_lines_are_apart};
