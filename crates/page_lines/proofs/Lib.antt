@@ -3,3 +3,4 @@ pub mod LoopLemmas
 pub mod SpanLemmas
 pub mod PieceLemmas
 pub mod PutLemmas
+pub mod LoadLemmas

@@ -3,12 +3,14 @@
 // passed over. No two lie at the same one.
 #![tactic(auto)]
 
+mod loading;
 mod persisting;
 mod places;
 mod putting;
 #[cfg(test)]
 mod tests;
 
+pub use loading::load_lines;
 pub use persisting::persist_lines;
 pub use places::{Places, Whole, whole_lines_are_apart};
 pub use putting::put_lines;

@@ -1,11 +1,11 @@
 // Four lines of a plain device of five, through cuts that keep durable values alone.
-ghost use Rattle.std.specs.Prelude.{◌≡◌, ℕ, false, Some, IsTrue};
+ghost use Rattle.std.specs.Prelude.{◌≡◌, ◌≤◌, ℕ, false, Some, IsTrue};
 ghost use Rattle.page_lines.specs.Placed.{AreApart, whole};
 
-use crate::{Whole, persist_lines, put_lines};
+use crate::{Whole, load_lines, persist_lines, put_lines};
 use line_device::{Choice, LineDevice, LineState, Lines, Peek, Plain};
 use line_words::{Interruption, first_bad};
-use nvm_base::{LineNo, Span};
+use nvm_base::{Bytes, LineNo, Span};
 use std::alloc::AllocError;
 use std::test::Fail;
 
@@ -51,6 +51,15 @@ fn put_whole<L: Lines>(dev: &mut L, line: u64, bytes: &[u8; 128]) -> Result<(), 
         return Err(STOPPED);
     }
     put_lines(dev, &Whole { count: 4 }, 64 * line, bytes)
+}
+
+fn load<L: Lines>(dev: &mut L, start: u64, len: u64, out: &mut Bytes) -> Result<(), Interruption>
+    requires { len ≤ out.old.spare }
+{
+    if !are_there(dev, 4) || !are_good(dev, 4) || len == 0 || 256 < start || 256 < len {
+        return Err(STOPPED);
+    }
+    load_lines(dev, &Whole { count: 4 }, Span { start, len }, out)
 }
 
 fn cut(device: &mut Plain) -> Result<(), AllocError> {
@@ -111,6 +120,11 @@ fn a_line_that_is_nowhere_takes_no_call(rt: HostRuntime) -> Result<(), Fail> {
     assert_eq!(rt; put(&mut device, 250, &[5; 20]), Ok(()));
     assert_eq!(rt; device.counts().calls, 1);
     assert_eq!(rt; line(&device, 4), Some(LineState::Healthy([0; 64])));
+    let mut out = Bytes::new(rt.alloc());
+    out.reserve(8)?;
+    assert_eq!(rt; load(&mut device, 252, 8, &mut out), Ok(()));
+    assert_eq!(rt; out.as_slice(), [5, 5, 5, 5, 0, 0, 0, 0].as_slice());
+    assert_eq!(rt; device.counts().calls, 2);
     device.arm_fail(1);
     assert_eq!(rt; sync(&mut device, 255, 9), Err(Interruption::Failed));
     Ok(())

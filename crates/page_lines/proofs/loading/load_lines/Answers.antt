@@ -1,0 +1,76 @@
+use Rattle.std.proofs.Common.{◌≡◌, ◌+◌, ◌/◌, ◌++◌, Err, Some, sym, ap, subst, ◌∙◌, arith}
+use Rattle.std.proofs.lemmas.Result.{err_from_is_err_and}
+use Rattle.line_device.specs.Panel.{Runs}
+use Rattle.line_device.proofs.PanelLemmas.{runs-refl, runs_then, runs_within}
+use Rattle.line_device.proofs.WriteBackLemmas.{write_back-refl, write_back-trans}
+use Rattle.line_words.specs.Ending.{ended}
+use Rattle.page_lines.specs.Placed.{one_there, there_in}
+use Rattle.page_lines.specs.Shown.{before_line, placed_byte}
+use Rattle.page_lines.proofs.LoadLemmas.{said-next, said-none, placed-write_back}
+use Rattle.page_lines.proofs.SpanLemmas.{touches-among, there_among-next, there_in-next}
+use Rattle.page_lines.proofs.loading.load_lines.Goals as goal
+
+pub loop-k-init : goal.loop-k-init
+loop-k-init g c =
+    let first : c.lines_of-touched.result.start ≡ c.args.span.start / 64 = ap (λ s. s.start) c.lines_of-touched.ensures.value in
+    record {
+      bytes = said-none (placed_byte (g.P.Places.place c.args.places.now) (g.L.Lines.state c.args.dev.now).medium) _ _ _ (omega (arith, first));
+      room = omega arith;
+      lines = write_back-refl _;
+      runs = runs-refl _;
+    }
+
+pub load_at-requires-clause-good : goal.load_at-requires-clause-good
+load_at-requires-clause-good g c = λ line at.
+    let t = c.lines_of-touched.result in
+    let n = t.start + c.loop-k.k in
+    let first : t.start ≡ c.args.span.start / 64 = ap (λ s. s.start) c.lines_of-touched.ensures.value in
+    let count = ap (λ s. s.len) c.lines_of-touched.ensures.value in
+    let start = ap (λ s. s.start) c.part_in.ensures in
+    let is : c.part_in.result.start / 64 ≡ n = omega (arith, first, count, start) in
+    c.loop-k.invariant.lines.bad line
+    ∙ c.requires.good n line (touches-among c.args.span t n c.lines_of-touched.ensures.value c.requires.some (omega arith) (omega arith))
+    (subst (λ i. g.P.Places.place c.args.places.now i ≡ Some line) is at)
+
+pub returns-in_err-load_at-clause-lines : goal.returns-in_err-load_at-clause-lines
+returns-in_err-load_at-clause-lines g c = write_back-trans _ _ _ c.loop-k.invariant.lines c.in_err-load_at.ensures.lines
+
+pub loop-k-preserved : goal.loop-k-preserved
+loop-k-preserved g c =
+    let span = c.args.span in
+    let t = c.lines_of-touched.result in
+    let k = c.loop-k.k in
+    let place = g.P.Places.place c.args.places.now in
+    let old = (g.L.Lines.state c.args.dev.now).medium in
+    let now = (g.L.Lines.state c.loop-k.dev).medium in
+    let first : t.start ≡ span.start / 64 = ap (λ s. s.start) c.lines_of-touched.ensures.value in
+    let count = ap (λ s. s.len) c.lines_of-touched.ensures.value in
+    let start = ap (λ s. s.start) c.part_in.ensures in
+    let len = ap (λ s. s.len) c.part_in.ensures in
+    let is : c.part_in.result.start / 64 ≡ t.start + k = omega (arith, first, count, start) in
+    let there = ap (λ i. one_there (place i)) is in
+    let more = there_among-next place t.start k in
+    let loaded = c.in_ok-load_at.ensures.ok ∙ ap (λ xs. c.loop-k.out.items ++ xs) (placed-write_back place old now c.part_in.result.start c.part_in.result.len c.loop-k.invariant.lines) in
+    record {
+      bytes = said-next (placed_byte place old) c.args.out.now.items c.loop-k.out.items _ span.start (before_line span (t.start + k)) _ _ _ c.loop-k.invariant.bytes loaded (omega (arith, first, count, start)) (omega (arith, first, count, start, len));
+      room = omega (arith, first, count, start, len, c.loop-k.invariant.room, c.in_ok-load_at.ensures.room);
+      lines = write_back-trans _ _ _ c.loop-k.invariant.lines c.in_ok-load_at.ensures.lines;
+      runs = runs_within _ _ _ _ _ _ _ (runs_then _ _ _ _ _ _ _ _ c.loop-k.invariant.runs c.in_ok-load_at.ensures.runs) (omega (arith, more, there)) (omega arith);
+    }
+
+pub returns-in_err-load_at-clause-runs : goal.returns-in_err-load_at-clause-runs
+returns-in_err-load_at-clause-runs g c =
+    let span = c.args.span in
+    let t = c.lines_of-touched.result in
+    let k = c.loop-k.k in
+    let place = g.P.Places.place c.args.places.now in
+    let first : t.start ≡ span.start / 64 = ap (λ s. s.start) c.lines_of-touched.ensures.value in
+    let count = ap (λ s. s.len) c.lines_of-touched.ensures.value in
+    let start = ap (λ s. s.start) c.part_in.ensures in
+    let is : c.part_in.result.start / 64 ≡ t.start + k = omega (arith, first, count, start) in
+    let there = ap (λ i. one_there (place i)) is in
+    let most = there_in-next place span t k c.lines_of-touched.ensures.value (omega arith) in
+    let failed = err_from_is_err_and c.from_residual.result c.from_residual.ensures.1 in
+    let same : ended {T = Unit {0}} (Err c.in_err-load_at.field-0.0) ≡ ended c.from_residual.result = sym (ap ended (failed.1 ∙ ap (λ e. Err e) failed.2)) in
+    subst (λ end. Runs (there_in place span) 0 end (g.L.Lines.state c.args.dev.now).panel (g.L.Lines.state c.load_at.new.dev).panel) same
+    (runs_within _ _ _ _ _ _ _ (runs_then _ _ _ _ _ _ _ _ c.loop-k.invariant.runs c.in_err-load_at.ensures.runs) (omega (arith, most, there)) (omega arith))
