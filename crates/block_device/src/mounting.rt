@@ -12,7 +12,7 @@ ghost use Rattle.line_words.specs.Told.{Explains, IsStop, outcome_by};
 ghost use Rattle.word_log.specs.Area.{IsOf, IsWhole, gate_place};
 ghost use Rattle.word_log.specs.Mount.{IsFound};
 ghost use Rattle.word_log.specs.Replay as log;
-ghost use Rattle.word_log.specs.Rest.{IsAtRest};
+ghost use Rattle.word_log.specs.Rest.{EachImage, IsAtRest, IsReached};
 ghost use Rattle.block_map.specs.States.{word_of};
 ghost use Rattle.block_map.specs.Wrong.{first_wrong_entry};
 ghost use Rattle.nvm_model.specs.Numbered.{list_from};
@@ -43,6 +43,7 @@ impl Blocks {
         ensures ok { IfOk result (λ blocks. (blocks.geo ≡ geo) × (blocks_of blocks (L.state dev.new).medium
             ≡ blocks_read geo (L.state dev.old).medium.is_bad (last_image (L.state dev.old).medium))) }
         ensures finds { FindsBlocks geo (L.state dev.old).medium result }
+        ensures images { EachImage (block_area geo) (L.state dev.new).medium (IsReached (block_area geo) (L.state dev.old).medium) }
         ensures reads { IsWhole (block_area geo) (L.state dev.old).medium
             → KeepsReads geo (L.state dev.old).medium (L.state dev.new).medium }
         ensures closed { last_image (L.state dev.old).medium (gate_place (block_area geo)) ≡ 0
