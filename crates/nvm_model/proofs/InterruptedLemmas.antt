@@ -1,100 +1,71 @@
--- What a device stands for after a store or a sync that was interrupted.
-use Rattle.std.proofs.Common.{◌≡◌, ◌⊎◌, inl, inr, ℕ, ◌+◌, ◌*◌, ◌/◌, Bool, true, false, cond, ltb, Option, Some, None, option_map, List, length, slice_get, refl, sym, ap, subst, ◌∙◌}
-use Rattle.line_device.specs.History.{WordWritesBack}
-use Rattle.line_device.specs.Medium.{Medium, WritesBack, word_stored}
+-- Pages whose lines became what an action may leave of each.
+use Rattle.std.proofs.Common.{◌≡◌, ◌+◌, ◌*◌, inl, ℕ, Option, Some, None, option_map, List, length, slice_get, refl, sym, ap, subst, ◌∙◌}
+use Rattle.line_device.specs.Medium.{Medium}
 use Rattle.nvm_model.specs.Numbered.{map_from}
-use Rattle.nvm_model.specs.Cell.{Cell}
-use Rattle.nvm_model.specs.Cell.Cell.{Bad, Kept}
-use Rattle.nvm_model.specs.Lines.{AreIntact, each, below}
-use Rattle.nvm_model.specs.Page.{Page, map_lines, cell_of, fill, PagesStand}
-use Rattle.nvm_model.specs.Interrupted.{AreMixed, MayPut, MayPersist, Became, MayStore, MaySync}
+use Rattle.nvm_model.specs.Cell.{Cell, CellStands}
+use Rattle.nvm_model.specs.Cell.Cell.{Bad}
+use Rattle.nvm_model.specs.Page.{Page, map_lines, cell_of, presence_of, PagesStand}
+use Rattle.nvm_model.specs.Page.Page.{Absent, Present}
+use Rattle.nvm_model.specs.Interrupted.{Became, LineByLine, MayPersist, MaySync}
 use Rattle.nvm_model.proofs.NumberedLemmas.{slice_get-map_from, length-map_from}
-use Rattle.nvm_model.proofs.PageLemmas.{cell_of-map, cell_of-fill, length-fill}
-use Rattle.nvm_model.proofs.StandLemmas.{word_write_back-strong, word_write_back-word_stored, cell_stands-each, words_of, after_write_back}
+use Rattle.nvm_model.proofs.PageLemmas.{cell_of-map, presence_of-lines}
 
--- a line's words changed by what is done at their places
-abbrev pub changed_cell : (ℕ → List ℕ → List ℕ) → ℕ → Cell → Cell
-changed_cell change n Bad = Bad
-changed_cell change n (Kept weak words) = Kept weak (map_from change (8 * n) words)
+-- what became of a line that is there, and that the device stands for it
+pub record IsLeft (R : Cell → Cell → Type 0) (line : ℕ) (m : Medium) (old : Cell) : Type 0 where
+  pub left : Cell
+  pub may : R old left
+  pub stands : CellStands m line left
 
--- the pages of a store that got to a line
-unfoldable pub stored_below : ℕ → ℕ → List ℕ → List Page → List Page
-stored_below limit at bytes pages = map_from (map_lines (changed_cell (below limit (word_stored at bytes)))) 0 (fill at (length bytes) pages)
+-- pages that became others line by line, for which the device stands; which are there is as before
+pub record ArePagesLeft (R : ℕ → Cell → Cell → Type 0) (place : ℕ → ℕ) (m : Medium) (old : List Page) : Type 0 where
+  pub pages : List Page
+  pub may : LineByLine R old pages
+  pub there : presence_of pages ≡ presence_of old
+  pub stand : PagesStand place m pages
 
-word_write_back-below : (limit at p : ℕ) (bytes x y : List ℕ) → WordWritesBack false x y → WordWritesBack false (below limit (word_stored at bytes) p x) (below limit (word_stored at bytes) p y)
-word_write_back-below limit at p bytes x y f = by_test (ltb (p / 8) limit)
-  where
-    by_test : (b : Bool) → WordWritesBack false (cond b (word_stored at bytes p x) x) (cond b (word_stored at bytes p y) y)
-    by_test true = word_write_back-word_stored at p bytes x y f
-    by_test false = f
-
-are_mixed-below : (limit at n : ℕ) (bytes : List ℕ) (words : List (List ℕ))
-    → AreMixed words (map_from (word_stored at bytes) (8 * n) words) (map_from (below limit (word_stored at bytes)) (8 * n) words)
-are_mixed-below limit at n bytes words = record {
-  length = length-map_from _ (8 * n) words;
-  each = λ w. by_test w (ltb ((8 * n + w) / 8) limit) refl;
+-- Each line is left as something that the action may leave; so are the pages.
+pub pages_left : (R : ℕ → Cell → Cell → Type 0) (place : ℕ → ℕ) (m : Medium) (pages : List Page)
+    → ((i : ℕ) (cells : List Cell) → slice_get pages i ≡ Some (Present cells) → length cells ≡ 64)
+    → ((n : ℕ) (cell : Cell) → cell_of pages n ≡ Some cell → IsLeft (R n) (place n) m cell) → ArePagesLeft R place m pages
+pages_left R place m pages whole each = record {
+  pages = after;
+  may = record { there = presence_of-lines change 0 pages; each = λ n. subst (Became (R n) (cell_of pages n)) (sym (cell_of-map change pages n)) (became n (cell_of pages n) refl) };
+  there = presence_of-lines change 0 pages;
+  stand = record { whole = whole_after; lines = λ n cell is. stands n (cell_of pages n) refl cell (sym (cell_of-map change pages n) ∙ is) };
 }
   where
-    change : ℕ → List ℕ → List ℕ
-    change = word_stored at bytes
+    -- what is left of a line, anything where it isn't there
+    left_of : (n : ℕ) (o : Option Cell) → cell_of pages n ≡ o → Cell
+    left_of n None is = Bad
+    left_of n (Some cell) is = (each n cell is).left
 
-    same : (o : Option (List ℕ)) → option_map (λ (h : List ℕ). h) o ≡ o
-    same None = refl
-    same (Some h) = refl
-
-    by_test : (w : ℕ) (b : Bool) → ltb ((8 * n + w) / 8) limit ≡ b
-        → (slice_get (map_from (below limit change) (8 * n) words) w ≡ slice_get words w)
-        ⊎ (slice_get (map_from (below limit change) (8 * n) words) w ≡ slice_get (map_from change (8 * n) words) w)
-    by_test w true is =
-        inr (slice_get-map_from (below limit change) (8 * n) words w ∙ ap (λ b. option_map (λ h. cond b (change (8 * n + w) h) h) (slice_get words w)) is
-        ∙ sym (slice_get-map_from change (8 * n) words w))
-    by_test w false is =
-        inl (slice_get-map_from (below limit change) (8 * n) words w ∙ ap (λ b. option_map (λ h. cond b (change (8 * n + w) h) h) (slice_get words w)) is
-        ∙ same (slice_get words w))
-
--- such pages are what an interrupted store may leave
-pub may_store-below : (limit at : ℕ) (bytes : List ℕ) (pages : List Page) → MayStore at bytes pages (stored_below limit at bytes pages)
-unfolding stored_below
-may_store-below limit at bytes pages = inr (record {
-  length = length-map_from _ 0 filled;
-  each = λ n. subst (Became (MayPut at bytes n) (cell_of filled n)) (sym (cell_of-map change filled n)) (by_cell n (cell_of filled n));
-})
-  where
     change : ℕ → Cell → Cell
-    change = changed_cell (below limit (word_stored at bytes))
+    change n cell = left_of n (cell_of pages n) refl
 
-    filled : List Page
-    filled = fill at (length bytes) pages
+    after : List Page
+    after = map_from (map_lines change) 0 pages
 
-    by_cell : (n : ℕ) (o : Option Cell) → Became (MayPut at bytes n) o (option_map (change n) o)
-    by_cell n None = tt
-    by_cell n (Some Bad) = inl refl
-    by_cell n (Some (Kept weak words)) = (refl, are_mixed-below limit at n bytes words)
+    became : (n : ℕ) (o : Option Cell) (is : cell_of pages n ≡ o) → Became (R n) o (option_map (λ _. left_of n o is) o)
+    became n None is = tt
+    became n (Some cell) is = (each n cell is).may
 
--- and the device stands for them, where its lines below the limit got the bytes
-pub stand-stored_below : (m b : Medium) (limit at count : ℕ) (bytes : List ℕ) (pages : List Page) → PagesStand m count pages → AreIntact m (64 * count)
-    → WritesBack (each m (below limit (word_stored at bytes))) b → PagesStand b count (stored_below limit at bytes pages)
-unfolding stored_below
-stand-stored_below m b limit at count bytes pages stand intact w n lt =
-    let line = stand n lt in
-    let kept = words_of m n line.cell line.stands (intact n lt).0 (intact n lt).1 in
-    let filled = cell_of-fill at (length bytes) pages n line.cell line.is in
-    let after = after_write_back m b count (record { count = w.count; bad = w.bad; weak = w.weak }) intact in
-    record {
-      cell = Kept false (map_from (below limit (word_stored at bytes)) (8 * n) kept.0);
-      is = cell_of-map (changed_cell (below limit (word_stored at bytes))) (fill at (length bytes) pages) n
-          ∙ ap (option_map (changed_cell (below limit (word_stored at bytes)) n)) (filled ∙ ap (λ cell. Some cell) kept.1);
-      stands = cell_stands-each m b n false (below limit (word_stored at bytes)) kept.0 (λ p x y f. word_write_back-below limit at p bytes x y f) kept.2 (after n lt).0 (after n lt).1
-          (λ p here. word_write_back-strong (m.is_weak (p / 8)) _ _ (w.word_write_back p));
-    }
+    stands : (n : ℕ) (o : Option Cell) (is : cell_of pages n ≡ o) (cell : Cell) → option_map (λ _. left_of n o is) o ≡ Some cell → CellStands m (place n) cell
+    stands n None is cell found = cc
+    stands n (Some old) is cell found =
+        let same : (each n old is).left ≡ cell = cc in subst (CellStands m (place n)) same (each n old is).stands
 
-pub length-stored_below : (limit at : ℕ) (bytes : List ℕ) (pages : List Page) → length (stored_below limit at bytes pages) ≡ length pages
-unfolding stored_below
-length-stored_below limit at bytes pages = length-map_from _ 0 _ ∙ length-fill at (length bytes) pages
+    whole_after : (i : ℕ) (cells : List Cell) → slice_get after i ≡ Some (Present cells) → length cells ≡ 64
+    whole_after i cells is = by_page (slice_get pages i) refl (sym (slice_get-map_from (map_lines change) 0 pages i) ∙ is)
+      where
+        by_page : (o : Option Page) → slice_get pages i ≡ o → option_map (map_lines change (0 + i)) o ≡ Some (Present cells) → length cells ≡ 64
+        by_page None was is = cc
+        by_page (Some Absent) was is = cc
+        by_page (Some (Present old)) was is =
+            let same : map_from change (64 * (0 + i)) old ≡ cells = cc in ap length (sym same) ∙ length-map_from change (64 * (0 + i)) old ∙ whole i old was
 
 -- a sync that got nowhere is one that was interrupted
 pub may_sync-none : (start len : ℕ) (pages : List Page) → MaySync start len pages pages
-may_sync-none start len pages = record { length = refl; each = λ n. by_cell n (cell_of pages n) }
+may_sync-none start len pages = record { there = refl; each = λ n. by_cell n (cell_of pages n) }
   where
     by_cell : (n : ℕ) (o : Option Cell) → Became (MayPersist start len n) o o
     by_cell n None = tt

@@ -1,18 +1,14 @@
 -- Blocks of 512 bytes, numbered from 0, and what actions make of them. Bytes are counted from the first block on.
-use Rattle.std.specs.Prelude.{◌≡◌, ◌⊎◌, ◌+◌, ◌-◌, ◌*◌, ◌/◌, ◌%◌, ◌&&◌, ℕ, zero, suc, Bool, List, [], ◌∷◌, take, drop, length, nat_le, nat_lt, Option, Some, None, option_map, position, slice_index, slice_index_or, count_by, is_none, if◌then◌else◌, true, false, sum_by}
+use Rattle.std.specs.Prelude.{◌≡◌, ◌⊎◌, ◌-◌, ◌*◌, ◌/◌, ◌%◌, ℕ, zero, suc, Bool, List, [], ◌∷◌, take, drop, length, Option, Some, None, option_map, position, slice_index, slice_index_or, count_by, is_none, if◌then◌else◌, true, false, sum_by}
 use Rattle.std.specs.List.{list_any}
 use Rattle.nvm_base.specs.declared.units.Span.{Span}
-use Rattle.nvm_model.specs.Numbered.{map_from, list_from}
+use Rattle.nvm_model.specs.Numbered.{map_from, list_from, is_among}
 use Rattle.nvm_model.specs.Storage.{Block}
 use Rattle.nvm_model.specs.Storage.Block.{Absent, Scarred, Data}
 
 -- the block of a number; past the end none is there
 abbrev pub nth : List Block → ℕ → Block
 nth blocks i = slice_index_or blocks i Absent
-
--- i is one of so many numbers
-abbrev pub is_among : ℕ → ℕ → ℕ → Bool
-is_among start count i = nat_le start i && nat_lt i (start + count)
 
 -- a block of 512 of the bytes, those of number i
 abbrev pub data_from : List ℕ → ℕ → Block

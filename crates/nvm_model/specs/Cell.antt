@@ -1,6 +1,8 @@
 -- A line of storage as the machine sees it.
-use Rattle.std.specs.Prelude.{◌≡◌, ◌+◌, ◌*◌, ◌/◌, ◌%◌, ◌&&◌, ℕ, Bool, true, false, List, [], ◌∷◌, length, map, replicate, nat_le, nat_lt, Some, slice_get, slice_index_or, if◌then◌else◌}
+use Rattle.std.specs.Prelude.{◌≡◌, ◌+◌, ◌*◌, ◌/◌, ◌%◌, ◌&&◌, ℕ, Bool, true, false, List, [], ◌∷◌, length, map, replicate, nat_le, nat_lt, Option, Some, option_map, position, slice_get, slice_index_or, if◌then◌else◌}
 use Rattle.std.specs.Int.{byte_at}
+use Rattle.std.specs.List.{range_with_len}
+use Rattle.nvm_base.specs.Units.{units_of}
 use Rattle.line_device.specs.History.{latest, newest, IsIn}
 use Rattle.line_device.specs.Medium.{Medium, word_stored}
 use Rattle.line_device.specs.History.{WordWritesBack}
@@ -24,6 +26,12 @@ touches start len n = nat_lt start (64 * n + 64) && nat_lt (64 * n) (start + len
 
 abbrev pub covers : ℕ → ℕ → ℕ → Bool
 covers start len n = nat_le start (64 * n) && nat_le (64 * n + 64) (start + len)
+
+-- the lowest line that the span touches and that passes
+abbrev pub lowest_touched : (ℕ → Bool) → ℕ → ℕ → Option ℕ
+lowest_touched passes start len =
+    let lines = units_of 64 (record { start = start; len = len }) in
+    option_map (λ k. lines.start + k) (position passes (range_with_len lines.start lines.len))
 
 -- Line n once bytes are put at an offset of the storage. A bad line that they cover is healthy again.
 abbrev pub put_cell : ℕ → List ℕ → ℕ → Cell → Cell

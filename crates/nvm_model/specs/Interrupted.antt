@@ -1,20 +1,15 @@
 -- What an interrupted action may leave of pages.
-use Rattle.std.specs.Prelude.{◌≡◌, ◌⊎◌, ◌*◌, ℕ, Bool, true, false, List, [], ◌∷◌, length, replicate, Option, Some, None, slice_get}
+use Rattle.std.specs.Prelude.{◌≡◌, ◌⊎◌, ◌*◌, ℕ, Bool, true, false, List, [], ◌∷◌, length, replicate, Option, Some, None}
 use Rattle.line_device.specs.Medium.{word_stored}
-use Rattle.nvm_model.specs.Numbered.{map_from}
+use Rattle.nvm_model.specs.Numbered.{map_from, AreMixed}
 use Rattle.nvm_model.specs.Cell.{Cell, covers, persist_cell}
 use Rattle.nvm_model.specs.Cell.Cell.{Bad, Kept}
-use Rattle.nvm_model.specs.Page.{Page, cell_of, fill}
+use Rattle.nvm_model.specs.Page.{Page, cell_of, fill, presence_of}
 
--- each word has its history of the one list, or of the other
-pub record AreMixed (one other mixed : List (List ℕ)) : Type 0 where
-  pub length : length mixed ≡ length one
-  pub each : (w : ℕ) → (slice_get mixed w ≡ slice_get one w) ⊎ (slice_get mixed w ≡ slice_get other w)
-
--- a line of such words, some of which have what was put there
+-- a line of these words, some of which have what was put there
 abbrev pub HasSome : ℕ → List ℕ → ℕ → Bool → List (List ℕ) → Cell → Type 0
 HasSome at bytes n weak words Bad = ⊥
-HasSome at bytes n weak words (Kept mark mixed) = (mark ≡ weak) × AreMixed words (map_from (word_stored at bytes) (8 * n) words) mixed
+HasSome at bytes n weak words (Kept mark mixed) = (mark ≡ weak) × AreMixed (List ℕ) words (map_from (word_stored at bytes) (8 * n) words) mixed
 
 -- what may be left of line n in a put: some of its words are put, and a bad line that is covered is bad still, or was made zeros before
 abbrev pub MayPut : ℕ → List ℕ → ℕ → Cell → Cell → Type 0
@@ -32,8 +27,9 @@ Became R None (Some new) = ⊥
 Became R (Some old) None = ⊥
 Became R (Some old) (Some new) = R old new
 
+-- the same pages are there, and each line of them became what R says
 pub record LineByLine (R : ℕ → Cell → Cell → Type 0) (old new : List Page) : Type 0 where
-  pub length : length new ≡ length old
+  pub there : presence_of new ≡ presence_of old
   pub each : (n : ℕ) → Became (R n) (cell_of old n) (cell_of new n)
 
 -- what an interrupted store may leave: all as before; or its pages are filled, and its lines put in part

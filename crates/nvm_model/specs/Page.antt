@@ -1,10 +1,11 @@
 -- Pages of 64 lines, of the volume and of files. Lines and bytes are counted from the first page on.
-use Rattle.std.specs.Prelude.{◌≡◌, ◌+◌, ◌*◌, ◌/◌, ◌%◌, ◌<◌, ◌&&◌, ℕ, suc, List, [], ◌∷◌, nat_lt, Option, Some, None, option_and_then, slice_get, replicate, if◌then◌else◌}
+use Rattle.std.specs.Prelude.{◌≡◌, ◌+◌, ◌*◌, ◌/◌, ◌%◌, ◌&&◌, ℕ, suc, Bool, true, false, not, List, [], ◌∷◌, length, map, nat_lt, Option, Some, None, option_and_then, slice_get, replicate, if◌then◌else◌}
+use Rattle.std.specs.List.{list_any}
 use Rattle.line_device.specs.Medium.{Medium}
 use Rattle.line_device.specs.Panel.{Image}
 use Rattle.line_device.specs.declared.line.Choice.{Choice}
-use Rattle.nvm_model.specs.Numbered.{map_from, list_from}
-use Rattle.nvm_model.specs.Cell.{Cell, zero_cell, put_cell, persist_cell, cell_byte, read_cell, KeepsCell, CellStands}
+use Rattle.nvm_model.specs.Numbered.{map_from, list_from, is_among}
+use Rattle.nvm_model.specs.Cell.{Cell, covers, lowest_touched, zero_cell, put_cell, persist_cell, cell_byte, read_cell, KeepsCell, CellStands}
 use Rattle.nvm_model.specs.Cell.Cell.{Bad, Kept}
 
 -- a page that no storage stands for, a hole in a file among them; or its 64 lines
@@ -25,10 +26,25 @@ cell_in (Present cells) i = slice_get cells i
 abbrev pub cell_of : List Page → ℕ → Option Cell
 cell_of pages n = option_and_then (λ page. cell_in page (n % 64)) (slice_get pages (n / 64))
 
+-- which pages are there
+abbrev pub is_present : Page → Bool
+is_present Absent = false
+is_present (Present cells) = true
+
+abbrev pub presence_of : List Page → List Bool
+presence_of pages = map is_present pages
+
+-- the span touches page i
+abbrev pub touches_page : ℕ → ℕ → ℕ → Bool
+touches_page start len i = nat_lt start (4096 * i + 4096) && nat_lt (4096 * i) (start + len)
+
+-- whether the span touches a page that is absent, of those that are there or not
+abbrev pub touches_absent : ℕ → ℕ → List Bool → Bool
+touches_absent start len there = list_any (λ lacks. lacks) (map_from (λ i is_there. touches_page start len i && not is_there) 0 there)
+
 -- absent pages that the span touches turned into zeros
 abbrev pub fill_page : ℕ → ℕ → ℕ → Page → Page
-fill_page start len i Absent =
-    if nat_lt start (4096 * i + 4096) && nat_lt (4096 * i) (start + len) then Present (replicate 64 zero_cell) else Absent
+fill_page start len i Absent = if touches_page start len i then Present (replicate 64 zero_cell) else Absent
 fill_page start len i (Present cells) = Present cells
 
 unfoldable pub fill : ℕ → ℕ → List Page → List Page
@@ -42,6 +58,26 @@ put at bytes pages = map_from (map_lines (put_cell at bytes)) 0 pages
 unfoldable pub persist : ℕ → ℕ → List Page → List Page
 persist start len pages = map_from (map_lines (persist_cell start len)) 0 pages
 
+-- so many pages from one on made absent
+abbrev pub discard_page : ℕ → ℕ → ℕ → Page → Page
+discard_page first count i page = if is_among first count i then Absent else page
+
+unfoldable pub discard : ℕ → ℕ → List Page → List Page
+discard first count pages = map_from (discard_page first count) 0 pages
+
+-- the line is there and bad
+abbrev pub is_bad_cell : Option Cell → Bool
+is_bad_cell None = false
+is_bad_cell (Some Bad) = true
+is_bad_cell (Some (Kept weak words)) = false
+
+-- the lowest bad line that the span touches, and the lowest one of those that it doesn't cover wholly
+unfoldable pub first_bad_line : List Page → ℕ → ℕ → Option ℕ
+first_bad_line pages start len = lowest_touched (λ n. is_bad_cell (cell_of pages n)) start len
+
+unfoldable pub first_uncovered_line : List Page → ℕ → ℕ → Option ℕ
+first_uncovered_line pages start len = lowest_touched (λ n. is_bad_cell (cell_of pages n) && not (covers start len n)) start len
+
 -- byte i as last stored; absent pages read as zeros
 abbrev pub byte_in : List Page → ℕ → ℕ
 byte_in pages i = elim (cell_of pages (i / 64)) [ None ↦ 0 | Some cell ↦ cell_byte cell (i % 64) ]
@@ -50,13 +86,17 @@ byte_in pages i = elim (cell_of pages (i / 64)) [ None ↦ 0 | Some cell ↦ cel
 unfoldable pub look : List Page → ℕ → ℕ → List ℕ
 look pages offset len = list_from (byte_in pages) offset len
 
--- so many pages as a restart left them, on the lines from 0
-unfoldable pub read_pages : Image → ℕ → List Page
-read_pages image count = list_from (λ i. Present (list_from (read_cell image) (64 * i) 64)) 0 count
+-- Pages as a restart left them: which are there, and at which line of the device each of their lines lies.
+abbrev pub read_page : (ℕ → ℕ) → Image → ℕ → Bool → Page
+read_page place image i false = Absent
+read_page place image i true = Present (list_from (λ n. read_cell image (place n)) (64 * i) 64)
 
--- what a restart may leave of pages on the lines from 0
-abbrev pub KeepsPages : Choice → Image → List Page → Type 0
-KeepsPages choice image pages = (n : ℕ) (cell : Cell) → cell_of pages n ≡ Some cell → KeepsCell choice image n cell
+unfoldable pub read_pages : (ℕ → ℕ) → Image → List Bool → List Page
+read_pages place image there = map_from (read_page place image) 0 there
+
+-- what a restart may leave of pages whose lines lie at these places
+abbrev pub KeepsPages : Choice → (ℕ → ℕ) → Image → List Page → Type 0
+KeepsPages choice place image pages = (n : ℕ) (cell : Cell) → cell_of pages n ≡ Some cell → KeepsCell choice image (place n) cell
 
 -- how many lines are bad
 abbrev pub bad_cells : List Cell → ℕ
@@ -69,12 +109,7 @@ bad_lines [] = 0
 bad_lines (Absent ∷ pages) = bad_lines pages
 bad_lines (Present cells ∷ pages) = bad_cells cells + bad_lines pages
 
--- the device's line stands for that line of the pages
-pub record LineStands (m : Medium) (pages : List Page) (n : ℕ) : Type 0 where
-  pub cell : Cell
-  pub is : cell_of pages n ≡ Some cell
-  pub stands : CellStands m n cell
-
--- The lines from 0 on stand for so many pages.
-abbrev pub PagesStand : Medium → ℕ → List Page → Type 0
-PagesStand m count pages = (n : ℕ) → n < 64 * count → LineStands m pages n
+-- The device's lines at these places stand for the pages: each page that is there has 64 lines, and each of them its own.
+pub record PagesStand (place : ℕ → ℕ) (m : Medium) (pages : List Page) : Type 0 where
+  pub whole : (i : ℕ) (cells : List Cell) → slice_get pages i ≡ Some (Present cells) → length cells ≡ 64
+  pub lines : (n : ℕ) (cell : Cell) → cell_of pages n ≡ Some cell → CellStands m (place n) cell

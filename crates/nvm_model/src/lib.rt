@@ -4,6 +4,7 @@
 mod laws;
 
 pub use laws::{
-    a_restart_keeps_what_one_left, actions_go_line_by_line, an_interrupted_store_keeps_step,
-    lines_and_pages_keep_step, what_was_persisted_is_kept, what_was_put_is_seen,
+    a_restart_keeps_what_one_left, actions_go_line_by_line, lines_and_pages_keep_step,
+    only_fills_and_discards_change_which_pages_are_there, what_was_persisted_is_kept,
+    what_was_put_is_seen,
 };

@@ -31,6 +31,14 @@ abbrev pub offset_of : List Span → ℕ → Option ℕ
 offset_of [] address = None
 offset_of (r ∷ rs) address = if has_address r address then Some (address - r.start) else option_map (λ offset. r.len + offset) (offset_of rs address)
 
+-- which byte a span of addresses begins with, where one range has all of it
+abbrev pub offset_of_span : List Span → Span → Option ℕ
+offset_of_span [] span = None
+offset_of_span (r ∷ rs) span =
+    if nat_le r.start span.start && nat_le (span.start + span.len) (r.start + r.len)
+    then Some (span.start - r.start)
+    else option_map (λ offset. r.len + offset) (offset_of_span rs span)
+
 -- no two ranges share a byte
 abbrev pub is_disjoint : List Span → Bool
 is_disjoint [] = true

@@ -2,7 +2,7 @@ ghost use Rattle.std.specs.Prelude.{◌≡◌, ◌^◌, ◌≤◌, ◌↔◌, Al
 ghost use Rattle.nvm_base.specs.Units.{Holds};
 ghost use Rattle.range_sets.specs.Faults.{IsRangeCause, first_empty};
 ghost use Rattle.range_sets.specs.Lines.{fits};
-ghost use Rattle.range_sets.specs.Ranges.{IsInReach, IsRangeSet, is_disjoint, offset_of, address_of, total_of};
+ghost use Rattle.range_sets.specs.Ranges.{IsInReach, IsRangeSet, is_disjoint, offset_of, offset_of_span, address_of, total_of};
 
 use crate::{faults, walk};
 use nvm_base::Span;
@@ -95,6 +95,15 @@ impl RangeSet {
     {
         walk::offset_of(self.ranges.as_slice(), address)
     }
+
+    /// Which byte a span of addresses begins with, where one range has all of it.
+    pub fn offset_of_span(&self, span: Span) -> Option<u64>
+        ensures offset { result ≡ offset_of_span self.now span }
+        ensures set { IsRangeSet self.now }
+    {
+        walk::offset_of_span(self.ranges.as_slice(), span)
+    }
+
     /// Whether each range is made of whole lines of a device of so many.
     pub fn fits(&self, lines: u64) -> bool
         ensures fits { result ≡ fits self.now lines }

@@ -1,7 +1,7 @@
 // Bytes and addresses, counted through ranges in their order.
-ghost use Rattle.std.specs.Prelude.{◌≡◌, ◌^◌, ◌≤◌, All};
+ghost use Rattle.std.specs.Prelude.{◌≡◌, ◌+◌, ◌&&◌, ◌^◌, ◌≤◌, All, nat_le};
 ghost use Rattle.range_sets.specs.Lines.{fits};
-ghost use Rattle.range_sets.specs.Ranges.{IsInReach, offset_of, address_of, total_of};
+ghost use Rattle.range_sets.specs.Ranges.{IsInReach, offset_of, offset_of_span, address_of, total_of};
 
 use nvm_base::{LINE, Span};
 
@@ -39,6 +39,29 @@ pub(crate) fn offset_of(ranges: &[Span], address: u64) -> Option<u64>
         before += range.len;
     }
     None
+}
+
+pub(crate) fn offset_of_span(ranges: &[Span], span: Span) -> Option<u64>
+    requires { total_of ranges.now ≤ 2 ^ 40 }
+    ensures { result ≡ offset_of_span ranges.now span }
+{
+    let mut before = 0;
+    for range in ranges {
+        if is_inside(span, *range) {
+            return Some(before + (span.start - range.start));
+        }
+        before += range.len;
+    }
+    None
+}
+
+// Whether a range has all of a span.
+fn is_inside(span: Span, range: Span) -> bool
+    ensures { result ≡ (nat_le range.start span.start && nat_le (span.start + span.len) (range.start + range.len)) }
+{
+    range.start <= span.start
+        && span.len <= range.len
+        && span.start - range.start <= range.len - span.len
 }
 
 // Whether each range is made of whole lines of a device of so many.

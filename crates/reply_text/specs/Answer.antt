@@ -1,8 +1,9 @@
 -- What the machine answers, and its line.
-use Rattle.std.specs.Prelude.{ℕ, List, [], ◌∷◌, ◌++◌, codes, decimal}
+use Rattle.std.specs.Prelude.{ℕ, ◌+◌, ◌^◌, ◌<◌, List, [], ◌∷◌, ◌++◌, codes, decimal, sum_by}
 use Rattle.nvm_base.specs.Data.{data_text}
+use Rattle.nvm_base.specs.declared.units.Span.{Span}
 use Rattle.reply_text.specs.declared.reply.Why.{Why}
-use Rattle.reply_text.specs.declared.reply.Why.TheVariants.{Syntax, Off, On, Recover, Range, Length, Limit, Overlap}
+use Rattle.reply_text.specs.declared.reply.Why.TheVariants.{Syntax, Off, On, Recover, Range, Length, Limit, Overlap, Address}
 use Rattle.reply_text.specs.declared.reply.Reply.{Reply}
 use Rattle.reply_text.specs.declared.reply.Reply.TheVariants as reply
 
@@ -10,10 +11,12 @@ pub data Answer : Type 0 where
   Done : Answer
   DoneBad : ℕ → Answer
   Bytes : List ℕ → Answer
+  Ranges : List Span → Answer
   Yes : Answer
   No : Answer
   Scarred : ℕ → Answer
   PoisonBlock : ℕ → ℕ → Answer
+  PoisonVolume : ℕ → Answer
   DeviceFailed : Answer
   PowerLost : Answer
   Refused : Why → Answer
@@ -24,10 +27,12 @@ abbrev pub answer_of : Reply → Answer
 answer_of reply.Done = Done
 answer_of (reply.DoneBad n) = DoneBad n
 answer_of (reply.Bytes bytes) = Bytes bytes.items
+answer_of (reply.Ranges ranges) = Ranges ranges.items
 answer_of reply.Yes = Yes
 answer_of reply.No = No
 answer_of (reply.Scarred block) = Scarred block
 answer_of (reply.PoisonBlock block line) = PoisonBlock block line
+answer_of (reply.PoisonVolume offset) = PoisonVolume offset
 answer_of reply.DeviceFailed = DeviceFailed
 answer_of reply.PowerLost = PowerLost
 answer_of (reply.Refused why) = Refused why
@@ -43,16 +48,28 @@ why_text Range = codes "range"
 why_text Length = codes "length"
 why_text Limit = codes "limit"
 why_text Overlap = codes "overlap"
+why_text Address = codes "address"
+
+-- a range behind its offset: where it begins, and its length
+abbrev pub range_text : ℕ → Span → List ℕ
+range_text offset range = 32 ∷ decimal offset ++ 32 ∷ decimal range.start ++ 32 ∷ decimal range.len
+
+-- ranges, the first one at this offset, each other one where the one before it ends
+abbrev pub ranges_text : ℕ → List Span → List ℕ
+ranges_text offset [] = []
+ranges_text offset (range ∷ ranges) = range_text offset range ++ ranges_text (offset + range.len) ranges
 
 -- an answer as printed
 abbrev pub answer_text : Answer → List ℕ
 answer_text Done = codes "ok"
 answer_text (DoneBad n) = codes "ok bad " ++ decimal n
 answer_text (Bytes bytes) = codes "data " ++ data_text bytes
+answer_text (Ranges ranges) = codes "ranges" ++ ranges_text 0 ranges
 answer_text Yes = codes "yes"
 answer_text No = codes "no"
 answer_text (Scarred block) = codes "scarred " ++ decimal block
 answer_text (PoisonBlock block line) = codes "poison block " ++ decimal block ++ 32 ∷ decimal line
+answer_text (PoisonVolume offset) = codes "poison volume " ++ decimal offset ++ codes " 64"
 answer_text DeviceFailed = codes "refused device"
 answer_text PowerLost = codes "power lost"
 answer_text (Refused why) = codes "refused " ++ why_text why
@@ -66,3 +83,19 @@ answer_line answer = answer_text answer ++ 10 ∷ []
 abbrev pub reply_text : List Answer → List ℕ
 reply_text [] = []
 reply_text (answer ∷ answers) = answer_line answer ++ reply_text answers
+
+-- the lengths of ranges sum to at most the last value of 64 bits
+abbrev pub IsPrintable : Answer → Type 0
+IsPrintable Done = Unit {0}
+IsPrintable (DoneBad n) = Unit {0}
+IsPrintable (Bytes bytes) = Unit {0}
+IsPrintable (Ranges ranges) = sum_by (λ (r : Span). r.len) ranges < 2 ^ 64
+IsPrintable Yes = Unit {0}
+IsPrintable No = Unit {0}
+IsPrintable (Scarred block) = Unit {0}
+IsPrintable (PoisonBlock block line) = Unit {0}
+IsPrintable (PoisonVolume offset) = Unit {0}
+IsPrintable DeviceFailed = Unit {0}
+IsPrintable PowerLost = Unit {0}
+IsPrintable (Refused why) = Unit {0}
+IsPrintable (RefusedMeta line) = Unit {0}

@@ -1,9 +1,25 @@
 -- How much room an answer takes.
-use Rattle.std.specs.Prelude.{ℕ, ◌+◌, ◌*◌, length}
+use Rattle.std.specs.Prelude.{ℕ, ◌+◌, ◌*◌, ◌^◌, ◌<◌, length}
+use Rattle.nvm_base.specs.declared.units.Span.{Span}
 use Rattle.reply_text.specs.Answer.{Answer}
-use Rattle.reply_text.specs.Answer.Answer.{Bytes}
+use Rattle.reply_text.specs.Answer.Answer.{Done, DoneBad, Bytes, Ranges, Yes, No, Scarred, PoisonBlock, PoisonVolume, DeviceFailed, PowerLost, Refused, RefusedMeta}
 
--- the most bytes of an answer's line: the most of its DATA, or of an answer that has none
+-- the most bytes of an answer's line: the most of its DATA or of its ranges, or of an answer that has neither
 abbrev pub most_of : Answer → ℕ
+most_of Done = 64
+most_of (DoneBad n) = 64
 most_of (Bytes bytes) = 6 + 3 * length bytes
-most_of _ = 64
+most_of (Ranges ranges) = 7 + 63 * length ranges
+most_of Yes = 64
+most_of No = 64
+most_of (Scarred block) = 64
+most_of (PoisonBlock block line) = 64
+most_of (PoisonVolume offset) = 64
+most_of DeviceFailed = 64
+most_of PowerLost = 64
+most_of (Refused why) = 64
+most_of (RefusedMeta line) = 64
+
+-- it begins where 64 bits reach
+abbrev pub HasStart : Span → Type 0
+HasStart range = range.start < 2 ^ 64

@@ -1,16 +1,17 @@
 // The text of answers.
-ghost use Rattle.std.specs.Prelude.{◌≡◌, ◌+◌, ◌<◌, ◌≤◌, ◌++◌, IsOk, OnErr, OnOk, codes, decimal, length};
+ghost use Rattle.std.specs.Prelude.{◌≡◌, ◌+◌, ◌*◌, ◌^◌, ◌<◌, ◌≤◌, ◌++◌, IsOk, OnErr, OnOk, codes, decimal, length, sum_by, All};
 ghost use Rattle.nvm_base.specs.Stock.{Appends};
-ghost use Rattle.reply_text.specs.Answer.{answer_line, answer_of, answer_text, why_text};
-ghost use Rattle.reply_text.specs.Answer.Answer.{PoisonBlock};
-ghost use Rattle.reply_text.specs.Room.{most_of};
+ghost use Rattle.reply_text.specs.Answer.{IsPrintable, answer_line, answer_of, answer_text, range_text, ranges_text, why_text};
+ghost use Rattle.reply_text.specs.Answer.Answer.{PoisonBlock, PoisonVolume, Ranges};
+ghost use Rattle.reply_text.specs.Room.{HasStart, most_of};
 
 use crate::{Reply, Why};
-use nvm_base::{Bytes, print_bytes, print_number};
+use nvm_base::{Bytes, Span, print_bytes, print_number};
 use std::alloc::AllocError;
 
 /// Appends the reply's line, all of it or nothing.
 pub fn print(reply: &Reply, out: &mut Bytes) -> Result<(), AllocError>
+    requires printable { IsPrintable (answer_of reply.now) }
     ensures ok { OnOk result (out.new.items ≡ out.old.items ++ answer_line (answer_of reply.now)) }
     ensures err { OnErr result (out.new.items ≡ out.old.items) }
     ensures succeeds { most_of (answer_of reply.now) ≤ out.old.spare → IsOk result }
@@ -26,6 +27,7 @@ pub fn print(reply: &Reply, out: &mut Bytes) -> Result<(), AllocError>
 }
 
 fn print_line(reply: &Reply, out: &mut Bytes) -> Result<(), AllocError>
+    requires printable { IsPrintable (answer_of reply.now) }
     ensures text { Appends (answer_line (answer_of reply.now)) result out.old out.new }
     ensures short { length (answer_line (answer_of reply.now)) ≤ most_of (answer_of reply.now) }
 {
@@ -34,6 +36,7 @@ fn print_line(reply: &Reply, out: &mut Bytes) -> Result<(), AllocError>
 }
 
 fn print_text(reply: &Reply, out: &mut Bytes) -> Result<(), AllocError>
+    requires printable { IsPrintable (answer_of reply.now) }
     ensures text { Appends (answer_text (answer_of reply.now)) result out.old out.new }
     ensures short { length (answer_text (answer_of reply.now)) < most_of (answer_of reply.now) }
 {
@@ -44,10 +47,12 @@ fn print_text(reply: &Reply, out: &mut Bytes) -> Result<(), AllocError>
             out.extend(b"data ")?;
             print_bytes(bytes.as_slice(), out)
         }
+        Reply::Ranges(ranges) => print_ranges(ranges.as_slice(), out),
         Reply::Yes => out.extend(b"yes"),
         Reply::No => out.extend(b"no"),
         Reply::Scarred(block) => print_counted(b"scarred ", *block, out),
-        Reply::PoisonBlock(block, line) => print_poison(*block, *line, out),
+        Reply::PoisonBlock(block, line) => print_block_line(*block, *line, out),
+        Reply::PoisonVolume(offset) => print_volume_line(*offset, out),
         Reply::DeviceFailed => out.extend(b"refused device"),
         Reply::PowerLost => out.extend(b"power lost"),
         Reply::Refused(why) => {
@@ -67,12 +72,57 @@ fn print_counted(words: &[u8], n: u64, out: &mut Bytes) -> Result<(), AllocError
     print_number(n, out)
 }
 
-fn print_poison(block: u64, line: u64, out: &mut Bytes) -> Result<(), AllocError>
+fn print_block_line(block: u64, line: u64, out: &mut Bytes) -> Result<(), AllocError>
     ensures text { Appends (answer_text (PoisonBlock block line)) result out.old out.new }
     ensures short { length (decimal block) + length (decimal line) ≤ 40 }
 {
     print_counted(b"poison block ", block, out)?;
     print_counted(b" ", line, out)
+}
+
+fn print_volume_line(offset: u64, out: &mut Bytes) -> Result<(), AllocError>
+    ensures text { Appends (answer_text (PoisonVolume offset)) result out.old out.new }
+    ensures short { length (decimal offset) ≤ 20 }
+{
+    print_counted(b"poison volume ", offset, out)?;
+    out.extend(b" 64")
+}
+
+// Each range with its offset.
+fn print_ranges(ranges: &[Span], out: &mut Bytes) -> Result<(), AllocError>
+    requires { sum_by (λ (r : Span). r.len) ranges.now < 2 ^ 64 }
+    ensures text { Appends (answer_text (Ranges ranges.now)) result out.old out.new }
+    ensures short { length (ranges_text 0 ranges.now) ≤ 63 * length ranges.now }
+{
+    know_starts(ranges);
+    out.extend(b"ranges")?;
+    let mut offset = 0;
+    for range in ranges {
+        print_range(offset, *range, out)?;
+        offset += range.len;
+    }
+    Ok(())
+}
+
+// What their type says of ranges.
+fn know_starts(ranges: &[Span])
+    ensures { All HasStart ranges.now }
+{
+    for range in ranges {
+        know_number(range.start);
+    }
+}
+
+fn know_number(n: u64)
+    ensures { n < 2 ^ 64 }
+{}
+
+fn print_range(offset: u64, range: Span, out: &mut Bytes) -> Result<(), AllocError>
+    ensures { Appends (range_text offset range) result out.old out.new }
+{
+    print_counted(b" ", offset, out)?;
+    print_counted(b" ", range.start, out)?;
+    print_counted(b" ", range.len, out)
 }
 
 fn word_of(why: Why) -> &'static [u8]
@@ -87,5 +137,6 @@ fn word_of(why: Why) -> &'static [u8]
         Why::Length => b"length",
         Why::Limit => b"limit",
         Why::Overlap => b"overlap",
+        Why::Address => b"address",
     }
 }

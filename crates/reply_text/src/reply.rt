@@ -1,4 +1,4 @@
-use nvm_base::Bytes;
+use nvm_base::{Bytes, Spans};
 
 /// Why a command is not done.
 #[derive(Clone, Copy, Debug, PartialEq, Eq)]
@@ -11,6 +11,7 @@ pub enum Why {
     Length,
     Limit,
     Overlap,
+    Address,
 }
 
 /// What a command is answered.
@@ -20,12 +21,16 @@ pub enum Reply {
     /// A restart is done. So many lines of storage are bad.
     DoneBad(u64),
     Bytes(Bytes),
+    /// Where a volume lies: ranges of physical addresses, one behind the other.
+    Ranges(Spans),
     Yes,
     No,
     /// This block was made unreadable.
     Scarred(u64),
     /// In this block that line is bad.
     PoisonBlock(u64, u64),
+    /// The line of the volume at that offset is bad.
+    PoisonVolume(u64),
     /// A call of the device failed.
     DeviceFailed,
     PowerLost,

@@ -1,5 +1,5 @@
 use crate::{Reply, Why, print};
-use nvm_base::Bytes;
+use nvm_base::{Bytes, Span, Spans};
 use std::alloc::AllocError;
 
 #[test]
@@ -12,6 +12,7 @@ fn each_reply_has_its_line(rt: HostRuntime) -> Result<(), AllocError> {
     print(&Reply::No, &mut out)?;
     print(&Reply::Scarred(4095), &mut out)?;
     print(&Reply::PoisonBlock(10, 7), &mut out)?;
+    print(&Reply::PoisonVolume(4032), &mut out)?;
     print(&Reply::RefusedMeta(2303), &mut out)?;
     print(&Reply::DeviceFailed, &mut out)?;
     print(&Reply::PowerLost, &mut out)?;
@@ -20,7 +21,28 @@ fn each_reply_has_its_line(rt: HostRuntime) -> Result<(), AllocError> {
     print(&Reply::Bytes(bytes), &mut out)?;
     assert_eq!(rt;
         out.as_slice(),
-        b"ok\nok bad 0\nok bad 118016\nyes\nno\nscarred 4095\npoison block 10 7\nrefused meta 2303\nrefused device\npower lost\ndata 07*2,ff\n".as_slice()
+        b"ok\nok bad 0\nok bad 118016\nyes\nno\nscarred 4095\npoison block 10 7\npoison volume 4032 64\nrefused meta 2303\nrefused device\npower lost\ndata 07*2,ff\n".as_slice()
+    );
+    Ok(())
+}
+
+#[test]
+fn ranges_stand_behind_their_offsets(rt: HostRuntime) -> Result<(), AllocError> {
+    let mut out = Bytes::new(rt.alloc());
+    print(&Reply::Ranges(Spans::new(rt.alloc())), &mut out)?;
+    let mut ranges = Spans::new(rt.alloc());
+    ranges.push(Span {
+        start: 147456,
+        len: 4096,
+    })?;
+    ranges.push(Span {
+        start: 188416,
+        len: 4096,
+    })?;
+    print(&Reply::Ranges(ranges), &mut out)?;
+    assert_eq!(rt;
+        out.as_slice(),
+        b"ranges\nranges 0 147456 4096 4096 188416 4096\n".as_slice()
     );
     Ok(())
 }
@@ -36,6 +58,7 @@ fn each_refusal_has_its_word(rt: HostRuntime) -> Result<(), AllocError> {
         (Why::Length, "refused length\n"),
         (Why::Limit, "refused limit\n"),
         (Why::Overlap, "refused overlap\n"),
+        (Why::Address, "refused address\n"),
     ] {
         let mut out = Bytes::new(rt.alloc());
         print(&Reply::Refused(why), &mut out)?;

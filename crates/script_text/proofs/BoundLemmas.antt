@@ -9,8 +9,8 @@ use Rattle.std.proofs.lemmas.List.Elements.{All-nil, All-cons}
 use Rattle.nvm_base.specs.Data.{data_of, data_within}
 use Rattle.script_text.proofs.DataLemmas.{data_of-some, data_within-ok}
 use Rattle.script_text.specs.Action.{Action, action_of}
-use Rattle.script_text.specs.Action.Action.{BRead, BWrite, BDiscard, BDiscardIf, BExists, BScar, BAtomic, BMulti, VLoad, VStore, VSync, Cut, CutIn, Restart}
-use Rattle.script_text.specs.Script.{of_numbers, of_data, number_action, span_action, data_action, with_span, spans_of, spans_action, with_range, ranges_of, fitting, ranges_action, cut_action, restart_action, volume_action, plain_action, command_action, is_comment, asked, words_input}
+use Rattle.script_text.specs.Action.Action.{BRead, BWrite, BDiscard, BDiscardIf, BExists, BScar, BAtomic, BMulti, VLoad, VStore, VSync, VRanges, VPSync, VDiscard, VDiscardIf, VExists, Cut, CutIn, Restart}
+use Rattle.script_text.specs.Script.{of_numbers, of_data, bare_action, number_action, span_action, data_action, with_span, spans_of, spans_action, with_range, ranges_of, fitting, ranges_action, cut_action, restart_action, power_action, volume_action, plain_action, command_action, is_comment, asked, words_input}
 use Rattle.script_text.specs.Script.Input.{Skipped, Asked}
 use Rattle.line_device.specs.declared.line.Choice.TheVariants.{Firsts, Lasts}
 use Rattle.script_text.specs.declared.parsing.LineFault.{LineFault}
@@ -68,6 +68,11 @@ data_action-bounds make small [] action e = absurd (cc)
 data_action-bounds make small (x ∷ []) action e = absurd (cc)
 data_action-bounds make small (x ∷ text ∷ []) action e = of_data-bounds make small x text action e
 data_action-bounds make small (x ∷ text ∷ z ∷ more) action e = absurd (cc)
+
+-- nothing
+bare_action-bounds : (asked : Action) → InBounds asked → (words : List (List ℕ)) (action : Action) → bare_action asked words ≡ Some action → InBounds action
+bare_action-bounds asked small [] action e = let same : asked ≡ action = cc in subst InBounds same small
+bare_action-bounds asked small (x ∷ words) action e = absurd (cc)
 
 -- one number
 number_action-bounds : (make : ℕ → Action) → ((a : ℕ) → a < 2 ^ 32 → InBounds (make a)) → (words : List (List ℕ)) (action : Action) → number_action make words ≡ Some action → InBounds action
@@ -187,16 +192,28 @@ restart_action-bounds (x ∷ []) action e = go (bytes_eq x (codes "none")) (byte
     go false false e = absurd (cc)
 restart_action-bounds (x ∷ y ∷ more) action e = absurd (cc)
 
+power_action-bounds : (name : List ℕ) (words : List (List ℕ)) (action : Action) → power_action name words ≡ Some action → InBounds action
+power_action-bounds name words action e = go (bytes_eq name (codes "cut")) (bytes_eq name (codes "restart")) e
+  where
+    go : (cut restart : Bool) → (if cut then cut_action words else (if restart then restart_action words else None)) ≡ Some action → InBounds action
+    go true restart e = cut_action-bounds words action e
+    go false true e = restart_action-bounds words action e
+    go false false e = absurd (cc)
+
 volume_action-bounds : (name : List ℕ) (words : List (List ℕ)) (action : Action) → volume_action name words ≡ Some action → InBounds action
 volume_action-bounds name words action e =
-    go (bytes_eq name (codes "vload")) (bytes_eq name (codes "vsync")) (bytes_eq name (codes "cut")) (bytes_eq name (codes "restart")) e
+    go (bytes_eq name (codes "vload")) (bytes_eq name (codes "vsync")) (bytes_eq name (codes "vpsync")) (bytes_eq name (codes "vdiscard"))
+    (bytes_eq name (codes "vdiscardif")) (bytes_eq name (codes "vexists")) (bytes_eq name (codes "vranges")) e
   where
-    go : (load sync cut restart : Bool) → (if load then span_action VLoad words else (if sync then span_action VSync words else (if cut then cut_action words else (if restart then restart_action words else None)))) ≡ Some action → InBounds action
-    go true sync cut restart e = span_action-bounds VLoad (λ a b p q. (p, q)) words action e
-    go false true cut restart e = span_action-bounds VSync (λ a b p q. (p, q)) words action e
-    go false false true restart e = cut_action-bounds words action e
-    go false false false true e = restart_action-bounds words action e
-    go false false false false e = absurd (cc)
+    go : (load sync address discard hint exists ranges : Bool) → (if load then span_action VLoad words else (if sync then span_action VSync words else (if address then span_action VPSync words else (if discard then span_action VDiscard words else (if hint then span_action VDiscardIf words else (if exists then number_action VExists words else (if ranges then bare_action VRanges words else power_action name words))))))) ≡ Some action → InBounds action
+    go true sync address discard hint exists ranges e = span_action-bounds VLoad (λ a b p q. (p, q)) words action e
+    go false true address discard hint exists ranges e = span_action-bounds VSync (λ a b p q. (p, q)) words action e
+    go false false true discard hint exists ranges e = span_action-bounds VPSync (λ a b p q. (p, q)) words action e
+    go false false false true hint exists ranges e = span_action-bounds VDiscard (λ a b p q. (p, q)) words action e
+    go false false false false true exists ranges e = span_action-bounds VDiscardIf (λ a b p q. (p, q)) words action e
+    go false false false false false true ranges e = number_action-bounds VExists (λ a p. p) words action e
+    go false false false false false false true e = bare_action-bounds VRanges tt words action e
+    go false false false false false false false e = power_action-bounds name words action e
 
 plain_action-bounds : (name : List ℕ) (words : List (List ℕ)) (action : Action) → plain_action name words ≡ Some action → InBounds action
 plain_action-bounds name words action e =

@@ -17,6 +17,11 @@ pub data Action : Type 0 where
   VLoad : ℕ → ℕ → Action
   VStore : ℕ → List ℕ → Action
   VSync : ℕ → ℕ → Action
+  VRanges : Action
+  VPSync : ℕ → ℕ → Action
+  VDiscard : ℕ → ℕ → Action
+  VDiscardIf : ℕ → ℕ → Action
+  VExists : ℕ → Action
   Cut : Action
   CutIn : ℕ → Action
   Restart : Choice → Action
@@ -34,6 +39,11 @@ action_of (command.BMulti ranges bytes) = BMulti ranges.items bytes.items
 action_of (command.VLoad offset len) = VLoad offset len
 action_of (command.VStore offset bytes) = VStore offset bytes.items
 action_of (command.VSync offset len) = VSync offset len
+action_of command.VRanges = VRanges
+action_of (command.VPSync address len) = VPSync address len
+action_of (command.VDiscard page count) = VDiscard page count
+action_of (command.VDiscardIf page count) = VDiscardIf page count
+action_of (command.VExists page) = VExists page
 action_of command.Cut = Cut
 action_of (command.CutIn calls) = CutIn calls
 action_of (command.Restart choice) = Restart choice

@@ -6,7 +6,7 @@ use Rattle.script_text.specs.declared.command.Command.{Command}
 use Rattle.script_text.specs.declared.parsing.LineFault.{LineFault}
 use Rattle.script_text.specs.declared.parsing.LineFault.TheVariants.{Syntax, Memory}
 use Rattle.script_text.specs.Action.{Action, action_of}
-use Rattle.script_text.specs.Action.Action.{BRead, BWrite, BDiscard, BDiscardIf, BExists, BScar, BAtomic, BMulti, VLoad, VStore, VSync, Cut, CutIn, Restart}
+use Rattle.script_text.specs.Action.Action.{BRead, BWrite, BDiscard, BDiscardIf, BExists, BScar, BAtomic, BMulti, VLoad, VStore, VSync, VRanges, VPSync, VDiscard, VDiscardIf, VExists, Cut, CutIn, Restart}
 use Rattle.std.specs.Borrow.{Bor}
 use Rattle.script_text.specs.Script.{Input, fitting, ranges_of, spans_of, with_range, words_of}
 use Rattle.script_text.specs.Script.Input.{Skipped, Malformed, Asked}
@@ -67,6 +67,11 @@ InBounds (BMulti ranges bytes) = (0 < length ranges) × All IsSmallRange ranges
 InBounds (VLoad offset len) = (offset < 2 ^ 32) × (len < 2 ^ 32)
 InBounds (VStore offset bytes) = (offset < 2 ^ 32) × (0 < length bytes) × (length bytes ≤ 65536)
 InBounds (VSync offset len) = (offset < 2 ^ 32) × (len < 2 ^ 32)
+InBounds VRanges = Unit {0}
+InBounds (VPSync address len) = (address < 2 ^ 32) × (len < 2 ^ 32)
+InBounds (VDiscard page count) = (page < 2 ^ 32) × (count < 2 ^ 32)
+InBounds (VDiscardIf page count) = (page < 2 ^ 32) × (count < 2 ^ 32)
+InBounds (VExists page) = page < 2 ^ 32
 InBounds Cut = Unit {0}
 InBounds (CutIn calls) = calls < 2 ^ 32
 InBounds (Restart choice) = Unit {0}

@@ -1,7 +1,7 @@
 -- Worked lines: what they ask for.
 use Rattle.std.specs.Prelude.{◌≡◌, ℕ, [], ◌∷◌, ◌++◌, replicate, codes}
 use Rattle.nvm_base.specs.declared.units.Span.{Span}
-use Rattle.script_text.specs.Action.Action.{BAtomic, BMulti, Cut, CutIn}
+use Rattle.script_text.specs.Action.Action.{BAtomic, BMulti, VRanges, VPSync, VDiscard, VDiscardIf, VExists, Cut, CutIn}
 use Rattle.script_text.specs.Script.{line_input}
 use Rattle.script_text.specs.Script.Input.{Malformed, Asked}
 
@@ -19,6 +19,13 @@ pub record LineRows : Type 0 where
   pub last_range_without_bytes : line_input (codes "bmulti 0 11 1") ≡ Malformed
   pub range_of_no_bytes : line_input (codes "bmulti 0 11*0 1 22") ≡ Malformed
   pub too_many_bytes_together : line_input (codes "bmulti 0 00*40000 99 00*40000") ≡ Malformed
+  pub where_the_volume_is : line_input (codes "vranges") ≡ Asked VRanges
+  pub ranges_and_a_number : line_input (codes "vranges 0") ≡ Malformed
+  pub sync_by_address : line_input (codes "vpsync 147456 4096") ≡ Asked (VPSync 147456 4096)
+  pub pages_discarded : line_input (codes "vdiscard 0 2") ≡ Asked (VDiscard 0 2)
+  pub pages_hinted : line_input (codes "vdiscardif 1 1") ≡ Asked (VDiscardIf 1 1)
+  pub page_asked_for : line_input (codes "vexists 15") ≡ Asked (VExists 15)
+  pub page_without_a_number : line_input (codes "vexists") ≡ Malformed
   pub cut_at_once : line_input (codes "cut") ≡ Asked Cut
   pub cut_later : line_input (codes "cut in 5") ≡ Asked (CutIn 5)
   pub cut_in_no_calls : line_input (codes "cut in 0") ≡ Asked (CutIn 0)

@@ -8,7 +8,7 @@ use Rattle.nvm_base.specs.Numbers.{number_of}
 use Rattle.nvm_base.specs.Data.{data_of, data_within}
 use Rattle.line_device.specs.declared.line.Choice.TheVariants.{Firsts, Lasts}
 use Rattle.script_text.specs.Action.{Action}
-use Rattle.script_text.specs.Action.Action.{BRead, BWrite, BDiscard, BDiscardIf, BExists, BScar, BAtomic, BMulti, VLoad, VStore, VSync, Cut, CutIn, Restart}
+use Rattle.script_text.specs.Action.Action.{BRead, BWrite, BDiscard, BDiscardIf, BExists, BScar, BAtomic, BMulti, VLoad, VStore, VSync, VRanges, VPSync, VDiscard, VDiscardIf, VExists, Cut, CutIn, Restart}
 
 -- a line: nothing to do, no command, or what it asks for
 pub data Input : Type 0 where
@@ -41,7 +41,11 @@ of_data make (Some a) (Ok bytes) = Some (make a bytes)
 of_data make (Some a) (Err e) = None
 of_data make None bytes = None
 
--- the words after a command's name: one number, two, a number and DATA, pairs of numbers, or pairs of a number and DATA
+-- the words after a command's name: none, one number, two, a number and DATA, pairs of numbers, or pairs of a number and DATA
+abbrev pub bare_action : Action → List (List ℕ) → Option Action
+bare_action action [] = Some action
+bare_action action (word ∷ words) = None
+
 abbrev pub number_action : (ℕ → Action) → List (List ℕ) → Option Action
 number_action make (a ∷ []) = option_map make (number_of a)
 number_action make _ = None
@@ -101,14 +105,22 @@ restart_action (choice ∷ []) =
     if bytes_eq choice (codes "none") then Some (Restart Firsts) else (if bytes_eq choice (codes "all") then Some (Restart Lasts) else None)
 restart_action _ = None
 
--- What a command's name and words ask for, None where they are no command: of those on the volume and the power, of all
--- that bring no list, of all.
+-- What a command's name and words ask for, None where they are no command: of those on the power, of these and those on
+-- the volume that bring no list, of all that bring no list, of all.
+abbrev pub power_action : List ℕ → List (List ℕ) → Option Action
+power_action name words =
+    if bytes_eq name (codes "cut") then cut_action words
+    else (if bytes_eq name (codes "restart") then restart_action words else None)
+
 abbrev pub volume_action : List ℕ → List (List ℕ) → Option Action
 volume_action name words =
     if bytes_eq name (codes "vload") then span_action VLoad words
     else (if bytes_eq name (codes "vsync") then span_action VSync words
-    else (if bytes_eq name (codes "cut") then cut_action words
-    else (if bytes_eq name (codes "restart") then restart_action words else None)))
+    else (if bytes_eq name (codes "vpsync") then span_action VPSync words
+    else (if bytes_eq name (codes "vdiscard") then span_action VDiscard words
+    else (if bytes_eq name (codes "vdiscardif") then span_action VDiscardIf words
+    else (if bytes_eq name (codes "vexists") then number_action VExists words
+    else (if bytes_eq name (codes "vranges") then bare_action VRanges words else power_action name words))))))
 
 abbrev pub plain_action : List ℕ → List (List ℕ) → Option Action
 plain_action name words =

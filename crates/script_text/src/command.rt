@@ -2,7 +2,7 @@ ghost use Rattle.std.specs.Prelude.{◌≡◌, ℕ, List, IfErr, codes, option_m
 ghost use Rattle.script_text.specs.Action.{Action, action_of};
 ghost use Rattle.script_text.specs.Action.Action.{BAtomic, BMulti, BScar, BWrite, Restart, VStore};
 ghost use Rattle.script_text.specs.Parsing.{IsLong, ParsesAs};
-ghost use Rattle.script_text.specs.Script.{command_action, cut_action, data_action, number_action, plain_action, ranges_action, restart_action, span_action, spans_action, volume_action, words_of};
+ghost use Rattle.script_text.specs.Script.{bare_action, command_action, cut_action, data_action, number_action, plain_action, power_action, ranges_action, restart_action, span_action, spans_action, volume_action, words_of};
 
 use crate::LineFault;
 use crate::ranges::read_ranges;
@@ -12,7 +12,8 @@ use line_device::Choice;
 use nvm_base::{Bytes, MOST, Spans, TextFault, read_bytes, read_number};
 use std::alloc::Global;
 
-/// A command of a script. Blocks are numbered and counted; offsets and lengths are in bytes of the volume.
+/// A command of a script. Blocks and pages of the volume are numbered and counted; offsets and lengths are in bytes of the
+/// volume, addresses in bytes of the device.
 #[derive(Debug, Drop)]
 pub enum Command {
     BRead { block: u64, count: u64 },
@@ -26,6 +27,13 @@ pub enum Command {
     VLoad { offset: u64, len: u64 },
     VStore { offset: u64, bytes: Bytes },
     VSync { offset: u64, len: u64 },
+    /// Where the volume lies on the device, as ranges of physical addresses.
+    VRanges,
+    /// `VSync` of a span of physical addresses.
+    VPSync { address: u64, len: u64 },
+    VDiscard { page: u64, count: u64 },
+    VDiscardIf { page: u64, count: u64 },
+    VExists { page: u64 },
     Cut,
     CutIn { calls: u64 },
     Restart { choice: Choice },
@@ -69,7 +77,7 @@ fn read_plain(name: &[u8], words: &[u8]) -> Option<Command>
     }
 }
 
-// A command on the volume or the power.
+// A command on the volume, or one further.
 fn read_volume(name: &[u8], words: &[u8]) -> Option<Command>
     ensures { option_map action_of result ≡ volume_action name.now (words_of words.now) }
 {
@@ -77,7 +85,26 @@ fn read_volume(name: &[u8], words: &[u8]) -> Option<Command>
         read_span(words).map(|(offset, len)| Command::VLoad { offset, len })
     } else if name == b"vsync".as_slice() {
         read_span(words).map(|(offset, len)| Command::VSync { offset, len })
-    } else if name == b"cut".as_slice() {
+    } else if name == b"vpsync".as_slice() {
+        read_span(words).map(|(address, len)| Command::VPSync { address, len })
+    } else if name == b"vdiscard".as_slice() {
+        read_span(words).map(|(page, count)| Command::VDiscard { page, count })
+    } else if name == b"vdiscardif".as_slice() {
+        read_span(words).map(|(page, count)| Command::VDiscardIf { page, count })
+    } else if name == b"vexists".as_slice() {
+        read_only(words).map(|page| Command::VExists { page })
+    } else if name == b"vranges".as_slice() {
+        read_bare(Command::VRanges, words)
+    } else {
+        read_power(name, words)
+    }
+}
+
+// A command on the power.
+fn read_power(name: &[u8], words: &[u8]) -> Option<Command>
+    ensures { option_map action_of result ≡ power_action name.now (words_of words.now) }
+{
+    if name == b"cut".as_slice() {
         read_cut(words)
     } else if name == b"restart".as_slice() {
         read_choice(words).map(|choice| Command::Restart { choice })
@@ -154,6 +181,13 @@ fn read_span(words: &[u8]) -> Option<(u64, u64)>
 {
     let (start, len) = two_words(words)?;
     Some((read_number(start)?, read_number(len)?))
+}
+
+// The command, where no word is left.
+fn read_bare(command: Command, words: &[u8]) -> Option<Command>
+    ensures { option_map action_of result ≡ bare_action (action_of command) (words_of words.now) }
+{
+    next_word(words).is_none().then_some(command)
 }
 
 fn read_only(words: &[u8]) -> Option<u64>

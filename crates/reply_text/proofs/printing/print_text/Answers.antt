@@ -1,6 +1,15 @@
-use Rattle.std.proofs.Common.{arith}
+use Rattle.std.proofs.Common.{arith, codes}
+use Rattle.nvm_base.proofs.AppendLemmas.{Appends-whole}
 use Rattle.nvm_base.proofs.RunLemmas.{length-data_text}
 use Rattle.reply_text.proofs.printing.print_text.Goals as goal
+
+pub returns-in-DeviceFailed-clause-text : goal.returns-in-DeviceFailed-clause-text
+returns-in-DeviceFailed-clause-text c =
+    let extend = c.extend-in-DeviceFailed.ensures in
+    rw c.in-DeviceFailed.is (Appends-whole (codes "refused device") _ _ _ extend.ok extend.err extend.succeeds extend.spare)
+
+pub returns-in-RefusedMeta-clause-text : goal.returns-in-RefusedMeta-clause-text
+returns-in-RefusedMeta-clause-text c = rw c.in-RefusedMeta.is c.print_counted-in-RefusedMeta.ensures.text
 
 pub returns-in_err-extend-in-Bytes-clause-short : goal.returns-in_err-extend-in-Bytes-clause-short
 returns-in_err-extend-in-Bytes-clause-short c = rw c.in-Bytes.is (omega (arith, length-data_text c.in-Bytes.bytes.items))

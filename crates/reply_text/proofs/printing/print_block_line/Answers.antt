@@ -3,7 +3,7 @@ use Rattle.std.proofs.lemmas.Fmt.{length-decimal-le}
 use Rattle.nvm_base.proofs.AppendLemmas.{Appended-none, Appended-more, Appends-last}
 use Rattle.reply_text.specs.Answer.{answer_text}
 use Rattle.reply_text.specs.Answer.Answer.{PoisonBlock}
-use Rattle.reply_text.proofs.printing.print_poison.Goals as goal
+use Rattle.reply_text.proofs.printing.print_block_line.Goals as goal
 
 pub returns-in_err-print_counted-clause-short : goal.returns-in_err-print_counted-clause-short
 returns-in_err-print_counted-clause-short c = omega (arith, length-decimal-le 20 c.args.line (omega arith) (omega arith) (omega arith), c.in_err-print_counted.ensures.short)
