@@ -5,8 +5,8 @@ use Rattle.std.proofs.lemmas.Bool.{cases_eq, eq-eqb, ne_eqb, both_ways}
 use Rattle.std.proofs.lemmas.Bool.Decides.{nat_tests}
 use Rattle.std.proofs.lemmas.Option.{slice_get-map}
 use Rattle.nvm_base.specs.declared.units.Span.{Span}
-use Rattle.nvm_model.specs.Numbered.{list_from}
-use Rattle.nvm_model.specs.Blocks.{is_among, change_block, change}
+use Rattle.nvm_model.specs.Numbered.{is_among, list_from}
+use Rattle.nvm_model.specs.Blocks.{change_block, change}
 use Rattle.nvm_model.proofs.NumberedLemmas.{slice_get-map_from}
 use Rattle.word_tables.specs.declared.geometry.Geometry.{Geometry}
 use Rattle.block_map.specs.declared.state.BlockState.{BlockState}

@@ -1,5 +1,5 @@
 -- What a mount of the blocks' log and a look at their map give.
-use Rattle.std.proofs.Common.{◌≡◌, ℕ, zero, suc, ◌+◌, ◌-◌, ◌*◌, ◌/◌, ◌<◌, List, [], ◌∷◌, length, get_or, map, Some, None, Result, Ok, Err, IfOk, refl, sym, ◌∙◌, ap, ap₂, subst, arith}
+use Rattle.std.proofs.Common.{◌≡◌, ℕ, zero, suc, ◌+◌, ◌-◌, ◌*◌, ◌/◌, ◌%◌, ◌<◌, List, [], ◌∷◌, length, get_or, map, Some, None, Result, Ok, Err, IfOk, refl, sym, ◌∙◌, ap, ap₂, subst, arith}
 use Rattle.std.specs.Option.{option_map}
 use Rattle.std.specs.Result.{IsErrAnd}
 use Rattle.line_device.specs.Medium.{Medium, WritesBack, IsSound, last_image}
@@ -9,10 +9,10 @@ use Rattle.line_words.specs.Words.{IsOnly, WritesBackOutside}
 use Rattle.line_words.proofs.FrameLemmas.{outside-trans, outside-write_back}
 use Rattle.word_tables.specs.declared.geometry.Geometry.{Geometry}
 use Rattle.word_tables.specs.Bounds.{IsValid}
-use Rattle.word_tables.specs.Layout.{block_log, block_map, first_line, size, total_lines}
+use Rattle.word_tables.specs.Layout.{block_log, block_map, first_line, meta_lines, size, total_lines}
 use Rattle.word_tables.specs.Words.{place, of_block}
 use Rattle.word_log.specs.declared.area.LogArea.{LogArea}
-use Rattle.word_log.specs.Area.{IsOf, IsHome, IsWhole, Fits, gate_place}
+use Rattle.word_log.specs.Area.{AreHomeWords, IsOf, IsHome, IsWhole, Fits}
 use Rattle.word_log.specs.Replay.{first_wrong, replayed}
 use Rattle.word_log.specs.Rest.{IsAtRest, IsReached, EachImage}
 use Rattle.word_log.proofs.FrameLemmas.{whole-outside}
@@ -23,11 +23,12 @@ use Rattle.block_map.specs.States.{IsMap, state_of, word_of}
 use Rattle.block_map.specs.Wrong as table
 use Rattle.block_map.proofs.MapLemmas.{word_of-state_of, is_map as map_right_words}
 use Rattle.nvm_model.specs.Numbered.{list_from}
+use Rattle.nvm_model.proofs.NumberedLemmas.{list_from-is}
 use Rattle.nvm_model.specs.Blocks.{first_there}
 use Rattle.block_device.specs.Area.{block_area}
 use Rattle.block_device.specs.Object.{BlocksState, BlocksServe, AreDurable, HasStrongMetadata, blocks_of, map_words}
 use Rattle.block_device.specs.Reading.{map_read, states_read, blocks_read}
-use Rattle.block_device.specs.Mounting.{FindsBlocks, IsWrong, IsWrongMap, Redoes, mount_says, wrong_place}
+use Rattle.block_device.specs.Mounting.{FindsBlocks, IsWrong, IsWrongMap, mount_says, wrong_place}
 use Rattle.word_log.specs.Mount.Finding.{bad_line, wrong_word}
 use Rattle.block_device.specs.declared.fault.MountFault.{MountFault}
 use Rattle.word_log.specs.Mount.{Finding, IsFound}
@@ -37,18 +38,10 @@ use Rattle.line_device.specs.Panel.{Outcome, Panel, Runs}
 use Rattle.line_device.specs.Panel.Outcome.{went}
 use Rattle.line_device.proofs.PanelLemmas.{runs_then, runs_within}
 use Rattle.block_device.proofs.ReadLemmas.{IsNamed, list_from-cong, map_read-outside, durable-outside}
-use Rattle.block_device.proofs.PlaceLemmas.{area_fits, block_is_home, named_apart}
+use Rattle.block_device.proofs.PlaceLemmas.{data_behind_metadata, named_is_data}
 use Rattle.block_device.proofs.PositionLemmas.{get_or-list_from}
 use Rattle.block_device.proofs.ImageLemmas.{state_of-word_of, map_words-at}
 use Rattle.block_device.proofs.FrameLemmas.{length-states_read}
-
--- what the log's mount does to the device, and the loads after it
-pub redone : (geo : Geometry) (a : LogArea) (old now new : Medium) → a ≡ block_area geo → EachImage a now (IsReached a old) → (last_image old (gate_place a) ≡ 0 → WritesBack old now) → WritesBackOutside (IsOf a) old now → WritesBack now new → Redoes (block_area geo) old new
-redone geo a old now new is images closed outside x = subst (λ b. Redoes b old new) is (record {
-  images = λ image at. images image (λ p of. is_in-word_write_back (now.is_weak (p / 8)) (image p) (now.history p) (new.history p) (x.word_write_back p) (at p of));
-  closed = λ zero_. write_back-trans old now new (closed zero_) x;
-  outside = outside-trans (IsOf a) old now new outside (outside-write_back (IsOf a) now new x);
-})
 
 -- a map is known by its words
 map_back : (states : List BlockState) → map state_of (map word_of states) ≡ states
@@ -70,6 +63,16 @@ map_of_words : (geo : Geometry) (old : Medium) → map word_of (states_read geo 
 unfolding states_read after
 map_of_words geo old = words_from (after geo old) 0 geo.blocks
 
+-- the words that the log's mount tells are those of the map
+pub mounted_words : (geo : Geometry) (old : Medium) (words : List ℕ) → AreHomeWords (block_area geo) (replayed (block_area geo) (last_image old)) words → words ≡ map word_of (states_read geo (last_image old))
+unfolding after
+mounted_words geo old words are =
+    list_from-is (after geo old) 0 words (λ k below.
+    let at : 8 * first_line geo block_map + k ≡ place geo (of_block (0 + k)) = omega arith in
+    are.each k (omega (arith, below, are.all)) ∙ ap (replayed (block_area geo) (last_image old)) at)
+    ∙ ap (list_from (after geo old) 0) are.all
+    ∙ sym (map_of_words geo old)
+
 -- a lookup in the map
 state_at : (geo : Geometry) (old : Medium) (b : ℕ) → b < geo.blocks → word_of (get_or (states_read geo (last_image old)) b Absent) ≡ after geo old b
 unfolding states_read after
@@ -81,18 +84,8 @@ state_at geo old b below =
 pub map_from_right : (states : List BlockState) (words : List ℕ) → map word_of states ≡ words → table.first_wrong_entry words ≡ None → IsMap states
 map_from_right states words is right = subst IsMap (ap (map state_of) (sym is) ∙ map_back states) (map_right_words words right)
 
-module _ (geo : Geometry) (valid : IsValid geo) (old mid : Medium) (count : old.count ≡ total_lines geo) (whole : IsWhole (block_area geo) old) (x : WritesBackOutside (IsOf (block_area geo)) old mid) (rest : IsAtRest (block_area geo) mid (replayed (block_area geo) (last_image old))) where
-  -- the words of the map after the log's mount
-  pub mounted_words : (words : List ℕ) → IsSound mid → words ≡ list_from (λ b. last_image mid (place geo (of_block b))) 0 geo.blocks → words ≡ map word_of (states_read geo (last_image old))
-  unfolding after
-  mounted_words words sound is =
-      let area : LogArea = block_area geo in
-      let fits : Fits area mid = area_fits geo valid mid (x.count ∙ count) in
-      is
-      ∙ list_from-cong (λ b. last_image mid (place geo (of_block b))) (after geo old) 0 geo.blocks
-      (λ b from to. rest-last_image area mid (replayed area (last_image old)) (place geo (of_block b)) fits (whole-outside area (IsOf area) old mid whole x) sound rest (block_is_home geo valid b (omega arith)))
-      ∙ sym (map_of_words geo old)
-
+-- A mount of the log, where only words of the metadata are changed.
+module _ (geo : Geometry) (valid : IsValid geo) (inside : ℕ → Type 0) (in_meta : (p : ℕ) → inside p → p / 8 < meta_lines geo) (old mid : Medium) (count : old.count ≡ total_lines geo) (x : WritesBackOutside inside old mid) (rest : IsAtRest (block_area geo) mid (replayed (block_area geo) (last_image old))) where
   home_word : (states : List BlockState) → states ≡ states_read geo (last_image old) → (p : ℕ) → IsHome (block_area geo) p → replayed (block_area geo) (last_image old) p ≡ map_words geo states p
   unfolding after
   home_word states is p in_home =
@@ -111,13 +104,16 @@ module _ (geo : Geometry) (valid : IsValid geo) (old mid : Medium) (count : old.
     all : length states ≡ geo.blocks
     all = ap length is ∙ length-states_read geo (last_image old)
 
-    apart : (p : ℕ) → IsNamed geo states (p / 8) → IsOf (block_area geo) p → ⊥
-    apart p named of = named_apart geo valid states p all is_map named of
+    apart : (p : ℕ) → IsNamed geo states (p / 8) → inside p → ⊥
+    apart p named of =
+        let behind = data_behind_metadata geo valid (p / 8) (named_is_data geo valid states (p / 8) all is_map named) in
+        let meta = in_meta p of in
+        omega arith
 
     -- the blocks are those of the last image
     mounted_reads : map_read geo mid.is_bad (last_image mid) states ≡ blocks_read geo old.is_bad (last_image old)
     unfolding blocks_read
-    mounted_reads = map_read-outside geo states old mid (IsOf (block_area geo)) x apart ∙ ap (map_read geo old.is_bad (last_image old)) is
+    mounted_reads = map_read-outside geo states old mid inside x apart ∙ ap (map_read geo old.is_bad (last_image old)) is
 
     -- what the map names is durable, if it was before
     mounted_serves : (s : BlocksState) → s.geo ≡ geo → s.map ≡ states → HasStrongMetadata geo old → AreDurable geo old (states_read geo (last_image old)) → BlocksServe s mid
@@ -130,7 +126,7 @@ module _ (geo : Geometry) (valid : IsValid geo) (old mid : Medium) (count : old.
           count = x.count ∙ count;
           strong = λ n below. x.weak n ∙ strong n below;
           rest = record { gate = rest.gate; home = λ p in_home. subst (λ v. IsOnly v (mid.history p)) (home_word states is p in_home) (rest.home p in_home) };
-          durable = durable-outside geo states old mid (IsOf (block_area geo)) x apart (subst (AreDurable geo old) (sym is) durable);
+          durable = durable-outside geo states old mid inside x apart (subst (AreDurable geo old) (sym is) durable);
         } in
         subst (λ g. BlocksServe (record s { geo = g }) mid) (sym geo_is) (subst (λ ss. BlocksServe (record s { geo = geo; map = ss }) mid) (sym map_is)
         (record { valid = serves.valid; all = serves.all; is_map = serves.is_map; count = serves.count; strong = serves.strong; rest = serves.rest; durable = serves.durable }))
@@ -192,24 +188,11 @@ pub ended_as : {T : Type 0} (r : Result T MountFault) (t : Told Finding) → IsE
 ended_as (Ok x) t h = absurd h
 ended_as (Err e) t h = ap told_outcome h
 
--- an error that is handed on
-pub handed : {T E : Type 0} (r : Result T E) (f : E) → IsErrAnd r (λ e. e ≡ f) → r ≡ Err f
-handed (Ok x) f h = absurd h
-handed (Err e) f h = ap Err h
-
-pub handed_says : {T : Type 0} (r : Result T MountFault) (f : MountFault) → IsErrAnd r (λ e. e ≡ f) → IsErrAnd r (λ e. mount_says e ≡ mount_says f)
-handed_says (Ok x) f h = absurd h
-handed_says (Err e) f h = ap mount_says h
-
--- calls of the log's mount, and with the loads
-pub logged_runs : (geo : Geometry) (a : LogArea) (e : Outcome) (p q : Panel) → a ≡ block_area geo → Runs (a.log.len + a.home.len / 8 + 4 * a.cap + 6) (a.log.len + a.home.len / 8 + a.cap + 3) e p q → Runs (geo.blocks / 8 + 279) (geo.blocks / 8 + 84) e p q
+-- calls of the log's mount with its loads
+pub mounted_runs : (geo : Geometry) (a : LogArea) (e f : Outcome) (p q : Panel) → geo.blocks % 8 ≡ 0 → a ≡ block_area geo → f ≡ e → Runs (a.log.len + a.home.len / 8 + 4 * a.cap + 6 + (a.home.len + 7) / 8) (a.log.len + a.home.len / 8 + a.cap + 3) f p q → Runs (geo.blocks / 4 + 279) (geo.blocks / 8 + 84) e p q
 unfolding size
-logged_runs geo a e p q is x =
-    let same : Runs (size geo block_log + geo.blocks / 8 + 4 * 64 + 6) (size geo block_log + geo.blocks / 8 + 64 + 3) e p q =
-    subst (λ (b : LogArea). Runs (b.log.len + b.home.len / 8 + 4 * b.cap + 6) (b.log.len + b.home.len / 8 + b.cap + 3) e p q) is x in
-    runs_within _ _ (geo.blocks / 8 + 279) (geo.blocks / 8 + 84) e p q same (omega arith) (omega arith)
-
-pub replayed_runs : (geo : Geometry) (a : LogArea) (e : Outcome) (p q r : Panel) → a ≡ block_area geo → Runs (a.log.len + a.home.len / 8 + 4 * a.cap + 6) (a.log.len + a.home.len / 8 + a.cap + 3) went p q → Runs (geo.blocks / 8) 0 e q r → Runs (geo.blocks / 4 + 279) (geo.blocks / 8 + 84) e p r
-replayed_runs geo a e p q r is x y =
-    runs_within (geo.blocks / 8 + 279 + geo.blocks / 8) (geo.blocks / 8 + 84 + 0) (geo.blocks / 4 + 279) (geo.blocks / 8 + 84) e p r
-    (runs_then (geo.blocks / 8 + 279) (geo.blocks / 8 + 84) (geo.blocks / 8) 0 e p q r (logged_runs geo a went p q is x) y) (omega arith) (omega arith)
+mounted_runs geo a e f p q whole is ended x =
+    let same : Runs (size geo block_log + geo.blocks / 8 + 4 * 64 + 6 + (geo.blocks + 7) / 8) (size geo block_log + geo.blocks / 8 + 64 + 3) e p q =
+    subst (λ (b : LogArea). Runs (b.log.len + b.home.len / 8 + 4 * b.cap + 6 + (b.home.len + 7) / 8) (b.log.len + b.home.len / 8 + b.cap + 3) e p q) is
+    (subst (λ (o : Outcome). Runs (a.log.len + a.home.len / 8 + 4 * a.cap + 6 + (a.home.len + 7) / 8) (a.log.len + a.home.len / 8 + a.cap + 3) o p q) ended x) in
+    runs_within _ _ (geo.blocks / 4 + 279) (geo.blocks / 8 + 84) e p q same (omega arith) (omega arith)

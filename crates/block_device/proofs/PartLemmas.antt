@@ -5,10 +5,10 @@ use Rattle.std.proofs.lemmas.Bool.Decides.{nat_tests}
 use Rattle.line_device.specs.Medium.{Medium}
 use Rattle.line_words.specs.Words.{WritesBackBeside}
 use Rattle.line_words.proofs.BesideLemmas.{beside-refl, beside-trans}
-use Rattle.nvm_model.specs.Numbered.{map_from}
+use Rattle.nvm_model.specs.Numbered.{is_among, map_from}
 use Rattle.nvm_model.specs.Storage.{Block}
 use Rattle.nvm_model.specs.Storage.Block.{Absent}
-use Rattle.nvm_model.specs.Blocks.{IsMixed, change, change_block, is_among}
+use Rattle.nvm_model.specs.Blocks.{IsMixed, change, change_block}
 use Rattle.nvm_model.proofs.NumberedLemmas.{length-map_from}
 use Rattle.block_device.specs.Area.{IsBlockLine}
 use Rattle.block_device.specs.Object.{BlocksState, BlocksServe, HasGoodMetadata, blocks_of}

@@ -133,7 +133,8 @@ block_place geo p valid is =
       ]
     ]
 
-module _ (geo : Geometry) (old new : Medium) (valid : IsValid geo) (x : WritesBackOutside (IsOf (block_area geo)) old new) (image before : ℕ → ℕ) where
+-- Only words of the metadata are changed.
+module _ (geo : Geometry) (inside : ℕ → Type 0) (in_meta : (p : ℕ) → inside p → p / 8 < meta_lines geo) (old new : Medium) (valid : IsValid geo) (x : WritesBackOutside inside old new) (image before : ℕ → ℕ) where
   -- an image before the mount, of what one after it came from
   joined_image : ((p : ℕ) → IsOf (block_area geo) p → IsIn (before p) (old.history p)) → IsBlockImage geo new image → IsBlockImage geo old (joined geo before image)
   joined_image was is p place good =
@@ -141,7 +142,7 @@ module _ (geo : Geometry) (old new : Medium) (valid : IsValid geo) (x : WritesBa
         | inl of ↦ subst (λ v. IsIn v (old.history p)) (sym (joined-in geo before image p (area_in_metadata geo valid p of))) (was p of)
         | inr behind ↦
             subst (λ v. IsIn v (old.history p)) (sym (joined-out geo before image p behind))
-            (is_in-outside (IsOf (block_area geo)) old new p (image p) x (λ of. let meta = area_in_metadata geo valid p of in omega arith) (is p place (x.bad (p / 8) ∙ good)))
+            (is_in-outside inside old new p (image p) x (λ of. let meta = in_meta p of in omega arith) (is p place (x.bad (p / 8) ∙ good)))
       ]
 
   -- they read alike
@@ -151,34 +152,31 @@ module _ (geo : Geometry) (old new : Medium) (valid : IsValid geo) (x : WritesBa
       let j : ℕ → ℕ = joined geo before image in
       let states : List BlockState = states_read geo j in
       let same : states_read geo image ≡ states = states_read-replays geo image j valid replays in
-      let apart : (p : ℕ) → IsNamed geo states (p / 8) → IsOf (block_area geo) p → ⊥ = λ p named of. named_apart geo valid states p (length-states_read geo j) r.map named of in
       let behind : (p : ℕ) → IsNamed geo states (p / 8) → meta_lines geo ≤ p / 8 =
       λ p named. data_behind_metadata geo valid (p / 8) (named_is_data geo valid states (p / 8) (length-states_read geo j) r.map named) in
+      let apart : (p : ℕ) → IsNamed geo states (p / 8) → inside p → ⊥ = λ p named of. let meta = in_meta p of in let data_ = behind p named in omega arith in
       record {
         log = replays.valid;
         map = subst IsMap (sym same) r.map;
-        durable = subst (AreDurable geo new) (sym same) (durable-outside geo states old new (IsOf (block_area geo)) x apart r.durable);
+        durable = subst (AreDurable geo new) (sym same) (durable-outside geo states old new inside x apart r.durable);
         blocks =
             ap (map_read geo new.is_bad image) same
             ∙ map_read-same geo old.is_bad new.is_bad j image states (λ n _. x.bad n) (λ p named _. sym (joined-out geo before image p (behind p named)));
       }
 
 -- A mount keeps what images read as.
-pub keeps_reads-reached : (geo : Geometry) (old new : Medium) → IsValid geo → WritesBackOutside (IsOf (block_area geo)) old new → EachImage (block_area geo) new (IsReached (block_area geo) old) → IsWhole (block_area geo) old → KeepsReads geo old new
-keeps_reads-reached geo old new valid x images whole image is =
+pub keeps_reads-reached : (geo : Geometry) (inside : ℕ → Type 0) → ((p : ℕ) → inside p → p / 8 < meta_lines geo) → (old new : Medium) → IsValid geo → WritesBackOutside inside old new → EachImage (block_area geo) new (IsReached (block_area geo) old) → IsWhole (block_area geo) old → KeepsReads geo old new
+keeps_reads-reached geo inside in_meta old new valid x images whole image is =
     let area = block_area geo in
-    let reached = images image (image_on_area geo valid new image (whole-outside area (IsOf area) old new whole x) is) in
+    let reached = images image (image_on_area geo valid new image (whole-outside area inside old new whole x) is) in
     let j : ℕ → ℕ = joined geo reached.before image in
     let same : (p : ℕ) → IsOf area p → reached.before p ≡ j p = λ p of. sym (joined-in geo reached.before image p (area_in_metadata geo valid p of)) in
     record {
       before = j;
-      was = joined_image geo old new valid x image reached.before reached.was is;
+      was = joined_image geo inside in_meta old new valid x image reached.before reached.was is;
       same = same_log-trans geo j reached.before image valid (inl same) reached.same;
       reads = λ r.
           let own : Replays area j (replayed area j) = record { valid = r.log; home = λ p _. refl } in
           let was = replays-same area reached.before j (replayed area j) (area_shaped geo valid) same own in
-          joined_reads geo old new valid x image reached.before (replays-reached area old image (replayed area j) (area_shaped geo valid) reached was) r;
+          joined_reads geo inside in_meta old new valid x image reached.before (replays-reached area old image (replayed area j) (area_shaped geo valid) reached was) r;
     }
-
-pub reads_reached : (geo : Geometry) (old new : Medium) → IsValid geo → WritesBackOutside (IsOf (block_area geo)) old new → IsWhole (block_area geo) old → EachImage (block_area geo) new (IsReached (block_area geo) old) → (P : List Block → Type 0) → EachReads geo old P → EachReads geo new P
-reads_reached geo old new valid x whole images P = each_reads-kept geo old new P (keeps_reads-reached geo old new valid x images whole)

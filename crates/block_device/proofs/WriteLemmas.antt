@@ -3,10 +3,10 @@ use Rattle.std.proofs.Common.{◌≡◌, ◌⊎◌, inl, inr, ℕ, zero, suc, tr
 use Rattle.std.proofs.lemmas.List.{length-take-le, take_all}
 use Rattle.std.proofs.lemmas.Bool.{cases_Bool}
 use Rattle.std.proofs.lemmas.Bool.Decides.{nat_tests}
-use Rattle.nvm_model.specs.Numbered.{list_from, map_from}
+use Rattle.nvm_model.specs.Numbered.{is_among, list_from, map_from}
 use Rattle.nvm_model.specs.Storage.{Block}
 use Rattle.nvm_model.specs.Storage.Block.{Data}
-use Rattle.nvm_model.specs.Blocks.{data_from, is_among, write, write_block, write_ranges}
+use Rattle.nvm_model.specs.Blocks.{data_from, write, write_block, write_ranges}
 use Rattle.block_device.proofs.ByteLemmas.{list_from-shift}
 use Rattle.block_device.proofs.PartLemmas.{given, given_block, given-next, map_from-pointwise}
 

@@ -34,11 +34,13 @@ abbrev pub IsWrongMap : Geometry → List ℕ → Finding → Type 0
 IsWrongMap geo words (bad_line n) = ⊥
 IsWrongMap geo words (wrong_word p) = (block : ℕ) × (table.first_wrong_entry words ≡ Some block) × (p ≡ place geo (of_block block))
 
--- the first place that is wrong: of the log, or else of the map once its log is replayed
+-- the first place of the map that is wrong, once its log is replayed
+abbrev pub wrong_map : Geometry → (ℕ → ℕ) → Option ℕ
+wrong_map geo word = option_map (λ b. place geo (of_block b)) (table.first_wrong_entry (map word_of (states_read geo word)))
+
+-- the first place that is wrong: of the log, or else of the map
 abbrev pub wrong_place : Geometry → (ℕ → ℕ) → Option ℕ
-wrong_place geo word =
-    first_there (log.first_wrong (block_area geo) word)
-    (option_map (λ b. place geo (of_block b)) (table.first_wrong_entry (map word_of (states_read geo word))))
+wrong_place geo word = first_there (log.first_wrong (block_area geo) word) (wrong_map geo word)
 
 -- what is wrong with both
 abbrev pub IsWrong : Geometry → Medium → Finding → Type 0
@@ -48,10 +50,3 @@ IsWrong geo m (wrong_word p) = IsWhole (block_area geo) m × (wrong_place geo (l
 -- A mount ends well only where nothing is wrong with log and map, and else tells what is.
 abbrev pub FindsBlocks : {T : Type 0} → Geometry → Medium → Result T MountFault → Type 0
 FindsBlocks geo m result = Explains mount_says (IsWhole (block_area geo) m × (wrong_place geo (last_image m) ≡ None)) (IsWrong geo m) result
-
--- What the replay of a log does to a device: each image came of one before, with the gate 0 nothing is stored, and all other
--- words are only written back.
-pub record Redoes (a : LogArea) (old new : Medium) : Type 0 where
-  pub images : EachImage a new (IsReached a old)
-  pub closed : last_image old (gate_place a) ≡ 0 → WritesBack old new
-  pub outside : WritesBackOutside (IsOf a) old new

@@ -11,6 +11,7 @@ use Rattle.block_map.specs.declared.state.BlockState.{BlockState}
 use Rattle.block_map.specs.declared.state.BlockState.TheVariants.{Absent, Scarred, At}
 use Rattle.block_map.specs.States.{IsMap, IsAt, word_of}
 use Rattle.free_pool.specs.Units.{IsTaken, free_count}
+use Rattle.nvm_model.specs.Lines.{AreGood, AreStrong}
 use Rattle.nvm_model.specs.Storage.{Block}
 use Rattle.block_device.specs.Area.{block_area}
 use Rattle.block_device.specs.Reading.{map_read}
@@ -35,11 +36,11 @@ AreDurable geo m states = (block unit : ℕ) → IsAt states block unit
 
 -- no line of metadata is weak
 abbrev pub HasStrongMetadata : Geometry → Medium → Type 0
-HasStrongMetadata geo m = (n : ℕ) → n < meta_lines geo → m.is_weak n ≡ false
+HasStrongMetadata geo m = AreStrong m (meta_lines geo)
 
 -- none is bad
 abbrev pub HasGoodMetadata : Geometry → Medium → Type 0
-HasGoodMetadata geo m = (n : ℕ) → n < meta_lines geo → m.is_bad n ≡ false
+HasGoodMetadata geo m = AreGood m (meta_lines geo)
 
 -- The device is the one whose blocks these are: its log is at rest with the words of the map, and what the map names is
 -- durable. The sizes are valid, and the map is one of all blocks. Lines that became bad are no bar.

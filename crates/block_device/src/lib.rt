@@ -20,6 +20,7 @@ mod switching;
 mod tests;
 mod writing;
 
+pub use area::block_area;
 use block_map::BlockMap;
 pub use fault::{BlockFault, MountFault};
 use free_pool::Pool;

@@ -1,5 +1,5 @@
 // Mounting, in two parts: the device's replays the log and reads the map's words, and the other judges them without the
-// device. So a device of several logs replays all of them before any table is judged.
+// device.
 ghost use Rattle.std.specs.Prelude.{◌≡◌, ◌+◌, ◌*◌, ◌/◌, ◌<◌, ◌≤◌, None, true, IfOk, IfErr, IsTrue, OnOk, length, map};
 ghost use Rattle.line_device.specs.Medium.{WritesBack, last_image};
 ghost use Rattle.line_device.specs.Panel.{Runs};
@@ -19,7 +19,7 @@ ghost use Rattle.nvm_model.specs.Numbered.{list_from};
 ghost use Rattle.block_device.specs.Area.{block_area};
 ghost use Rattle.block_device.specs.Reading.{states_read, blocks_read};
 ghost use Rattle.block_device.specs.Object.{BlocksServe, IsInStep, AreDurable, HasStrongMetadata, blocks_of};
-ghost use Rattle.block_device.specs.Mounting.{FindsBlocks, IsWrongMap, Redoes, mount_says};
+ghost use Rattle.block_device.specs.Mounting.{FindsBlocks, IsWrongMap, mount_says};
 ghost use Rattle.block_device.specs.Images.{KeepsReads};
 
 use crate::area::block_area;
@@ -27,10 +27,8 @@ use crate::{Blocks, MountFault};
 use block_map::{BlockMap, BlockState, EXTRA_UNITS, TableFault};
 use free_pool::Pool;
 use line_device::Lines;
-use line_words::load_words;
-use nvm_base::Words;
 use std::alloc::{AllocError, Global};
-use word_log::Log;
+use word_log::{Log, mount_words};
 use word_tables::Geometry;
 
 impl Blocks {
@@ -56,75 +54,31 @@ impl Blocks {
         ensures runs { Runs (geo.blocks / 4 + 279) (geo.blocks / 8 + 84) (outcome_by mount_says result)
             (L.state dev.old).panel (L.state dev.new).panel }
     {
-        match replay(alloc, dev, geo) {
-            Ok((log, words)) => judge(alloc, geo, log, words.as_slice()),
-            Err(fault) => Err(fault),
-        }
+        let (log, words) = mount_words(alloc, dev, block_area(geo))?;
+        Blocks::judge(alloc, geo, log, words.as_slice())
     }
-}
 
-// The device's part: a log at rest, and the words of the map then.
-fn replay<L: Lines>(alloc: Global, dev: &mut L, geo: Geometry) -> Result<(Log, Words), MountFault>
-    requires valid { IsValid geo }
-    requires lines { (L.state dev.old).medium.count ≡ total_lines geo }
-    requires strong { HasStrongMetadata geo (L.state dev.old).medium }
-    requires on { IsTrue (L.state dev.old).panel.power }
-    ensures log { IfOk result (λ found. found.0 ≡ record { area = block_area geo; settled = true }) }
-    ensures words { IfOk result (λ found. found.1.items ≡ map word_of (states_read geo (last_image (L.state dev.old).medium))) }
-    ensures rest { OnOk result (IsAtRest (block_area geo) (L.state dev.new).medium
-        (log.replayed (block_area geo) (last_image (L.state dev.old).medium))) }
-    ensures finds { Explains mount_says (IsWhole (block_area geo) (L.state dev.old).medium
-        × (log.first_wrong (block_area geo) (last_image (L.state dev.old).medium) ≡ None))
-        (IsFound (block_area geo) (L.state dev.old).medium) result }
-    ensures redoes { Redoes (block_area geo) (L.state dev.old).medium (L.state dev.new).medium }
-    ensures runs { Runs (geo.blocks / 4 + 279) (geo.blocks / 8 + 84) (outcome_by mount_says result)
-        (L.state dev.old).panel (L.state dev.new).panel }
-{
-    let log = word_log::mount(alloc, dev, block_area(geo))?;
-    let words = load_map(alloc, dev, geo)?;
-    Ok((log, words))
-}
-
-// The words of the block map, a line at a time.
-fn load_map<L: Lines>(alloc: Global, dev: &mut L, geo: Geometry) -> Result<Words, MountFault>
-    requires valid { IsValid geo }
-    requires lines { (L.state dev.old).medium.count ≡ total_lines geo }
-    requires whole { IsWhole (block_area geo) (L.state dev.old).medium }
-    requires on { IsTrue (L.state dev.old).panel.power }
-    ensures words { IfOk result (λ words. words.items
-        ≡ list_from (λ b. last_image (L.state dev.old).medium (place geo (of_block b))) 0 geo.blocks) }
-    ensures stop { IfErr result (IsStop mount_says) }
-    ensures lines { WritesBack (L.state dev.old).medium (L.state dev.new).medium }
-    ensures runs { Runs (geo.blocks / 8) 0 (outcome_by mount_says result) (L.state dev.old).panel (L.state dev.new).panel }
-{
-    let first = geo.block_word(0) / 8;
-    let mut words = Words::new(alloc);
-    for k in 0..geo.blocks / 8 {
-        let eight = load_words(dev, first + k)?;
-        words.extend(&eight)?;
+    /// The blocks of a log at rest and of the words of their map, or what is wrong with these. So a device of several logs
+    /// replays all of them before any table is judged.
+    pub fn judge(alloc: Global, geo: Geometry, log: Log, words: &[u64]) -> Result<Self, MountFault>
+        requires valid { IsValid geo }
+        requires log { log ≡ record { area = block_area geo; settled = true } }
+        requires length { length words.now ≡ geo.blocks }
+        ensures blocks { IfOk result (λ blocks. (blocks.geo ≡ geo) × (map word_of blocks.map ≡ words.now)) }
+        ensures settled { IfOk result (λ blocks. IsTrue blocks.settled) }
+        ensures finds { Explains mount_says (first_wrong_entry words.now ≡ None) (IsWrongMap geo words.now) result }
+        ensures went { outcome_by mount_says result ≡ went }
+    {
+        let map = read_map(alloc, geo, words)?;
+        let pool = pool_beside(alloc, &map, geo.blocks)?;
+        Ok(Blocks {
+            geo,
+            log,
+            map,
+            pool,
+            settled: true,
+        })
     }
-    Ok(words)
-}
-
-// The blocks of a log at rest and of the words of their map, or what is wrong with these.
-fn judge(alloc: Global, geo: Geometry, log: Log, words: &[u64]) -> Result<Blocks, MountFault>
-    requires valid { IsValid geo }
-    requires log { log ≡ record { area = block_area geo; settled = true } }
-    requires length { length words.now ≡ geo.blocks }
-    ensures blocks { IfOk result (λ blocks. (blocks.geo ≡ geo) × (map word_of blocks.map ≡ words.now)) }
-    ensures settled { IfOk result (λ blocks. IsTrue blocks.settled) }
-    ensures finds { Explains mount_says (first_wrong_entry words.now ≡ None) (IsWrongMap geo words.now) result }
-    ensures went { outcome_by mount_says result ≡ went }
-{
-    let map = read_map(alloc, geo, words)?;
-    let pool = pool_beside(alloc, &map, geo.blocks)?;
-    Ok(Blocks {
-        geo,
-        log,
-        map,
-        pool,
-        settled: true,
-    })
 }
 
 // The map that these words are, or the place of the first that is wrong.

@@ -1,5 +1,6 @@
 pub mod HistoryLemmas
 pub mod WordLemmas
+pub mod PutLemmas
 pub mod PanelLemmas
 pub mod WriteBackLemmas
 pub mod CellsLemmas

@@ -1,6 +1,11 @@
+pub mod OthersLemmas
 pub mod TurnLemmas
 pub mod LoopLemmas
 pub mod SpanLemmas
 pub mod PieceLemmas
+pub mod ClearLemmas
 pub mod PutLemmas
 pub mod LoadLemmas
+pub mod BufferLemmas
+pub mod FindLemmas
+pub mod PlaceLemmas

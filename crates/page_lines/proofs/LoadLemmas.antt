@@ -1,5 +1,5 @@
 -- Bytes of a line that a load lent, as bytes of a span.
-use Rattle.std.proofs.Common.{◌≡◌, ℕ, ◌+◌, ◌*◌, ◌/◌, ◌%◌, ◌<◌, ◌≤◌, List, length, get_or, take, drop, sym, ap, ◌∙◌, arith, length-take, length-drop, replicate, Option, Some, None, zero, suc, ◌∷◌, refl, ◌++◌, append_assoc, append-nil}
+use Rattle.std.proofs.Common.{◌≡◌, ℕ, ◌+◌, ◌*◌, ◌/◌, ◌%◌, ◌<◌, ◌≤◌, List, length, get_or, take, drop, sym, ap, ◌∙◌, arith, length-take, length-drop, replicate, Option, Some, None, zero, suc, ◌∷◌, refl}
 use Rattle.std.proofs.lemmas.List.{get_or-take, get_or-drop}
 use Rattle.std.specs.Int.{byte_at}
 use Rattle.line_device.specs.History.{newest}
@@ -7,9 +7,9 @@ use Rattle.line_device.specs.Medium.{Medium, IsLine, WritesBack}
 use Rattle.line_device.proofs.WordLemmas.{byte_at-word_from}
 use Rattle.line_device.proofs.WriteBackLemmas.{newest-write_back}
 use Rattle.nvm_model.specs.Numbered.{list_from}
-use Rattle.nvm_model.specs.Lines.{shown_byte, span_shown}
 use Rattle.page_lines.specs.Shown.{byte_in_line, byte_on, placed_byte}
-use Rattle.nvm_model.proofs.NumberedLemmas.{list_from-is, list_from-same, list_from-append}
+use Rattle.nvm_model.specs.Lines.{shown_byte}
+use Rattle.nvm_model.proofs.NumberedLemmas.{list_from-is, list_from-same}
 
 -- bytes that spell words, one by one
 pub byte_in_line-is : (bytes : List ℕ) (i : ℕ) → ((k : ℕ) → get_or bytes k 0 < 256) → get_or bytes i 0 ≡ byte_in_line bytes i
@@ -30,44 +30,28 @@ list_from-line bytes start len fits small = list_from-is (byte_in_line bytes) st
     each : (k : ℕ) → k < length (take len (drop start bytes)) → get_or (take len (drop start bytes)) k 0 ≡ byte_in_line bytes (start + k)
     each k lt = get_or-take len (drop start bytes) k 0 (omega (arith, size)) ∙ get_or-drop start bytes k 0 ∙ byte_in_line-is bytes (start + k) small
 
--- what a load lends is what the span shows
-pub span_shown-line : (m : Medium) (start len : ℕ) (bytes : List ℕ) → IsLine m (start / 64) bytes → start % 64 + len ≤ 64
-    → list_from (byte_in_line bytes) (start % 64) len ≡ span_shown m start len
-span_shown-line m start len bytes is fits = list_from-same (byte_in_line bytes) (shown_byte m) (start % 64) start len each
+-- bytes of a line as those of the device
+pub device-line : (m : Medium) (line start len : ℕ) (bytes : List ℕ) → IsLine m line bytes → start + len ≤ 64
+    → list_from (byte_in_line bytes) start len ≡ list_from (shown_byte m) (64 * line + start) len
+device-line m line start len bytes is fits = list_from-same (byte_in_line bytes) (shown_byte m) start (64 * line + start) len each
   where
-    each : (k : ℕ) → k < len → byte_in_line bytes (start % 64 + k) ≡ shown_byte m (start + k)
+    each : (k : ℕ) → k < len → byte_in_line bytes (start + k) ≡ shown_byte m (64 * line + start + k)
     each k lt =
-        let i : (start % 64 + k) % 8 ≡ (start + k) % 8 = omega arith in
-        let p : 8 * (start / 64) + (start % 64 + k) / 8 ≡ (start + k) / 8 = omega arith in
-        ap (byte_at ((start % 64 + k) % 8)) (sym (is.words ((start % 64 + k) / 8) (omega arith)))
-        ∙ ap (λ q. byte_at ((start % 64 + k) % 8) (newest (m.history q))) p
-        ∙ ap (λ j. byte_at j (newest (m.history ((start + k) / 8)))) i
+        let i : (start + k) % 8 ≡ (64 * line + start + k) % 8 = omega arith in
+        let p : 8 * line + (start + k) / 8 ≡ (64 * line + start + k) / 8 = omega arith in
+        ap (byte_at ((start + k) % 8)) (sym (is.words ((start + k) / 8) (omega (arith, lt, fits))))
+        ∙ ap (λ q. byte_at ((start + k) % 8) (newest (m.history q))) p
+        ∙ ap (λ j. byte_at j (newest (m.history ((64 * line + start + k) / 8)))) i
 
--- lines that were only written back show what they showed
-pub span_shown-write_back : (a b : Medium) (start len : ℕ) → WritesBack a b → span_shown b start len ≡ span_shown a start len
-span_shown-write_back a b start len w =
-    list_from-same (shown_byte b) (shown_byte a) start start len (λ k lt. ap (byte_at ((start + k) % 8)) (newest-write_back a b w ((start + k) / 8)))
-
--- one stretch more
-pub said-next : (f : ℕ → ℕ) (out a b : List ℕ) (start n from len more : ℕ) → a ≡ out ++ list_from f start n → b ≡ a ++ list_from f from len
-    → from ≡ start + n → more ≡ n + len → b ≡ out ++ list_from f start more
-said-next f out a b start n from len more one two place size =
-    two ∙ ap (λ xs. xs ++ list_from f from len) one ∙ append_assoc out (list_from f start n) (list_from f from len)
-    ∙ ap (λ xs. out ++ xs) (ap (λ x. list_from f start n ++ list_from f x len) place ∙ sym (list_from-append f start n len) ∙ ap (list_from f start) (sym size))
-
--- nothing yet
-pub said-none : (f : ℕ → ℕ) (out : List ℕ) (start n : ℕ) → n ≡ 0 → out ≡ out ++ list_from f start n
-said-none f out start n none = sym (append-nil out) ∙ ap (λ k. out ++ list_from f start k) (sym none)
-
--- the part of one line, at its place
+-- those of a line of the storage
 pub placed-line : (place : ℕ → Option ℕ) (m : Medium) (start len line : ℕ) → place (start / 64) ≡ Some line → start % 64 + len ≤ 64
-    → span_shown m (64 * line + start % 64) len ≡ list_from (placed_byte place m) start len
+    → list_from (shown_byte m) (64 * line + start % 64) len ≡ list_from (placed_byte place m) start len
 placed-line place m start len line is fits = list_from-same (shown_byte m) (placed_byte place m) (64 * line + start % 64) start len each
   where
     each : (k : ℕ) → k < len → shown_byte m (64 * line + start % 64 + k) ≡ placed_byte place m (start + k)
     each k lt =
-        let n : start / 64 ≡ (start + k) / 64 = omega arith in
-        let i : 64 * line + start % 64 + k ≡ 64 * line + (start + k) % 64 = omega arith in
+        let n : start / 64 ≡ (start + k) / 64 = omega (arith, lt, fits) in
+        let i : 64 * line + start % 64 + k ≡ 64 * line + (start + k) % 64 = omega (arith, lt, fits) in
         ap (shown_byte m) i ∙ sym (ap (byte_on m (start + k)) (ap place (sym n) ∙ is))
 
 list_from-zeros : (f : ℕ → ℕ) (start len : ℕ) → ((k : ℕ) → start ≤ k → k < start + len → f k ≡ 0) → replicate len 0 ≡ list_from f start len

@@ -6,7 +6,8 @@ use Rattle.nvm_model.specs.Cell.{Cell, CellStands, touches, persist_cell, flush_
 use Rattle.nvm_model.specs.Interrupted.{MayPersist}
 use Rattle.page_lines.specs.Placed.{AreApart}
 use Rattle.page_lines.specs.Turns.{Turns, MayTurn, WritesBackOthers}
-use Rattle.page_lines.proofs.TurnLemmas.{stands-others, stands-write_back, others-refl, others-trans, others-wider}
+use Rattle.page_lines.proofs.OthersLemmas.{others-refl, others-trans, others-wider}
+use Rattle.page_lines.proofs.TurnLemmas.{stands-others, stands-write_back}
 
 -- the lines of the device that the lines from the first on, below a limit, are at
 abbrev pub IsReached : (ℕ → Option ℕ) → ℕ → ℕ → ℕ → Type 0

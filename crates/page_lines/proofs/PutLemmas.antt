@@ -1,20 +1,23 @@
 -- Bytes put into one line, in part and whole.
-use Rattle.std.proofs.Common.{◌≡◌, ◌⊎◌, ◌≤◌, ℕ, zero, suc, ◌+◌, ◌-◌, ◌*◌, ◌/◌, ◌%◌, ◌<◌, min, max, Bool, true, false, cond, Option, Some, Result, Ok, Err, MatchResult, OnOk, OnErr, List, [], ◌∷◌, length, replicate, option_map, None, slice_get, get_or, refl, sym, ap, subst, ◌∙◌, inl, inr, arith}
-use Rattle.std.proofs.lemmas.Bool.{cases_lt, and_parts, and_from, leb-true, ltb-true, lt-ltb, false≢true, eq-eqb}
+use Rattle.std.proofs.Common.{◌≡◌, ◌⊎◌, ◌≤◌, ℕ, ◌+◌, ◌-◌, ◌*◌, ◌/◌, ◌%◌, ◌<◌, min, max, Bool, true, false, cond, Option, Some, Result, Ok, Err, MatchResult, OnOk, OnErr, List, [], ◌∷◌, length, replicate, option_map, None, slice_get, get_or, refl, sym, ap, subst, ◌∙◌, inl, inr, arith}
+use Rattle.std.proofs.lemmas.Bool.{cases_lt, and_parts, and_from, leb-true, ltb-true, lt-ltb, false≢true}
 use Rattle.std.proofs.lemmas.Option.{slice_get_within}
 use Rattle.line_device.specs.History.{WordWritesBack}
-use Rattle.line_device.specs.Medium.{Medium, WritesBack, with_at, stored, cleared, word_stored}
+use Rattle.line_device.specs.Medium.{Medium, WritesBack, stored, cleared, word_stored}
 use Rattle.line_device.proofs.HistoryLemmas.{word_write_back-refl, word_write_back-trans}
 use Rattle.line_device.proofs.WriteBackLemmas.{on_line-in}
 use Rattle.line_words.proofs.BesideLemmas.{beside-stored}
 use Rattle.nvm_model.specs.Numbered.{map_from}
 use Rattle.nvm_model.specs.Cell.{Cell, CellStands, put_cell, touches, covers}
 use Rattle.nvm_model.specs.Cell.Cell.{Bad, Kept}
-use Rattle.nvm_model.specs.Interrupted.{MayPut, AreMixed}
+use Rattle.nvm_model.specs.Interrupted.{MayPut}
+use Rattle.nvm_model.specs.Numbered.{AreMixed}
 use Rattle.nvm_model.proofs.NumberedLemmas.{slice_get-map_from, length-map_from}
 use Rattle.nvm_model.proofs.StandLemmas.{word_write_back-strong, word_write_back-word_stored}
 use Rattle.page_lines.specs.Turns.{Turns, MayTurn, WritesBackOthers, healed}
-use Rattle.page_lines.proofs.TurnLemmas.{stands-write_back, others-wider, others-write_back, others-beside, others-renewed}
+use Rattle.page_lines.proofs.OthersLemmas.{others-wider, others-write_back, others-beside}
+use Rattle.page_lines.proofs.TurnLemmas.{stands-write_back}
+use Rattle.page_lines.proofs.ClearLemmas.{stands-cleared}
 use Rattle.page_lines.proofs.PieceLemmas.{word_stored-out, word_stored-part}
 
 -- an item that was changed, from the one that it was
@@ -46,11 +49,6 @@ untouched_word at len n w small not =
           ]
       | inr before ↦ inl (omega (arith, before, small))
     ]
-
-get_replicate : (count w : ℕ) (history : List ℕ) → slice_get (replicate count (0 ∷ [])) w ≡ Some history → history ≡ 0 ∷ []
-get_replicate zero w history found = cc
-get_replicate (suc count) zero history found = cc
-get_replicate (suc count) (suc w) history found = get_replicate count w history found
 
 -- the piece stored that falls on the line
 pub turns-stored : (m new : Medium) (line n at start : ℕ) (bytes piece : List ℕ) → m.is_bad line ≡ false → touches at (length bytes) n ≡ true → start ≡ max at (64 * n)
@@ -102,14 +100,14 @@ turns-unput line n at bytes m some not = record { stands = by_cell }
         (word_write_back-refl false (m.history (8 * line + w))))
 
 -- what may be left
-mixed-left : (f : List (List ℕ)) (words : List (List ℕ)) → AreMixed words f words
+mixed-left : (f : List (List ℕ)) (words : List (List ℕ)) → AreMixed (List ℕ) words f words
 mixed-left f words = record { length = refl; each = λ w. inl refl }
 
 pub may_put-left : (at n : ℕ) (bytes : List ℕ) (cell : Cell) → MayPut at bytes n cell cell
 may_put-left at n bytes Bad = inl refl
 may_put-left at n bytes (Kept weak words) = (refl, mixed-left _ words)
 
-mixed-put : (at n : ℕ) (bytes : List ℕ) (words : List (List ℕ)) → AreMixed words (map_from (word_stored at bytes) (8 * n) words) (map_from (word_stored at bytes) (8 * n) words)
+mixed-put : (at n : ℕ) (bytes : List ℕ) (words : List (List ℕ)) → AreMixed (List ℕ) words (map_from (word_stored at bytes) (8 * n) words) (map_from (word_stored at bytes) (8 * n) words)
 mixed-put at n bytes words = record { length = length-map_from _ (8 * n) words; each = λ w. inr refl }
 
 pub may_put-done : (at n : ℕ) (bytes : List ℕ) (cell : Cell) → MayPut at bytes n cell (put_cell at bytes n cell)
@@ -148,23 +146,8 @@ may_put-back old new line at n bytes x = record { leaves = λ cell stands. (cell
 pub turns-cleared : (m new : Medium) (line : ℕ) → m.is_bad line ≡ true → WritesBack (cleared m line) new → Turns healed line m new
 turns-cleared m new line bad x = record { stands = by_cell }
   where
-    here : (f : ℕ → Bool) → with_at f line false line ≡ false
-    here f = ap (λ b. cond b false (f line)) (eq-eqb line line refl)
-
-    zero_in : (w : ℕ) (history : List ℕ) → slice_get (replicate 8 (0 ∷ [])) w ≡ Some history → (history ≡ 0 ∷ []) × (w < 8)
-    zero_in w history found = (get_replicate 8 w history found, slice_get_within (replicate 8 (0 ∷ [])) w history found)
-
     by_cell : (cell : Cell) → CellStands m line cell → CellStands new line (healed cell)
-    by_cell Bad stands = (
-      x.bad line ∙ here m.is_bad,
-      x.weak line ∙ here m.is_weak,
-      refl,
-      λ w history found.
-          let is = zero_in w history found in
-          let on : (8 * line + w) / 8 ≡ line = omega (arith, is.1) in
-          subst (λ h. WordWritesBack false h (new.history (8 * line + w))) (on_line-in line (λ _ _. 0 ∷ []) m.history (8 * line + w) on ∙ sym is.0)
-          (word_write_back-strong ((cleared m line).is_weak ((8 * line + w) / 8)) _ _ (x.word_write_back (8 * line + w))),
-    )
+    by_cell Bad stands = stands-cleared m new line x
     by_cell (Kept weak words) stands = absurd (false≢true (sym stands.0 ∙ bad))
 
 pub turns-unhealed : (m : Medium) (line : ℕ) → m.is_bad line ≡ false → Turns healed line m m
@@ -179,10 +162,6 @@ pub others-store : {A F : Type 0} (r : Result A F) (m new : Medium) (line at : �
     → WritesBackOthers (λ n. n ≡ line) m new
 others-store (Ok x) m new line at bytes h = others-beside (λ n. n ≡ line) m new (beside-stored m new line at bytes h)
 others-store (Err e) m new line at bytes h = others-write_back (λ n. n ≡ line) m new h
-
-pub others-clear : {A F : Type 0} (r : Result A F) (m new : Medium) (line : ℕ) → MatchResult r (λ _. WritesBack (cleared m line) new) (λ _. WritesBack m new) → WritesBackOthers (λ n. n ≡ line) m new
-others-clear (Ok x) m new line h = others-renewed m new line false false (λ _. 0 ∷ []) h
-others-clear (Err e) m new line h = others-write_back (λ n. n ≡ line) m new h
 
 -- told of the line that is there
 pub ok_there : {A F : Type 0} (r : Result A F) (there : Option ℕ) (line : ℕ) (P : ℕ → Type 0) → there ≡ Some line → OnOk r (P line) → OnOk r ((at : ℕ) → there ≡ Some at → P at)

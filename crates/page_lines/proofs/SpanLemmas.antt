@@ -7,7 +7,7 @@ use Rattle.line_device.specs.Medium.{Medium}
 use Rattle.nvm_model.specs.Cell.{Cell, touches}
 use Rattle.page_lines.specs.Placed.{AreApart, IsPlaced, one_there, there_among, there_in}
 use Rattle.page_lines.specs.Turns.{Turns, WritesBackOthers}
-use Rattle.page_lines.proofs.TurnLemmas.{others-wider}
+use Rattle.page_lines.proofs.OthersLemmas.{others-wider}
 use Rattle.page_lines.proofs.LoopLemmas.{IsReached, Reached, reached-all, touches-within, within-touches}
 
 pub on_err : {T E : Type 0} (r : Result T E) {P : Type 0} → P → OnErr r P

@@ -1,17 +1,17 @@
 -- What calls on one line leave of it, and of the others.
-use Rattle.std.proofs.Common.{◌≡◌, ℕ, ◌+◌, ◌*◌, ◌/◌, ◌<◌, Bool, true, false, Option, Some, Result, Ok, Err, MatchResult, OnOk, List, [], if◌then◌else◌, refl, sym, ap, subst, ◌∙◌, inl, inr, arith}
-use Rattle.std.proofs.lemmas.Bool.{cases_Bool, ne_eqb}
+use Rattle.std.proofs.Common.{◌≡◌, ℕ, ◌+◌, ◌*◌, ◌/◌, ◌<◌, ◌==◌, Bool, true, false, Option, Some, Result, Ok, Err, MatchResult, OnOk, List, [], if◌then◌else◌, refl, sym, ap, subst, ◌∙◌, inl, inr, arith}
+use Rattle.std.proofs.lemmas.Bool.{cases_Bool, ne_eqb, eqb-true, false≢true}
 use Rattle.std.proofs.lemmas.Option.{slice_get_within}
 use Rattle.line_device.specs.History.{WordWritesBack}
 use Rattle.line_device.specs.Medium.{Medium, WritesBack, with_at, renewed, persisted}
-use Rattle.line_device.proofs.HistoryLemmas.{word_write_back-refl, word_write_back-trans}
+use Rattle.line_device.proofs.HistoryLemmas.{word_write_back-trans}
 use Rattle.line_device.proofs.WriteBackLemmas.{on_line-out, persisted-strong, persisted-weak}
-use Rattle.line_words.specs.Words.{WritesBackBeside}
 use Rattle.line_words.proofs.BesideLemmas.{beside-flushed}
 use Rattle.nvm_model.specs.Cell.{Cell, CellStands, flush_cell}
 use Rattle.nvm_model.specs.Cell.Cell.{Bad, Kept}
 use Rattle.nvm_model.proofs.StandLemmas.{word_write_back-strong, cell_stands-persisted}
 use Rattle.page_lines.specs.Turns.{Turns, WritesBackOthers}
+use Rattle.page_lines.proofs.OthersLemmas.{others-wider, others-write_back, others-beside}
 
 -- a line whose marks stay and whose words are only written back
 pub stands-same : (a b : Medium) (line : ℕ) (cell : Cell) → b.is_bad line ≡ a.is_bad line → b.is_weak line ≡ a.is_weak line
@@ -36,49 +36,36 @@ pub stands-write_back : (a b : Medium) (line : ℕ) (cell : Cell) → WritesBack
 stands-write_back a b line cell x stands =
     stands-same a b line cell (x.bad line) (x.weak line) (λ p on. word_write_back-strong (a.is_weak (p / 8)) _ _ (x.word_write_back p)) stands
 
-pub others-refl : (lines : ℕ → Type 0) (m : Medium) → WritesBackOthers lines m m
-others-refl lines m = record { count = refl; bad = λ _ _. refl; weak = λ _ _. refl; word_write_back = λ p _. word_write_back-refl (m.is_weak (p / 8)) (m.history p) }
-
-pub others-trans : (lines : ℕ → Type 0) (a b c : Medium) → WritesBackOthers lines a b → WritesBackOthers lines b c → WritesBackOthers lines a c
-others-trans lines a b c x y = record {
-  count = y.count ∙ x.count;
-  bad = λ n out. y.bad n out ∙ x.bad n out;
-  weak = λ n out. y.weak n out ∙ x.weak n out;
-  word_write_back = λ p out. word_write_back-trans (a.is_weak (p / 8)) (a.history p) (b.history p) (c.history p) (x.word_write_back p out) (subst (λ w. WordWritesBack w (b.history p) (c.history p)) (x.weak (p / 8) out) (y.word_write_back p out));
-}
-
-pub others-wider : (some more : ℕ → Type 0) (a b : Medium) → ((n : ℕ) → some n → more n) → WritesBackOthers some a b → WritesBackOthers more a b
-others-wider some more a b wider x = record {
-  count = x.count;
-  bad = λ n out. x.bad n (λ h. out (wider n h));
-  weak = λ n out. x.weak n (λ h. out (wider n h));
-  word_write_back = λ p out. x.word_write_back p (λ h. out (wider (p / 8) h));
-}
-
-pub others-write_back : (lines : ℕ → Type 0) (a b : Medium) → WritesBack a b → WritesBackOthers lines a b
-others-write_back lines a b x = record { count = x.count; bad = λ n _. x.bad n; weak = λ n _. x.weak n; word_write_back = λ p _. x.word_write_back p }
-
-pub others-beside : (lines : ℕ → Type 0) (a b : Medium) → WritesBackBeside lines a b → WritesBackOthers lines a b
-others-beside lines a b x = record { count = x.count; bad = x.bad; weak = x.weak; word_write_back = x.word_write_back }
-
 with_at-out : (f : ℕ → Bool) (line : ℕ) (v : Bool) (n : ℕ) → (n ≡ line → ⊥) → with_at f line v n ≡ f n
 with_at-out f line v n out = ap (λ b. if b then v else f n) (ne_eqb n line out)
 
--- a line made something else, whatever it was
-pub others-renewed : (m new : Medium) (line : ℕ) (bad weak : Bool) (words : ℕ → List ℕ) → WritesBack (renewed m line bad weak words) new → WritesBackOthers (λ n. n ≡ line) m new
-others-renewed m new line bad weak words x = record {
+with_at-keeps : (f : ℕ → Bool) (line : ℕ) (v : Bool) (n : ℕ) → (n ≡ line → v ≡ false) → f n ≡ false → with_at f line v n ≡ false
+with_at-keeps f line v n here h =
+    elim (cases_Bool (n == line)) as (λ _. with_at f line v n ≡ false) [
+      | inl same ↦ ap (λ b. if b then v else f n) same ∙ here (eqb-true n line same)
+      | inr other ↦ ap (λ b. if b then v else f n) other ∙ h
+    ]
+
+-- a line made something else that is not weak, and bad only where it was weak
+pub others-renewed : (m new : Medium) (line : ℕ) (bad : Bool) (words : ℕ → List ℕ) → (m.is_weak line ≡ false → bad ≡ false)
+    → WritesBack (renewed m line bad false words) new → WritesBackOthers (λ n. n ≡ line) m new
+others-renewed m new line bad words fails x = record {
   count = x.count;
   bad = λ n out. x.bad n ∙ with_at-out m.is_bad line bad n out;
-  weak = λ n out. x.weak n ∙ with_at-out m.is_weak line weak n out;
+  weak = λ n out. x.weak n ∙ with_at-out m.is_weak line false n out;
+  stays_strong = λ n strong. x.weak n ∙ with_at-keeps m.is_weak line false n (λ _. refl) strong;
+  stays_good = λ n healthy strong. x.bad n ∙ with_at-keeps m.is_bad line bad n (λ same. fails (ap m.is_weak (sym same) ∙ strong)) healthy;
   word_write_back = λ p out.
-      subst (λ w. WordWritesBack w (m.history p) (new.history p)) (with_at-out m.is_weak line weak (p / 8) out)
-      (subst (λ h. WordWritesBack ((renewed m line bad weak words).is_weak (p / 8)) h (new.history p)) (on_line-out line (λ w _. words w) m.history p out) (x.word_write_back p));
+      subst (λ w. WordWritesBack w (m.history p) (new.history p)) (with_at-out m.is_weak line false (p / 8) out)
+      (subst (λ h. WordWritesBack ((renewed m line bad false words).is_weak (p / 8)) h (new.history p)) (on_line-out line (λ w _. words w) m.history p out) (x.word_write_back p));
 }
 
 pub others-persisted : (m new : Medium) (line : ℕ) → WritesBack (persisted m line) new → WritesBackOthers (λ n. n ≡ line) m new
 others-persisted m new line x =
     elim (cases_Bool (m.is_weak line)) as (λ _. WritesBackOthers (λ n. n ≡ line) m new) [
-      | inl weak ↦ others-renewed m new line true false (λ _. []) (subst (λ after. WritesBack after new) (persisted-weak m line weak) x)
+      | inl weak ↦
+          others-renewed m new line true (λ _. []) (λ strong. absurd (false≢true (sym strong ∙ weak)))
+          (subst (λ after. WritesBack after new) (persisted-weak m line weak) x)
       | inr strong ↦ others-beside (λ n. n ≡ line) m new (beside-flushed m new line (subst (λ after. WritesBack after new) (persisted-strong m line strong) x))
     ]
 

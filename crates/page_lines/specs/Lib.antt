@@ -1,3 +1,4 @@
 pub mod Placed
 pub mod Turns
 pub mod Shown
+pub mod Sought

@@ -1,5 +1,5 @@
 -- Lines of storage, each at a line of the device or nowhere.
-use Rattle.std.specs.Prelude.{◌≡◌, ◌+◌, ◌<◌, ℕ, zero, suc, true, Option, Some, None, nat_lt, if◌then◌else◌}
+use Rattle.std.specs.Prelude.{◌≡◌, ◌+◌, ◌<◌, ◌≤◌, ℕ, zero, suc, true, Option, Some, None, nat_lt, if◌then◌else◌}
 use Rattle.nvm_base.specs.Units.{units_of}
 use Rattle.nvm_base.specs.declared.units.Span.{Span}
 use Rattle.nvm_model.specs.Cell.{touches}
@@ -16,6 +16,10 @@ whole count n = if nat_lt n count then Some n else None
 -- a line of the device that some line which the span touches is at
 abbrev pub IsPlaced : (ℕ → Option ℕ) → ℕ → ℕ → ℕ → Type 0
 IsPlaced place start len line = (n : ℕ) × (touches start len n ≡ true) × (place n ≡ Some line)
+
+-- a line of the device that one of so many lines from the first on is at
+abbrev pub IsPlacedAmong : (ℕ → Option ℕ) → ℕ → ℕ → ℕ → Type 0
+IsPlacedAmong place first count line = (n : ℕ) × (first ≤ n) × (n < first + count) × (place n ≡ Some line)
 
 -- one line, where it is there
 abbrev pub one_there : Option ℕ → ℕ

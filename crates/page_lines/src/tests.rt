@@ -2,10 +2,10 @@
 ghost use Rattle.std.specs.Prelude.{◌≡◌, ◌≤◌, ℕ, false, Some, IsTrue};
 ghost use Rattle.page_lines.specs.Placed.{AreApart, whole};
 
-use crate::{Whole, load_lines, persist_lines, put_lines};
+use crate::{BadLines, Whole, clear_lines, load_lines, lowest_bad, persist_lines, put_lines};
 use line_device::{Choice, LineDevice, LineState, Lines, Peek, Plain};
 use line_words::{Interruption, first_bad};
-use nvm_base::{Bytes, LineNo, Span};
+use nvm_base::{LineNo, Span};
 use std::alloc::AllocError;
 use std::test::Fail;
 
@@ -53,13 +53,30 @@ fn put_whole<L: Lines>(dev: &mut L, line: u64, bytes: &[u8; 128]) -> Result<(), 
     put_lines(dev, &Whole { count: 4 }, 64 * line, bytes)
 }
 
-fn load<L: Lines>(dev: &mut L, start: u64, len: u64, out: &mut Bytes) -> Result<(), Interruption>
-    requires { len ≤ out.old.spare }
-{
-    if !are_there(dev, 4) || !are_good(dev, 4) || len == 0 || 256 < start || 256 < len {
+fn load<L: Lines>(dev: &mut L, offset: u64, out: &mut [u8]) -> Result<(), Interruption> {
+    if !are_there(dev, 4)
+        || !are_good(dev, 4)
+        || out.is_empty()
+        || 256 < offset
+        || 256 < out.len()
+    {
         return Err(STOPPED);
     }
-    load_lines(dev, &Whole { count: 4 }, Span { start, len }, out)
+    load_lines(dev, &Whole { count: 4 }, offset, out)
+}
+
+fn clear<L: Lines>(dev: &mut L, first: u64, count: u64) -> Result<(), Interruption> {
+    if !are_there(dev, 4) || 4 < first || 4 < count {
+        return Err(STOPPED);
+    }
+    clear_lines(dev, &Whole { count: 4 }, first, count)
+}
+
+fn find<L: Lines>(dev: &L, start: u64, len: u64, which: BadLines) -> Option<u64> {
+    if !are_there(dev, 4) || len == 0 || 256 < start || 256 < len {
+        return None;
+    }
+    lowest_bad(dev, &Whole { count: 4 }, Span { start, len }, which)
 }
 
 fn cut(device: &mut Plain) -> Result<(), AllocError> {
@@ -120,12 +137,48 @@ fn a_line_that_is_nowhere_takes_no_call(rt: HostRuntime) -> Result<(), Fail> {
     assert_eq!(rt; put(&mut device, 250, &[5; 20]), Ok(()));
     assert_eq!(rt; device.counts().calls, 1);
     assert_eq!(rt; line(&device, 4), Some(LineState::Healthy([0; 64])));
-    let mut out = Bytes::new(rt.alloc());
-    out.reserve(8)?;
-    assert_eq!(rt; load(&mut device, 252, 8, &mut out), Ok(()));
-    assert_eq!(rt; out.as_slice(), [5, 5, 5, 5, 0, 0, 0, 0].as_slice());
+    let mut out = [9; 8];
+    assert_eq!(rt; load(&mut device, 252, &mut out), Ok(()));
+    assert_eq!(rt; out, [5, 5, 5, 5, 0, 0, 0, 0]);
     assert_eq!(rt; device.counts().calls, 2);
     device.arm_fail(1);
     assert_eq!(rt; sync(&mut device, 255, 9), Err(Interruption::Failed));
+    Ok(())
+}
+
+#[test]
+fn lines_are_cleared_by_one_call_each(rt: HostRuntime) -> Result<(), Fail> {
+    let mut device = Plain::new(rt.alloc());
+    device.reset(5, 8)?;
+    assert_eq!(rt; put(&mut device, 0, &[7; 256]), Ok(()));
+    assert!(rt; device.lines() == 5);
+    device.poison(LineNo(2));
+    device.weaken(LineNo(3))?;
+    let calls = device.counts().calls;
+    assert_eq!(rt; clear(&mut device, 1, 4), Ok(()));
+    assert_eq!(rt; device.counts().calls.checked_sub(calls), Some(3));
+    assert_eq!(rt; line(&device, 0), Some(LineState::Healthy([7; 64])));
+    cut(&mut device)?;
+    for n in 0..4 {
+        assert_eq!(rt; line(&device, n), Some(LineState::Healthy([0; 64])));
+    }
+    Ok(())
+}
+
+#[test]
+fn the_lowest_bad_line_is_found_without_a_call(rt: HostRuntime) -> Result<(), Fail> {
+    let mut device = Plain::new(rt.alloc());
+    device.reset(5, 8)?;
+    assert!(rt; device.lines() == 5);
+    device.poison(LineNo(1));
+    device.poison(LineNo(2));
+    device.poison(LineNo(4));
+    assert_eq!(rt; find(&device, 0, 64, BadLines::All), None);
+    assert_eq!(rt; find(&device, 0, 65, BadLines::All), Some(1));
+    assert_eq!(rt; find(&device, 60, 140, BadLines::All), Some(1));
+    assert_eq!(rt; find(&device, 60, 140, BadLines::NotCovered), None);
+    assert_eq!(rt; find(&device, 60, 131, BadLines::NotCovered), Some(2));
+    assert_eq!(rt; find(&device, 192, 200, BadLines::All), None);
+    assert_eq!(rt; device.counts().calls, 0);
     Ok(())
 }

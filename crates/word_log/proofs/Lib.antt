@@ -9,3 +9,4 @@ pub mod ReadLemmas
 pub mod ValidLemmas
 pub mod ListLemmas
 pub mod RestLemmas
+pub mod HomeLemmas

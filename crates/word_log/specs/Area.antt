@@ -1,5 +1,5 @@
 -- Where a log and the words that it changes stand. A word's place is 8 * line + word.
-use Rattle.std.specs.Prelude.{◌≡◌, ◌⊎◌, ℕ, ◌+◌, ◌*◌, ◌/◌, ◌%◌, ◌<◌, ◌≤◌, Bool, false, ◌&&◌, nat_le, nat_lt}
+use Rattle.std.specs.Prelude.{◌≡◌, ◌⊎◌, ℕ, ◌+◌, ◌*◌, ◌/◌, ◌%◌, ◌<◌, ◌≤◌, Bool, false, ◌&&◌, nat_le, nat_lt, List, length, slice_index}
 use Rattle.line_device.specs.Medium.{Medium}
 use Rattle.word_log.specs.declared.area.LogArea.{LogArea}
 
@@ -25,6 +25,11 @@ IsHome a p = (a.home.start ≤ p) × (p < a.home.start + a.home.len)
 
 abbrev pub is_home : LogArea → ℕ → Bool
 is_home a p = nat_le a.home.start p && nat_lt p (a.home.start + a.home.len)
+
+-- these are the values of the home words, in their order
+pub record AreHomeWords (a : LogArea) (word : ℕ → ℕ) (words : List ℕ) : Type 0 where
+  pub all : length words ≡ a.home.len
+  pub each : (k : ℕ) → k < a.home.len → slice_index words k ≡ word (a.home.start + k)
 
 -- a word of log or home
 abbrev pub IsOf : LogArea → ℕ → Type 0

@@ -22,6 +22,7 @@ mod area;
 mod entries;
 mod fault;
 mod home;
+mod home_words;
 mod lines;
 mod lists;
 mod mounting;
@@ -33,6 +34,7 @@ mod tests;
 
 pub use area::LogArea;
 pub use fault::LogFault;
+pub use home_words::mount_words;
 use line_device::Lines;
 use line_words::Interruption;
 pub use lists::{replay, small_log_worked_through};

@@ -1,35 +1,37 @@
-use Rattle.std.proofs.Common.{◌≡◌, ◌+◌, ◌/◌, ◌++◌, Err, Some, sym, ap, subst, ◌∙◌, arith}
+use Rattle.std.proofs.Common.{◌≡◌, ◌+◌, ◌-◌, ◌/◌, ℕ, Err, Some, length, length-take, length-drop, take, drop, sym, ap, subst, ◌∙◌, arith}
 use Rattle.std.proofs.lemmas.Result.{err_from_is_err_and}
+use Rattle.nvm_base.specs.declared.units.Span.{Span}
 use Rattle.line_device.specs.Panel.{Runs}
 use Rattle.line_device.proofs.PanelLemmas.{runs-refl, runs_then, runs_within}
 use Rattle.line_device.proofs.WriteBackLemmas.{write_back-refl, write_back-trans}
 use Rattle.line_words.specs.Ending.{ended}
 use Rattle.page_lines.specs.Placed.{one_there, there_in}
 use Rattle.page_lines.specs.Shown.{before_line, placed_byte}
-use Rattle.page_lines.proofs.LoadLemmas.{said-next, said-none, placed-write_back}
+use Rattle.page_lines.proofs.LoadLemmas.{placed-write_back}
+use Rattle.page_lines.proofs.BufferLemmas.{filled_none, filled_more}
 use Rattle.page_lines.proofs.SpanLemmas.{touches-among, there_among-next, there_in-next}
 use Rattle.page_lines.proofs.loading.load_lines.Goals as goal
 
 pub loop-k-init : goal.loop-k-init
 loop-k-init g c =
-    let first : c.lines_of-touched.result.start ≡ c.args.span.start / 64 = ap (λ s. s.start) c.lines_of-touched.ensures.value in
+    let first : c.lines_of-touched.result.start ≡ c.args.offset / 64 = ap (λ s. s.start) c.lines_of-touched.ensures.value in
     record {
-      bytes = said-none (placed_byte (g.P.Places.place c.args.places.now) (g.L.Lines.state c.args.dev.now).medium) _ _ _ (omega (arith, first));
-      room = omega arith;
+      bytes = filled_none (placed_byte (g.P.Places.place c.args.places.now) (g.L.Lines.state c.args.dev.now).medium) _ _ c.args.out.now (omega (arith, first));
       lines = write_back-refl _;
       runs = runs-refl _;
     }
 
 pub load_at-requires-clause-good : goal.load_at-requires-clause-good
 load_at-requires-clause-good g c = λ line at.
+    let span : Span = record { start = c.args.offset; len = length c.args.out.now } in
     let t = c.lines_of-touched.result in
     let n = t.start + c.loop-k.k in
-    let first : t.start ≡ c.args.span.start / 64 = ap (λ s. s.start) c.lines_of-touched.ensures.value in
+    let first : t.start ≡ c.args.offset / 64 = ap (λ s. s.start) c.lines_of-touched.ensures.value in
     let count = ap (λ s. s.len) c.lines_of-touched.ensures.value in
-    let start = ap (λ s. s.start) c.part_in.ensures in
-    let is : c.part_in.result.start / 64 ≡ n = omega (arith, first, count, start) in
+    let start = ap (λ s. s.start) c.part_in-part.ensures in
+    let is : c.part_in-part.result.start / 64 ≡ n = omega (arith, first, count, start) in
     c.loop-k.invariant.lines.bad line
-    ∙ c.requires.good n line (touches-among c.args.span t n c.lines_of-touched.ensures.value c.requires.some (omega arith) (omega arith))
+    ∙ c.requires.good n line (touches-among span t n c.lines_of-touched.ensures.value c.requires.some (omega arith) (omega arith))
     (subst (λ i. g.P.Places.place c.args.places.now i ≡ Some line) is at)
 
 pub returns-in_err-load_at-clause-lines : goal.returns-in_err-load_at-clause-lines
@@ -37,37 +39,42 @@ returns-in_err-load_at-clause-lines g c = write_back-trans _ _ _ c.loop-k.invari
 
 pub loop-k-preserved : goal.loop-k-preserved
 loop-k-preserved g c =
-    let span = c.args.span in
+    let span : Span = record { start = c.args.offset; len = length c.args.out.now } in
     let t = c.lines_of-touched.result in
+    let part = c.part_in-part.result in
     let k = c.loop-k.k in
     let place = g.P.Places.place c.args.places.now in
     let old = (g.L.Lines.state c.args.dev.now).medium in
     let now = (g.L.Lines.state c.loop-k.dev).medium in
     let first : t.start ≡ span.start / 64 = ap (λ s. s.start) c.lines_of-touched.ensures.value in
     let count = ap (λ s. s.len) c.lines_of-touched.ensures.value in
-    let start = ap (λ s. s.start) c.part_in.ensures in
-    let len = ap (λ s. s.len) c.part_in.ensures in
-    let is : c.part_in.result.start / 64 ≡ t.start + k = omega (arith, first, count, start) in
+    let start = ap (λ s. s.start) c.part_in-part.ensures in
+    let len = ap (λ s. s.len) c.part_in-part.ensures in
+    let is : part.start / 64 ≡ t.start + k = omega (arith, first, count, start) in
     let there = ap (λ i. one_there (place i)) is in
     let more = there_among-next place t.start k in
-    let loaded = c.in_ok-load_at.ensures.ok ∙ ap (λ xs. c.loop-k.out.items ++ xs) (placed-write_back place old now c.part_in.result.start c.part_in.result.len c.loop-k.invariant.lines) in
+    let size : length (take (part.start - c.args.offset + part.len - (part.start - c.args.offset)) (drop (part.start - c.args.offset) c.loop-k.out)) ≡ part.len =
+    omega (arith, length-take {A = ℕ}, length-drop {A = ℕ}, c.loop-k.auto.out, first, count, start, len) in
+    let loaded = c.in_ok-load_at.ensures.ok ∙ placed-write_back place old now part.start _ c.loop-k.invariant.lines in
     record {
-      bytes = said-next (placed_byte place old) c.args.out.now.items c.loop-k.out.items _ span.start (before_line span (t.start + k)) _ _ _ c.loop-k.invariant.bytes loaded (omega (arith, first, count, start)) (omega (arith, first, count, start, len));
-      room = omega (arith, first, count, start, len, c.loop-k.invariant.room, c.in_ok-load_at.ensures.room);
+      bytes =
+          filled_more (placed_byte place old) c.args.offset (before_line span (t.start + k)) (part.start - c.args.offset) part.start _ _ _ c.args.out.now c.loop-k.out c.load_at.new.out
+          c.loop-k.invariant.bytes loaded (omega (arith, first, count, start)) (omega (arith, first, count, start))
+          (omega (arith, size)) (omega (arith, first, count, start, len, size));
       lines = write_back-trans _ _ _ c.loop-k.invariant.lines c.in_ok-load_at.ensures.lines;
       runs = runs_within _ _ _ _ _ _ _ (runs_then _ _ _ _ _ _ _ _ c.loop-k.invariant.runs c.in_ok-load_at.ensures.runs) (omega (arith, more, there)) (omega arith);
     }
 
 pub returns-in_err-load_at-clause-runs : goal.returns-in_err-load_at-clause-runs
 returns-in_err-load_at-clause-runs g c =
-    let span = c.args.span in
+    let span : Span = record { start = c.args.offset; len = length c.args.out.now } in
     let t = c.lines_of-touched.result in
     let k = c.loop-k.k in
     let place = g.P.Places.place c.args.places.now in
     let first : t.start ≡ span.start / 64 = ap (λ s. s.start) c.lines_of-touched.ensures.value in
     let count = ap (λ s. s.len) c.lines_of-touched.ensures.value in
-    let start = ap (λ s. s.start) c.part_in.ensures in
-    let is : c.part_in.result.start / 64 ≡ t.start + k = omega (arith, first, count, start) in
+    let start = ap (λ s. s.start) c.part_in-part.ensures in
+    let is : c.part_in-part.result.start / 64 ≡ t.start + k = omega (arith, first, count, start) in
     let there = ap (λ i. one_there (place i)) is in
     let most = there_in-next place span t k c.lines_of-touched.ensures.value (omega arith) in
     let failed = err_from_is_err_and c.from_residual.result c.from_residual.ensures.1 in

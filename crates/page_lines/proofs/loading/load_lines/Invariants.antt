@@ -1,10 +1,10 @@
-use Rattle.std.proofs.Common.{◌≡◌, ◌+◌, ◌≤◌, ◌++◌}
+use Rattle.std.proofs.Common.{◌+◌}
 use Rattle.line_device.specs.Medium.{WritesBack}
 use Rattle.line_device.specs.Panel.{Runs}
 use Rattle.line_device.specs.Panel.Outcome.{went}
-use Rattle.nvm_model.specs.Numbered.{list_from}
 use Rattle.page_lines.specs.Placed.{there_among}
 use Rattle.page_lines.specs.Shown.{before_line, placed_byte}
+use Rattle.page_lines.proofs.BufferLemmas.{IsFilled}
 use Rattle.page_lines.proofs.loading.load_lines.Given as goal
 
 -- the bytes of the lines below this one are there
@@ -13,10 +13,8 @@ invariant-loop-k g l =
     let old = g.L.Lines.state l.initial.dev in
     let now = g.L.Lines.state l.dev in
     let place = g.P.Places.place l.places in
-    let done = before_line l.fn.span (l.touched.start + l.k) in
     record {
-      bytes : l.out.items ≡ l.fn.out.items ++ list_from (placed_byte place old.medium) l.fn.span.start done;
-      room : l.fn.out.spare ≤ l.out.spare + done;
+      bytes : IsFilled (placed_byte place old.medium) l.offset (before_line l.span (l.touched.start + l.k)) l.initial.out l.out;
       lines : WritesBack old.medium now.medium;
       runs : Runs (there_among place l.touched.start l.k) 0 went old.panel now.panel;
     }

@@ -1,5 +1,6 @@
 use Rattle.std.proofs.Common.{sym, ◌∙◌}
-use Rattle.page_lines.proofs.TurnLemmas.{turns-persist, others-persist, others-refl}
+use Rattle.page_lines.proofs.OthersLemmas.{others-refl}
+use Rattle.page_lines.proofs.TurnLemmas.{turns-persist, others-persist}
 use Rattle.page_lines.proofs.persisting.persist_at.Goals as goal
 
 pub returns-in-Some-clause-ok : goal.returns-in-Some-clause-ok

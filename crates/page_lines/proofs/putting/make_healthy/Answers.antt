@@ -1,4 +1,4 @@
-use Rattle.page_lines.proofs.TurnLemmas.{others-refl}
+use Rattle.page_lines.proofs.OthersLemmas.{others-refl}
 use Rattle.page_lines.proofs.putting.make_healthy.Goals as goal
 
 pub returns-else-is_bad-clause-outside : goal.returns-else-is_bad-clause-outside

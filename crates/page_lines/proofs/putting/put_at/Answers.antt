@@ -2,7 +2,7 @@ use Rattle.std.proofs.Common.{sym, ◌∙◌}
 use Rattle.nvm_model.specs.Cell.{put_cell}
 use Rattle.nvm_model.specs.Interrupted.{MayPut}
 use Rattle.page_lines.specs.Turns.{Turns, MayTurn}
-use Rattle.page_lines.proofs.TurnLemmas.{others-refl}
+use Rattle.page_lines.proofs.OthersLemmas.{others-refl}
 use Rattle.page_lines.proofs.PutLemmas.{ok_there, err_there, others_there}
 use Rattle.page_lines.proofs.putting.put_at.Goals as goal
 

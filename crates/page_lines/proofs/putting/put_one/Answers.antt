@@ -1,5 +1,5 @@
 use Rattle.page_lines.proofs.SpanLemmas.{on_err}
-use Rattle.page_lines.proofs.TurnLemmas.{others-trans}
+use Rattle.page_lines.proofs.OthersLemmas.{others-trans}
 use Rattle.page_lines.proofs.PutLemmas.{may_put-back, err_healed, ok_healed}
 use Rattle.page_lines.proofs.putting.put_one.Goals as goal
 

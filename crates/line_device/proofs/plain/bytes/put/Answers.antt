@@ -1,32 +1,9 @@
-use Rattle.std.proofs.Common.{◌≡◌, ℕ, ◌+◌, ◌-◌, ◌≤◌, List, ◌++◌, length, get_or, take, drop, inl, inr, sym, ◌∙◌, ap, subst, arith, rules, length-append, length-take, length-drop}
-use Rattle.std.proofs.lemmas.Bool.{cases_lt}
-use Rattle.std.proofs.lemmas.List.{places, take_all, append-nil}
+use Rattle.std.proofs.Common.{◌≡◌, ℕ, ◌+◌, ◌-◌, ◌≤◌, List, ◌++◌, length, take, drop, sym, ◌∙◌, ap, subst, arith}
+use Rattle.std.proofs.lemmas.List.{take_all, append-nil}
 use Rattle.std.proofs.lemmas.List.{drop_all}
-use Rattle.line_device.specs.Word.{byte_over, IsPut}
-use Rattle.line_device.proofs.WordLemmas.{byte_over-in, byte_over-out}
+use Rattle.line_device.specs.Word.{IsPut}
+use Rattle.line_device.proofs.PutLemmas.{mid, length-mid, is_put-mid}
 use Rattle.line_device.proofs.plain.bytes.put.Goals as goal
-
--- the list with the bytes in its midst
-abbrev mid : ℕ → List ℕ → List ℕ → List ℕ
-mid at bytes xs = take at xs ++ (bytes ++ drop (length bytes) (drop at xs))
-
-length-mid : (at : ℕ) (bytes xs : List ℕ) → at + length bytes ≤ length xs → length (mid at bytes xs) ≡ length xs
-length-mid at bytes xs fits =
-    omega (arith, length-append (take at xs) (bytes ++ drop (length bytes) (drop at xs)), length-append bytes (drop (length bytes) (drop at xs)), length-take at xs, length-drop at xs, length-drop (length bytes) (drop at xs))
-
-is_put-mid : (at : ℕ) (bytes xs : List ℕ) → at + length bytes ≤ length xs → IsPut at bytes xs (mid at bytes xs)
-is_put-mid at bytes xs fits k =
-    elim (cases_lt k at) as (λ _. get_or (mid at bytes xs) k 0 ≡ byte_over at bytes k (get_or xs k 0)) [
-      | inl before ↦
-          let same : get_or (mid at bytes xs) k 0 ≡ get_or xs k 0 = search (rules, places) in same ∙ sym (byte_over-out at k (get_or xs k 0) bytes (inl before))
-      | inr from ↦
-          elim (cases_lt k (at + length bytes)) as (λ _. get_or (mid at bytes xs) k 0 ≡ byte_over at bytes k (get_or xs k 0)) [
-            | inl to ↦
-                let put : get_or (mid at bytes xs) k 0 ≡ get_or bytes (k - at) 0 = search (rules, places) in put ∙ sym (byte_over-in at k (get_or xs k 0) bytes from to)
-            | inr past ↦
-                let same : get_or (mid at bytes xs) k 0 ≡ get_or xs k 0 = search (rules, places) in same ∙ sym (byte_over-out at k (get_or xs k 0) bytes (inr past))
-          ]
-    ]
 
 is_put-written : (len at n : ℕ) (xs seen copied bytes : List ℕ) → seen ≡ xs → copied ≡ bytes → length xs ≡ len → n ≡ length bytes → at + length bytes ≤ len → IsPut at bytes xs (take len ((take at seen ++ (copied ++ drop n (drop at seen))) ++ drop (length (take at seen ++ (copied ++ drop n (drop at seen)))) xs))
 is_put-written len at n xs seen copied bytes is_seen is_copied is_len is_n fits =

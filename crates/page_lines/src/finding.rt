@@ -1,0 +1,75 @@
+// Bad lines that a span touches. None of this makes a counted call.
+ghost use Rattle.std.specs.Prelude.{◌≡◌, ◌&&◌, ◌+◌, ◌*◌, ◌<◌, ◌≤◌, ◌^◌};
+ghost use Rattle.nvm_model.specs.Cell.{touches};
+ghost use Rattle.page_lines.specs.Placed.{AreApart};
+ghost use Rattle.page_lines.specs.Sought.{is_bad_at, is_sought, lowest_bad_in};
+
+use crate::Places;
+use line_device::Lines;
+use nvm_base::{LINE, LineNo, Span, lines_of};
+
+/// Which bad lines a search is after.
+#[derive(Clone, Copy, Debug, PartialEq, Eq)]
+pub enum BadLines {
+    All,
+    /// Those of which the span touches some bytes, and not all.
+    NotCovered,
+}
+
+impl BadLines {
+    // Whether the search is after line n, where it is bad.
+    fn takes(self, span: Span, n: u64) -> bool
+        requires within { span.start + span.len ≤ 2 ^ 40 }
+        requires small { n ≤ 2 ^ 40 }
+        ensures { result ≡ is_sought self span n }
+    {
+        match self {
+            BadLines::All => true,
+            BadLines::NotCovered => {
+                !(span.start <= LINE * n && LINE * n + LINE <= span.start + span.len)
+            }
+        }
+    }
+}
+
+/// The number of the lowest line, among those that the span touches and that are there, that is bad.
+pub fn lowest_bad<L: Lines, P: Places>(
+    dev: &L,
+    places: &P,
+    span: Span,
+    which: BadLines,
+) -> Option<u64>
+    requires some { 1 ≤ span.len }
+    requires within { span.start + span.len ≤ 2 ^ 40 }
+    requires apart { AreApart (P.place places.now) (L.state dev.now).medium.count }
+    ensures { result ≡ lowest_bad_in which (P.place places.now) (L.state dev.now).medium span }
+{
+    let touched = lines_of(span);
+    for k in 0..touched.len {
+        if is_hit(dev, places, span, which, touched.start + k) {
+            return Some(touched.start + k);
+        }
+    }
+    None
+}
+
+// Whether line n is bad, and one that the search is after.
+fn is_hit<L: Lines, P: Places>(dev: &L, places: &P, span: Span, which: BadLines, n: u64) -> bool
+    requires within { span.start + span.len ≤ 2 ^ 40 }
+    requires small { n ≤ 2 ^ 40 }
+    requires apart { AreApart (P.place places.now) (L.state dev.now).medium.count }
+    ensures { result ≡ (is_sought which span n && is_bad_at (L.state dev.now).medium (P.place places.now n)) }
+{
+    which.takes(span, n) && is_bad(dev, places, n)
+}
+
+// Whether line n is there and bad.
+fn is_bad<L: Lines, P: Places>(dev: &L, places: &P, n: u64) -> bool
+    requires apart { AreApart (P.place places.now) (L.state dev.now).medium.count }
+    ensures { result ≡ is_bad_at (L.state dev.now).medium (P.place places.now n) }
+{
+    match places.line(n) {
+        Some(line) => dev.is_bad(LineNo(line)),
+        None => false,
+    }
+}
