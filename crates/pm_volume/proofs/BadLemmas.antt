@@ -1,0 +1,119 @@
+-- Bad lines of pages, and those of the device.
+use Rattle.std.proofs.Common.{◌≡◌, inl, inr, ◌+◌, ◌-◌, ◌/◌, ◌%◌, ◌<◌, ◌≤◌, ◌&&◌, ℕ, Bool, true, false, not, Option, Some, None, option_map, option_and_then, position, List, length, slice_get, refl, sym, ap, ◌∙◌, arith}
+use Rattle.std.specs.List.{range_with_len}
+use Rattle.std.proofs.Math.Bool.{and_comm}
+use Rattle.std.proofs.lemmas.Bool.{cases_Bool, false≢true, and_from}
+use Rattle.std.proofs.lemmas.Option.{slice_get-map, slice_get-get_or, none-some, same_Some}
+use Rattle.nvm_base.specs.declared.units.Span.{Span}
+use Rattle.line_device.specs.Medium.{Medium}
+use Rattle.line_words.proofs.PositionLemmas.{none_found, one_found}
+use Rattle.word_tables.specs.Layout.{volume_line}
+use Rattle.nvm_model.specs.Cell.{Cell, CellStands, covers, lowest_touched, touches}
+use Rattle.nvm_model.specs.Cell.Cell.{Bad, Kept}
+use Rattle.nvm_model.specs.Page.{Page, cell_in, cell_of, first_bad_line, first_uncovered_line, is_bad_cell, is_present}
+use Rattle.nvm_model.specs.Page.Page.{Absent, Present}
+use Rattle.page_lines.specs.declared.finding.BadLines.TheVariants.{All, NotCovered}
+use Rattle.page_lines.specs.Sought.{is_bad_at, is_sought, lowest_bad_in}
+use Rattle.page_lines.proofs.LoopLemmas.{within-touches}
+use Rattle.pm_volume.specs.Object.{VolumeHolds, VolumeState, is_wanted, volume_place}
+use Rattle.pm_volume.proofs.PlaceLemmas.{place_of, unplaced}
+
+-- the line of the device that a cell stands at is bad where the cell is
+cell_bad : (m : Medium) (line : ℕ) (cell : Cell) → CellStands m line cell → m.is_bad line ≡ is_bad_cell (Some cell)
+cell_bad m line Bad stands = stands
+cell_bad m line (Kept weak words) stands = stands.0
+
+-- a page that is there has the line
+pub has_line : (cells : List Cell) (k : ℕ) → length cells ≡ 64 → k < 64 → (cell : Cell) × (slice_get cells k ≡ Some cell)
+has_line cells k whole below = (_, slice_get-get_or cells k Bad (omega (arith, whole, below)))
+
+module _ (s : VolumeState) (m : Medium) (pages : List Page) (holds : VolumeHolds s m pages) where
+  pub page_there : (i : ℕ) → slice_get s.present i ≡ option_map is_present (slice_get pages i)
+  page_there i = ap (λ (xs : List Bool). slice_get xs i) (sym holds.there) ∙ slice_get-map is_present pages i
+
+  -- where a line lies whose page is there, and what its cell is
+  pub cell_there : (n : ℕ) (cell : Cell) → cell_of pages n ≡ Some cell → slice_get s.present (n / 64) ≡ Some true
+  cell_there n cell is = page_there (n / 64) ∙ by_page (slice_get pages (n / 64)) is
+    where
+      by_page : (o : Option Page) → option_and_then (λ page. cell_in page (n % 64)) o ≡ Some cell → option_map is_present o ≡ Some true
+      by_page None is = cc
+      by_page (Some Absent) is = cc
+      by_page (Some (Present cells)) is = refl
+
+  pub cell_at : (n : ℕ) → slice_get s.present (n / 64) ≡ Some true → (cell : Cell) × (cell_of pages n ≡ Some cell)
+  cell_at n there = by_page (slice_get pages (n / 64)) refl (sym (page_there (n / 64)) ∙ there)
+    where
+      by_page : (o : Option Page) → slice_get pages (n / 64) ≡ o → option_map is_present o ≡ Some true → (cell : Cell) × (cell_of pages n ≡ Some cell)
+      by_page None was is = cc
+      by_page (Some Absent) was is = cc
+      by_page (Some (Present cells)) was is =
+          let has = has_line cells (n % 64) (holds.stand.whole (n / 64) cells was) (omega arith) in
+          (has.0, ap (option_and_then (λ page. cell_in page (n % 64))) was ∙ has.1)
+
+  pub bad_at : (n : ℕ) → is_bad_at m (volume_place s.geo s.present true n) ≡ is_bad_cell (cell_of pages n)
+  bad_at n = by_page (slice_get pages (n / 64)) refl
+    where
+      nowhere : is_wanted true (slice_get s.present (n / 64)) ≡ false → is_bad_at m (volume_place s.geo s.present true n) ≡ false
+      nowhere is = ap (is_bad_at m) (unplaced s.geo s.present true n is)
+
+      by_page : (o : Option Page) → slice_get pages (n / 64) ≡ o → is_bad_at m (volume_place s.geo s.present true n) ≡ is_bad_cell (cell_of pages n)
+      by_page None was =
+          nowhere (ap (is_wanted true) (page_there (n / 64) ∙ ap (option_map is_present) was)) ∙ sym (ap (λ o. is_bad_cell (option_and_then (λ page. cell_in page (n % 64)) o)) was)
+      by_page (Some Absent) was =
+          nowhere (ap (is_wanted true) (page_there (n / 64) ∙ ap (option_map is_present) was)) ∙ sym (ap (λ o. is_bad_cell (option_and_then (λ page. cell_in page (n % 64)) o)) was)
+      by_page (Some (Present cells)) was =
+          let there = page_there (n / 64) ∙ ap (option_map is_present) was in
+          let cell = cell_at n there in
+          ap (is_bad_at m) (place_of s.geo s.present true n there)
+          ∙ cell_bad m (volume_line s.geo n) cell.0 (holds.stand.lines n cell.0 cell.1)
+          ∙ sym (ap is_bad_cell cell.1)
+
+  -- so a search of the device finds what the pages say
+  pub finds_bad : (span : Span) → lowest_bad_in All (volume_place s.geo s.present true) m span ≡ first_bad_line pages span.start span.len
+  unfolding first_bad_line
+  finds_bad span = ap (λ p. lowest_touched p span.start span.len) (λ i n. bad_at n i)
+
+  pub finds_uncovered : (span : Span) → lowest_bad_in NotCovered (volume_place s.geo s.present true) m span ≡ first_uncovered_line pages span.start span.len
+  unfolding first_uncovered_line
+  finds_uncovered span = ap (λ p. lowest_touched p span.start span.len) (λ i n. same n i)
+    where
+      same : (n : ℕ) → (not (covers span.start span.len n) && is_bad_at m (volume_place s.geo s.present true n)) ≡ (is_bad_cell (cell_of pages n) && not (covers span.start span.len n))
+      same n = and_comm (not (covers span.start span.len n)) (is_bad_at m (volume_place s.geo s.present true n)) ∙ ap (λ b. b && not (covers span.start span.len n)) (bad_at n)
+
+-- where a search finds nothing, no line that the span touches passes
+unmapped : (k : ℕ) (o : Option ℕ) → option_map (λ n. k + n) o ≡ None → o ≡ None
+unmapped k None is = refl
+unmapped k (Some n) is = absurd (none-some (k + n) (sym is))
+
+pub none_touched : (p : ℕ → Bool) (start len n : ℕ) → 1 ≤ len → lowest_touched p start len ≡ None → touches start len n ≡ true → p n ≡ false
+none_touched p start len n some none touched =
+    let at = within-touches start len n some touched in
+    let first : ℕ = start / 64 in
+    let back : first + (n - first) ≡ n = omega (arith, at.0) in
+    ap p (sym back)
+    ∙ none_found p first ((start + len - 1) / 64 + 1 - start / 64) (n - first)
+    (unmapped first (position p (range_with_len first ((start + len - 1) / 64 + 1 - start / 64))) none) (omega (arith, at.0, at.1))
+
+pub all_good : (place : ℕ → Option ℕ) (m : Medium) (span : Span) → 1 ≤ span.len → lowest_bad_in All place m span ≡ None → (n line : ℕ) → touches span.start span.len n ≡ true → place n ≡ Some line → m.is_bad line ≡ false
+all_good place m span some none n line touched at =
+    sym (ap (is_bad_at m) at) ∙ none_touched (λ k. is_sought All span k && is_bad_at m (place k)) span.start span.len n some none touched
+
+pub all_covered : (place : ℕ → Option ℕ) (m : Medium) (span : Span) → 1 ≤ span.len → lowest_bad_in NotCovered place m span ≡ None → (n line : ℕ) → touches span.start span.len n ≡ true → place n ≡ Some line → m.is_bad line ≡ true → covers span.start span.len n ≡ true
+all_covered place m span some none n line touched at bad =
+    let fails = none_touched (λ k. is_sought NotCovered span k && is_bad_at m (place k)) span.start span.len n some none touched in
+    let bad_there : is_bad_at m (place n) ≡ true = ap (is_bad_at m) at ∙ bad in
+    elim (cases_Bool (covers span.start span.len n)) as (λ _. covers span.start span.len n ≡ true) [
+      | inl is_covered ↦ is_covered
+      | inr lacks ↦ absurd (false≢true (sym fails ∙ and_from (not (covers span.start span.len n)) (is_bad_at m (place n)) (ap not lacks) bad_there))
+    ]
+
+-- what is found is a line of the span
+pub found_small : (p : ℕ → Bool) (start len n : ℕ) → Some n ≡ lowest_touched p start len → n < start / 64 + ((start + len - 1) / 64 + 1 - start / 64)
+found_small p start len n is = by_place (position p (range_with_len (start / 64) ((start + len - 1) / 64 + 1 - start / 64))) refl is
+  where
+    by_place : (o : Option ℕ) → position p (range_with_len (start / 64) ((start + len - 1) / 64 + 1 - start / 64)) ≡ o → Some n ≡ option_map (λ k. start / 64 + k) o → n < start / 64 + ((start + len - 1) / 64 + 1 - start / 64)
+    by_place None found is = absurd (none-some n (sym is))
+    by_place (Some k) found is =
+        let same : n ≡ start / 64 + k = same_Some _ _ is in
+        let first = one_found p (start / 64) ((start + len - 1) / 64 + 1 - start / 64) k found in
+        omega (arith, same, first.within)

@@ -1,0 +1,65 @@
+use Rattle.std.proofs.Common.{inr, length, ◌∙◌, ap, subst}
+use Rattle.line_words.proofs.ToldLemmas.{on_worked}
+use Rattle.nvm_model.specs.Interrupted.{MayStore}
+use Rattle.nvm_model.specs.Page.{fill}
+use Rattle.page_lines.proofs.OthersLemmas.{others-refl, others-trans}
+use Rattle.page_lines.specs.Turns.{WritesBackOthers}
+use Rattle.word_tables.specs.declared.geometry.Geometry.{Geometry}
+use Rattle.pm_volume.specs.Area.{IsOfVolume}
+use Rattle.pm_volume.specs.Images.{EachReadsPages}
+use Rattle.pm_volume.specs.Object.{VolumeState}
+use Rattle.pm_volume.specs.Refusals.{volume_says}
+use Rattle.pm_volume.proofs.ServesLemmas.{holds-same}
+use Rattle.pm_volume.proofs.StoreLemmas.{may_store-filled, reads-then}
+use Rattle.pm_volume.proofs.Volume.store.Goals as goal
+
+pub returns-in_err-check_store-clause-outside : goal.returns-in_err-check_store-clause-outside
+returns-in_err-check_store-clause-outside g c = others-refl _ _
+
+pub returns-in_err-fill-clause-images : goal.returns-in_err-fill-clause-images
+returns-in_err-fill-clause-images g c =
+    let old = (g.L.Lines.state c.args.dev.now).medium in
+    let new = (g.L.Lines.state c.fill.new.dev).medium in
+    on_worked volume_says c.from_residual-in_err-fill.result
+    (λ pages holds.
+    subst (λ (t : VolumeState). EachReadsPages t.geo new (MayStore c.args.offset c.args.bytes.now pages)) c.self.view_is
+    (reads-then c.self.inside.geo new _ _ (may_store-filled c.args.offset c.args.bytes.now pages)
+    (c.fill.ensures.images pages (holds-same c.args.self.now _ old pages (ap (λ (t : VolumeState). t.geo) c.self.view_is) (ap (λ (t : VolumeState). t.present) c.self.view_is) holds))))
+
+pub returns-in_err-put-clause-images : goal.returns-in_err-put-clause-images
+returns-in_err-put-clause-images g c =
+    let old = (g.L.Lines.state c.args.dev.now).medium in
+    let new = (g.L.Lines.state c.put.new.dev).medium in
+    on_worked volume_says c.from_residual-in_err-put.result
+    (λ pages holds.
+    subst (λ (geo : Geometry). EachReadsPages geo new (MayStore c.args.offset c.args.bytes.now pages)) (c.fill.ensures.object.0 ∙ ap (λ (t : VolumeState). t.geo) c.self.view_is)
+    (reads-then c.fill.new.self.geo new _ _ (λ left is. inr is)
+    (c.put.ensures.images (fill c.args.offset (length c.args.bytes.now) pages)
+    (c.in_ok-fill.ensures.ok pages (holds-same c.args.self.now _ old pages (ap (λ (t : VolumeState). t.geo) c.self.view_is) (ap (λ (t : VolumeState). t.present) c.self.view_is) holds)))))
+
+pub returns-in_err-put-clause-outside : goal.returns-in_err-put-clause-outside
+returns-in_err-put-clause-outside g c =
+    let old = (g.L.Lines.state c.args.dev.now).medium in
+    let mid = (g.L.Lines.state c.fill.new.dev).medium in
+    let new = (g.L.Lines.state c.put.new.dev).medium in
+    others-trans (IsOfVolume c.args.self.now.geo) old mid new
+    (subst (λ (t : VolumeState). WritesBackOthers (IsOfVolume t.geo) old mid) c.self.view_is c.fill.ensures.outside)
+    (subst (λ (geo : Geometry). WritesBackOthers (IsOfVolume geo) mid new) (c.fill.ensures.object.0 ∙ ap (λ (t : VolumeState). t.geo) c.self.view_is) c.put.ensures.outside)
+
+pub returns-clause-images : goal.returns-clause-images
+returns-clause-images g c = λ pages holds.
+    let old = (g.L.Lines.state c.args.dev.now).medium in
+    let new = (g.L.Lines.state c.put.new.dev).medium in
+    subst (λ (geo : Geometry). EachReadsPages geo new (MayStore c.args.offset c.args.bytes.now pages)) (c.fill.ensures.object.0 ∙ ap (λ (t : VolumeState). t.geo) c.self.view_is)
+    (reads-then c.fill.new.self.geo new _ _ (λ left is. inr is)
+    (c.put.ensures.images (fill c.args.offset (length c.args.bytes.now) pages)
+    (c.in_ok-fill.ensures.ok pages (holds-same c.args.self.now _ old pages (ap (λ (t : VolumeState). t.geo) c.self.view_is) (ap (λ (t : VolumeState). t.present) c.self.view_is) holds))))
+
+pub returns-clause-outside : goal.returns-clause-outside
+returns-clause-outside g c =
+    let old = (g.L.Lines.state c.args.dev.now).medium in
+    let mid = (g.L.Lines.state c.fill.new.dev).medium in
+    let new = (g.L.Lines.state c.put.new.dev).medium in
+    others-trans (IsOfVolume c.args.self.now.geo) old mid new
+    (subst (λ (t : VolumeState). WritesBackOthers (IsOfVolume t.geo) old mid) c.self.view_is c.fill.ensures.outside)
+    (subst (λ (geo : Geometry). WritesBackOthers (IsOfVolume geo) mid new) (c.fill.ensures.object.0 ∙ ap (λ (t : VolumeState). t.geo) c.self.view_is) c.put.ensures.outside)

@@ -1,0 +1,21 @@
+-- What a store may spend of a device's calls.
+use Rattle.std.specs.Prelude.{◌+◌, ◌*◌, ℕ, Bool, List, if◌then◌else◌}
+use Rattle.nvm_base.specs.Units.{units_of}
+use Rattle.word_log.specs.Changes.{commit_calls, commit_persists}
+use Rattle.nvm_model.specs.Page.{touches_absent}
+
+-- how many lines, and how many pages, a span touches
+abbrev pub lines_touched : ℕ → ℕ → ℕ
+lines_touched start len = (units_of 64 (record { start = start; len = len })).len
+
+abbrev pub pages_touched : ℕ → ℕ → ℕ
+pages_touched start len = (units_of 4096 (record { start = start; len = len })).len
+
+-- Two calls a line; where it fills pages, one for each line of them besides, and a commit of their words. Without that it
+-- makes nothing durable.
+abbrev pub store_calls : List Bool → ℕ → ℕ → ℕ
+store_calls there start len =
+    2 * lines_touched start len + (if touches_absent start len there then 64 * pages_touched start len + commit_calls (pages_touched start len) else 0)
+
+abbrev pub store_persists : List Bool → ℕ → ℕ → ℕ
+store_persists there start len = if touches_absent start len there then commit_persists (pages_touched start len) else 0

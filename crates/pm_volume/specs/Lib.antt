@@ -1,0 +1,9 @@
+pub mod Area
+pub mod Presence
+pub mod Object
+pub mod Costs
+pub mod Refusals
+pub mod Checked
+pub mod Images
+pub mod Device
+pub mod Mounting

@@ -1,0 +1,66 @@
+// Bytes of the volume as last stored.
+ghost use Rattle.std.specs.Prelude.{◌≡◌, ◌≤◌, IsTrue, List, OnOk, length};
+ghost use Rattle.line_device.specs.Medium.{WritesBack};
+ghost use Rattle.line_device.specs.Panel.{Runs};
+ghost use Rattle.line_words.specs.Ending.{ended};
+ghost use Rattle.line_words.specs.Told.{Answers, OnRefused, is_done, outcome_by};
+ghost use Rattle.nvm_base.specs.Units.{units_of};
+ghost use Rattle.nvm_model.specs.Page.{Page, look};
+ghost use Rattle.pm_volume.specs.Checked.{IsReadable};
+ghost use Rattle.pm_volume.specs.Object.{VolumeHolds, VolumeServes};
+ghost use Rattle.pm_volume.specs.Refusals.{load_refusal, volume_says};
+
+use crate::{Volume, VolumeFault};
+use line_device::Lines;
+use line_words::Interruption;
+use nvm_base::Span;
+use page_lines::load_lines;
+
+impl Volume {
+    /// Loads as many bytes as fill the buffer, zeros where a page is absent. A bad line is found before the first load.
+    pub fn load_into<L: Lines>(
+        &mut self,
+        dev: &mut L,
+        offset: u64,
+        out: &mut [u8],
+    ) -> Result<(), VolumeFault>
+        requires serves { VolumeServes self.old (L.state dev.old).medium }
+        requires settled { IsTrue self.old.settled }
+        requires on { IsTrue (L.state dev.old).panel.power }
+        ensures refused { (pages : List Page) → VolumeHolds self.old (L.state dev.old).medium pages
+            → Answers volume_says (load_refusal self.old pages offset (length out.old)) result }
+        ensures untouched { OnRefused volume_says result ((out.new ≡ out.old) × (dev.new ≡ dev.old)) }
+        ensures ok { OnOk result ((pages : List Page) → VolumeHolds self.old (L.state dev.old).medium pages
+            → out.new ≡ look pages offset (length out.old)) }
+        ensures lines { WritesBack (L.state dev.old).medium (L.state dev.new).medium }
+        ensures serves { VolumeServes self.new (L.state dev.new).medium }
+        ensures object { self.new ≡ record self.old { settled = is_done (outcome_by volume_says result) } }
+        ensures runs { Runs (units_of 64 (record { start = offset; len = length out.old })).len 0 (outcome_by volume_says result)
+            (L.state dev.old).panel (L.state dev.new).panel }
+    {
+        let span = Span {
+            start: offset,
+            len: out.len() as u64,
+        };
+        self.check_readable(dev, span)?;
+        self.settled = false;
+        self.load(dev, offset, out)?;
+        self.settled = true;
+        Ok(())
+    }
+
+    // Loads bytes that can be read.
+    fn load<L: Lines>(&self, dev: &mut L, offset: u64, out: &mut [u8]) -> Result<(), Interruption>
+        requires serves { VolumeServes self.now (L.state dev.old).medium }
+        requires on { IsTrue (L.state dev.old).panel.power }
+        requires readable { IsReadable self.now (L.state dev.old).medium (record { start = offset; len = length out.old }) }
+        ensures ok { OnOk result ((pages : List Page) → VolumeHolds self.now (L.state dev.old).medium pages
+            → out.new ≡ look pages offset (length out.old)) }
+        ensures lines { WritesBack (L.state dev.old).medium (L.state dev.new).medium }
+        ensures runs { Runs (units_of 64 (record { start = offset; len = length out.old })).len 0 (ended result)
+            (L.state dev.old).panel (L.state dev.new).panel }
+    {
+        let lines = self.lines(true);
+        load_lines(dev, &lines, offset, out)
+    }
+}
