@@ -12,22 +12,20 @@ use Rattle.nvm_model.specs.Numbered.{list_from}
 use Rattle.nvm_model.specs.Blocks.{first_there}
 use Rattle.nvm_model.proofs.NumberedLemmas.{list_from-same}
 use Rattle.word_tables.specs.declared.geometry.Geometry.{Geometry}
-use Rattle.word_tables.specs.Layout.{first_line, meta_lines}
+use Rattle.word_tables.specs.Layout.{meta_lines}
 use Rattle.word_tables.specs.Superblock.{geometry_of, first_wrong_word, IsSuperblock}
-use Rattle.word_log.specs.Area.{IsOf}
-use Rattle.block_device.specs.Area.{block_area}
 use Rattle.block_device.specs.Images.{KeepsReads, AreReadable}
 use Rattle.block_device.proofs.ReachLemmas.{each_reads-kept}
 use Rattle.block_device.proofs.RestartLemmas.{block_image-last, each_reads-restarted, each_reads-waits}
 use Rattle.recovery.specs.Findings.{geometry_told, superblock_finding, meta_finding, early_finding}
 use Rattle.word_log.specs.Mount.Finding.{bad_line, wrong_word}
-use Rattle.recovery.specs.Mounting.{HasDurableBlocks, IsMountable, GoesOn}
+use Rattle.recovery.specs.Mounting.{HasDurableBlocks, IsMountable, IsOfLogs, GoesOn}
+use Rattle.recovery.proofs.LogLemmas.{logs_behind}
 use Rattle.recovery.proofs.FindingLemmas.{early_none, is_superblock, nothing_early, words_alone}
 
--- the first line lies before the log
-not_first : (geo : Geometry) (p : ℕ) → p < 8 → IsOf (block_area geo) p → ⊥
-unfolding first_line
-not_first geo p below of = elim of as (λ _. ⊥) [ inl log ↦ omega (arith, log) | inr home ↦ omega (arith, home) ]
+-- the first line lies before the logs
+not_first : (geo : Geometry) (p : ℕ) → p < 8 → IsOfLogs geo p → ⊥
+not_first geo p below of = omega (arith, below, logs_behind geo p of)
 
 -- a word that has one value now, which is an old one, where there was one alone
 was_only : (old new : List ℕ) (v : ℕ) → IsOnly (newest old) old → IsIn v old → new ≡ v ∷ [] → (newest new ≡ newest old) × IsOnly (newest new) new
@@ -93,10 +91,10 @@ told : (m : Medium) → early_finding m ≡ None → IsSuperblock m.count (last_
 told m early = is_superblock m (early_none m early).0
 
 -- after a mount
-pub goes_on-mounted : (old new : Medium) → IsMountable old → WritesBackOutside (IsOf (block_area (geometry_told old))) old new
+pub goes_on-mounted : (old new : Medium) → IsMountable old → WritesBackOutside (IsOfLogs (geometry_told old)) old new
     → (early_finding old ≡ None → KeepsReads (geometry_told old) old new) → GoesOn old new
 goes_on-mounted old new may x keeps =
-    let area = IsOf (block_area (geometry_told old)) in
+    let area = IsOfLogs (geometry_told old) in
     let start : SameStart old new =
     record {
       count = x.count;

@@ -1,11 +1,11 @@
 -- What is found of a device, by what is found of its parts.
-use Rattle.std.proofs.Common.{◌≡◌, slice_index, length, ◌+◌, ◌<◌, arith, ◌*◌, inl, inr, ℕ, Bool, true, false, List, Option, Some, None, Result, Ok, Err, if◌then◌else◌, option_map, position, refl, sym, ◌∙◌, ap, ap₂, subst}
+use Rattle.std.proofs.Common.{◌≡◌, ◌≢◌, slice_index, length, ◌+◌, ◌<◌, arith, ◌*◌, inl, inr, ℕ, Bool, true, false, List, Option, Some, None, Result, Ok, Err, if◌then◌else◌, option_map, position, refl, sym, ◌∙◌, ap, ap₂, subst}
 use Rattle.std.specs.List.{range_with_len}
 use Rattle.std.specs.Result.{IsErrAnd}
 use Rattle.std.proofs.lemmas.Bool.{cases_Bool}
 use Rattle.std.proofs.lemmas.Option.{none-some}
 use Rattle.line_device.specs.Medium.{Medium, WritesBack, last_image}
-use Rattle.line_words.specs.Told.{Told, IfRefused, told_outcome}
+use Rattle.line_words.specs.Told.{Told, IfRefused, IsStop, told_outcome}
 use Rattle.nvm_model.specs.Numbered.{list_from}
 use Rattle.nvm_model.specs.Blocks.{first_there}
 use Rattle.nvm_model.proofs.NumberedLemmas.{list_from-is}
@@ -14,11 +14,15 @@ use Rattle.word_tables.specs.Layout.{meta_lines}
 use Rattle.word_tables.specs.Superblock.{first_wrong_word, geometry_of, IsSuperblock}
 use Rattle.word_tables.proofs.SuperblockLemmas.{right}
 use Rattle.block_device.specs.Object.{HasStrongMetadata, HasGoodMetadata}
-use Rattle.block_device.specs.Mounting.{wrong_place}
+use Rattle.block_device.specs.Area.{block_area}
+use Rattle.block_device.specs.Mounting.{wrong_map, wrong_place}
+use Rattle.word_log.specs.Replay as log
+use Rattle.pm_volume.specs.Area.{volume_area}
+use Rattle.pm_volume.specs.Presence.{wrong_presence, wrong_volume_place}
 use Rattle.recovery.specs.declared.fault.MountFault.{MountFault}
 use Rattle.recovery.specs.declared.fault.MountFault.TheVariants.{Meta, Layout, Device, PowerLost, Memory}
 use Rattle.word_log.specs.Mount.{Finding}
-use Rattle.recovery.specs.Findings.{geometry_told, superblock_finding, meta_finding, early_finding, first_finding}
+use Rattle.recovery.specs.Findings.{geometry_told, superblock_finding, meta_finding, early_finding, inspection_finding, first_finding, wrong_log, wrong_table}
 use Rattle.word_log.specs.Mount.Finding.{bad_line, wrong_word}
 use Rattle.recovery.specs.Mounting.{Finds, device_says, mount_outcome}
 use Rattle.block_device.proofs.PositionLemmas.{fails_below}
@@ -43,6 +47,11 @@ pub ended_told : {T : Type 0} (r : Result T MountFault) (t : Told Finding) → I
 ended_told (Ok x) t is = absurd is
 ended_told (Err e) t is = ap told_outcome is
 
+-- a fault that is handed on
+pub handed : {T : Type 0} (r : Result T MountFault) (f : MountFault) → IsErrAnd r (λ e. e ≡ f) → r ≡ Err f
+handed (Ok x) f is = absurd is
+handed (Err e) f is = ap Err is
+
 -- the same fault on another result
 pub finds_on : {T : Type 0} (found : Option Finding) (r : Result T MountFault) (f : MountFault) → r ≡ Err f → Finds {T = T} found (Err f) → Finds found r
 finds_on found r f is h = subst (λ q. Finds found q) (sym is) h
@@ -54,7 +63,7 @@ superblock_bad m bad = ap (λ b. if b then Some (bad_line 0) else option_map wro
 superblock_good : (m : Medium) → m.is_bad 0 ≡ false → superblock_finding m ≡ option_map wrong_word (first_wrong_word m.count (last_image m))
 superblock_good m good = ap (λ b. if b then Some (bad_line 0) else option_map wrong_word (first_wrong_word m.count (last_image m))) good
 
-none_mapped : {A B : Type 0} (f : A → B) (o : Option A) → option_map f o ≡ None → o ≡ None
+pub none_mapped : {A B : Type 0} (f : A → B) (o : Option A) → option_map f o ≡ None → o ≡ None
 none_mapped f None h = refl
 none_mapped f (Some x) h = absurd (none-some (f x) (sym h))
 
@@ -89,14 +98,54 @@ is_superblock m none =
     ]
 
 -- of two searches that find nothing
-first_none : {A : Type 0} (a b : Option A) → first_there a b ≡ None → (a ≡ None) × (b ≡ None)
+pub first_none : {A : Type 0} (a b : Option A) → first_there a b ≡ None → (a ≡ None) × (b ≡ None)
 first_none None b h = (refl, h)
 first_none (Some x) b h = absurd (none-some x (sym h))
 
--- where nothing is found at all, nothing is found before the log
-pub nothing_early : (m : Medium) → first_finding m ≡ None → early_finding m ≡ None
+-- and back
+pub both_none : {A : Type 0} (a b : Option A) → a ≡ None → b ≡ None → first_there a b ≡ None
+both_none a b first second = ap (λ o. first_there o b) first ∙ second
+
+-- where nothing is found at all, nothing is found before a log is replayed
+pub nothing_inspected : (m : Medium) → first_finding m ≡ None → inspection_finding m ≡ None
 unfolding first_finding
-nothing_early m none = (first_none (early_finding m) (option_map wrong_word (wrong_place (geometry_told m) (last_image m))) none).0
+nothing_inspected m none = (first_none (inspection_finding m) (option_map wrong_word (wrong_table (geometry_told m) (last_image m))) none).0
+
+-- nor before one is read
+pub inspected_parts : (m : Medium) → inspection_finding m ≡ None → (early_finding m ≡ None) × (wrong_log (geometry_told m) (last_image m) ≡ None)
+unfolding inspection_finding
+inspected_parts m none =
+    let parts = first_none (early_finding m) (option_map wrong_word (wrong_log (geometry_told m) (last_image m))) none in
+    (parts.0, none_mapped wrong_word (wrong_log (geometry_told m) (last_image m)) parts.1)
+
+pub nothing_early : (m : Medium) → first_finding m ≡ None → early_finding m ≡ None
+nothing_early m none = (inspected_parts m (nothing_inspected m none)).0
+
+pub early_inspection : (m : Medium) → early_finding m ≢ None → inspection_finding m ≢ None
+early_inspection m some none = some (inspected_parts m none).0
+
+-- Nothing is found where nothing is wrong with blocks and volume.
+pub nothing_found : (m : Medium) → first_finding m ≡ None → (early_finding m ≡ None) × (wrong_place (geometry_told m) (last_image m) ≡ None) × (wrong_volume_place (geometry_told m) (last_image m) ≡ None)
+unfolding first_finding
+nothing_found m none =
+    let geo = geometry_told m in
+    let word = last_image m in
+    let parts = inspected_parts m (nothing_inspected m none) in
+    let logs = first_none (log.first_wrong (block_area geo) word) (log.first_wrong (volume_area geo) word) parts.1 in
+    let tables = first_none (wrong_map geo word) (wrong_presence geo word)
+    (none_mapped wrong_word (wrong_table geo word) (first_none (inspection_finding m) (option_map wrong_word (wrong_table geo word)) none).1) in
+    (parts.0, both_none (log.first_wrong (block_area geo) word) (wrong_map geo word) logs.0 tables.0, both_none (log.first_wrong (volume_area geo) word) (wrong_presence geo word) logs.1 tables.1)
+
+pub all_right : (m : Medium) → early_finding m ≡ None → wrong_place (geometry_told m) (last_image m) ≡ None → wrong_volume_place (geometry_told m) (last_image m) ≡ None → first_finding m ≡ None
+unfolding first_finding inspection_finding
+all_right m early place volume =
+    let geo = geometry_told m in
+    let word = last_image m in
+    let blocks = first_none (log.first_wrong (block_area geo) word) (wrong_map geo word) place in
+    let pages = first_none (log.first_wrong (volume_area geo) word) (wrong_presence geo word) volume in
+    both_none (first_there (early_finding m) (option_map wrong_word (wrong_log geo word))) (option_map wrong_word (wrong_table geo word))
+    (both_none (early_finding m) (option_map wrong_word (wrong_log geo word)) early (ap (option_map wrong_word) (both_none (log.first_wrong (block_area geo) word) (log.first_wrong (volume_area geo) word) blocks.0 pages.0)))
+    (ap (option_map wrong_word) (both_none (wrong_map geo word) (wrong_presence geo word) blocks.1 pages.1))
 
 pub early_none : (m : Medium) → early_finding m ≡ None → (superblock_finding m ≡ None) × (meta_finding (geometry_told m) m ≡ None)
 unfolding early_finding
@@ -137,11 +186,31 @@ finds_early geo old new r is x none h =
     finds_second (superblock_finding old) (meta_finding (geometry_told old) old) r none
     (subst (λ o. Finds o r) (meta-write_back geo old new x ∙ ap (λ g. meta_finding g old) is) h)
 
--- and once nothing is found before the log
-pub first_late : (m : Medium) → early_finding m ≡ None → first_finding m ≡ option_map wrong_word (wrong_place (geometry_told m) (last_image m))
-unfolding first_finding
-first_late m none = ap (λ o. first_there o (option_map wrong_word (wrong_place (geometry_told m) (last_image m)))) none
+-- and once nothing is found before the logs
+pub finds_inspected : {T : Type 0} (m : Medium) (r : Result T MountFault) → early_finding m ≡ None → Finds (option_map wrong_word (wrong_log (geometry_told m) (last_image m))) r → Finds (inspection_finding m) r
+unfolding inspection_finding
+finds_inspected m r early h = finds_second (early_finding m) (option_map wrong_word (wrong_log (geometry_told m) (last_image m))) r early h
 
-pub finds_before : (T U : Type 0) (m : Medium) (f : MountFault) → Finds {T = U} (early_finding m) (Err f) → Finds {T = T} (first_finding m) (Err f)
+pub finds_early_one : (T U : Type 0) (m : Medium) (f : MountFault) → Finds {T = U} (early_finding m) (Err f) → Finds {T = T} (inspection_finding m) (Err f)
+unfolding inspection_finding
+finds_early_one T U m f h = finds_first T U (early_finding m) (option_map wrong_word (wrong_log (geometry_told m) (last_image m))) f h
+
+-- or before they are replayed
+pub finds_judged : {T : Type 0} (m : Medium) (r : Result T MountFault) → inspection_finding m ≡ None → Finds (option_map wrong_word (wrong_table (geometry_told m) (last_image m))) r → Finds (first_finding m) r
 unfolding first_finding
-finds_before T U m f h = finds_first T U (early_finding m) (option_map wrong_word (wrong_place (geometry_told m) (last_image m))) f h
+finds_judged m r right h = finds_second (inspection_finding m) (option_map wrong_word (wrong_table (geometry_told m) (last_image m))) r right h
+
+pub finds_before : (T U : Type 0) (m : Medium) (f : MountFault) → Finds {T = U} (inspection_finding m) (Err f) → Finds {T = T} (first_finding m) (Err f)
+unfolding first_finding
+finds_before T U m f h = finds_first T U (inspection_finding m) (option_map wrong_word (wrong_table (geometry_told m) (last_image m))) f h
+
+-- a fault that only stopped
+pub finds_stopped : {T : Type 0} (found : Option Finding) (r : Result T MountFault) (f : MountFault) → r ≡ Err f → IsStop device_says f → Finds found r
+finds_stopped found r f is stop = finds_on found r f is (stopped f stop)
+  where
+    stopped : (e : MountFault) → IsStop device_says e → IfRefused (device_says e) (λ why. found ≡ Some why)
+    stopped (Meta line) stop = cc
+    stopped (Layout place) stop = cc
+    stopped Device stop = tt
+    stopped PowerLost stop = tt
+    stopped Memory stop = tt

@@ -1,6 +1,6 @@
 -- A device that was made anew.
-use Rattle.std.proofs.Common.{◌≡◌, ◌/◌, ◌%◌, ◌==◌, ◌<◌, ◌≤◌, inl, inr, ℕ, Bool, true, false, List, [], ◌∷◌, None, option_map, Result, Ok, Err, OnOk, if◌then◌else◌, refl, sym, ◌∙◌, ap, subst, arith}
-use Rattle.std.proofs.lemmas.Bool.{cases_lt, lt-ltb, le-ltb}
+use Rattle.std.proofs.Common.{◌≡◌, ◌/◌, ◌%◌, ◌==◌, ◌<◌, ◌≤◌, inl, inr, ℕ, Bool, true, false, List, [], ◌∷◌, None, Result, Ok, Err, OnOk, if◌then◌else◌, refl, sym, ◌∙◌, ap, subst, arith}
+use Rattle.std.proofs.lemmas.Bool.{cases_lt, lt-ltb}
 use Rattle.line_device.specs.History.{newest, IsIn, WordWritesBack}
 use Rattle.line_device.specs.Medium.{Medium, WritesBack, IsSound, last_image, zeros, installed, with_at}
 use Rattle.line_device.specs.Word.{word_at}
@@ -22,17 +22,12 @@ use Rattle.block_device.proofs.ReachLemmas.{reads_right}
 use Rattle.block_device.proofs.RestartLemmas.{block_image-last, block_on_device}
 use Rattle.block_device.proofs.ZerosLemmas.{zeros_read}
 use Rattle.recovery.specs.Findings.{geometry_told, early_finding, first_finding}
-use Rattle.word_log.specs.Mount.Finding.{wrong_word}
+use Rattle.pm_volume.specs.Presence.{wrong_volume_place}
 use Rattle.recovery.specs.Fresh.{IsFresh, HasSuperblock, fresh_word}
 use Rattle.recovery.specs.Mounting.{IsMountable}
-use Rattle.recovery.proofs.FindingLemmas.{first_late}
+use Rattle.recovery.proofs.FindingLemmas.{all_right}
+use Rattle.recovery.proofs.FreshPageLemmas.{fresh-first, fresh-later, fresh_presence}
 use Rattle.recovery.proofs.SuperblockLemmas.{some_lines, superblock_told, early_none}
-
-fresh-first : (geo : Geometry) (p : ℕ) → p < 8 → fresh_word geo p ≡ superblock_word geo p
-fresh-first geo p below = ap (λ b. if b then superblock_word geo p else 0) (lt-ltb p 8 below)
-
-fresh-later : (geo : Geometry) (p : ℕ) → 8 ≤ p → fresh_word geo p ≡ 0
-fresh-later geo p from = ap (λ b. if b then superblock_word geo p else 0) (le-ltb p 8 from)
 
 none_marked : (f : ℕ → Bool) (line n : ℕ) → f n ≡ false → with_at f line false n ≡ false
 none_marked f line n h = elim (n == line) as (λ b. (if b then false else f n) ≡ false) [ true ↦ refl | false ↦ h ]
@@ -142,6 +137,6 @@ module _ (geo : Geometry) (m : Medium) (fresh : IsFresh geo m) where
     fresh_first =
         let image = block_image-last geo fresh.valid m sound fresh.count in
         let right = reads_right geo m (λ bs. bs ≡ blocks_read geo (λ _. false) (λ _. 0)) (last_image m) (fresh_reads (last_image m) image) in
-        first_late m fresh_early
-        ∙ ap (λ g. option_map wrong_word (wrong_place g (last_image m))) fresh_told
-        ∙ ap (option_map wrong_word) right
+        all_right m fresh_early
+        (ap (λ g. wrong_place g (last_image m)) fresh_told ∙ right)
+        (ap (λ g. wrong_volume_place g (last_image m)) fresh_told ∙ fresh_presence geo m fresh sound)

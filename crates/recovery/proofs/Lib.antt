@@ -1,7 +1,10 @@
 pub mod WordLemmas
 pub mod FindingLemmas
+pub mod LogLemmas
+pub mod TableLemmas
 pub mod MountLemmas
 pub mod AgainLemmas
 pub mod SuperblockLemmas
 mod LineLemmas
+pub mod FreshPageLemmas
 pub mod FreshLemmas

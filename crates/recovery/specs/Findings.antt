@@ -1,5 +1,5 @@
 -- What keeps a device from being mounted, in the order in which it is found.
-use Rattle.std.specs.Prelude.{◌*◌, Option, Some, option_map, position, if◌then◌else◌}
+use Rattle.std.specs.Prelude.{◌*◌, ℕ, Option, Some, option_map, position, if◌then◌else◌}
 use Rattle.std.specs.List.{range_with_len}
 use Rattle.line_device.specs.Medium.{Medium, last_image}
 use Rattle.word_tables.specs.declared.geometry.Geometry.{Geometry}
@@ -7,8 +7,12 @@ use Rattle.word_tables.specs.Layout.{meta_lines}
 use Rattle.word_tables.specs.Superblock.{geometry_of, first_wrong_word}
 use Rattle.nvm_model.specs.Blocks.{first_there}
 use Rattle.word_log.specs.Mount.{Finding}
-use Rattle.block_device.specs.Mounting.{wrong_place}
 use Rattle.word_log.specs.Mount.Finding.{bad_line, wrong_word}
+use Rattle.word_log.specs.Replay as log
+use Rattle.block_device.specs.Area.{block_area}
+use Rattle.block_device.specs.Mounting.{wrong_map}
+use Rattle.pm_volume.specs.Area.{volume_area}
+use Rattle.pm_volume.specs.Presence.{wrong_presence}
 
 -- the sizes that the first line tells, as last stored
 abbrev pub geometry_told : Medium → Geometry
@@ -28,6 +32,18 @@ meta_finding geo m =
 unfoldable pub early_finding : Medium → Option Finding
 early_finding m = first_there (superblock_finding m) (meta_finding (geometry_told m) m)
 
--- what is found first: that, or else the first wrong word of the block log, or of the block map after its replay
+-- the first wrong word of the logs
+abbrev pub wrong_log : Geometry → (ℕ → ℕ) → Option ℕ
+wrong_log geo word = first_there (log.first_wrong (block_area geo) word) (log.first_wrong (volume_area geo) word)
+
+-- the first wrong word of the tables that they keep, once they are replayed
+abbrev pub wrong_table : Geometry → (ℕ → ℕ) → Option ℕ
+wrong_table geo word = first_there (wrong_map geo word) (wrong_presence geo word)
+
+-- what is found before any log is replayed
+unfoldable pub inspection_finding : Medium → Option Finding
+inspection_finding m = first_there (early_finding m) (option_map wrong_word (wrong_log (geometry_told m) (last_image m)))
+
+-- what is found first
 unfoldable pub first_finding : Medium → Option Finding
-first_finding m = first_there (early_finding m) (option_map wrong_word (wrong_place (geometry_told m) (last_image m)))
+first_finding m = first_there (inspection_finding m) (option_map wrong_word (wrong_table (geometry_told m) (last_image m)))

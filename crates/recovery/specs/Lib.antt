@@ -2,3 +2,4 @@ pub mod Findings
 pub mod Mounting
 pub mod Examples
 pub mod Fresh
+pub mod Tables

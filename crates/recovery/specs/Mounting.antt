@@ -1,5 +1,5 @@
 -- What a mount asks for, and what its answers say.
-use Rattle.std.specs.Prelude.{◌≡◌, ◌≤◌, ◌<◌, ℕ, min, Option, None, Result}
+use Rattle.std.specs.Prelude.{◌≡◌, ◌⊎◌, ◌+◌, ◌*◌, ◌/◌, ◌≤◌, ◌<◌, ℕ, min, Option, None, Result}
 use Rattle.line_device.specs.Medium.{Medium, last_image}
 use Rattle.line_device.specs.Panel.{Outcome}
 use Rattle.line_words.specs.declared.interruption.Interruption.TheVariants as stop
@@ -10,11 +10,14 @@ use Rattle.line_words.specs.Words.{IsOnly}
 use Rattle.word_tables.specs.declared.geometry.Geometry.{Geometry}
 use Rattle.word_tables.specs.Bounds.{IsValid}
 use Rattle.word_tables.specs.Layout.{total_lines}
+use Rattle.block_device.specs.Area.{block_area}
 use Rattle.block_device.specs.Images.{AreReadable}
 use Rattle.block_device.specs.Reading.{states_read}
 use Rattle.block_device.specs.Object.{AreDurable, HasStrongMetadata, HasGoodMetadata}
+use Rattle.pm_volume.specs.Area.{volume_area}
 use Rattle.recovery.specs.declared.fault.MountFault.{MountFault}
 use Rattle.recovery.specs.declared.fault.MountFault.TheVariants.{Meta, Layout, Device, PowerLost, Memory}
+use Rattle.word_log.specs.Area.{IsOf}
 use Rattle.word_log.specs.Mount.{Finding}
 use Rattle.word_log.specs.Mount.Finding.{bad_line, wrong_word}
 use Rattle.recovery.specs.Findings.{geometry_told, early_finding, first_finding}
@@ -39,6 +42,10 @@ mount_outcome result = all.outcome_by device_says result
 abbrev pub HasDurableBlocks : Medium → Type 0
 HasDurableBlocks m = first_finding m ≡ None → AreDurable (geometry_told m) m (states_read (geometry_told m) (last_image m))
 
+-- a word of a log, or of the table that it keeps
+abbrev pub IsOfLogs : Geometry → ℕ → Type 0
+IsOfLogs geo p = IsOf (block_area geo) p ⊎ IsOf (volume_area geo) p
+
 -- the device has these sizes, and no line of metadata is bad or weak
 pub record IsInOrder (geo : Geometry) (m : Medium) : Type 0 where
   pub valid : IsValid geo
@@ -49,6 +56,17 @@ pub record IsInOrder (geo : Geometry) (m : Medium) : Type 0 where
 -- the blocks that the first line tells, as far as there may be so many
 abbrev pub blocks_told : Medium → ℕ
 blocks_told m = min (geometry_told m).blocks 4096
+
+-- the pages of the volume, likewise
+abbrev pub vpages_told : Medium → ℕ
+vpages_told m = min (geometry_told m).vpages 256
+
+-- counted calls of a mount, at most, and persists
+abbrev pub mount_calls_told : Medium → ℕ
+mount_calls_told m = blocks_told m / 4 + 2019 + 2 * ((vpages_told m + 7) / 8)
+
+abbrev pub mount_persists_told : Medium → ℕ
+mount_persists_told m = blocks_told m / 8 + 408 + (vpages_told m + 7) / 8
 
 -- A mount may begin whatever a cut leaves: the first line is durable, and the blocks can be read, where nothing is found
 -- before them.

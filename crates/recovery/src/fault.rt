@@ -2,6 +2,7 @@ ghost use Rattle.std.specs.Prelude.{◌≡◌};
 
 use line_words::Interruption;
 use nvm_base::LineNo;
+use word_log::LogFault;
 
 /// Why a device could not be mounted.
 #[derive(Clone, Copy, Debug, PartialEq, Eq)]
@@ -45,6 +46,40 @@ impl From<block_device::MountFault> for MountFault {
             block_device::MountFault::Device => MountFault::Device,
             block_device::MountFault::PowerLost => MountFault::PowerLost,
             block_device::MountFault::Memory => MountFault::Memory,
+        }
+    }
+}
+
+impl From<pm_volume::MountFault> for MountFault {
+    ghost use Rattle.pm_volume.specs.Mounting.{volume_mount_says};
+    ghost use Rattle.recovery.specs.Mounting.{device_says};
+
+    ghost from_gives = { λ volume fault. device_says fault ≡ volume_mount_says volume };
+
+    fn from(fault: pm_volume::MountFault) -> MountFault {
+        match fault {
+            pm_volume::MountFault::Poisoned(line) => MountFault::Meta(line),
+            pm_volume::MountFault::Bad(place) => MountFault::Layout(place),
+            pm_volume::MountFault::Device => MountFault::Device,
+            pm_volume::MountFault::PowerLost => MountFault::PowerLost,
+            pm_volume::MountFault::Memory => MountFault::Memory,
+        }
+    }
+}
+
+impl From<LogFault> for MountFault {
+    ghost use Rattle.word_log.specs.Mount.{says};
+    ghost use Rattle.recovery.specs.Mounting.{device_says};
+
+    ghost from_gives = { λ log fault. device_says fault ≡ says log };
+
+    fn from(fault: LogFault) -> MountFault {
+        match fault {
+            LogFault::Poisoned(line) => MountFault::Meta(line),
+            LogFault::Bad(place) => MountFault::Layout(place),
+            LogFault::Failed => MountFault::Device,
+            LogFault::PowerLost => MountFault::PowerLost,
+            LogFault::Memory => MountFault::Memory,
         }
     }
 }

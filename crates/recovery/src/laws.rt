@@ -1,28 +1,28 @@
 // Laws of mounts and of what they find, each a function without a body.
 ghost use Rattle.std.specs.Prelude.{◌≡◌, ◌≤◌, ◌<◌, ℕ, Bool, false, IsTrue, None, Some};
-ghost use Rattle.line_device.specs.Medium.{Medium, IsSound, Survivors, Waits, WritesBack, Weakens, poisoned};
+ghost use Rattle.line_device.specs.Medium.{Medium, IsSound, Survivors, Waits, WritesBack, Weakens, poisoned, with_at};
 ghost use Rattle.line_device.specs.declared.line.Choice.{Choice};
 ghost use Rattle.line_words.specs.Words.{WritesBackBeside, WritesBackOutside};
-ghost use Rattle.word_log.specs.Area.{IsOf};
 ghost use Rattle.nvm_model.specs.Numbered.{list_from};
+ghost use Rattle.nvm_model.specs.Page.{Page};
 ghost use Rattle.nvm_model.specs.Storage.Block.{Absent};
 ghost use Rattle.word_tables.specs.declared.geometry.Geometry.{Geometry};
 ghost use Rattle.word_tables.specs.Bounds.{IsValid};
 ghost use Rattle.word_tables.specs.Layout.{total_lines};
 ghost use Rattle.word_tables.specs.Superblock.{superblock_word};
-ghost use Rattle.block_device.specs.Area.{block_area};
 ghost use Rattle.block_device.specs.Images.{EachReads, KeepsReads};
 ghost use Rattle.block_device.specs.Object.{HasGoodMetadata, HasStrongMetadata};
+ghost use Rattle.pm_volume.specs.Images.{EachReadsPages};
 ghost use Rattle.recovery.specs.Findings.{geometry_told, early_finding, first_finding};
 ghost use Rattle.word_log.specs.Mount.Finding.{bad_line, wrong_word};
 ghost use Rattle.recovery.specs.Fresh.{HasSuperblock, IsFresh};
 ghost use Rattle.recovery.specs.Examples.{smallest, nowhere, only, small_device, superblock_but};
-ghost use Rattle.recovery.specs.Mounting.{HasDurableBlocks, IsMountable, GoesOn};
+ghost use Rattle.recovery.specs.Mounting.{HasDurableBlocks, IsMountable, IsOfLogs, GoesOn};
 
 /// A mount that was cut or refused can be begun again, after a restart or before one.
 pub fn mounts_again()
     ensures durable { (m : Medium) → IsSound m → IsMountable m → HasDurableBlocks m }
-    ensures mounted { (old new : Medium) → IsMountable old → WritesBackOutside (IsOf (block_area (geometry_told old))) old new
+    ensures mounted { (old new : Medium) → IsMountable old → WritesBackOutside (IsOfLogs (geometry_told old)) old new
         → (early_finding old ≡ None → KeepsReads (geometry_told old) old new) → GoesOn old new }
     ensures restarted { (choice : Choice) (old new : Medium) → IsSound old → IsMountable old → Survivors choice old new → GoesOn old new }
     ensures waited { (old new : Medium) → IsMountable old → Waits old new → GoesOn old new }
@@ -37,6 +37,9 @@ pub fn findings_of_small_devices()
     ensures weak { first_finding (small_device nowhere (only 2_303) (superblock_word smallest)) ≡ Some (wrong_word 18_424) }
     ensures log { first_finding (small_device nowhere nowhere (superblock_but 8 2)) ≡ Some (wrong_word 8) }
     ensures map { first_finding (small_device nowhere nowhere (superblock_but 144 74)) ≡ Some (wrong_word 144) }
+    ensures volume_log { first_finding (small_device nowhere nowhere (superblock_but 152 2)) ≡ Some (wrong_word 152) }
+    ensures presence { first_finding (small_device nowhere nowhere (superblock_but 673 2)) ≡ Some (wrong_word 673) }
+    ensures both { first_finding (small_device nowhere nowhere (with_at (superblock_but 144 74) 152 2)) ≡ Some (wrong_word 152) }
 {}
 
 /// A first line that is the superblock of some sizes tells them, and nothing is found of a device of these sizes before
@@ -64,11 +67,13 @@ pub fn superblocks_stay()
     ensures waited { (geo : Geometry) (old new : Medium) → Waits old new → HasSuperblock geo old → HasSuperblock geo new }
 {}
 
-/// A fresh device is in order, and has no blocks.
+/// A fresh device is in order, and has no blocks and no pages.
 pub fn fresh_devices_are_in_order()
     ensures told { (geo : Geometry) (m : Medium) → IsSound m → IsFresh geo m → geometry_told m ≡ geo }
     ensures mountable { (geo : Geometry) (m : Medium) → IsSound m → IsFresh geo m → IsMountable m }
     ensures early { (geo : Geometry) (m : Medium) → IsSound m → IsFresh geo m → early_finding m ≡ None }
     ensures right { (geo : Geometry) (m : Medium) → IsSound m → IsFresh geo m → first_finding m ≡ None }
     ensures blocks { (geo : Geometry) (m : Medium) → IsFresh geo m → EachReads geo m (λ bs. bs ≡ list_from (λ _. Absent) 0 geo.blocks) }
+    ensures pages { (geo : Geometry) (m : Medium) → IsFresh geo m
+        → EachReadsPages geo m (λ ps. ps ≡ list_from (λ _. Page.Absent) 0 geo.vpages) }
 {}

@@ -1,8 +1,10 @@
-//! Mounting a whole device: its superblock first, then its metadata, then the log and the map of its blocks.
-// The superblock is the first line: a mark, the layout's number, and the sizes, by which all else is found. Up to the
-// block log nothing is stored. A log with an open gate is replayed, which may be cut and begun again. What is found is
-// answered in this order: a bad first line; the lowest wrong word of it; the lowest bad line of metadata; the lowest
-// weak one; the first wrong word of the block log, or of the block map after its replay.
+//! Mounting a whole device: its superblock first, then its metadata, then the logs of its blocks and of its volume, and the
+//! tables that they keep.
+// The superblock is the first line: a mark, the layout's number, and the sizes, by which all else is found. Both logs are
+// looked at before either is replayed, and both are replayed before a table is judged. So nothing is stored where a log is
+// wrong, and a log with an open gate is replayed, which may be cut and begun again. What is found is answered in this
+// order: a bad first line; the lowest wrong word of it; the lowest bad line of metadata; the lowest weak one; the first
+// wrong word of the block log, of the volume's log, of the block map, of the presence words.
 #![tactic(auto)]
 
 mod fault;
@@ -10,6 +12,7 @@ mod formatting;
 mod laws;
 mod metadata;
 mod mounting;
+mod replaying;
 mod superblock;
 #[cfg(test)]
 mod tests;
@@ -22,11 +25,13 @@ pub use laws::{
     superblocks_stay,
 };
 pub use mounting::mount;
+use pm_volume::Volume;
 use word_tables::Geometry;
 
-/// A mounted device: its sizes, and its blocks.
+/// A mounted device: its sizes, its blocks, and its volume.
 #[derive(Debug, Drop)]
 pub struct Mounted {
     pub geo: Geometry,
     pub blocks: Blocks,
+    pub volume: Volume,
 }

@@ -10,6 +10,7 @@ use block_device::{BlockFault, Blocks};
 use line_device::{Choice, LineDevice, LineState, Lines, Peek, Plain};
 use line_words::{persist_line, store_word};
 use nvm_base::LineNo;
+use pm_volume::VolumeFault;
 use std::alloc::Global;
 use std::test::Fail;
 use word_tables::Geometry;
@@ -118,13 +119,15 @@ fn byte_of<L: Lines>(blocks: &mut Blocks, dev: &mut L, block: u64) -> Result<u8,
 }
 
 #[test]
-fn a_fresh_device_mounts_with_no_blocks(rt: HostRuntime) -> Result<(), Fail> {
+fn a_fresh_device_mounts_with_no_blocks_and_no_pages(rt: HostRuntime) -> Result<(), Fail> {
     let mut device = fresh(rt.alloc(), LINES)?;
     let mut mounted = start(rt.alloc(), &mut device, Choice::Lasts)?;
     assert_eq!(rt; mounted.geo, SMALL);
     assert_eq!(rt; mounted.blocks.count(), 8);
     assert_eq!(rt; mounted.blocks.exists(7), Ok(false));
     assert_eq!(rt; byte_of(&mut mounted.blocks, &mut device, 7), Ok(0));
+    assert_eq!(rt; mounted.volume.exists(1), Ok(false));
+    assert_eq!(rt; mounted.volume.exists(2), Err(VolumeFault::Range));
     Ok(())
 }
 
@@ -216,11 +219,21 @@ fn bad_lines_of_metadata_are_found_before_weak_ones(rt: HostRuntime) -> Result<(
 }
 
 #[test]
-fn wrong_words_of_log_and_map_come_last(rt: HostRuntime) -> Result<(), Fail> {
-    let cases: [(&[(u64, u64)], &[Loss], MountFault); 5] = [
+fn wrong_words_of_logs_and_tables_come_last(rt: HostRuntime) -> Result<(), Fail> {
+    let cases: [(&[(u64, u64)], &[Loss], MountFault); 10] = [
         (&[(8, 2)], &[], MountFault::Layout(8)),
         (&[(144, 74)], &[], MountFault::Layout(144)),
         (&[(144, 74), (8, 2)], &[], MountFault::Layout(8)),
+        (&[(152, 2), (8, 2)], &[], MountFault::Layout(8)),
+        (&[(144, 74), (152, 2)], &[], MountFault::Layout(152)),
+        (&[(673, 2), (144, 74)], &[], MountFault::Layout(144)),
+        (&[(673, 2)], &[], MountFault::Layout(673)),
+        // an entry at a presence word past the two pages
+        (
+            &[(153, 1), (160, 674), (161, 1), (152, 1)],
+            &[],
+            MountFault::Layout(160),
+        ),
         (&[(8, 2)], &[Loss::Bad(200)], MountFault::Meta(LineNo(200))),
         (&[(7, 9), (8, 2)], &[Loss::Weak(0)], MountFault::Layout(7)),
     ];
@@ -234,6 +247,16 @@ fn wrong_words_of_log_and_map_come_last(rt: HostRuntime) -> Result<(), Fail> {
             "at {words:?}"
         );
     }
+    Ok(())
+}
+
+#[test]
+fn an_open_log_of_the_volume_is_replayed(rt: HostRuntime) -> Result<(), Fail> {
+    let mut device = fresh(rt.alloc(), LINES)?;
+    assert!(rt; write(&mut device, &[(153, 1), (160, 673), (161, 1), (152, 1)]));
+    let mounted = start(rt.alloc(), &mut device, Choice::Firsts)?;
+    assert_eq!(rt; mounted.volume.exists(0), Ok(false));
+    assert_eq!(rt; mounted.volume.exists(1), Ok(true));
     Ok(())
 }
 

@@ -12,14 +12,19 @@ use std::alloc::Global;
 use std::test::Fail;
 use test_devices::Fuse;
 
-// The words of an open log, which puts block 3 on the first unit and scars block 4; and a word of that unit.
-const OPEN: [(u64, u64); 7] = [
+// The words of two open logs: one puts block 3 on the first unit and scars block 4, the other makes page 1 be there; and a
+// word of that unit.
+const OPEN: [(u64, u64); 11] = [
     (8 * 2368, 7),
     (9, 2),
     (16, 147),
     (17, 2),
     (18, 148),
     (19, 1),
+    (153, 1),
+    (160, 673),
+    (161, 1),
+    (152, 1),
     (8, 1),
 ];
 
@@ -34,7 +39,7 @@ fn start_fused(alloc: Global, dev: &mut Fuse<Plain>, choice: Choice) -> Result<M
 fn a_cut_mount_is_begun_again(rt: HostRuntime) -> Result<(), Fail> {
     for choice in [Choice::Firsts, Choice::Lasts] {
         let mut done = false;
-        for calls in 0..400_u64 {
+        for calls in 0..2_000_u64 {
             let mut device = fresh(rt.alloc(), LINES)?;
             assert!(rt; write(&mut device, &OPEN));
             let mut fuse = Fuse::new(device, calls);
@@ -48,6 +53,8 @@ fn a_cut_mount_is_begun_again(rt: HostRuntime) -> Result<(), Fail> {
                 Err(BlockFault::Scarred(4))
             );
             assert_eq!(rt; mounted.blocks.exists(5), Ok(false));
+            assert_eq!(rt; mounted.volume.exists(0), Ok(false));
+            assert_eq!(rt; mounted.volume.exists(1), Ok(true));
             if done {
                 break;
             }

@@ -5,6 +5,7 @@ use Rattle.block_device.proofs.ZerosLemmas.{zeros_absent}
 use Rattle.nvm_model.specs.Numbered.{list_from}
 use Rattle.nvm_model.specs.Storage.Block.{Absent}
 use Rattle.recovery.proofs.FreshLemmas.{fresh_told, fresh_mountable, fresh_early, fresh_first, fresh_reads}
+use Rattle.recovery.proofs.FreshPageLemmas.{fresh_pages}
 use Rattle.recovery.proofs.laws.fresh_devices_are_in_order.Goals as goal
 
 pub returns-clause-told : goal.returns-clause-told
@@ -23,3 +24,6 @@ pub returns-clause-blocks : goal.returns-clause-blocks
 returns-clause-blocks c geo m fresh =
     each_reads-then geo m (λ bs. bs ≡ blocks_read geo (λ _. false) (λ _. 0)) (λ bs. bs ≡ list_from (λ _. Absent) 0 geo.blocks)
     (λ bs same. same ∙ zeros_absent geo fresh.valid) (fresh_reads geo m fresh)
+
+pub returns-clause-pages : goal.returns-clause-pages
+returns-clause-pages c geo m fresh = fresh_pages geo m fresh

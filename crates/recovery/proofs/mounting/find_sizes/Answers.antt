@@ -3,11 +3,10 @@ use Rattle.line_device.specs.Panel.{Outcome, Runs}
 use Rattle.word_tables.specs.declared.geometry.Geometry.{Geometry}
 use Rattle.word_tables.specs.Bounds.{IsValid}
 use Rattle.word_tables.specs.Layout.{total_lines}
-use Rattle.block_device.proofs.MountedLemmas.{handed}
 use Rattle.recovery.specs.declared.fault.MountFault.{MountFault}
 use Rattle.recovery.specs.Findings.{early_finding}
 use Rattle.recovery.specs.Mounting.{mount_outcome}
-use Rattle.recovery.proofs.FindingLemmas.{finds_on, finds_superblock, finds_early, is_superblock, good_metadata, strong_metadata}
+use Rattle.recovery.proofs.FindingLemmas.{finds_on, handed, finds_superblock, finds_early, is_superblock, good_metadata, strong_metadata}
 use Rattle.recovery.proofs.mounting.find_sizes.Goals as goal
 
 pub returns-in_err-geo-clause-finds : goal.returns-in_err-geo-clause-finds

@@ -1,11 +1,10 @@
 use Rattle.std.proofs.Common.{◌∙◌}
 use Rattle.word_tables.specs.declared.geometry.Geometry.{Geometry}
-use Rattle.block_device.proofs.MountedLemmas.{handed}
 use Rattle.block_device.proofs.ReachLemmas.{keeps_reads-write_back}
 use Rattle.recovery.specs.declared.Mounted.{Mounted}
 use Rattle.recovery.specs.Findings.{geometry_told, first_finding}
-use Rattle.recovery.proofs.FindingLemmas.{finds_on, finds_before}
-use Rattle.recovery.proofs.MountLemmas.{durable_now, blocks_same, finds_right, finds_blocks, mount_reads, mount_closed, mount_outside, in_order-outside}
+use Rattle.recovery.proofs.FindingLemmas.{finds_before, finds_on, finds_stopped, handed, inspected_parts}
+use Rattle.recovery.proofs.MountLemmas.{logs_same, mount_closed, mount_finds, mount_ok, mount_outside, mount_presence, mount_reads, mount_serves, mount_volume, presence_kept}
 use Rattle.recovery.proofs.mounting.mount.Goals as goal
 
 pub returns-in_err-geo-clause-finds : goal.returns-in_err-geo-clause-finds
@@ -17,77 +16,116 @@ returns-in_err-geo-clause-finds g c =
 pub returns-in_err-geo-clause-reads : goal.returns-in_err-geo-clause-reads
 returns-in_err-geo-clause-reads g c =
     let old = (g.L.Lines.state c.args.dev.now).medium in
-    λ _. keeps_reads-write_back (geometry_told old) old (g.L.Lines.state c.find_sizes.new.dev).medium c.in_err-geo.ensures.lines
+    λ _. keeps_reads-write_back (geometry_told old) old (g.L.Lines.state c.inspect.new.dev).medium c.in_err-geo.ensures.lines
 
-pub returns-in_err-blocks-clause-finds : goal.returns-in_err-blocks-clause-finds
-returns-in_err-blocks-clause-finds g c =
+pub returns-in_err-geo-clause-presence : goal.returns-in_err-geo-clause-presence
+returns-in_err-geo-clause-presence g c =
     let old = (g.L.Lines.state c.args.dev.now).medium in
-    let now = (g.L.Lines.state c.find_sizes.new.dev).medium in
-    let order = c.in_ok-geo.ensures.order in
-    finds_blocks old now c.in_ok-geo.geo c.in_ok-geo.ensures.geo c.in_ok-geo.ensures.lines c.in_ok-geo.ensures.finds c.from_residual-in_err-blocks.result c.in_err-blocks.field-0.0 c.from_residual-in_err-blocks.ensures.1 order.valid order.good c.in_err-blocks.ensures.finds
+    presence_kept (geometry_told old) old (g.L.Lines.state c.inspect.new.dev).medium c.in_err-geo.ensures.lines
 
-pub returns-in_err-blocks-clause-reads : goal.returns-in_err-blocks-clause-reads
-returns-in_err-blocks-clause-reads g c =
+pub replay_logs-requires-clause-right : goal.replay_logs-requires-clause-right
+replay_logs-requires-clause-right g c =
     let old = (g.L.Lines.state c.args.dev.now).medium in
-    let now = (g.L.Lines.state c.find_sizes.new.dev).medium in
-    let new = (g.L.Lines.state c.mount.new.dev).medium in
-    let order = c.in_ok-geo.ensures.order in
-    λ early. mount_reads old now c.in_ok-geo.geo c.in_ok-geo.ensures.geo c.in_ok-geo.ensures.lines early new order.valid order.good c.in_err-blocks.ensures.reads
+    let now = (g.L.Lines.state c.inspect.new.dev).medium in
+    logs_same old now c.in_ok-geo.geo c.in_ok-geo.ensures.geo c.in_ok-geo.ensures.lines ∙ (inspected_parts old c.in_ok-geo.ensures.finds).1
 
-pub returns-in_err-blocks-clause-closed : goal.returns-in_err-blocks-clause-closed
-returns-in_err-blocks-clause-closed g c =
-    let old = (g.L.Lines.state c.args.dev.now).medium in
-    let now = (g.L.Lines.state c.find_sizes.new.dev).medium in
-    let new = (g.L.Lines.state c.mount.new.dev).medium in
-    mount_closed old now c.in_ok-geo.geo c.in_ok-geo.ensures.geo c.in_ok-geo.ensures.lines c.in_ok-geo.ensures.finds new c.in_err-blocks.ensures.closed
+pub returns-in_err-tables-clause-finds : goal.returns-in_err-tables-clause-finds
+returns-in_err-tables-clause-finds g c =
+    let f = c.in_err-tables.field-0.0 in
+    let r = c.from_residual-in_err-tables.result in
+    finds_stopped (first_finding (g.L.Lines.state c.args.dev.now).medium) r f (handed r f c.from_residual-in_err-tables.ensures.1) c.in_err-tables.ensures.stop
 
-pub returns-in_err-blocks-clause-outside : goal.returns-in_err-blocks-clause-outside
-returns-in_err-blocks-clause-outside g c =
+pub returns-in_err-tables-clause-reads : goal.returns-in_err-tables-clause-reads
+returns-in_err-tables-clause-reads g c =
     let old = (g.L.Lines.state c.args.dev.now).medium in
-    let now = (g.L.Lines.state c.find_sizes.new.dev).medium in
-    let new = (g.L.Lines.state c.mount.new.dev).medium in
-    mount_outside old now c.in_ok-geo.geo c.in_ok-geo.ensures.geo c.in_ok-geo.ensures.lines c.in_ok-geo.ensures.finds new c.in_err-blocks.ensures.outside
+    let now = (g.L.Lines.state c.inspect.new.dev).medium in
+    let new = (g.L.Lines.state c.replay_logs.new.dev).medium in
+    let geo = c.in_ok-geo.ensures in
+    λ _. mount_reads old now c.in_ok-geo.geo geo.geo geo.lines new geo.order c.in_err-tables.ensures.outside c.in_err-tables.ensures.blocks
 
-pub returns-clause-ok : goal.returns-clause-ok
-returns-clause-ok g c =
+pub returns-in_err-tables-clause-presence : goal.returns-in_err-tables-clause-presence
+returns-in_err-tables-clause-presence g c =
     let old = (g.L.Lines.state c.args.dev.now).medium in
-    let now = (g.L.Lines.state c.find_sizes.new.dev).medium in
-    let at = c.in_ok-geo.ensures.geo in
-    (at, c.in_ok-blocks.ensures.ok.0 ∙ at, c.in_ok-blocks.ensures.ok.1 ∙ blocks_same old now c.in_ok-geo.geo at c.in_ok-geo.ensures.lines c.in_ok-geo.ensures.finds)
+    let now = (g.L.Lines.state c.inspect.new.dev).medium in
+    let new = (g.L.Lines.state c.replay_logs.new.dev).medium in
+    let geo = c.in_ok-geo.ensures in
+    mount_presence old now c.in_ok-geo.geo geo.geo geo.lines new c.in_err-tables.ensures.volume
 
-pub returns-clause-finds : goal.returns-clause-finds
-returns-clause-finds g c =
+pub returns-in_err-tables-clause-closed : goal.returns-in_err-tables-clause-closed
+returns-in_err-tables-clause-closed g c =
     let old = (g.L.Lines.state c.args.dev.now).medium in
-    let now = (g.L.Lines.state c.find_sizes.new.dev).medium in
-    finds_right old now c.in_ok-geo.geo c.in_ok-geo.ensures.geo c.in_ok-geo.ensures.lines c.in_ok-geo.ensures.finds c.in_ok-blocks.ensures.finds.1
+    let now = (g.L.Lines.state c.inspect.new.dev).medium in
+    let new = (g.L.Lines.state c.replay_logs.new.dev).medium in
+    let geo = c.in_ok-geo.ensures in
+    mount_closed old now c.in_ok-geo.geo geo.geo geo.lines new c.in_err-tables.ensures.closed
+
+pub returns-in_err-tables-clause-outside : goal.returns-in_err-tables-clause-outside
+returns-in_err-tables-clause-outside g c =
+    let old = (g.L.Lines.state c.args.dev.now).medium in
+    let now = (g.L.Lines.state c.inspect.new.dev).medium in
+    let new = (g.L.Lines.state c.replay_logs.new.dev).medium in
+    let geo = c.in_ok-geo.ensures in
+    mount_outside old now c.in_ok-geo.geo geo.geo geo.lines new geo.order c.in_err-tables.ensures.outside
 
 pub returns-clause-reads : goal.returns-clause-reads
 returns-clause-reads g c =
     let old = (g.L.Lines.state c.args.dev.now).medium in
-    let now = (g.L.Lines.state c.find_sizes.new.dev).medium in
-    let new = (g.L.Lines.state c.mount.new.dev).medium in
-    let order = c.in_ok-geo.ensures.order in
-    λ early. mount_reads old now c.in_ok-geo.geo c.in_ok-geo.ensures.geo c.in_ok-geo.ensures.lines early new order.valid order.good c.in_ok-blocks.ensures.reads
+    let now = (g.L.Lines.state c.inspect.new.dev).medium in
+    let new = (g.L.Lines.state c.replay_logs.new.dev).medium in
+    let geo = c.in_ok-geo.ensures in
+    λ _. mount_reads old now c.in_ok-geo.geo geo.geo geo.lines new geo.order c.in_ok-tables.ensures.outside c.in_ok-tables.ensures.blocks
+
+pub returns-clause-presence : goal.returns-clause-presence
+returns-clause-presence g c =
+    let old = (g.L.Lines.state c.args.dev.now).medium in
+    let now = (g.L.Lines.state c.inspect.new.dev).medium in
+    let new = (g.L.Lines.state c.replay_logs.new.dev).medium in
+    let geo = c.in_ok-geo.ensures in
+    mount_presence old now c.in_ok-geo.geo geo.geo geo.lines new c.in_ok-tables.ensures.volume
 
 pub returns-clause-closed : goal.returns-clause-closed
 returns-clause-closed g c =
     let old = (g.L.Lines.state c.args.dev.now).medium in
-    let now = (g.L.Lines.state c.find_sizes.new.dev).medium in
-    let new = (g.L.Lines.state c.mount.new.dev).medium in
-    mount_closed old now c.in_ok-geo.geo c.in_ok-geo.ensures.geo c.in_ok-geo.ensures.lines c.in_ok-geo.ensures.finds new c.in_ok-blocks.ensures.closed
+    let now = (g.L.Lines.state c.inspect.new.dev).medium in
+    let new = (g.L.Lines.state c.replay_logs.new.dev).medium in
+    let geo = c.in_ok-geo.ensures in
+    mount_closed old now c.in_ok-geo.geo geo.geo geo.lines new c.in_ok-tables.ensures.closed
 
 pub returns-clause-outside : goal.returns-clause-outside
 returns-clause-outside g c =
     let old = (g.L.Lines.state c.args.dev.now).medium in
-    let now = (g.L.Lines.state c.find_sizes.new.dev).medium in
-    let new = (g.L.Lines.state c.mount.new.dev).medium in
-    mount_outside old now c.in_ok-geo.geo c.in_ok-geo.ensures.geo c.in_ok-geo.ensures.lines c.in_ok-geo.ensures.finds new c.in_ok-blocks.ensures.outside
+    let now = (g.L.Lines.state c.inspect.new.dev).medium in
+    let new = (g.L.Lines.state c.replay_logs.new.dev).medium in
+    let geo = c.in_ok-geo.ensures in
+    mount_outside old now c.in_ok-geo.geo geo.geo geo.lines new geo.order c.in_ok-tables.ensures.outside
+
+pub returns-clause-ok : goal.returns-clause-ok
+returns-clause-ok g c =
+    let old = (g.L.Lines.state c.args.dev.now).medium in
+    let now = (g.L.Lines.state c.inspect.new.dev).medium in
+    let new = (g.L.Lines.state c.replay_logs.new.dev).medium in
+    let geo = c.in_ok-geo.ensures in
+    mount_ok old now c.in_ok-geo.geo geo.geo geo.lines geo.finds c.in_ok-tables.tables c.in_ok-tables.ensures.tables new geo.order c.in_ok-tables.ensures.outside c.judge_tables.result c.in_ok-tables.ensures.blocks_rest c.in_ok-tables.ensures.volume_rest c.judge_tables.ensures.geo c.judge_tables.ensures.blocks c.judge_tables.ensures.volume c.judge_tables.ensures.finds
+
+pub returns-clause-finds : goal.returns-clause-finds
+returns-clause-finds g c =
+    let old = (g.L.Lines.state c.args.dev.now).medium in
+    let now = (g.L.Lines.state c.inspect.new.dev).medium in
+    let geo = c.in_ok-geo.ensures in
+    mount_finds old now c.in_ok-geo.geo geo.geo geo.lines geo.finds c.in_ok-tables.tables c.in_ok-tables.ensures.tables c.judge_tables.result c.judge_tables.ensures.finds
 
 pub returns-clause-serves : goal.returns-clause-serves
-returns-clause-serves g c = λ durable.
+returns-clause-serves g c =
     let old = (g.L.Lines.state c.args.dev.now).medium in
-    let now = (g.L.Lines.state c.find_sizes.new.dev).medium in
-    c.in_ok-blocks.ensures.serves (durable_now old now c.in_ok-geo.geo c.in_ok-geo.ensures.geo c.in_ok-geo.ensures.lines c.in_ok-geo.ensures.finds durable c.in_ok-blocks.ensures.finds.1)
+    let now = (g.L.Lines.state c.inspect.new.dev).medium in
+    let new = (g.L.Lines.state c.replay_logs.new.dev).medium in
+    let geo = c.in_ok-geo.ensures in
+    mount_serves old now c.in_ok-geo.geo geo.geo geo.lines geo.finds c.in_ok-tables.tables c.in_ok-tables.ensures.tables new geo.order c.in_ok-tables.ensures.outside c.judge_tables.result c.in_ok-tables.ensures.blocks_rest c.judge_tables.ensures.blocks c.judge_tables.ensures.finds
 
-pub returns-clause-order : goal.returns-clause-order
-returns-clause-order g c = in_order-outside c.in_ok-geo.geo (g.L.Lines.state c.find_sizes.new.dev).medium (g.L.Lines.state c.mount.new.dev).medium c.in_ok-geo.ensures.order c.in_ok-blocks.ensures.outside
+pub returns-clause-volume : goal.returns-clause-volume
+returns-clause-volume g c =
+    let old = (g.L.Lines.state c.args.dev.now).medium in
+    let now = (g.L.Lines.state c.inspect.new.dev).medium in
+    let new = (g.L.Lines.state c.replay_logs.new.dev).medium in
+    let geo = c.in_ok-geo.ensures in
+    mount_volume old now c.in_ok-geo.geo geo.geo geo.lines geo.finds c.in_ok-tables.tables c.in_ok-tables.ensures.tables new geo.order c.in_ok-tables.ensures.outside c.judge_tables.result c.in_ok-tables.ensures.volume_rest c.judge_tables.ensures.volume
