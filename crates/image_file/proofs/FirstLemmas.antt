@@ -1,0 +1,131 @@
+-- Where bytes are wrong, the first wrong field begins.
+use Rattle.std.proofs.Common.{◌≡◌, ℕ, ◌+◌, ◌^◌, ◌<◌, ◌≤◌, Bool, true, false, nat_eq, List, [], ◌∷◌, ◌++◌, length, take, drop, Option, Some, None, refl, sym, ap, subst, ◌∙◌, arith, length-append, length-drop}
+use Rattle.std.specs.List.{concat, flat_map, starts_with}
+use Rattle.std.proofs.lemmas.List.{take-append-drop, drop-drop}
+use Rattle.std.proofs.lemmas.Slice.Eq.{bytes_eq-Decides}
+use Rattle.byteorder.specs.Endian.{little_number}
+use Rattle.byteorder.specs.Numbers.{little_number-reads_back}
+use Rattle.line_device.specs.declared.line.LineState.TheVariants.{Bad}
+use Rattle.image_file.specs.Text.{FitImage, IsSnapshot, Snapshot, image_head, image_magic, image_text, number_text}
+use Rattle.image_file.specs.WrongField.{field_number, first_wrong_offset}
+use Rattle.image_file.specs.Fields.{IsFirstWrong, image_fields, line_fields}
+use Rattle.image_file.specs.Laws.{AreFileBytes}
+use Rattle.image_file.proofs.FieldLemmas.{WrongLines, lines_first, lines_joined}
+use Rattle.image_file.proofs.HeaderLemmas.{field_is, unit_is, count_read, wrong_by}
+use Rattle.image_file.proofs.TextLemmas.{found}
+
+-- an image of one bad line
+abbrev bad_image : Snapshot
+bad_image = record { unit = 8; lines = Bad ∷ [] }
+
+bad_right : IsSnapshot bad_image
+bad_right = record { unit = refl; count = (omega arith, omega arith); whole = (tt, tt) }
+
+-- the first fields of equal rows
+first_same : (a b : List ℕ) (r s : List (List ℕ)) → a ∷ r ≡ b ∷ s → a ≡ b
+first_same a b r s e = cc
+
+later_same : (a b : List ℕ) (r s : List (List ℕ)) → a ∷ r ≡ b ∷ s → r ≡ s
+later_same a b r s e = cc
+
+wrong_magic : (bytes : List ℕ) → starts_with nat_eq bytes image_magic ≡ false → IsFirstWrong bytes 0
+wrong_magic bytes magic = record {
+  fields = [];
+  rest = bytes;
+  parts = refl;
+  here = refl;
+  begun = record { m = bad_image; right = bad_right; more = image_fields bad_image; is = refl };
+  ended = λ field after e b.
+      let same : image_magic ≡ field = first_same _ _ _ _ b.is in
+      let is : bytes ≡ image_magic ++ after = e ∙ ap (λ f. f ++ after) (sym same) in
+      let both : false ≡ true = sym magic ∙ ap (λ t. starts_with nat_eq t image_magic) is in
+      absurd (cc);
+}
+
+-- a number that stands at an offset and fits is found there
+stands : (bytes after : List ℕ) (offset least most n : ℕ) → drop offset bytes ≡ number_text n ++ after → n < 2 ^ 64 → least ≤ n → n ≤ most → field_number bytes offset least most ≡ None → ⊥
+stands bytes after offset least most n is small above below none =
+    let there : offset + 8 ≤ length bytes = omega (arith, ap length is, length-append (number_text n) after, length-drop offset bytes) in
+    let number : little_number 8 (drop offset bytes) ≡ n = ap (little_number 8) is ∙ little_number-reads_back 8 n after small in
+    let both : None ≡ Some n = sym none ∙ found bytes offset least most n there number above below in
+    absurd (cc)
+
+wrong_unit : (bytes : List ℕ) → take 8 bytes ≡ image_magic → field_number bytes 8 8 8 ≡ None → IsFirstWrong bytes 8
+wrong_unit bytes magic none = record {
+  fields = image_magic ∷ [];
+  rest = drop 8 bytes;
+  parts = sym (take-append-drop 8 bytes) ∙ ap (λ t. t ++ drop 8 bytes) magic;
+  here = refl;
+  begun = record { m = bad_image; right = bad_right; more = drop 1 (image_fields bad_image); is = refl };
+  ended = λ field after e b.
+      let same : number_text b.m.unit ≡ field = first_same _ _ _ _ (later_same _ _ _ _ b.is) in
+      let is : drop 8 bytes ≡ number_text 8 ++ after = e ∙ ap (λ f. f ++ after) (sym same) ∙ ap (λ u. number_text u ++ after) b.right.unit in
+      stands bytes after 8 8 8 8 is (omega arith) (omega arith) (omega arith) none;
+}
+
+front_is : (bytes : List ℕ) (unit : ℕ) → AreFileBytes bytes → take 8 bytes ≡ image_magic → field_number bytes 8 8 8 ≡ Some unit → bytes ≡ image_magic ++ (number_text 8 ++ drop 16 bytes)
+front_is bytes unit fit magic e8 =
+    sym (take-append-drop 8 bytes) ∙ ap (λ t. t ++ drop 8 bytes) magic
+    ∙ ap (λ t. image_magic ++ t) (sym (take-append-drop 8 (drop 8 bytes)) ∙ ap (λ t. t ++ drop 8 (drop 8 bytes)) (unit_is bytes unit fit (field_is bytes 8 8 8 unit e8)) ∙ ap (λ t. number_text 8 ++ t) (drop-drop 8 8 bytes))
+
+wrong_count : (bytes : List ℕ) (unit : ℕ) → AreFileBytes bytes → take 8 bytes ≡ image_magic → field_number bytes 8 8 8 ≡ Some unit → field_number bytes 16 1 118016 ≡ None → IsFirstWrong bytes 16
+wrong_count bytes unit fit magic e8 none = record {
+  fields = image_magic ∷ number_text 8 ∷ [];
+  rest = drop 16 bytes;
+  parts = front_is bytes unit fit magic e8;
+  here = refl;
+  begun = record { m = bad_image; right = bad_right; more = drop 2 (image_fields bad_image); is = refl };
+  ended = λ field after e b.
+      let count : FitImage (length b.m.lines) = b.right.count in
+      let same : number_text (length b.m.lines) ≡ field = first_same _ _ _ _ (later_same _ _ _ _ (later_same _ _ _ _ b.is)) in
+      let is : drop 16 bytes ≡ number_text (length b.m.lines) ++ after = e ∙ ap (λ f. f ++ after) (sym same) in
+      stands bytes after 16 1 118016 (length b.m.lines) is (omega (arith, count.1)) count.0 count.1 none;
+}
+
+counts_same : (j k : ℕ) → j ≤ 118016 → k ≤ 118016 → number_text j ≡ number_text k → j ≡ k
+counts_same j k p q e =
+    sym (little_number-reads_back 8 j [] (omega (arith, p))) ∙ ap (λ t. little_number 8 (t ++ [])) e ∙ little_number-reads_back 8 k [] (omega (arith, q))
+
+wrong_line : (bytes : List ℕ) (count offset : ℕ) → FitImage count → bytes ≡ image_head 8 count ++ drop 24 bytes → WrongLines count (drop 24 bytes) 24 offset → IsFirstWrong bytes offset
+wrong_line bytes count offset fit is w = record {
+  fields = image_magic ∷ number_text 8 ∷ number_text count ∷ w.fields;
+  rest = w.rest;
+  parts = is ∙ ap (λ t. image_head 8 count ++ t) w.parts;
+  here = omega (arith, w.here, length-append (image_head 8 count) (concat w.fields));
+  begun = record {
+    m = record { unit = 8; lines = w.begun.all };
+    right = record { unit = refl; count = rw w.begun.count fit; whole = w.begun.whole };
+    more = w.begun.more;
+    is = ap (λ k. image_magic ∷ number_text 8 ∷ number_text k ∷ flat_map line_fields w.begun.all) w.begun.count ∙ ap (λ t. image_magic ∷ number_text 8 ∷ number_text count ∷ t) w.begun.is;
+  };
+  ended = λ field after e b.
+      let behind = later_same _ _ _ _ (later_same _ _ _ _ b.is) in
+      w.ended field after e (record {
+        all = b.m.lines;
+        whole = b.right.whole;
+        count = counts_same (length b.m.lines) count b.right.count.1 fit.1 (first_same _ _ _ _ behind);
+        more = b.more;
+        is = later_same _ _ _ _ behind;
+      });
+}
+
+pub wrong_is_first : (bytes : List ℕ) (offset : ℕ) → AreFileBytes bytes → first_wrong_offset bytes ≡ Some offset → IsFirstWrong bytes offset
+unfolding first_wrong_offset
+wrong_is_first bytes offset fit e = go (starts_with nat_eq bytes image_magic) (field_number bytes 8 8 8) (field_number bytes 16 1 118016) refl refl refl e
+  where
+    begins : starts_with nat_eq bytes image_magic ≡ true → take 8 bytes ≡ image_magic
+    begins p = sym ((bytes_eq-Decides image_magic (take 8 bytes)).0 p)
+
+    go : (magic : Bool) (unit lines : Option ℕ) → starts_with nat_eq bytes image_magic ≡ magic → field_number bytes 8 8 8 ≡ unit → field_number bytes 16 1 118016 ≡ lines
+        → wrong_by magic unit lines bytes ≡ Some offset → IsFirstWrong bytes offset
+    go false unit lines p q r e = let same : 0 ≡ offset = cc in subst (IsFirstWrong bytes) same (wrong_magic bytes p)
+    go true None lines p q r e = let same : 8 ≡ offset = cc in subst (IsFirstWrong bytes) same (wrong_unit bytes (begins p) q)
+    go true (Some u) None p q r e = let same : 16 ≡ offset = cc in subst (IsFirstWrong bytes) same (wrong_count bytes u fit (begins p) q r)
+    go true (Some u) (Some n) p q r e =
+        let read = count_read bytes u n fit p q r in
+        wrong_line bytes n offset read.0 read.2 (lines_first n 24 offset (drop 24 bytes) e)
+
+-- an image's bytes are its fields
+pub fields_joined : (m : Snapshot) → image_text m ≡ concat (image_fields m)
+unfolding image_text
+fields_joined m = ap (λ t. image_head m.unit (length m.lines) ++ t) (lines_joined m.lines)

@@ -1,0 +1,6 @@
+mod FieldLemmas
+mod FirstLemmas
+mod HeaderLemmas
+mod LineLemmas
+mod ReadingLemmas
+mod TextLemmas

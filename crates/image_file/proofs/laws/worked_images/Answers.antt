@@ -1,0 +1,29 @@
+-- The definitions compute.
+use Rattle.std.proofs.Common.{refl}
+use Rattle.image_file.specs.Text.{image_text}
+use Rattle.image_file.specs.WrongField.{wrong_in_lines, first_wrong_offset}
+use Rattle.image_file.proofs.laws.worked_images.Goals as goal
+
+pub returns : goal.returns
+unfolding image_text wrong_in_lines first_wrong_offset
+returns c = record {
+  right = refl;
+  nothing = refl;
+  first_byte = refl;
+  magic_cut = refl;
+  no_unit = refl;
+  unit_of_9 = refl;
+  large_unit = refl;
+  count_cut = refl;
+  no_lines = refl;
+  too_many_lines = refl;
+  no_tag = refl;
+  tag_of_3 = refl;
+  no_bytes = refl;
+  last_byte_cut = refl;
+  weak = refl;
+  bad_with_bytes = refl;
+  bad = refl;
+  second_line_missing = refl;
+  byte_too_many = refl;
+}

@@ -1,0 +1,5 @@
+pub mod Text
+pub mod WrongField
+pub mod Fields
+pub mod Results
+pub mod Laws

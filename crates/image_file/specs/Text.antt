@@ -1,0 +1,66 @@
+-- Images as bytes.
+use Rattle.std.specs.Prelude.{◌≡◌, ◌-◌, ◌≤◌, ℕ, List, [], ◌∷◌, ◌++◌, length, replicate, codes}
+use Rattle.std.specs.List.{flat_map, AllByRecursion}
+use Rattle.byteorder.specs.Endian.{little_bytes}
+use Rattle.line_device.specs.declared.line.LineState.{LineState}
+use Rattle.line_device.specs.declared.line.LineState.TheVariants.{Healthy, Weak, Bad}
+use Rattle.word_tables.specs.declared.geometry.Geometry.{Geometry}
+use Rattle.word_tables.specs.Layout.{total_lines}
+use Rattle.word_tables.specs.Superblock.{superblock_words}
+use Rattle.image_file.specs.declared.Image.{Image}
+
+-- an image without how much room its list has: the bytes of a word, and the lines
+pub record Snapshot : Type 0 where
+  pub unit : ℕ
+  pub lines : List LineState
+
+abbrev pub snapshot_of : Image → Snapshot
+snapshot_of image = record { unit = image.unit; lines = image.lines.items }
+
+-- the first bytes
+abbrev pub image_magic : List ℕ
+image_magic = codes "NVMIMG01"
+
+-- a number as eight bytes, the lowest first
+abbrev pub number_text : ℕ → List ℕ
+number_text n = little_bytes 8 n
+
+-- a line: its tag, and its bytes where it has any
+abbrev pub line_text : LineState → List ℕ
+line_text (Healthy bytes) = 0 ∷ bytes
+line_text (Weak bytes) = 1 ∷ bytes
+line_text Bad = 2 ∷ []
+
+-- the fields before the lines: so many bytes to a word, and so many lines
+abbrev pub image_head : ℕ → ℕ → List ℕ
+image_head unit lines = image_magic ++ number_text unit ++ number_text lines
+
+unfoldable pub image_text : Snapshot → List ℕ
+image_text m = image_head m.unit (length m.lines) ++ flat_map line_text m.lines
+
+-- a line that is not bad has 64 bytes
+abbrev pub IsWholeLine : LineState → Type 0
+IsWholeLine (Healthy bytes) = length bytes ≡ 64
+IsWholeLine (Weak bytes) = length bytes ≡ 64
+IsWholeLine Bad = Unit {0}
+
+-- so many lines may stand in an image
+abbrev pub FitImage : ℕ → Type 0
+FitImage lines = (1 ≤ lines) × (lines ≤ 118016)
+
+-- what an image may tell
+pub record IsSnapshot (m : Snapshot) : Type 0 where
+  pub unit : m.unit ≡ 8
+  pub count : FitImage (length m.lines)
+  pub whole : AllByRecursion IsWholeLine m.lines
+
+-- the bytes of the first line of a fresh device: the words of its superblock
+abbrev pub superblock_text : Geometry → List ℕ
+superblock_text geo = flat_map number_text (superblock_words geo)
+
+-- a fresh device: its superblock, and then zeros
+abbrev pub fresh_snapshot : Geometry → Snapshot
+fresh_snapshot geo = record {
+  unit = 8;
+  lines = Healthy (superblock_text geo) ∷ replicate (total_lines geo - 1) (Healthy (replicate 64 0));
+}

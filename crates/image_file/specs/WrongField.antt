@@ -1,0 +1,40 @@
+-- The first field of bytes by which they are no image.
+use Rattle.std.specs.Prelude.{◌+◌, ◌&&◌, ℕ, zero, suc, not, List, [], ◌∷◌, length, drop, nat_eq, nat_le, nat_lt, Option, Some, None, if◌then◌else◌}
+use Rattle.std.specs.List.{starts_with}
+use Rattle.byteorder.specs.Endian.{little_number}
+use Rattle.image_file.specs.Text.{image_magic}
+
+-- how many bytes follow a line's tag: healthy, weak, bad, no tag
+abbrev pub tag_len : ℕ → Option ℕ
+tag_len zero = Some 64
+tag_len (suc zero) = Some 64
+tag_len (suc (suc zero)) = Some 0
+tag_len (suc (suc (suc tag))) = None
+
+-- where the first wrong field of so many lines begins, in the bytes from this offset on
+unfoldable pub wrong_in_lines : ℕ → ℕ → List ℕ → Option ℕ
+wrong_in_lines zero offset [] = None
+wrong_in_lines zero offset (byte ∷ bytes) = Some offset
+wrong_in_lines (suc lines) offset [] = Some offset
+wrong_in_lines (suc lines) offset (tag ∷ bytes) = elim (tag_len tag) [
+  | None ↦ Some offset
+  | Some len ↦ if nat_lt (length bytes) len then Some (offset + 1) else wrong_in_lines lines (offset + 1 + len) (drop len bytes)
+]
+
+-- the number in the eight bytes at an offset, where these are there and it is within two bounds
+abbrev pub field_number : List ℕ → ℕ → ℕ → ℕ → Option ℕ
+field_number bytes offset least most =
+    if nat_le (offset + 8) (length bytes) && nat_le least (little_number 8 (drop offset bytes)) && nat_le (little_number 8 (drop offset bytes)) most
+    then Some (little_number 8 (drop offset bytes)) else None
+
+-- where the first field begins that is missing, cut short or not allowed, or the first byte past the end
+unfoldable pub first_wrong_offset : List ℕ → Option ℕ
+first_wrong_offset bytes =
+    if not (starts_with nat_eq bytes image_magic) then Some 0
+    else elim (field_number bytes 8 8 8) [
+      | None ↦ Some 8
+      | Some unit ↦ elim (field_number bytes 16 1 118016) [
+        | None ↦ Some 16
+        | Some lines ↦ wrong_in_lines lines 24 (drop 24 bytes)
+      ]
+    ]

@@ -1,0 +1,24 @@
+ghost use Rattle.std.specs.Prelude.{◌≡◌};
+ghost use Rattle.image_file.specs.declared.fault.ImageFault.TheVariants.{Memory};
+
+use std::alloc::AllocError;
+use thiserror::Error;
+
+/// Why bytes were not read as an image.
+#[derive(Clone, Copy, Debug, PartialEq, Eq, Error)]
+pub enum ImageFault {
+    /// They are none. It is the offset of the first field that is missing, cut short or not allowed, or of the first byte
+    /// past the end.
+    #[error("no image, from byte {0} on")]
+    Bad(u64),
+    #[error("no memory for the image")]
+    Memory,
+}
+
+impl From<AllocError> for ImageFault {
+    ghost from_gives = { λ _ e. e ≡ Memory };
+
+    fn from(_e: AllocError) -> ImageFault {
+        ImageFault::Memory
+    }
+}

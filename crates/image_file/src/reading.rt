@@ -1,0 +1,105 @@
+// Bytes as an image, field by field from the first one on.
+ghost use Rattle.std.specs.Prelude.{◌≡◌, ◌<◌, ◌≤◌, ◌++◌, length, MatchOption};
+ghost use Rattle.image_file.specs.Text.{IsSnapshot, Snapshot, image_text};
+ghost use Rattle.image_file.specs.WrongField.{field_number};
+ghost use Rattle.image_file.specs.Results.{GivesImage, ReadsCount, ReadsImage, ReadsLine, ReadsLines};
+
+use crate::{BAD, HEALTHY, Image, ImageFault, MAGIC, MOST_LINES, UNIT, WEAK};
+use byteorder::{ByteOrder, LittleEndian};
+use line_device::{LineList, LineState};
+use std::alloc::Global;
+
+// The bytes before the first line.
+const HEADER: usize = 24;
+
+/// The image that the bytes spell. It takes memory for its list of lines alone.
+pub fn read(alloc: Global, bytes: &[u8]) -> Result<Image, ImageFault>
+    ensures image { ReadsImage bytes.now result }
+    ensures only { (m : Snapshot) → IsSnapshot m → bytes.now ≡ image_text m → GivesImage m result }
+{
+    match read_count(bytes) {
+        Ok(count) => {
+            let lines = read_lines(alloc, count, bytes)?;
+            Ok(Image { unit: UNIT, lines })
+        }
+        Err(offset) => Err(ImageFault::Bad(offset)),
+    }
+}
+
+// How many lines the fields before them announce, or the offset of the first wrong one.
+#[tactic(auto, unfolding(crate::specs::WrongField::first_wrong_offset))]
+fn read_count(bytes: &[u8]) -> Result<u64, u64>
+    ensures { ReadsCount bytes.now result }
+{
+    if !bytes.starts_with(MAGIC) {
+        return Err(0);
+    }
+    if number_at(bytes, 8, UNIT, UNIT).is_none() {
+        return Err(8);
+    }
+    number_at(bytes, 16, 1, MOST_LINES).ok_or(16)
+}
+
+// The number in the eight bytes at an offset, if these are there and it is within the bounds.
+fn number_at(bytes: &[u8], offset: usize, least: u64, most: u64) -> Option<u64>
+    requires { offset ≤ 16 }
+    ensures { result ≡ field_number bytes.now offset least most }
+{
+    if bytes.len() < offset + 8 {
+        return None;
+    }
+    let number = LittleEndian::read_u64(&bytes[offset..]);
+    (number >= least && number <= most).then_some(number)
+}
+
+// So many lines, from the end of the header on.
+fn read_lines(alloc: Global, count: u64, bytes: &[u8]) -> Result<LineList, ImageFault>
+    requires { 24 ≤ length bytes.now }
+    ensures { ReadsLines count bytes.now result }
+{
+    let mut lines = LineList::new(alloc);
+    lines.reserve(count)?;
+    let mut rest = &bytes[HEADER..];
+    for _ in 0..count {
+        match read_line(rest) {
+            Ok((line, after)) => {
+                lines.push(line)?;
+                rest = after;
+            }
+            Err(skip) => {
+                let offset = (bytes.len() - rest.len()) as u64;
+                return Err(ImageFault::Bad(offset + skip));
+            }
+        }
+    }
+    if !rest.is_empty() {
+        return Err(ImageFault::Bad((bytes.len() - rest.len()) as u64));
+    }
+    Ok(lines)
+}
+
+// The line at the front and what follows it, or how far into the bytes the first wrong field begins.
+#[tactic(auto, unfolding(crate::specs::WrongField::wrong_in_lines))]
+fn read_line(bytes: &[u8]) -> Result<(LineState, &[u8]), u64>
+    ensures { ReadsLine bytes.now result }
+{
+    match bytes {
+        [HEALTHY, rest @ ..] => match line_bytes(rest) {
+            Some((line, rest)) => Ok((LineState::Healthy(*line), rest)),
+            None => Err(1),
+        },
+        [WEAK, rest @ ..] => match line_bytes(rest) {
+            Some((line, rest)) => Ok((LineState::Weak(*line), rest)),
+            None => Err(1),
+        },
+        [BAD, rest @ ..] => Ok((LineState::Bad, rest)),
+        [] | [_, ..] => Err(0),
+    }
+}
+
+// The bytes of a line and what follows them, if all are there.
+fn line_bytes(bytes: &[u8]) -> Option<(&[u8; 64], &[u8])>
+    ensures { MatchOption result (length bytes.now < 64) (λ p. (bytes.now ≡ p.0.now ++ p.1.now) × (length p.0.now ≡ 64)) }
+{
+    bytes.split_first_chunk::<64>()
+}

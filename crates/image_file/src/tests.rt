@@ -1,0 +1,118 @@
+use crate::{Image, ImageFault, fresh, read, write};
+use line_device::{LineList, LineState};
+use nvm_base::Bytes;
+use std::alloc::{AllocError, Global};
+use std::test::*;
+use word_tables::Geometry;
+
+// The image of 8 blocks, 2 pages of the volume and 32 pages of files: 5,056 lines.
+fn fresh_bytes(alloc: Global) -> Result<Bytes, AllocError> {
+    let geo = Geometry {
+        blocks: 8,
+        vpages: 2,
+        fpages: 32,
+    };
+    write(alloc, &fresh(alloc, geo)?)
+}
+
+fn fault_of(alloc: Global, bytes: &[u8]) -> Option<ImageFault> {
+    read(alloc, bytes).err()
+}
+
+#[test]
+fn a_fresh_image_has_its_superblock_and_zeros(rt: HostRuntime) -> Result<(), Fail> {
+    let bytes = fresh_bytes(rt.alloc())?;
+    assert_eq!(rt; bytes.len(), 328664);
+    let (head, lines) = bytes.as_slice().split_at(24);
+    assert_eq!(rt;
+        head,
+        b"NVMIMG01\x08\0\0\0\0\0\0\0\xc0\x13\0\0\0\0\0\0".as_slice()
+    );
+    let (first, others) = lines.split_at(65);
+    assert_eq!(rt;
+        first,
+        b"\0NVMPMH01\x01\0\0\0\0\0\0\0\x08\0\0\0\0\0\0\0\x02\0\0\0\0\0\0\0\x20\0\0\0\0\0\0\0\0\x09\0\0\0\0\0\0\xc0\x13\0\0\0\0\0\0\x08\0\0\0\0\0\0\0".as_slice()
+    );
+    assert!(rt; others.iter().all(|byte| *byte == 0));
+    assert_eq!(rt; fault_of(rt.alloc(), bytes.as_slice()), None);
+    Ok(())
+}
+
+#[test]
+fn a_changed_field_is_told_by_its_offset(rt: HostRuntime) -> Result<(), Fail> {
+    let cases: [(&[(usize, u8)], u64); 9] = [
+        (&[(0, 0)], 0),
+        (&[(7, b'2')], 0),
+        (&[(8, 9)], 8),
+        (&[(16, 0), (17, 0)], 16),
+        (&[(16, 1), (17, 0xcd), (18, 1)], 16),
+        (&[(16, 0), (17, 0xcd), (18, 1)], 328664),
+        (&[(16, 0xbf)], 328599),
+        (&[(24, 3)], 24),
+        (&[(24, 2)], 25),
+    ];
+    for (changes, offset) in cases {
+        let mut bytes = fresh_bytes(rt.alloc())?;
+        for (place, byte) in changes {
+            if let Some(old) = bytes.as_mut_slice().get_mut(*place) {
+                *old = *byte;
+            }
+        }
+        assert_eq!(rt;
+            fault_of(rt.alloc(), bytes.as_slice()),
+            Some(ImageFault::Bad(offset))
+        );
+    }
+    Ok(())
+}
+
+#[test]
+fn bytes_that_are_missing_or_too_many_are_told(rt: HostRuntime) -> Result<(), Fail> {
+    let mut bytes = fresh_bytes(rt.alloc())?;
+    for (len, offset) in [
+        (0, 0),
+        (7, 0),
+        (8, 8),
+        (15, 8),
+        (16, 16),
+        (23, 16),
+        (24, 24),
+        (25, 25),
+        (88, 25),
+        (89, 89),
+        (328663, 328600),
+    ] {
+        let part = bytes.as_slice().get(..len).ok_or("the image is longer")?;
+        assert_eq!(rt;
+            fault_of(rt.alloc(), part),
+            Some(ImageFault::Bad(offset)),
+            "{len}"
+        );
+    }
+    bytes.push(0)?;
+    assert_eq!(rt;
+        fault_of(rt.alloc(), bytes.as_slice()),
+        Some(ImageFault::Bad(328664))
+    );
+    Ok(())
+}
+
+#[test]
+fn each_line_comes_back_with_its_mark(rt: HostRuntime) -> Result<(), Fail> {
+    let told = [
+        LineState::Bad,
+        LineState::Weak([7; 64]),
+        LineState::Healthy([9; 64]),
+        LineState::Weak([0; 64]),
+    ];
+    let mut lines = LineList::new(rt.alloc());
+    lines.extend(&told)?;
+    let bytes = write(rt.alloc(), &Image { unit: 8, lines })?;
+    assert_eq!(rt; bytes.len(), 24 + 1 + 3 * 65);
+    let image = read(rt.alloc(), bytes.as_slice())
+        .ok()
+        .ok_or("the bytes are an image")?;
+    assert_eq!(rt; image.unit, 8);
+    assert_eq!(rt; image.lines.as_slice(), told.as_slice());
+    Ok(())
+}

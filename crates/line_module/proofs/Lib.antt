@@ -1,0 +1,11 @@
+pub mod WordsLemmas
+pub mod ChainLemmas
+pub mod OrderLemmas
+pub mod HeldLemmas
+pub mod ChangeLemmas
+pub mod PutOverLemmas
+pub mod WayLemmas
+pub mod RestartLemmas
+pub mod NewLemmas
+pub mod MemoryLemmas
+pub mod ExactLemmas

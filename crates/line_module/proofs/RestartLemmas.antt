@@ -1,0 +1,107 @@
+-- Restarts: words that keep one of their values.
+use Rattle.std.proofs.Common.{◌≡◌, inl, inr, ℕ, zero, suc, Bool, false, ◌+◌, ◌*◌, ◌/◌, ◌%◌, ◌-◌, ◌<◌, ◌≤◌, ◌||◌, List, [], ◌∷◌, length, get_or, take, drop, nat_lt, if◌then◌else◌, refl, sym, ◌∙◌, ap, arith}
+use Rattle.std.proofs.lemmas.Bool.{cases_eq, cases_lt, eq-eqb, lt-ltb, le-ltb}
+use Rattle.std.proofs.lemmas.Nat.{mod_below}
+use Rattle.line_device.specs.Medium.{Medium, on_line, zeros}
+use Rattle.line_device.specs.declared.line.Choice.{Choice}
+use Rattle.line_device.specs.declared.line.Choice.TheVariants.{Firsts, Lasts, Seed}
+use Rattle.line_device.proofs.WriteBackLemmas.{on_line-in, on_line-out}
+use Rattle.line_module.specs.Survivors.{drawn, survivor_index, survivor_of}
+use Rattle.line_module.specs.Memory.{has, memory_after_reset, memory_after_restart}
+use Rattle.line_module.proofs.WordsLemmas.{true_is_not_false}
+use Rattle.line_module.proofs.ChangeLemmas.{same_medium}
+
+drop-nil : (n : ℕ) → ◌≡◌ {A = List ℕ} (drop n []) []
+drop-nil zero = refl
+drop-nil (suc n) = refl
+
+-- a word without values keeps none, and one with one value that one
+pub survivor-none : (choice : Choice) (place : ℕ) → survivor_of choice place [] ≡ []
+survivor-none Firsts place = refl
+survivor-none Lasts place = refl
+survivor-none (Seed seed) place = ap (take 1) (drop-nil (survivor_index seed place 0))
+
+pub survivor-one : (choice : Choice) (place v : ℕ) → survivor_of choice place (v ∷ []) ≡ v ∷ []
+survivor-one Firsts place v = refl
+survivor-one Lasts place v = refl
+survivor-one (Seed seed) place v =
+    let first : survivor_index seed place 1 ≡ 0 = omega (arith, mod_below (drawn seed place) 1 (omega arith)) in
+    ap (λ n. take 1 (drop n (v ∷ []))) first
+
+-- the value at a place of the list alone
+pub take_one : (xs : List ℕ) (n d : ℕ) → n < length xs → take 1 (drop n xs) ≡ get_or xs n d ∷ []
+take_one [] n d within = absurd (omega arith)
+take_one (x ∷ xs) zero d within = refl
+take_one (x ∷ xs) (suc n) d within = take_one xs n d (omega arith)
+
+-- the value that a seed picks, where it is not the durable one
+pub survivor-later : (seed place first index : ℕ) (h seen : List ℕ) → seen ≡ h → index ≡ survivor_index seed place (length seen + 1) → (index ≡ 0 → ⊥) → survivor_of (Seed seed) place (first ∷ h) ≡ get_or seen (index - 1) 0 ∷ []
+survivor-later seed place first index h seen is drew later =
+    let long : length seen + 1 ≡ suc (length h) = omega (arith, ap length is) in
+    let which : survivor_index seed place (suc (length h)) ≡ suc (index - 1) = ap (survivor_index seed place) (sym long) ∙ sym drew ∙ omega arith in
+    let below : index < length h + 1 = omega (arith, drew, mod_below (drawn seed place) (length seen + 1) (omega arith), ap length is) in
+    ap (λ n. take 1 (drop n (first ∷ h))) which ∙ take_one h (index - 1) 0 (omega arith) ∙ ap (λ l. get_or l (index - 1) 0 ∷ []) (sym is)
+
+-- lines below a number have restarted, and the others not yet
+abbrev pub restarted_below : Choice → ℕ → Medium → Medium
+restarted_below choice n m = record m { history = λ p. if nat_lt (p / 8) n then survivor_of choice p (m.history p) else m.history p }
+
+pub restarted_below-none : (choice : Choice) (m : Medium) → m ≡ restarted_below choice 0 m
+restarted_below-none choice m = same_medium m (restarted_below choice 0 m) refl (λ n. refl) (λ n. refl) (λ p. sym (ap (λ b. if b then survivor_of choice p (m.history p) else m.history p) (le-ltb (p / 8) 0 (omega arith))))
+
+pub restarted_below-one : (choice : Choice) (m : Medium) (n : ℕ) → record (restarted_below choice n m) { history = on_line n (λ w h. survivor_of choice (8 * n + w) h) (restarted_below choice n m).history } ≡ restarted_below choice (n + 1) m
+restarted_below-one choice m n =
+    let before = restarted_below choice n m in
+    let change = λ (w : ℕ) (h : List ℕ). survivor_of choice (8 * n + w) h in
+    let pick = λ (p : ℕ) (b : Bool). if b then survivor_of choice p (m.history p) else m.history p in
+    same_medium (record before { history = on_line n change before.history }) (restarted_below choice (n + 1) m) refl (λ k. refl) (λ k. refl)
+    (λ p. elim (cases_eq (p / 8) n) as (λ _. on_line n change before.history p ≡ pick p (nat_lt (p / 8) (n + 1))) [
+      | inl on ↦
+          let place : 8 * n + p % 8 ≡ p = omega arith in
+          on_line-in n change before.history p on
+          ∙ ap (λ q. survivor_of choice q (before.history p)) place
+          ∙ ap (λ b. survivor_of choice p (pick p b)) (le-ltb (p / 8) n (omega arith))
+          ∙ sym (ap (pick p) (lt-ltb (p / 8) (n + 1) (omega arith)))
+      | inr out ↦
+          on_line-out n change before.history p out
+          ∙ elim (cases_lt (p / 8) n) as (λ _. pick p (nat_lt (p / 8) n) ≡ pick p (nat_lt (p / 8) (n + 1))) [
+            | inl less ↦ ap (pick p) (lt-ltb (p / 8) n less) ∙ sym (ap (pick p) (lt-ltb (p / 8) (n + 1) (omega arith)))
+            | inr more ↦ ap (pick p) (le-ltb (p / 8) n more) ∙ sym (ap (pick p) (le-ltb (p / 8) (n + 1) (omega arith)))
+          ]
+    ])
+
+pub restarted_below-all : (choice : Choice) (m : Medium) (n : ℕ) → ((p : ℕ) → n ≤ p / 8 → m.history p ≡ []) → restarted_below choice n m ≡ record m { history = λ p. survivor_of choice p (m.history p) }
+restarted_below-all choice m n past =
+    same_medium (restarted_below choice n m) (record m { history = λ p. survivor_of choice p (m.history p) }) refl (λ k. refl) (λ k. refl)
+    (λ p. elim (cases_lt (p / 8) n) as (λ _. (if nat_lt (p / 8) n then survivor_of choice p (m.history p) else m.history p) ≡ survivor_of choice p (m.history p)) [
+      | inl below ↦ ap (λ b. if b then survivor_of choice p (m.history p) else m.history p) (lt-ltb (p / 8) n below)
+      | inr from ↦
+          ap (λ b. if b then survivor_of choice p (m.history p) else m.history p) (le-ltb (p / 8) n from)
+          ∙ past p from
+          ∙ sym (ap (survivor_of choice p) (past p from) ∙ survivor-none choice p)
+    ])
+
+-- a list that has no line is empty
+pub has_none : (xs : List ℕ) → ((n : ℕ) → has n xs ≡ false) → xs ≡ []
+has_none [] none = refl
+has_none (x ∷ xs) none = absurd (true_is_not_false (sym (ap (λ b. b || has x xs) (eq-eqb x x refl)) ∙ none x))
+
+-- a line whose words have one value at most keeps them
+pub on_line-same : (m : Medium) (line : ℕ) (change : ℕ → List ℕ → List ℕ) → ((w : ℕ) → w < 8 → change w (m.history (8 * line + w)) ≡ m.history (8 * line + w)) → m ≡ record m { history = on_line line change m.history }
+on_line-same m line change same =
+    same_medium m (record m { history = on_line line change m.history }) refl (λ n. refl) (λ n. refl)
+    (λ p. elim (cases_eq (p / 8) line) as (λ _. m.history p ≡ on_line line change m.history p) [
+      | inl on ↦
+          let place : 8 * line + p % 8 ≡ p = omega arith in
+          sym (on_line-in line change m.history p on ∙ ap (λ q. change (p % 8) (m.history q)) (sym place) ∙ same (p % 8) (omega arith) ∙ ap m.history place)
+      | inr out ↦ sym (on_line-out line change m.history p out)
+    ])
+
+-- a memory without lines stays one
+pub restart-zeros : (choice : Choice) → (memory_after_reset 0).medium ≡ (memory_after_restart (memory_after_reset 0) choice).medium
+restart-zeros choice =
+    same_medium (zeros 0) (record (zeros 0) { history = λ p. survivor_of choice p ((zeros 0).history p) }) refl (λ n. refl) (λ n. refl)
+    (λ p. sym (ap (survivor_of choice p) (none p) ∙ survivor-none choice p ∙ sym (none p)))
+  where
+    none : (p : ℕ) → (zeros 0).history p ≡ []
+    none p = ap (λ b. if b then 0 ∷ [] else []) (le-ltb (p / 8) 0 (omega arith))

@@ -1,0 +1,11 @@
+pub mod Words
+pub mod Survivors
+pub mod Memory
+pub mod Chains
+pub mod Order
+pub mod Held
+pub mod Keeps
+pub mod Cells
+pub mod Module
+pub mod ModuleSound
+pub mod Exact

@@ -1,0 +1,77 @@
+// What the words of lines keep when the power comes back.
+ghost use Rattle.std.specs.Prelude.{◌≡◌, ◌+◌, ◌*◌, ◌<◌, ◌∷◌, ℕ, [], false};
+ghost use Rattle.line_device.specs.Word.{word_at};
+ghost use Rattle.line_device.specs.declared.line.Choice.TheVariants.{Firsts, Seed};
+ghost use Rattle.line_module.specs.Survivors.{survivor_of};
+ghost use Rattle.line_module.specs.Memory.{memory_after_restart, with_survivors};
+ghost use Rattle.line_module.specs.Cells.{cells_medium, memory_in};
+
+use super::Cells;
+use crate::bytes::{put, word_in};
+use crate::state::{Next, State};
+use line_device::Choice;
+use nvm_base::LineNo;
+
+impl Cells {
+    pub fn restart(&mut self, choice: Choice)
+        ensures { memory_in self.new ≡ memory_after_restart (memory_in self.old) choice }
+    {
+        for line in 0..self.lines() {
+            self.settle(LineNo(line), choice);
+        }
+    }
+
+    // Each word of the line keeps one of its values.
+    fn settle(&mut self, line: LineNo, choice: Choice)
+        requires { line.0 < (cells_medium self.old).count }
+        ensures { memory_in self.new ≡ with_survivors (memory_in self.old) line.0 choice }
+    {
+        if self.is_dirty(line) {
+            let bytes = self.survivors(line, choice);
+            self.renew(line, Some(bytes), Next::Same);
+        }
+    }
+
+    // The bytes that a line which is not bad keeps.
+    fn survivors(&self, line: LineNo, choice: Choice) -> [u8; 64]
+        requires within { line.0 < (cells_medium self.now).count }
+        requires good { (cells_medium self.now).is_bad line.0 ≡ false }
+        ensures { (w : ℕ) → w < 8 → survivor_of choice (8 * line.0 + w) ((cells_medium self.now).history (8 * line.0 + w)) ≡ word_at result w ∷ [] }
+    {
+        match choice {
+            Choice::Firsts => self.copy_durable(line),
+            Choice::Lasts => self.copy(line),
+            Choice::Seed(seed) => self.drawn(line, seed),
+        }
+    }
+
+    fn drawn(&self, line: LineNo, seed: u64) -> [u8; 64]
+        requires within { line.0 < (cells_medium self.now).count }
+        requires good { (cells_medium self.now).is_bad line.0 ≡ false }
+        ensures { (w : ℕ) → w < 8 → survivor_of (Seed seed) (8 * line.0 + w) ((cells_medium self.now).history (8 * line.0 + w)) ≡ word_at result w ∷ [] }
+    {
+        let mut bytes = self.copy_durable(line);
+        for w in 0..8_u64 {
+            let first = word_in(&bytes, w);
+            let value = self.drawn_word(line, w, seed, first);
+            put(&mut bytes, 8 * w, &value.to_le_bytes());
+        }
+        bytes
+    }
+
+    // The value that a word keeps by a seed, where this one is durable.
+    fn drawn_word(&self, line: LineNo, w: u64, seed: u64, first: u64) -> u64
+        requires within { line.0 < (cells_medium self.now).count }
+        requires good { (cells_medium self.now).is_bad line.0 ≡ false }
+        requires word { w < 8 }
+        requires first { survivor_of Firsts (8 * line.0 + w) ((cells_medium self.now).history (8 * line.0 + w)) ≡ first ∷ [] }
+        ensures { survivor_of (Seed seed) (8 * line.0 + w) ((cells_medium self.now).history (8 * line.0 + w)) ≡ result ∷ [] }
+    {
+        let place = 8 * line.0 + w;
+        match &self.states[line.0 as usize] {
+            State::Clean => first,
+            State::Dirty(chain) => chain.survivor(seed, place, w, first),
+            State::Weak(chain) => chain.survivor(seed, place, w, first),
+        }
+    }
+}
