@@ -1,15 +1,10 @@
 -- What a host and its device stand for, after a call on the blocks.
-use Rattle.std.proofs.Common.{◌≡◌, ◌≢◌, ◌/◌, ◌≤◌, ℕ, true, IsTrue, nat_lt, Option, Some, None, option_map, Result, Ok, Err, OnOk, List, [], ◌∷◌, inl, refl, sym, ap, ap₂, subst, ◌∙◌, arith}
+use Rattle.std.proofs.Common.{◌≡◌, ◌/◌, ◌≤◌, ℕ, IsTrue, nat_lt, Option, Some, None, option_map, Result, Ok, Err, OnOk, List, [], ◌∷◌, refl, sym, ap, ap₂, subst, ◌∙◌, arith}
 use Rattle.line_device.specs.Medium.{Medium}
 use Rattle.line_device.specs.Panel.{Runs}
 use Rattle.line_device.specs.Device.{Device}
 use Rattle.line_words.specs.Words.{WritesBackBeside}
-use Rattle.line_words.specs.Ending.{ended}
-use Rattle.line_words.specs.declared.interruption.Interruption.{Interruption}
-use Rattle.line_words.specs.declared.interruption.Interruption.TheVariants.{Failed, PowerLost}
 use Rattle.nvm_model.specs.Storage.{Block}
-use Rattle.nvm_model.specs.Page.{PagesStand}
-use Rattle.nvm_model.proofs.StandLemmas.{stand-loaded}
 use Rattle.block_device.specs.Area.{IsBlockLine}
 use Rattle.block_device.specs.Object.{BlocksState, HasGoodMetadata, blocks_of}
 use Rattle.block_device.specs.Object as object
@@ -18,7 +13,6 @@ use Rattle.block_device.specs.Refusals.{Refusal, told, Answers, OnRefused, OnWor
 use Rattle.line_words.specs.Told.{is_done}
 use Rattle.block_device.specs.Refusals.Refusal.{Range, Length, Limit, Overlap, Meta, Unreadable}
 use Rattle.nvm_model.specs.Blocks.Obstacle.{scar, bad_line}
-use Rattle.std.proofs.lemmas.Option.{same_Some}
 use Rattle.block_device.specs.declared.fault.BlockFault.{BlockFault}
 use Rattle.block_device.specs.declared.fault.BlockFault.TheVariants as fault
 use Rattle.block_device.specs.Refusals as blocks
@@ -27,7 +21,7 @@ use Rattle.block_device.proofs.ImageLemmas.{each_reads-then, served_reads}
 use Rattle.nvm_base.specs.declared.units.Span.{Span}
 use Rattle.nvm_model.specs.Blocks.{first_there}
 use Rattle.script_text.specs.Action.{Action}
-use Rattle.reply_text.specs.Answer.{Answer}
+use Rattle.reply_text.specs.Answer.{Answer, IsPrintable}
 use Rattle.reply_text.specs.Answer.Answer.{Done}
 use Rattle.reply_text.specs.Room.{most_of}
 use Rattle.machine_host.specs.Responding.{Answered}
@@ -35,24 +29,26 @@ use Rattle.machine_host.proofs.RefusalLemmas.{fate_changing, first_alone}
 use Rattle.word_tables.specs.Layout.{meta_lines}
 use Rattle.word_tables.specs.declared.geometry.Geometry.{Geometry}
 use Rattle.machine_host.specs.declared.mode.Mode.TheVariants.{On}
-use Rattle.machine_host.specs.Machine.{Machine, Fate}
+use Rattle.machine_host.specs.Machine.{Machine}
 use Rattle.machine_host.specs.Meaning.{BlocksLeft}
 use Rattle.machine_host.specs.OnBlocks.{changing_blocks, refusal_answer}
-use Rattle.machine_host.specs.Machine.Fate.{Gives, Works}
+use Rattle.machine_host.specs.Machine.Fate.{Works}
 use Rattle.machine_host.specs.Commands.{MayLeaveBlocks, MayLeaveVolume, fate, meaning, spending, unless_refused}
-use Rattle.machine_host.specs.Interrupted.{interrupted_answer, interrupted_mode, stop_in}
-use Rattle.machine_host.specs.Run.{answered, worked}
-use Rattle.machine_host.specs.Volume.{HasLayout, volume_of}
-use Rattle.machine_host.specs.Stands.{HostState, HostServes, MetadataStands, AreMounted, Stands, Comes, is_powered}
-use Rattle.machine_host.specs.Faults.{answer_after, fault_answer, fault_mode, mode_after, told_answer, told_mode}
-use Rattle.line_words.specs.Told.{Told, refusal_of, told_outcome}
-use Rattle.line_words.specs.Told.Told.{Refuses, Stops, Starves}
+use Rattle.machine_host.specs.Interrupted.{stop_in}
+use Rattle.machine_host.specs.Lines.{HasLayout}
+use Rattle.machine_host.specs.declared.mode.Mode.{Mode}
+use Rattle.machine_host.specs.Stands.{HostState, HostServes, MetadataStands, AreMounted, Stands, Comes}
+use Rattle.machine_host.specs.Faults.{answer_after, mode_after}
+use Rattle.line_words.specs.Told.Told.{Starves}
 use Rattle.block_device.specs.Refusals.{block_says}
-use Rattle.machine_host.proofs.ElsewhereLemmas.{first_not_blocks, layout-beside, write_back_volume-beside}
+use Rattle.pm_volume.specs.Area.{IsOfVolume}
+use Rattle.pm_volume.specs.Images.{EachReadsPages}
+use Rattle.pm_volume.specs.Object.{VolumeHolds}
+use Rattle.pm_volume.proofs.StandingLemmas.{LineKept, each_pages-then}
+use Rattle.machine_host.proofs.CallLemmas.{IsPart, comes_of_call, printable_after, serves_of_call, short_told}
+use Rattle.machine_host.proofs.ElsewhereLemmas.{first_not_blocks, kept-beside, layout-beside, pages_elsewhere, strong-beside, volume_apart, volume_holds_elsewhere, volume_serves_elsewhere}
 use Rattle.machine_host.proofs.MetadataLemmas.{good_metadata, metadata-beside, nothing_bad}
-use Rattle.machine_host.proofs.VolumeLemmas.{volume_intact}
-use Rattle.machine_host.proofs.StepLemmas.{comes_of_interruption, is_whole, pages_left, stands_whole, whole_length, whole_pages}
-use Rattle.machine_host.proofs.TellingLemmas.{tells_nothing, tells_work}
+use Rattle.machine_host.proofs.StepLemmas.{DeviceLeft, is_whole, stands_done, whole_pages}
 
 -- what a call on the blocks says, whichever it is
 pub record Called {T : Type 0} (host : HostState) (s : BlocksState) (r : Result T BlockFault) (P : List Block → Type 0) (calls persists : ℕ) (old new : Device) : Type 0 where
@@ -75,17 +71,6 @@ never_starves (fault.Poison block line) e = cc e
 never_starves fault.Device e = cc e
 never_starves fault.PowerLost e = cc e
 
--- a fault that refuses is answered as its reason is, and leaves the mode
-answer_told : (t : Told Refusal) (w : Refusal) → refusal_of t ≡ Some w → told_answer t ≡ refusal_answer w
-answer_told (Refuses why) w e = ap refusal_answer (same_Some why w e)
-answer_told (Stops by) w e = cc e
-answer_told Starves w e = cc e
-
-told_stays : (t : Told Refusal) (w : Refusal) → refusal_of t ≡ Some w → told_mode On t ≡ On
-told_stays (Refuses why) w e = refl
-told_stays (Stops by) w e = cc e
-told_stays Starves w e = cc e
-
 -- an answer to a refusal tells of no interruption
 pub no_stop : (w : Refusal) → stop_in (refusal_answer w) ≡ None
 no_stop Range = refl
@@ -106,59 +91,55 @@ short_refusal (Meta line) = omega arith
 short_refusal (Unreadable (scar block)) = omega arith
 short_refusal (Unreadable (bad_line block line)) = omega arith
 
-pub short_told : (t : Told Refusal) → most_of (told_answer t) ≤ 64
-short_told (Refuses why) = short_refusal why
-short_told (Stops Failed) = omega arith
-short_told (Stops PowerLost) = omega arith
-short_told Starves = omega arith
+printable_refusal : (w : Refusal) → IsPrintable (refusal_answer w)
+printable_refusal Range = tt
+printable_refusal Length = tt
+printable_refusal Limit = tt
+printable_refusal Overlap = tt
+printable_refusal (Meta line) = tt
+printable_refusal (Unreadable (scar block)) = tt
+printable_refusal (Unreadable (bad_line block line)) = tt
 
-short_after : (r : Result (Unit {0}) BlockFault) → most_of (answer_after Done r) ≤ 64
+pub blocks_part : IsPart block_says refusal_answer
+blocks_part = record { printable = printable_refusal; quiet = no_stop; short = short_refusal; fed = never_starves }
+
+short_after : (r : Result (Unit {0}) BlockFault) → most_of (answer_after block_says refusal_answer Done r) ≤ 64
 short_after (Ok x) = omega arith
-short_after (Err f) = short_told (block_says f)
+short_after (Err f) = short_told refusal_answer short_refusal (block_says f)
 
--- the host after the call
-abbrev pub host_after : {T : Type 0} → HostState → BlocksState → Result T BlockFault → HostState
-host_after host s r = record { geometry = host.geometry; mode = mode_after r; blocks = s }
+-- the host in a mode after the call
+abbrev pub host_after : HostState → BlocksState → Mode → HostState
+host_after host s mode = record { geometry = host.geometry; mode = mode; blocks = s; volume = host.volume }
 
-module _ (host : HostState) (s : BlocksState) (P : List Block → Type 0) (calls persists : ℕ) (old new : Device) (on : host.mode ≡ On) (serves : HostServes host old) where
-  mounted : AreMounted host.geometry host.blocks old.medium
+module _ (host : HostState) (s : BlocksState) (old new : Device) (on : host.mode ≡ On) (serves : HostServes host old) (outside : WritesBackBeside (IsBlockLine host.blocks.geo) old.medium new.medium) where
+  mounted : AreMounted host.geometry host.blocks host.volume old.medium
   mounted = serves.mounted on
 
-  power_was : old.panel.power ≡ true
-  power_was = serves.power ∙ ap is_powered on
+  -- the lines of the volume are kept
+  pub kept_beside : (line : ℕ) → IsOfVolume host.geometry line → LineKept old.medium new.medium line
+  kept_beside line of =
+      kept-beside (IsBlockLine host.blocks.geo) old.medium new.medium line
+      (λ at. volume_apart host.geometry line serves.layout.valid of (subst (λ g. IsBlockLine g line) mounted.geometry at)) outside
 
-  pub layout_after : WritesBackBeside (IsBlockLine host.blocks.geo) old.medium new.medium → HasLayout host.geometry new.medium
-  layout_after x = layout-beside host.geometry (IsBlockLine host.blocks.geo) old.medium new.medium serves.layout x
+  pub layout_after : HasLayout host.geometry new.medium
+  layout_after = layout-beside host.geometry (IsBlockLine host.blocks.geo) old.medium new.medium serves.layout outside
 
-  mounted_after : s.geo ≡ host.blocks.geo → IsTrue s.settled → object.BlocksServe s new.medium → AreMounted host.geometry s new.medium
-  mounted_after geo settled served = record { geometry = geo ∙ mounted.geometry; settled = settled; serves = served }
+  mounted_after : s.geo ≡ host.blocks.geo → IsTrue s.settled → object.BlocksServe s new.medium → AreMounted host.geometry s host.volume new.medium
+  mounted_after geo settled served = record {
+    geometry = geo ∙ mounted.geometry;
+    settled = settled;
+    serves = served;
+    volume_geometry = mounted.volume_geometry;
+    volume_settled = mounted.volume_settled;
+    volume_serves = volume_serves_elsewhere host.geometry old.medium new.medium serves.layout.valid kept_beside host.volume mounted.volume_geometry
+        (strong-beside (IsBlockLine host.blocks.geo) old.medium new.medium (meta_lines host.volume.geo) outside mounted.volume_serves.strong) outside.count mounted.volume_serves;
+  }
 
-  pub served_after : (served : object.BlocksServe s new.medium) → s.geo ≡ host.blocks.geo → HasLayout host.geometry new.medium → EachReads host.geometry new.medium (λ bs. bs ≡ blocks_of s new.medium)
-  served_after served geo layout =
+  pub served_after : (served : object.BlocksServe s new.medium) → s.geo ≡ host.blocks.geo → EachReads host.geometry new.medium (λ bs. bs ≡ blocks_of s new.medium)
+  served_after served geo =
       let same = geo ∙ mounted.geometry in
       subst (λ g. EachReads g new.medium (λ bs. bs ≡ blocks_of s new.medium)) same
-      (served_reads s new.medium (subst (λ g. HasGoodMetadata g new.medium) (sym same) (good_metadata host.geometry new.medium layout)) served)
-
-  pub serves_called : {T : Type 0} (r : Result T BlockFault) → Called host s r P calls persists old new → HostServes (host_after host s r) new
-  serves_called (Ok x) c =
-      let served = c.serves c.object.1 in
-      record {
-        layout = layout_after c.outside;
-        power = c.runs.cause.0 ∙ power_was;
-        mounted = λ _. mounted_after c.object.0 c.object.1 served;
-      }
-  serves_called {T} (Err f) c = by_told (block_says f) (never_starves f) c.untouched c.runs
-    where
-      by_told : (t : Told Refusal) → (t ≡ Starves → ⊥) → (refusal_of t ≢ None → (s ≡ host.blocks) × (new ≡ old)) → Runs calls persists (told_outcome t) old.panel new.panel
-          → HostServes (record { geometry = host.geometry; mode = told_mode On t; blocks = s }) new
-      by_told (Refuses why) never untouched runs =
-          let same = untouched (λ e. cc e) in
-          subst (λ m. HostServes (record { geometry = host.geometry; mode = m; blocks = s }) new) on
-          (subst (λ d. HostServes (record { geometry = host.geometry; mode = host.mode; blocks = s }) d) (sym same.1)
-          (subst (λ b. HostServes (record { geometry = host.geometry; mode = host.mode; blocks = b }) old) (sym same.0) serves))
-      by_told (Stops Failed) never untouched runs = record { layout = layout_after c.outside; power = runs.cause.0 ∙ power_was; mounted = λ e. cc e }
-      by_told (Stops PowerLost) never untouched runs = record { layout = layout_after c.outside; power = runs.cause.0; mounted = λ e. cc e }
-      by_told Starves never untouched runs = absurd (never refl)
+      (served_reads s new.medium (subst (λ g. HasGoodMetadata g new.medium) (sym same) (good_metadata host.geometry new.medium layout_after)) served)
 
 -- A call on the blocks comes to what the machine makes of it: done, refused, or interrupted.
 module _ (host : HostState) (s : BlocksState) (action : Action) (calls persists : ℕ) (h : Machine) (few : calls ≤ (spending h action).calls) (few_persists : persists ≤ (spending h action).persists)
@@ -167,13 +148,17 @@ module _ (host : HostState) (s : BlocksState) (action : Action) (calls persists 
   abbrev may : List Block → Type 0
   may = MayLeaveBlocks (Some action) (blocks_of host.blocks old.medium)
 
-  -- the volume's pages, which such a call leaves
-  pages_beside : WritesBackBeside (IsBlockLine host.blocks.geo) old.medium new.medium → PagesStand (volume_of host.geometry new.medium) host.geometry.vpages h.volume
+  -- the volume, which such a call leaves
+  pages_beside : WritesBackBeside (IsBlockLine host.blocks.geo) old.medium new.medium → EachReadsPages h.geometry new.medium (λ pages. pages ≡ h.volume)
   pages_beside outside =
-      let geo_is = (serves.mounted on).geometry in
-      stand-loaded (volume_of host.geometry old.medium) (volume_of host.geometry new.medium) host.geometry.vpages h.volume
-      (whole_pages host old h stands (is_whole host old h stands on)) (volume_intact host.geometry old.medium serves.layout)
-      (write_back_volume-beside host.geometry (IsBlockLine host.blocks.geo) old.medium new.medium serves.layout.valid (λ n at. subst (λ g. IsBlockLine g n) geo_is at) outside)
+      subst (λ g. EachReadsPages g new.medium (λ pages. pages ≡ h.volume)) stands.geometry
+      (pages_elsewhere host.geometry old.medium new.medium serves.layout.valid (kept_beside host s old new on serves outside) (λ pages. pages ≡ h.volume)
+      (subst (λ g. EachReadsPages g old.medium (λ pages. pages ≡ h.volume)) (sym stands.geometry) (whole_pages host old h stands (is_whole host old h stands on))))
+
+  holds_beside : WritesBackBeside (IsBlockLine host.blocks.geo) old.medium new.medium → VolumeHolds host.volume new.medium h.volume
+  holds_beside outside =
+      let mounted = serves.mounted on in
+      volume_holds_elsewhere host.geometry old.medium new.medium serves.layout.valid (kept_beside host s old new on serves outside) host.volume h.volume mounted.volume_geometry mounted.volume_serves.all (stands.volume on)
 
   -- the metadata
   metadata_beside : WritesBackBeside (IsBlockLine host.blocks.geo) old.medium new.medium → MetadataStands h.geometry new.medium h.bad_meta
@@ -182,30 +167,16 @@ module _ (host : HostState) (s : BlocksState) (action : Action) (calls persists 
       (subst (λ g. HasLayout g old.medium) stands.geometry serves.layout) outside (first_not_blocks host.blocks.geo)
 
   -- the state after a call that went well
-  stands_called : Called {T = Unit {0}} host s (Ok tt) may calls persists old new → blocks_of s new.medium ≡ f (blocks_of host.blocks old.medium)
-      → Stands (host_after {T = Unit {0}} host s (Ok tt)) new (record h { blocks = f h.blocks })
-  stands_called c ok =
-      let whole = is_whole host old h stands on in
-      let layout = layout_after host s may calls persists old new on serves c.outside in
+  stands_called : {T : Type 0} (r : Result T BlockFault) → Called host s r may calls persists old new → OnOk r (blocks_of s new.medium ≡ f (blocks_of host.blocks old.medium))
+      → OnOk r (Stands (host_after host s On) new (record h { blocks = f h.blocks }))
+  stands_called (Ok x) c ok =
       let now : blocks_of s new.medium ≡ f h.blocks = ok ∙ ap f (stands.blocks on) in
-      let reads : EachReads h.geometry new.medium (λ bs. bs ≡ f h.blocks) =
-      subst (λ g. EachReads g new.medium (λ bs. bs ≡ f h.blocks)) stands.geometry
+      stands_done host (host_after host s On) old new h action stands on calls persists few few_persists refl (f h.blocks) h.volume refl c.runs (metadata_beside c.outside)
+      (subst (λ g. EachReads g new.medium (λ bs. bs ≡ f h.blocks)) stands.geometry
       (each_reads-then host.geometry new.medium (λ bs. bs ≡ blocks_of s new.medium) (λ bs. bs ≡ f h.blocks) (λ bs e. e ∙ now)
-      (served_after host s may calls persists old new on serves (c.serves c.object.1) c.object.0 layout)) in
-      record {
-        geometry = stands.geometry;
-        mode = sym on ∙ stands.mode;
-        blocks = λ _. now;
-        device = record {
-          metadata = metadata_beside c.outside;
-          blocks = subst (λ interrupted. EachReads h.geometry new.medium (MayLeaveBlocks interrupted (f h.blocks))) (sym whole) reads;
-          volume = stands_whole host new h h.volume stands.geometry (whole_length host old h stands whole) (pages_beside c.outside) h.interrupted whole;
-          power = c.runs.cause.0 ∙ stands.device.power;
-          cut_armed = c.runs.cause.2 ∙ stands.device.cut_armed;
-          fail_armed = c.runs.cause.3 ∙ stands.device.fail_armed;
-          whole = stands.device.whole;
-        };
-      }
+      (served_after host s old new on serves c.outside (c.serves c.object.1) c.object.0)))
+      now (pages_beside c.outside) (holds_beside c.outside)
+  stands_called (Err e) c ok = tt
 
   -- what each image reads as after an interruption
   blocks_interrupted : EachReads host.blocks.geo new.medium may → EachReads h.geometry new.medium (MayLeaveBlocks (Some action) h.blocks)
@@ -213,55 +184,27 @@ module _ (host : HostState) (s : BlocksState) (action : Action) (calls persists 
       subst (λ bs. EachReads h.geometry new.medium (MayLeaveBlocks (Some action) bs)) (stands.blocks on)
       (subst (λ g. EachReads g new.medium may) ((serves.mounted on).geometry ∙ stands.geometry) each)
 
-  comes_of_stop : (by : Interruption) (good : Answer) → MayLeaveVolume (Some action) h.volume h.volume → Runs calls persists (ended {T = Unit {0}} (Err by)) old.panel new.panel
-      → EachReads host.blocks.geo new.medium may → WritesBackBeside (IsBlockLine host.blocks.geo) old.medium new.medium
-      → Comes h action (Works good (record h { blocks = f h.blocks })) (interrupted_answer by) (record { geometry = host.geometry; mode = interrupted_mode by; blocks = s }) old new
-  comes_of_stop by good left runs each outside =
-      comes_of_interruption host old new h action stands serves on (record { geometry = host.geometry; mode = interrupted_mode by; blocks = s }) good (record h { blocks = f h.blocks })
-      by calls persists few few_persists refl refl runs (metadata_beside outside) (blocks_interrupted each)
-      (pages_left host old new h action stands serves on h.volume (Some action) left refl (pages_beside outside))
-
-  -- what comes of it where this refuses it, or nothing
-  abbrev Wants : Answer → Option Refusal → Fate
-  Wants good why = unless_refused h (option_map refusal_answer why) (Works good (record h { blocks = f h.blocks }))
-
-  pub comes_of_change : (good : Answer) (r : Result (Unit {0}) BlockFault) (why : Option Refusal) → stop_in good ≡ None → MayLeaveVolume (Some action) h.volume h.volume
-      → Answers why r → OnOk r (blocks_of s new.medium ≡ f (blocks_of host.blocks old.medium))
-      → Called host s r may calls persists old new → Comes h action (Wants good why) (answer_after good r) (host_after host s r) old new
-  comes_of_change good (Ok tt) None quiet left answers ok c = record {
-    said = worked (spending h action) good;
-    next = record h { blocks = f h.blocks };
-    answers = refl;
-    takes = (good, refl, inl (refl, refl));
-    tells = tells_work (spending h action) calls persists few few_persists old.panel new.panel good quiet c.runs;
-    stands = stands_called c ok;
+  left_by : MayLeaveVolume h.geometry (Some action) h.volume h.volume → WritesBackBeside (IsBlockLine host.blocks.geo) old.medium new.medium → EachReads host.blocks.geo new.medium may
+      → DeviceLeft h action new.medium
+  left_by left outside each = record {
+    metadata = metadata_beside outside;
+    blocks = blocks_interrupted each;
+    volume = each_pages-then h.geometry new.medium (λ pages. pages ≡ h.volume) (MayLeaveVolume h.geometry (Some action) h.volume)
+        (λ pages same. subst (MayLeaveVolume h.geometry (Some action) h.volume) (sym same) left) (pages_beside outside);
   }
-  comes_of_change good (Ok tt) (Some w) quiet left answers ok c = absurd answers
-  comes_of_change good (Err e) (Some w) quiet left answers ok c = refused_here (c.untouched (λ none. cc))
-    where
-      mode_stays : fault_mode On e ≡ host.mode
-      mode_stays = told_stays (block_says e) w answers ∙ sym on
 
-      refused_here : (s ≡ host.blocks) × (new ≡ old) → Comes h action (Gives (refusal_answer w) h) (fault_answer e) (record { geometry = host.geometry; mode = fault_mode On e; blocks = s }) old new
-      refused_here same =
-          subst (λ m. Comes h action (Gives (refusal_answer w) h) (fault_answer e) (record { geometry = host.geometry; mode = m; blocks = s }) old new) (sym mode_stays)
-          (subst (λ b. Comes h action (Gives (refusal_answer w) h) (fault_answer e) (record { geometry = host.geometry; mode = host.mode; blocks = b }) old new) (sym same.0)
-          (subst (λ d. Comes h action (Gives (refusal_answer w) h) (fault_answer e) host old d) (sym same.1)
-          (subst (λ a. Comes h action (Gives (refusal_answer w) h) a host old old) (sym (answer_told (block_says e) w answers)) (record {
-            said = answered (refusal_answer w);
-            next = h;
-            answers = refl;
-            takes = (refl, refl);
-            tells = tells_nothing (refusal_answer w) (no_stop w) old.panel;
-            stands = stands;
-          }))))
-  comes_of_change good (Err e) None quiet left answers ok c = by_told (block_says e) (never_starves e) answers c.runs
-    where
-      by_told : (t : Told Refusal) → (t ≡ Starves → ⊥) → refusal_of t ≡ None → Runs calls persists (told_outcome t) old.panel new.panel
-          → Comes h action (Works good (record h { blocks = f h.blocks })) (told_answer t) (record { geometry = host.geometry; mode = told_mode On t; blocks = s }) old new
-      by_told (Refuses why) never none runs = cc none
-      by_told (Stops by) never none runs = comes_of_stop by good left runs (c.images answers) c.outside
-      by_told Starves never none runs = absurd (never refl)
+  left_called : {T : Type 0} (r : Result T BlockFault) → MayLeaveVolume h.geometry (Some action) h.volume h.volume → Called host s r may calls persists old new → OnWorked r (DeviceLeft h action new.medium)
+  left_called (Ok x) left c = left_by left c.outside c.images
+  left_called (Err e) left c = λ worked. left_by left c.outside (c.images worked)
+
+same_host : {T : Type 0} (host : HostState) (s : BlocksState) (r : Result T BlockFault) (old new : Device) → OnRefused r ((s ≡ host.blocks) × (new ≡ old)) → OnRefused r ((host_after host s host.mode ≡ host) × (new ≡ old))
+same_host host s (Ok x) old new untouched = tt
+same_host host s (Err e) old new untouched = λ told. let same = untouched told in (ap (λ b. record { geometry = host.geometry; mode = host.mode; blocks = b; volume = host.volume }) same.0, same.1)
+
+mounted_ok : {T : Type 0} (host : HostState) (s : BlocksState) (r : Result T BlockFault) (P : List Block → Type 0) (calls persists : ℕ) (old new : Device) → host.mode ≡ On → HostServes host old → Called host s r P calls persists old new
+    → OnOk r (AreMounted host.geometry s host.volume new.medium)
+mounted_ok host s (Ok x) P calls persists old new on serves c = mounted_after host s old new on serves c.outside c.object.0 c.object.1 (c.serves c.object.1)
+mounted_ok host s (Err e) P calls persists old new on serves c = tt
 
 on_refused-then : {T P Q : Type 0} (r : Result T BlockFault) → (P → Q) → OnRefused r P → OnRefused r Q
 on_refused-then (Ok x) then_ p = tt
@@ -319,7 +262,7 @@ module _ (host : HostState) (old : Device) (h : Machine) (serves : HostServes ho
 
 -- The same of a host behind a reference: `host` is what is inside `now`, and `after` what the answer leaves.
 module _ (now host after : HostState) (s : BlocksState) (r : Result (Unit {0}) BlockFault) (calls persists : ℕ) (old new : Device)
-    (inside : host ≡ now) (state : after ≡ host_after host s r) (on : now.mode ≡ On) (serves : HostServes now old) (action : Action)
+    (inside : host ≡ now) (state : after ≡ host_after host s (mode_after block_says r)) (on : now.mode ≡ On) (serves : HostServes now old) (action : Action)
     (few : (h : Machine) → calls ≤ (spending h action).calls) (few_persists : (h : Machine) → persists ≤ (spending h action).persists)
     (call : Called host s r (MayLeaveBlocks (Some action) (blocks_of host.blocks old.medium)) calls persists old new) where
   on_inside : host.mode ≡ On
@@ -331,28 +274,34 @@ module _ (now host after : HostState) (s : BlocksState) (r : Result (Unit {0}) B
   pub change_serves : HostServes after new
   change_serves =
       subst (λ k. HostServes k new) (sym state)
-      (serves_called host s (MayLeaveBlocks (Some action) (blocks_of host.blocks old.medium)) calls persists old new on_inside serves_inside r call)
+      (serves_of_call block_says refusal_answer blocks_part host (host_after host s) old new on_inside (λ m. refl) (λ m. refl) calls persists r serves_inside
+      (same_host host s r old new call.untouched) (layout_after host s old new on_inside serves_inside call.outside)
+      (mounted_ok host s r (MayLeaveBlocks (Some action) (blocks_of host.blocks old.medium)) calls persists old new on_inside serves_inside call) call.runs)
 
-  pub change_comes : (h : Machine) (good answer : Answer) (why : Option Refusal) (f : List Block → List Block) → stop_in good ≡ None → Stands now old h → MayLeaveVolume (Some action) h.volume h.volume
+  pub change_comes : (h : Machine) (good answer : Answer) (why : Option Refusal) (f : List Block → List Block) → stop_in good ≡ None → Stands now old h → MayLeaveVolume h.geometry (Some action) h.volume h.volume
       → (HostServes host old → Stands host old h → host.mode ≡ On → fate h action ≡ unless_refused h (option_map refusal_answer why) (Works good (record h { blocks = f h.blocks })))
-      → Answers why r → OnOk r (blocks_of s new.medium ≡ f (blocks_of host.blocks old.medium)) → answer ≡ answer_after good r → Comes h action (fate h action) answer after old new
+      → Answers why r → OnOk r (blocks_of s new.medium ≡ f (blocks_of host.blocks old.medium)) → answer ≡ answer_after block_says refusal_answer good r → Comes h action (fate h action) answer after old new
   change_comes h good answer why f quiet stands left fate_is refused ok answer_is =
       let stands_inside = subst (λ k. Stands k old h) (sym inside) stands in
       subst (λ a. Comes h action (fate h action) a after old new) (sym answer_is)
-      (subst (λ k. Comes h action (fate h action) (answer_after good r) k old new) (sym state)
-      (subst (λ fate. Comes h action fate (answer_after good r) (host_after host s r) old new) (sym (fate_is serves_inside stands_inside on_inside))
-      (comes_of_change host s action calls persists h (few h) (few_persists h) old new on_inside serves_inside stands_inside f good r why quiet left refused ok call)))
+      (subst (λ k. Comes h action (fate h action) (answer_after block_says refusal_answer good r) k old new) (sym state)
+      (subst (λ fate. Comes h action fate (answer_after block_says refusal_answer good r) (host_after host s (mode_after block_says r)) old new) (sym (fate_is serves_inside stands_inside on_inside))
+      (comes_of_call block_says refusal_answer blocks_part host (host_after host s) old new on_inside (λ m. refl) (λ m. refl) calls persists action h stands_inside (few h) (few_persists h)
+      r good why (record h { blocks = f h.blocks }) quiet refused (same_host host s r old new call.untouched)
+      (stands_called host s action calls persists h (few h) (few_persists h) old new on_inside serves_inside stands_inside f r call ok)
+      (left_called host s action calls persists h (few h) (few_persists h) old new on_inside serves_inside stands_inside f r left call) call.runs)))
 
   -- a change of the blocks, by its row, is answered
   pub change_answered : (answer : Answer) (why : BlocksState → Option Refusal) (places : ℕ → Option Refusal) (f : List Block → List Block) (left : BlocksLeft) (a b : ℕ) → meaning action ≡ changing_blocks places f left a b
-      → ((h : Machine) → MayLeaveVolume (Some action) h.volume h.volume)
+      → ((h : Machine) → MayLeaveVolume h.geometry (Some action) h.volume h.volume)
       → ((h : Machine) → HostServes host old → Stands host old h → host.mode ≡ On → places h.geometry.blocks ≡ why host.blocks)
-      → Answers (why host.blocks) r → OnOk r (blocks_of s new.medium ≡ f (blocks_of host.blocks old.medium)) → answer ≡ answer_after Done r → Answered action answer now after old new
+      → Answers (why host.blocks) r → OnOk r (blocks_of s new.medium ≡ f (blocks_of host.blocks old.medium)) → answer ≡ answer_after block_says refusal_answer Done r → Answered action answer now after old new
   change_answered answer why places f left a b row kept refusal refused ok answer_is = record {
     step = λ h stands. change_comes h Done answer (why host.blocks) f refl stands (kept h)
         (λ serves stands on. fate_changing h action places f left a b row (sym stands.mode ∙ on) (good_state host old h serves stands on)
         ∙ ap (λ o. unless_refused h (option_map refusal_answer o) (Works Done (record h { blocks = f h.blocks }))) (refusal h serves stands on))
         refused ok answer_is;
+    printable = subst IsPrintable (sym answer_is) (printable_after block_says refusal_answer blocks_part Done tt r);
     room = let short = subst (λ a. most_of a ≤ 64) (sym answer_is) (short_after r) in subst (λ m. most_of answer ≤ m.room) (sym row) short;
     serves = change_serves;
   }

@@ -22,18 +22,20 @@ use Rattle.block_device.proofs.ReadLemmas.{map_read-write_back}
 use Rattle.block_device.proofs.FrameLemmas.{each_reads-write_back}
 use Rattle.block_device.proofs.ImageLemmas.{each_reads-then, served_reads}
 use Rattle.script_text.specs.Action.Action.{BRead}
-use Rattle.reply_text.specs.Answer.{Answer}
+use Rattle.reply_text.specs.Answer.{Answer, IsPrintable}
 use Rattle.reply_text.specs.Answer.Answer.{Bytes}
 use Rattle.machine_host.specs.declared.mode.Mode.TheVariants.{On}
 use Rattle.machine_host.specs.Machine.{Machine}
 use Rattle.machine_host.specs.Commands.{MayLeaveBlocks, fate, longest}
-use Rattle.machine_host.specs.Volume.{HasLayout}
+use Rattle.machine_host.specs.Lines.{HasLayout}
 use Rattle.machine_host.specs.Stands.{HostState, HostServes, Stands, Comes}
 use Rattle.machine_host.proofs.RefusalLemmas.{fate_read}
-use Rattle.machine_host.specs.Faults.{answer_after, fault_answer}
+use Rattle.machine_host.specs.Faults.{answer_after, fault_answer, mode_after}
+use Rattle.machine_host.specs.OnBlocks.{refusal_answer}
 use Rattle.machine_host.specs.Responding.{Answered}
 use Rattle.reply_text.specs.Room.{most_of}
-use Rattle.machine_host.proofs.BlockLemmas.{Called, host_after, change_serves, change_comes, short_told}
+use Rattle.machine_host.proofs.BlockLemmas.{Called, host_after, blocks_part, change_serves, change_comes}
+use Rattle.machine_host.proofs.CallLemmas.{printable_told, short_told}
 use Rattle.block_device.specs.Refusals.{block_says}
 use Rattle.machine_host.proofs.MetadataLemmas.{good_metadata}
 
@@ -88,7 +90,7 @@ whole_blocks blocks block count some within =
     nonzero n some = ne_eqb n 0 (λ e. omega arith)
 
 module _ (now host after : HostState) (s : BlocksState) (r : Result (Unit {0}) BlockFault) (block count len calls : ℕ) (Q : Type 0) (old new : Device)
-    (inside : host ≡ now) (state : after ≡ host_after host s r) (on : now.mode ≡ On) (serves : HostServes now old) (few : calls ≤ 8 * count) (size : len ≡ 512 * count)
+    (inside : host ≡ now) (state : after ≡ host_after host s (mode_after block_says r)) (on : now.mode ≡ On) (serves : HostServes now old) (few : calls ≤ 8 * count) (size : len ≡ 512 * count)
     (untouched : OnRefused r (Q × (new ≡ old))) (lines : WritesBack old.medium new.medium) (served : ServesBlocks s new.medium)
     (object : s ≡ record host.blocks { settled = is_done (block_outcome r) }) (runs : Runs calls 0 (block_outcome r) old.panel new.panel) where
   settled_was : host.blocks.settled ≡ true
@@ -135,7 +137,7 @@ module _ (now host after : HostState) (s : BlocksState) (r : Result (Unit {0}) B
   on_ok (Err f) p = tt
 
   read_comes : (h : Machine) (answer : Answer) → Stands now old h → 1 ≤ count → count ≤ 128 → block + count ≤ now.geometry.blocks
-      → Answers (read_refusal host.blocks old.medium block len) r → (blocks_of host.blocks old.medium ≡ h.blocks → answer ≡ answer_after (Bytes (look_blocks h.blocks block count)) r)
+      → Answers (read_refusal host.blocks old.medium block len) r → (blocks_of host.blocks old.medium ≡ h.blocks → answer ≡ answer_after block_says refusal_answer (Bytes (look_blocks h.blocks block count)) r)
       → Comes h (BRead block count) (fate h (BRead block count)) answer after old new
   read_comes h answer stands some most within refused answer_is =
       let stays : blocks_of host.blocks old.medium ≡ h.blocks = ap (λ k. blocks_of k.blocks old.medium) inside ∙ stands.blocks on in
@@ -151,9 +153,10 @@ module _ (now host after : HostState) (s : BlocksState) (r : Result (Unit {0}) B
       (subst (λ o. Answers o r) why (subst (λ n. Answers (read_refusal host.blocks old.medium block n) r) size refused)) (on_ok r blocks_stay) (answer_is stays)
 
   pub read_answered : (answer : Answer) → 1 ≤ count → count ≤ 128 → block + count ≤ now.geometry.blocks → Answers (read_refusal host.blocks old.medium block len) r
-      → ((h : Machine) → blocks_of host.blocks old.medium ≡ h.blocks → answer ≡ answer_after (Bytes (look_blocks h.blocks block count)) r) → most_of answer ≤ longest (BRead block count)
+      → ((h : Machine) → blocks_of host.blocks old.medium ≡ h.blocks → answer ≡ answer_after block_says refusal_answer (Bytes (look_blocks h.blocks block count)) r) → most_of answer ≤ longest (BRead block count) → IsPrintable answer
       → Answered (BRead block count) answer now after old new
-  read_answered answer some most within refused answer_is room = record {
+  read_answered answer some most within refused answer_is room printable = record {
+    printable = printable;
     step = λ h stands. read_comes h answer stands some most within refused (answer_is h);
     room = room;
     serves = change_serves now host after s r calls 0 old new inside state on serves (BRead block count) (λ _. few) (λ _. omega arith) call;
@@ -161,4 +164,7 @@ module _ (now host after : HostState) (s : BlocksState) (r : Result (Unit {0}) B
 
 -- the answer of a fault is short
 pub room_of_fault : (f : BlockFault) (answer : Answer) (count : ℕ) → answer ≡ fault_answer f → most_of answer ≤ 64 + 3 * (512 * count)
-room_of_fault f answer count is = let short = subst (λ a. most_of a ≤ 64) (sym is) (short_told (block_says f)) in omega (arith, short)
+room_of_fault f answer count is = let short = subst (λ a. most_of a ≤ 64) (sym is) (short_told refusal_answer blocks_part.short (block_says f)) in omega (arith, short)
+
+pub printable_fault : (f : BlockFault) (answer : Answer) → answer ≡ fault_answer f → IsPrintable answer
+printable_fault f answer is = subst IsPrintable (sym is) (printable_told refusal_answer blocks_part.printable (block_says f))

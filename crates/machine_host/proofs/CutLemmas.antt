@@ -1,5 +1,5 @@
 -- Runs through a cut.
-use Rattle.std.proofs.Common.{◌≡◌, ℕ, true, false, inl, inr, List, [], ◌∷◌, ◌++◌, replicate, refl}
+use Rattle.std.proofs.Common.{◌≡◌, nat_lt, ℕ, true, false, inl, inr, List, [], ◌∷◌, ◌++◌, replicate, refl}
 use Rattle.std.specs.Prelude.{codes}
 use Rattle.std.proofs.lemmas.Bool.{false≢true}
 use Rattle.std.specs.Fmt.{digits}
@@ -11,7 +11,8 @@ use Rattle.nvm_base.specs.Numbers.{number_of}
 use Rattle.nvm_base.specs.Data.{data_of, runs_of, data_within, data_text}
 use Rattle.word_tables.specs.Layout.{size, first_line, total_lines, volume_line}
 use Rattle.line_device.specs.Word.{word_from, byte_over, word_over, reaches}
-use Rattle.nvm_model.specs.Page.{fill, put, persist, look, read_pages}
+use Rattle.nvm_model.specs.Page.{discard, fill, first_bad_line, first_uncovered_line, put, persist, look, read_pages}
+use Rattle.pm_volume.specs.Presence.{words_read}
 use Rattle.nvm_model.specs.Blocks.{write, look_blocks}
 use Rattle.word_log.specs.Replay.{listed}
 use Rattle.block_device.specs.Reading.{states_read, blocks_read}
@@ -27,11 +28,10 @@ use Rattle.machine_host.specs.Machine.{Machine}
 use Rattle.machine_host.specs.Commands.{refusal, spending, while_interrupted}
 use Rattle.machine_host.specs.Restarting.{RestartMayLeave, reading, fresh, restarted, restart_answer}
 use Rattle.machine_host.specs.Run.{Transcript, Hears, Run, answered, followed_by, silence, with_order, with_start, worked}
-use Rattle.machine_host.specs.Rows.{small, leaving}
-use Rattle.machine_host.specs.Volume.{volume_image}
+use Rattle.machine_host.specs.Rows.{small, leaving, with_page}
 use Rattle.machine_host.specs.Performing.{perform}
 use Rattle.machine_host.proofs.RunLemmas.{run_performed}
-use Rattle.nvm_model.proofs.InterruptedLemmas.{stored_below, may_store-below}
+use Rattle.machine_host.proofs.PartStoreLemmas.{stored_among, may_store-among}
 use Rattle.machine_host.specs.CutRows.{MayWrite, leaving_first, with_cut_write, cut_write_lines, with_late_cut, late_cut_lines, with_cut_store, cut_store_lines}
 use Rattle.machine_host.proofs.LastLemmas.{keeps-last}
 
@@ -65,7 +65,7 @@ told_of_write start read =
 run_of_write : (start : Start) (read : List ℕ) → start.choice ≡ Firsts → RestartMayLeave Firsts start.image struck
     → Hears (back start) (Asked (BRead 0 2)) (worked (spending armed (BRead 0 2)) (Bytes read)) (back start)
     → Run (fresh small) (Asked (CutIn 1) ∷ Asked the_write ∷ Asked (BRead 0 1) ∷ Asked (Restart Firsts) ∷ Asked (BRead 0 2) ∷ []) (told_of_write start read) (back start)
-unfolding refusal reading
+unfolding refusal reading words_read
 run_of_write start read chosen keeps reads =
     let all = restart_answer struck start.image in (
       with_order (ForCut 1) Done,
@@ -98,26 +98,26 @@ run_of_write start read chosen keeps reads =
     )
 
 pub write_lost : MayWrite with_cut_write (leaving_first Firsts 0 0 ∷ []) (cut_write_lines (codes "data 00*1024"))
-unfolding digits number_of data_of runs_of data_within data_text read_pages answer_line lines_of words_of command_action line_input refusal size first_line total_lines volume_line reading write look_blocks states_read blocks_read listed
+unfolding digits number_of data_of runs_of data_within data_text read_pages answer_line lines_of words_of command_action line_input refusal size first_line total_lines volume_line reading write look_blocks states_read blocks_read listed words_read
 write_lost = record {
   said = told_of_write (leaving_first Firsts 0 0) (replicate 1024 0);
   end = back (leaving_first Firsts 0 0);
   run = run_of_write (leaving_first Firsts 0 0) (replicate 1024 0) refl
-      (record { blocks = inl refl; left = struck.volume; may = refl; volume = keeps-last Firsts (volume_image small (leaving_first Firsts 0 0).image) struck.volume refl })
+      (record { blocks = inl refl; left = struck.volume; may = refl; there = refl; volume = keeps-last Firsts (volume_line small) (leaving_first Firsts 0 0).image struck.volume refl })
       (Bytes (replicate 1024 0), refl, inl (refl, refl));
   left = refl;
   written = refl;
 }
 
 pub write_kept : MayWrite with_cut_write (leaving_first Firsts 2 1229782938247303441 ∷ []) (cut_write_lines (codes "data 11*1024"))
-unfolding digits number_of data_of runs_of data_within data_text read_pages answer_line lines_of words_of command_action line_input refusal size first_line total_lines volume_line reading write look_blocks states_read blocks_read listed
+unfolding digits number_of data_of runs_of data_within data_text read_pages answer_line lines_of words_of command_action line_input refusal size first_line total_lines volume_line reading write look_blocks states_read blocks_read listed words_read
 write_kept =
     let start = leaving_first Firsts 2 1229782938247303441 in
     record {
       said = told_of_write start two_blocks;
       end = back start;
       run = run_of_write start two_blocks refl
-          (record { blocks = inr refl; left = struck.volume; may = refl; volume = keeps-last Firsts (volume_image small start.image) struck.volume refl })
+          (record { blocks = inr refl; left = struck.volume; may = refl; there = refl; volume = keeps-last Firsts (volume_line small) start.image struck.volume refl })
           (Bytes two_blocks, refl, inl (refl, refl));
       left = refl;
       written = refl;
@@ -125,7 +125,7 @@ write_kept =
 
 -- a cut that never comes: nothing is interrupted
 pub cut_that_never_came : MayWrite with_late_cut (leaving_first Lasts 1 72340172838076673 ∷ []) late_cut_lines
-unfolding digits number_of data_of runs_of data_within data_text read_pages answer_line lines_of words_of command_action line_input refusal size first_line total_lines volume_line reading write look_blocks states_read blocks_read listed
+unfolding digits number_of data_of runs_of data_within data_text read_pages answer_line lines_of words_of command_action line_input refusal size first_line total_lines volume_line reading write look_blocks states_read blocks_read listed words_read
 cut_that_never_came =
     let start = leaving_first Lasts 1 72340172838076673 in
     let all = perform (fresh small) (inputs with_late_cut) (start ∷ []) in
@@ -134,7 +134,7 @@ cut_that_never_came =
       end = all.state;
       run = run_performed (fresh small) (inputs with_late_cut) (start ∷ []) (
         refl,
-        record { blocks = refl; left = (fresh small).volume; may = refl; volume = keeps-last Lasts (volume_image small start.image) (fresh small).volume refl },
+        record { blocks = refl; left = (fresh small).volume; may = refl; there = refl; volume = keeps-last Lasts (volume_line small) start.image (fresh small).volume refl },
         refl,
       );
       left = refl;
@@ -158,16 +158,16 @@ abbrev halted : Machine
 halted = record (while_interrupted ready the_store) { mode = modes.Off; cut_armed = false }
 
 -- the first line is stored, the second one is not
-pub store_in_part : MayWrite with_cut_store (leaving Lasts 7 18446744069414584320 ∷ []) (cut_store_lines (codes "data ff*4,00*4"))
-unfolding digits word_from byte_over word_over reaches number_of runs_of data_within data_text fill put persist look read_pages answer_line lines_of words_of command_action line_input refusal size first_line total_lines volume_line reading states_read blocks_read listed stored_below
+pub store_in_part : MayWrite with_cut_store (leaving Lasts (with_page 7 18446744069414584320) ∷ []) (cut_store_lines (codes "data ff*4,00*4"))
+unfolding digits word_from byte_over word_over reaches number_of runs_of data_within data_text fill put persist look read_pages answer_line lines_of words_of command_action line_input refusal size first_line total_lines volume_line reading states_read blocks_read listed words_read discard first_bad_line first_uncovered_line
 store_in_part =
-    let start = leaving Lasts 7 18446744069414584320 in
+    let start = leaving Lasts (with_page 7 18446744069414584320) in
     let read = replicate 4 255 ++ replicate 4 0 in
     let all = restart_answer halted start.image in
-    let left = stored_below 1 60 (replicate 8 255) durable.volume in
+    let left = stored_among (λ n. nat_lt n 1) 60 (replicate 8 255) durable.volume in
     let shown = followed_by (worked (spending armed (VLoad 60 8)) (Bytes read)) silence in
     let came = followed_by (with_start (spending armed (Restart Lasts)) start all) shown in
-    let stored = followed_by (worked (spending armed the_store) PowerLost) came in
+    let stored = followed_by (worked (spending ready the_store) PowerLost) came in
     let ordered = followed_by (with_order (ForCut 2) Done) stored in
     let synced = followed_by (worked (spending armed (VSync 0 64)) Done) ordered in
     record {
@@ -192,7 +192,7 @@ store_in_part =
             refl,
             (refl, refl),
             (
-              worked (spending armed the_store) PowerLost,
+              worked (spending ready the_store) PowerLost,
               came,
               halted,
               refl,
@@ -210,8 +210,9 @@ store_in_part =
                   record {
                     blocks = refl;
                     left = left;
-                    may = may_store-below 1 60 (replicate 8 255) durable.volume;
-                    volume = keeps-last Lasts (volume_image small start.image) left refl;
+                    may = may_store-among (λ n. nat_lt n 1) 60 (replicate 8 255) durable.volume;
+                    there = refl;
+                    volume = keeps-last Lasts (volume_line small) start.image left refl;
                   },
                   inl (refl, refl),
                 ),

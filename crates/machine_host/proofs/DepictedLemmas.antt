@@ -20,7 +20,7 @@ use Rattle.block_device.proofs.PlaceLemmas.{area_is_block, data_on_device, named
 use Rattle.block_device.proofs.ReadLemmas.{map_read-same}
 use Rattle.block_device.proofs.ReachLemmas.{states_read-replays}
 use Rattle.block_device.proofs.RestartLemmas.{block_on_device}
-use Rattle.machine_host.specs.Volume.{HasLayout}
+use Rattle.machine_host.specs.Lines.{HasLayout}
 
 module _ (geo : Geometry) (m : Medium) (image : Image) (layout : HasLayout geo m) (shows : Depicts m image) where
   there : (n : ℕ) → n < total_lines geo → n < m.count

@@ -1,54 +1,91 @@
 -- Volume and blocks lie apart: work on the one leaves the other.
-use Rattle.std.proofs.Common.{◌≡◌, ℕ, ◌/◌, ◌<◌, ◌≤◌, Err, inl, inr, refl, sym, ◌∙◌, ap, subst, arith}
+use Rattle.std.proofs.Common.{◌≡◌, ◌⊎◌, ℕ, ◌*◌, ◌/◌, ◌<◌, ◌≤◌, IsTrue, inl, inr, List, length, refl, sym, ◌∙◌, ap, subst, arith}
+use Rattle.std.proofs.lemmas.List.{length-map}
 use Rattle.line_device.specs.History.{WordWritesBack}
 use Rattle.line_device.specs.Medium.{Medium, WritesBack}
-use Rattle.line_words.proofs.FrameLemmas.{outside-write_back}
+use Rattle.line_device.specs.Device.{Device}
+use Rattle.line_device.proofs.HistoryLemmas.{is_in-part}
 use Rattle.line_words.specs.Words.{WritesBackOutside, WritesBackBeside}
+use Rattle.line_words.proofs.FrameLemmas.{outside-write_back}
 use Rattle.word_tables.specs.declared.geometry.Geometry.{Geometry}
 use Rattle.word_tables.specs.Bounds.{IsValid}
-use Rattle.word_tables.specs.Layout.{second_range, first_line, size, volume_line, IsVolumeLine}
-use Rattle.block_device.specs.Area.{IsBlockLine}
-use Rattle.line_device.specs.Device.{Device}
-use Rattle.block_device.specs.Area.{IsBlockPlace}
-use Rattle.block_device.specs.Object.{BlocksState, blocks_of}
+use Rattle.word_tables.specs.Layout.{volume_log, presence, first_range, second_range, first_line, size, meta_lines, total_lines, volume_line, HasLine}
+use Rattle.word_tables.proofs.LayoutLemmas.{volume_line-in}
+use Rattle.word_log.specs.Area.{IsOf}
+use Rattle.word_log.specs.Rest.{IsImageOn}
+use Rattle.nvm_model.specs.Lines.{AreStrong}
+use Rattle.nvm_model.specs.Page.{Page}
+use Rattle.block_device.specs.Area.{block_area, IsBlockLine, IsBlockPlace}
+use Rattle.block_device.specs.Object.{BlocksState, BlocksServe, blocks_of}
 use Rattle.block_device.proofs.ReadLemmas.{map_read-outside}
 use Rattle.block_device.proofs.PlaceLemmas.{area_is_block, named_is_data}
 use Rattle.block_device.proofs.ServesLemmas.{serves-outside}
+use Rattle.pm_volume.specs.Area.{IsOfVolume, IsVolumePlace, volume_area}
+use Rattle.pm_volume.specs.Images.{EachReadsPages}
+use Rattle.pm_volume.specs.Object.{VolumeState, VolumeHolds, VolumeServes}
+use Rattle.pm_volume.proofs.StandingLemmas.{LineKept, line_kept-write_back, pages-kept, each_pages-kept, images-kept, volume_serves-kept}
 use Rattle.machine_host.specs.declared.mode.Mode.{Mode}
-use Rattle.machine_host.specs.declared.mode.Mode.TheVariants.{On, Off, Unsettled}
+use Rattle.machine_host.specs.declared.mode.Mode.TheVariants.{On}
+use Rattle.machine_host.specs.Lines.{HasLayout}
 use Rattle.machine_host.specs.Stands.{HostState, HostServes, AreMounted, is_powered}
-use Rattle.machine_host.specs.Interrupted.{interrupted_mode}
-use Rattle.line_device.specs.Panel.{Runs}
-use Rattle.line_device.specs.Panel.Outcome.{went}
-use Rattle.line_words.specs.declared.interruption.Interruption.{Interruption}
-use Rattle.line_words.specs.declared.interruption.Interruption.TheVariants as stops
-use Rattle.line_words.specs.Ending.{ended}
-use Rattle.machine_host.specs.Volume.{volume_of, volume_place, IsVolumePlace, HasLayout}
-use Rattle.machine_host.proofs.VolumeLemmas.{has_layout-outside, volume_line_lies}
+use Rattle.machine_host.proofs.VolumeLemmas.{has_layout-write_back, volume_behind}
 
 -- no line of the volume is the blocks'
-pub volume_apart : (geo : Geometry) (n : ℕ) → IsValid geo → IsVolumeLine geo n → IsBlockLine geo n → ⊥
+pub volume_apart : (geo : Geometry) (n : ℕ) → IsValid geo → IsOfVolume geo n → IsBlockLine geo n → ⊥
 unfolding first_line size
 volume_apart geo n valid of_volume of_blocks =
-    elim of_volume as (λ _. ⊥) [
-      | inl first ↦ elim of_blocks as (λ _. ⊥) [
-        | inl log ↦ omega (arith, first, log)
-        | inr more ↦ elim more as (λ _. ⊥) [ inl map ↦ omega (arith, first, map) | inr data_ ↦ omega (arith, first, data_) ]
-      ]
-      | inr second ↦ elim of_blocks as (λ _. ⊥) [
-        | inl log ↦ omega (arith, second, log)
-        | inr more ↦ elim more as (λ _. ⊥) [ inl map ↦ omega (arith, second, map) | inr data_ ↦ omega (arith, second, data_) ]
+    elim of_blocks as (λ _. ⊥) [
+      | inl log ↦ by_area log.0 log.1 (λ r. omega (arith, log, r)) (λ r. omega (arith, log, r)) (λ r. omega (arith, log, r)) (λ r. omega (arith, log, r))
+      | inr more ↦ elim more as (λ _. ⊥) [
+        | inl map ↦ by_area map.0 map.1 (λ r. omega (arith, map, r)) (λ r. omega (arith, map, r)) (λ r. omega (arith, map, r)) (λ r. omega (arith, map, r))
+        | inr data_ ↦ by_area data_.0 data_.1 (λ r. omega (arith, data_, r)) (λ r. omega (arith, data_, r)) (λ r. omega (arith, data_, r)) (λ r. omega (arith, data_, r))
       ]
     ]
+  where
+    by_area : {A B : ℕ} → A ≤ n → n < B → (HasLine geo volume_log n → ⊥) → (HasLine geo presence n → ⊥) → (HasLine geo first_range n → ⊥) → (HasLine geo second_range n → ⊥) → ⊥
+    by_area from to log words first second =
+        elim of_volume as (λ _. ⊥) [
+          | inl l ↦ log l
+          | inr more ↦ elim more as (λ _. ⊥) [ inl w ↦ words w | inr ranges ↦ elim ranges as (λ _. ⊥) [ inl f ↦ first f | inr s ↦ second s ] ]
+        ]
 
 -- the first line is neither the volume's nor the blocks'
 pub first_not_volume : (geo : Geometry) (p : ℕ) → p < 8 → IsVolumePlace geo p → ⊥
 unfolding first_line
-first_not_volume geo p below of = elim of as (λ _. ⊥) [ inl first ↦ omega (arith, first) | inr second ↦ omega (arith, second) ]
+first_not_volume geo p below of =
+    elim of as (λ _. ⊥) [
+      | inl log ↦ omega (arith, log)
+      | inr more ↦ elim more as (λ _. ⊥) [ inl words ↦ omega (arith, words) | inr ranges ↦ elim ranges as (λ _. ⊥) [ inl first ↦ omega (arith, first) | inr second ↦ omega (arith, second) ] ]
+    ]
 
 pub first_not_blocks : (geo : Geometry) → IsBlockLine geo 0 → ⊥
 unfolding first_line
 first_not_blocks geo of = elim of as (λ _. ⊥) [ inl log ↦ omega (arith, log) | inr more ↦ elim more as (λ _. ⊥) [ inl map ↦ omega (arith, map) | inr data_ ↦ omega (arith, data_) ] ]
+
+-- all of them are on the device
+pub volume_within : (geo : Geometry) (n : ℕ) → IsOfVolume geo n → n < total_lines geo
+unfolding first_line size total_lines
+volume_within geo n of =
+    elim of as (λ _. n < total_lines geo) [
+      | inl log ↦ omega (arith, log)
+      | inr more ↦ elim more as (λ _. n < total_lines geo) [ inl words ↦ omega (arith, words) | inr ranges ↦ elim ranges as (λ _. n < total_lines geo) [ inl first ↦ omega (arith, first) | inr second ↦ omega (arith, second) ] ]
+    ]
+
+-- a word of the volume's log or of its presence words is one of its places
+pub area_of_volume : (geo : Geometry) (p : ℕ) → IsValid geo → IsOf (volume_area geo) p → IsVolumePlace geo p
+unfolding first_line size
+area_of_volume geo p valid of = elim of as (λ _. IsVolumePlace geo p) [ inl log ↦ inl (omega (arith, log), omega (arith, log)) | inr home ↦ inr (inl (omega (arith, home), omega (arith, home))) ]
+
+pub line_of_range : (geo : Geometry) (n : ℕ) → n < 64 * geo.vpages → IsOfVolume geo (volume_line geo n)
+line_of_range geo n lt = inr (inr (volume_line-in geo n lt))
+
+-- no word of a page's line is one of logs and tables
+pub range_not_logs : (geo : Geometry) (n p : ℕ) → IsValid geo → n < 64 * geo.vpages → p / 8 ≡ volume_line geo n → IsOf (block_area geo) p ⊎ IsOf (volume_area geo) p → ⊥
+unfolding first_line size
+range_not_logs geo n p valid lt at (inl of) = volume_apart geo (volume_line geo n) valid (line_of_range geo n lt) (subst (IsBlockLine geo) at (area_is_block geo valid p of))
+range_not_logs geo n p valid lt at (inr of) =
+    let behind = volume_behind geo n in
+    elim of as (λ _. ⊥) [ inl log ↦ omega (arith, log, at, behind) | inr home ↦ omega (arith, home, at, behind) ]
 
 -- the layout stays
 pub layout-beside : (geo : Geometry) (lines : ℕ → Type 0) (old new : Medium) → HasLayout geo old → WritesBackBeside lines old new → HasLayout geo new
@@ -59,90 +96,92 @@ layout-beside geo lines old new layout x = record {
 }
 
 -- mounted blocks stay so, and stand for the same
-pub mounted-outside : (geo : Geometry) (s : BlocksState) (inside : ℕ → Type 0) (old new : Medium) → ((p : ℕ) → IsBlockPlace geo p → inside p → ⊥)
-    → WritesBackOutside inside old new → AreMounted geo s old → AreMounted geo s new
-mounted-outside geo s inside old new apart x mounted = record {
-  geometry = mounted.geometry;
-  settled = mounted.settled;
-  serves = serves-outside s inside old new mounted.serves.valid
-      (λ p of. apart p (subst (λ g. IsBlockPlace g p) mounted.geometry (area_is_block s.geo mounted.serves.valid p of)))
-      (λ p named. apart p (subst (λ g. IsBlockPlace g p) mounted.geometry (inr (inr (named_is_data s.geo mounted.serves.valid s.map (p / 8) mounted.serves.all mounted.serves.is_map named)))))
-      x mounted.serves;
-}
+blocks_mounted-outside : (geo : Geometry) (s : BlocksState) (inside : ℕ → Type 0) (old new : Medium) → ((p : ℕ) → IsBlockPlace geo p → inside p → ⊥)
+    → WritesBackOutside inside old new → s.geo ≡ geo → BlocksServe s old → BlocksServe s new
+blocks_mounted-outside geo s inside old new apart x same serves =
+    serves-outside s inside old new serves.valid
+    (λ p of. apart p (subst (λ g. IsBlockPlace g p) same (area_is_block s.geo serves.valid p of)))
+    (λ p named. apart p (subst (λ g. IsBlockPlace g p) same (inr (inr (named_is_data s.geo serves.valid s.map (p / 8) serves.all serves.is_map named)))))
+    x serves
 
 pub blocks_of-outside : (geo : Geometry) (s : BlocksState) (inside : ℕ → Type 0) (old new : Medium) → ((p : ℕ) → IsBlockPlace geo p → inside p → ⊥)
-    → WritesBackOutside inside old new → AreMounted geo s old → blocks_of s new ≡ blocks_of s old
-blocks_of-outside geo s inside old new apart x mounted =
+    → WritesBackOutside inside old new → s.geo ≡ geo → BlocksServe s old → blocks_of s new ≡ blocks_of s old
+blocks_of-outside geo s inside old new apart x same serves =
     map_read-outside s.geo s.map old new inside x
-    (λ p named. apart p (subst (λ g. IsBlockPlace g p) mounted.geometry (inr (inr (named_is_data s.geo mounted.serves.valid s.map (p / 8) mounted.serves.all mounted.serves.is_map named)))))
+    (λ p named. apart p (subst (λ g. IsBlockPlace g p) same (inr (inr (named_is_data s.geo serves.valid s.map (p / 8) serves.all serves.is_map named)))))
 
--- The host serves a device whose volume alone was worked on, in the same mode or in one without blocks.
-pub serves-volume : (host : HostState) (mode : Mode) (old new : Device) → HostServes host old → WritesBackOutside (IsVolumePlace host.geometry) old.medium new.medium
-    → new.panel.power ≡ is_powered mode → (mode ≡ On → host.mode ≡ On) → HostServes (record host { mode = mode }) new
-serves-volume host mode old new serves x power was_on =
-    let geo = host.geometry in
-    let valid = serves.layout.valid in
-    let apart : (p : ℕ) → IsBlockPlace geo p → IsVolumePlace geo p → ⊥ = λ p of_blocks of_volume. volume_apart geo (p / 8) valid of_volume of_blocks in
-    record {
-      layout = has_layout-outside geo (IsVolumePlace geo) old.medium new.medium serves.layout x;
-      power = power;
-      mounted = λ on. mounted-outside geo host.blocks (IsVolumePlace geo) old.medium new.medium apart x (serves.mounted (was_on on));
-    }
+-- Lines that are not worked on are kept: words of the volume by places, and beside lines.
+pub kept-outside : (inside : ℕ → Type 0) (old new : Medium) (line : ℕ) → ((p : ℕ) → p / 8 ≡ line → inside p → ⊥) → WritesBackOutside inside old new → LineKept old new line
+kept-outside inside old new line apart x = record {
+  bad = x.bad line;
+  weak = x.weak line;
+  words = λ p at. subst (λ n. WordWritesBack (old.is_weak n) (old.history p) (new.history p)) at (x.word_write_back p (apart p at));
+}
 
--- so it is not the first line
-pub volume_line_some : (geo : Geometry) (n : ℕ) → 1 ≤ volume_line geo n
-unfolding first_line
-volume_line_some geo n = elim (volume_line_lies geo n) as (λ _. 1 ≤ volume_line geo n) [ inl first ↦ omega (arith, first) | inr after ↦ omega (arith, after) ]
+pub kept-beside : (lines : ℕ → Type 0) (old new : Medium) (line : ℕ) → (lines line → ⊥) → WritesBackBeside lines old new → LineKept old new line
+kept-beside lines old new line apart x = record {
+  bad = x.bad line apart;
+  weak = x.weak line apart;
+  words = λ p at. subst (λ n. WordWritesBack (old.is_weak n) (old.history p) (new.history p)) at (x.word_write_back p (λ of. apart (subst lines at of)));
+}
 
-before_second : (geo : Geometry) (line : ℕ) → IsValid geo → first_line geo second_range ≤ line → IsBlockLine geo line → ⊥
-unfolding first_line size
-before_second geo line valid after of_blocks =
-    elim of_blocks as (λ _. ⊥) [
-      | inl log ↦ omega (arith, after, log)
-      | inr more ↦ elim more as (λ _. ⊥) [ inl map ↦ omega (arith, after, map) | inr data_ ↦ omega (arith, after, data_) ]
-    ]
+-- The volume where none of its lines is worked on: it is mounted still, its images read the same, and it stands for its pages.
+module _ (geo : Geometry) (old new : Medium) (valid : IsValid geo) (kept : (line : ℕ) → IsOfVolume geo line → LineKept old new line) where
+  volume_images : (image : ℕ → ℕ) → IsImageOn (volume_area geo) new image → IsImageOn (volume_area geo) old image
+  volume_images image is = images-kept geo old new (λ p of. kept (p / 8) (area_of_volume geo p valid of)) image is
 
--- no line of the volume, nor one past its end, is the blocks'
-volume_line_apart : (geo : Geometry) (n : ℕ) → IsValid geo → IsBlockLine geo (volume_line geo n) → ⊥
-volume_line_apart geo n valid of_blocks =
-    elim (volume_line_lies geo n) as (λ _. ⊥) [
-      | inl first ↦ volume_apart geo (volume_line geo n) valid (inl first) of_blocks
-      | inr after ↦ before_second geo (volume_line geo n) valid after of_blocks
-    ]
+  pub pages_elsewhere : (P : List Page → Type 0) → EachReadsPages geo old P → EachReadsPages geo new P
+  pages_elsewhere P each = each_pages-kept geo old new P volume_images (λ n lt. kept (volume_line geo n) (line_of_range geo n lt)) each
 
--- work on blocks leaves the volume, but for write-back
-pub write_back_volume-beside : (geo : Geometry) (lines : ℕ → Type 0) (old new : Medium) → IsValid geo → ((n : ℕ) → lines n → IsBlockLine geo n) → WritesBackBeside lines old new
-    → WritesBack (volume_of geo old) (volume_of geo new)
-write_back_volume-beside geo lines old new valid of x =
-    let out : (n : ℕ) → lines (volume_line geo n) → ⊥ = λ n at. volume_line_apart geo n valid (of (volume_line geo n) at) in
-    record {
-      count = refl;
-      bad = λ n. x.bad (volume_line geo n) (out n);
-      weak = λ n. x.weak (volume_line geo n) (out n);
-      word_write_back = λ p.
-          let line : volume_place geo p / 8 ≡ volume_line geo (p / 8) = omega arith in
-          subst (λ n. WordWritesBack (old.is_weak n) (old.history (volume_place geo p)) (new.history (volume_place geo p))) line
-          (x.word_write_back (volume_place geo p) (λ at. out (p / 8) (subst lines line at)));
-    }
+  pub volume_serves_elsewhere : (s : VolumeState) → s.geo ≡ geo → AreStrong new (meta_lines s.geo) → new.count ≡ old.count → VolumeServes s old → VolumeServes s new
+  volume_serves_elsewhere s same strong count serves =
+      volume_serves-kept s old new
+      (λ p of v at. is_in-part v _ _ ((kept (p / 8) (area_of_volume geo p valid (subst (λ g. IsOf (volume_area g) p) same of))).words p refl).part at)
+      strong count serves
 
--- work on the volume that went well, or was stopped, of a host behind a reference
-pub serves_worked : (now : HostState) (geo : Geometry) (a b : ℕ) (old new : Device) → geo ≡ now.geometry → HostServes now old → WritesBackOutside (IsVolumePlace geo) old.medium new.medium
-    → Runs a b went old.panel new.panel → HostServes now new
-serves_worked now geo a b old new same serves x runs =
-    serves-volume now now.mode old new serves (subst (λ g. WritesBackOutside (IsVolumePlace g) old.medium new.medium) same x) (runs.cause.0 ∙ serves.power) (λ on. on)
+  pub volume_holds_elsewhere : (s : VolumeState) (pages : List Page) → s.geo ≡ geo → length s.present ≡ s.geo.vpages → VolumeHolds s old pages → VolumeHolds s new pages
+  volume_holds_elsewhere s pages same all holds = record {
+    there = holds.there;
+    stand = pages-kept s.geo old new pages (sym (length-map pages _) ∙ ap length holds.there ∙ all)
+        (λ n lt. subst (λ g. LineKept old new (volume_line g n)) (sym same) (kept (volume_line geo n) (line_of_range geo n (subst (λ g. n < 64 * g.vpages) same lt)))) holds.stand;
+  }
 
-pub serves_stopped : (now after : HostState) (geo : Geometry) (a b : ℕ) (old new : Device) (stop : Interruption) → geo ≡ now.geometry → after ≡ record now { mode = interrupted_mode stop } → now.mode ≡ On → HostServes now old
-    → WritesBackOutside (IsVolumePlace geo) old.medium new.medium → Runs a b (ended {T = Unit {0}} (Err stop)) old.panel new.panel → HostServes after new
-serves_stopped now after geo a b old new stop same state on serves x runs = subst (λ k. HostServes k new) (sym state) (by_stop stop runs)
-  where
-    moved : WritesBackOutside (IsVolumePlace now.geometry) old.medium new.medium
-    moved = subst (λ g. WritesBackOutside (IsVolumePlace g) old.medium new.medium) same x
+-- no metadata line becomes weak
+pub strong-outside : (inside : ℕ → Type 0) (old new : Medium) (lines : ℕ) → WritesBackOutside inside old new → AreStrong old lines → AreStrong new lines
+strong-outside inside old new lines x strong n below = x.weak n ∙ strong n below
 
-    by_stop : (stop : Interruption) → Runs a b (ended {T = Unit {0}} (Err stop)) old.panel new.panel → HostServes (record now { mode = interrupted_mode stop }) new
-    by_stop stops.Failed runs = serves-volume now Unsettled old new serves moved (runs.cause.0 ∙ serves.power ∙ ap is_powered on) (λ e. cc)
-    by_stop stops.PowerLost runs = serves-volume now Off old new serves moved runs.cause.0 (λ e. cc)
+pub strong-beside : (inside : ℕ → Type 0) (old new : Medium) (lines : ℕ) → WritesBackBeside inside old new → AreStrong old lines → AreStrong new lines
+strong-beside inside old new lines x strong n below = x.stays_strong n (strong n below)
 
--- an order to the device leaves its lines, but for write-back, and the power
-pub serves_ordered : (host : HostState) (old new : Device) → HostServes host old → WritesBack old.medium new.medium → new.panel.power ≡ old.panel.power → HostServes host new
-serves_ordered host old new serves x power =
-    serves-volume host host.mode old new serves (outside-write_back (IsVolumePlace host.geometry) old.medium new.medium x) (power ∙ serves.power) (λ on. on)
+-- what is mounted stays so where all lines are only written back
+pub mounted-write_back : (geo : Geometry) (b : BlocksState) (v : VolumeState) (old new : Medium) → IsValid geo → WritesBack old new → AreMounted geo b v old → AreMounted geo b v new
+mounted-write_back geo b v old new valid w mounted = record {
+  geometry = mounted.geometry;
+  settled = mounted.settled;
+  serves = blocks_mounted-outside geo b (λ _. ⊥) old new (λ p of at. at) (outside-write_back (λ _. ⊥) old new w) mounted.geometry mounted.serves;
+  volume_geometry = mounted.volume_geometry;
+  volume_settled = mounted.volume_settled;
+  volume_serves = volume_serves_elsewhere geo old new valid (λ line of. line_kept-write_back old new line w) v mounted.volume_geometry
+      (λ n below. w.weak n ∙ mounted.volume_serves.strong n below) w.count mounted.volume_serves;
+}
+
+-- work on the volume leaves mounted blocks
+pub mounted-worked : (geo : Geometry) (b : BlocksState) (v w : VolumeState) (old new : Medium) → IsValid geo → WritesBackOutside (IsVolumePlace geo) old new → AreMounted geo b v old
+    → w.geo ≡ v.geo → IsTrue w.settled → VolumeServes w new → AreMounted geo b w new
+mounted-worked geo b v w old new valid x mounted same settled serves = record {
+  geometry = mounted.geometry;
+  settled = mounted.settled;
+  serves = blocks_mounted-outside geo b (IsVolumePlace geo) old new (λ p of_blocks of_volume. volume_apart geo (p / 8) valid of_volume of_blocks) x mounted.geometry mounted.serves;
+  volume_geometry = same ∙ mounted.volume_geometry;
+  volume_settled = settled;
+  volume_serves = serves;
+}
+
+-- an order to the device, or a cut, leaves its lines but for write-back
+pub serves_ordered : (host : HostState) (mode : Mode) (old new : Device) → HostServes host old → WritesBack old.medium new.medium → new.panel.power ≡ is_powered mode → (mode ≡ On → host.mode ≡ On)
+    → HostServes (record host { mode = mode }) new
+serves_ordered host mode old new serves w power was_on = record {
+  layout = has_layout-write_back host.geometry old.medium new.medium serves.layout w;
+  power = power;
+  mounted = λ on. mounted-write_back host.geometry host.blocks host.volume old.medium new.medium serves.layout.valid w (serves.mounted (was_on on));
+}

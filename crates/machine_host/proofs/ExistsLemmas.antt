@@ -1,5 +1,5 @@
--- Whether a block is there, as the host and as the machine see it.
-use Rattle.std.proofs.Common.{◌≡◌, ◌≢◌, ◌↔◌, ℕ, zero, suc, ◌<◌, ◌≤◌, Bool, true, false, IsTrue, Some, None, List, [], ◌∷◌, length, slice_get, nat_lt, if◌then◌else◌, refl, sym, ap, subst, ◌∙◌, arith}
+-- Whether a block or a page is there, and where the volume lies, as the host and as the machine see it.
+use Rattle.std.proofs.Common.{◌≡◌, ◌≢◌, ◌↔◌, ℕ, zero, suc, ◌<◌, ◌≤◌, Bool, true, false, IsTrue, Some, None, List, [], ◌∷◌, length, slice_get, slice_index_or, nat_lt, if◌then◌else◌, refl, sym, ap, subst, ◌∙◌, arith}
 use Rattle.std.proofs.lemmas.Bool.{false≢true, lt-ltb, le-ltb}
 use Rattle.line_device.specs.Medium.{last_image}
 use Rattle.line_device.specs.Device.{Device}
@@ -9,9 +9,18 @@ use Rattle.block_map.specs.declared.state.BlockState.{BlockState}
 use Rattle.block_map.specs.declared.state.BlockState.TheVariants as state
 use Rattle.block_device.specs.Object.{blocks_of}
 use Rattle.block_device.specs.Reading.{block_read, map_read}
-use Rattle.script_text.specs.Action.Action.{BExists}
-use Rattle.reply_text.specs.Answer.{Answer}
-use Rattle.reply_text.specs.Answer.Answer.{Yes, No, Refused}
+use Rattle.script_text.specs.Action.{Action}
+use Rattle.script_text.specs.Action.Action.{BExists, VExists, VRanges}
+use Rattle.nvm_base.specs.declared.units.Span.{Span}
+use Rattle.nvm_model.specs.Page.{presence_of}
+use Rattle.pm_volume.specs.Area.{volume_ranges}
+use Rattle.reply_text.specs.Room.{most_of}
+use Rattle.word_tables.specs.Bounds.{IsValid}
+use Rattle.word_tables.specs.Layout.{size}
+use Rattle.machine_host.specs.OnVolume.{yes_or_no}
+use Rattle.std.proofs.lemmas.Option.{get_or_from_slice_get, slice_get_within}
+use Rattle.reply_text.specs.Answer.{Answer, IsPrintable}
+use Rattle.reply_text.specs.Answer.Answer.{Ranges, Yes, No, Refused}
 use Rattle.reply_text.specs.declared.reply.Why.TheVariants as because
 use Rattle.machine_host.specs.declared.mode.Mode.TheVariants.{On}
 use Rattle.machine_host.specs.Machine.{Machine, Fate}
@@ -41,8 +50,8 @@ there_in_map geo bad word (s ∷ ss) zero there below told = there_by_state geo 
 there_in_map geo bad word (s ∷ ss) (suc block) there below told = there_in_map geo bad word ss block there (omega arith) told
 
 -- nothing changes, and this is answered
-same_state : (host : HostState) (d : Device) (h : Machine) (block : ℕ) (answer : Answer) → stop_in answer ≡ None → Stands host d h → Comes h (BExists block) (Gives answer h) answer host d d
-same_state host d h block answer quiet stands =
+pub same_state : (host : HostState) (d : Device) (h : Machine) (action : Action) (answer : Answer) → stop_in answer ≡ None → Stands host d h → Comes h action (Gives answer h) answer host d d
+same_state host d h action answer quiet stands =
     record { said = answered answer; next = h; answers = refl; takes = (refl, refl); tells = tells_nothing answer quiet d.panel; stands = stands }
 
 module _ (now host : HostState) (d : Device) (h : Machine) (block : ℕ) where
@@ -78,10 +87,62 @@ module _ (now host : HostState) (d : Device) (h : Machine) (block : ℕ) where
       ∙ there_in_map host.blocks.geo d.medium.is_bad (last_image d.medium) host.blocks.map block test (omega (arith, told.0, all)) told.1 ∙ is in
       let gives : fate h (BExists block) ≡ Gives (said there) h =
       fate_exists (sym stands.mode ∙ on) true (lt-ltb block h.geometry.blocks within) ∙ ap (λ b. Gives (said b) h) seen in
-      subst (λ fate. Comes h (BExists block) fate (said there) now d d) (sym gives) (same_state now d h block (said there) (by_there there) stands)
+      subst (λ fate. Comes h (BExists block) fate (said there) now d d) (sym gives) (same_state now d h (BExists block) (said there) (by_there there) stands)
 
   pub comes_of_no_such : host ≡ now → HostServes now d → Stands now d h → now.mode ≡ On → host.blocks.geo.blocks ≤ block → Comes h (BExists block) (fate h (BExists block)) (Refused because.Range) now d d
   comes_of_no_such inside serves stands on past =
       let beyond : h.geometry.blocks ≤ block = omega (arith, past, blocks_there inside serves stands on) in
       let gives : fate h (BExists block) ≡ Gives (Refused because.Range) h = fate_exists (sym stands.mode ∙ on) false (le-ltb block h.geometry.blocks beyond) in
-      subst (λ fate. Comes h (BExists block) fate (Refused because.Range) now d d) (sym gives) (same_state now d h block (Refused because.Range) refl stands)
+      subst (λ fate. Comes h (BExists block) fate (Refused because.Range) now d d) (sym gives) (same_state now d h (BExists block) (Refused because.Range) refl stands)
+
+-- Which pages are there is seen as the machine sees it.
+module _ (now host : HostState) (d : Device) (h : Machine) (page : ℕ) (inside : host ≡ now) (serves : HostServes now d) (stands : Stands now d h) (on : now.mode ≡ On) where
+  pages_there : host.volume.geo.vpages ≡ h.geometry.vpages
+  pages_there = ap (λ k. k.volume.geo.vpages) inside ∙ ap (λ g. g.vpages) ((serves.mounted on).volume_geometry ∙ stands.geometry)
+
+  fate_vexists : (within : Bool) → nat_lt page h.geometry.vpages ≡ within
+      → fate h (VExists page) ≡ unless_refused h (if within then None else Some (Refused because.Range)) (Gives (yes_or_no (slice_index_or (presence_of h.volume) page false)) h)
+  unfolding refusal
+  fate_vexists within is =
+      let comes : Fate = Gives (yes_or_no (slice_index_or (presence_of h.volume) page false)) h in
+      ap (λ mode. unless_refused h (first_reason (mode_refusal mode Usable) h.bad_meta (record no_reasons { places = if nat_lt page h.geometry.vpages then None else Some (Refused because.Range) })) comes) (sym stands.mode ∙ on)
+      ∙ ap (λ b. unless_refused h (first_reason None h.bad_meta (record no_reasons { places = if b then None else Some (Refused because.Range) })) comes) is
+      ∙ ap (λ o. unless_refused h o comes) (first_alone (if within then None else Some (Refused because.Range)))
+
+  pub comes_of_vexists : (there : Bool) → slice_get host.volume.present page ≡ Some there → Comes h (VExists page) (fate h (VExists page)) (yes_or_no there) now d d
+  comes_of_vexists there is =
+      let holds = stands.volume on in
+      let seen : slice_get (presence_of h.volume) page ≡ Some there = ap (λ xs. slice_get xs page) (holds.there ∙ sym (ap (λ k. k.volume.present) inside)) ∙ is in
+      let all : length host.volume.present ≡ host.volume.geo.vpages = ap (λ k. length k.volume.present) inside ∙ (serves.mounted on).volume_serves.all ∙ sym (ap (λ k. k.volume.geo.vpages) inside) in
+      let within : page < h.geometry.vpages = omega (arith, slice_get_within host.volume.present page there is, all, pages_there) in
+      let gives : fate h (VExists page) ≡ Gives (yes_or_no there) h =
+      fate_vexists true (lt-ltb page h.geometry.vpages within) ∙ ap (λ b. Gives (yes_or_no b) h) (get_or_from_slice_get (presence_of h.volume) page there false seen) in
+      subst (λ fate. Comes h (VExists page) fate (yes_or_no there) now d d) (sym gives) (same_state now d h (VExists page) (yes_or_no there) (by_there there) stands)
+    where
+      by_there : (there : Bool) → stop_in (yes_or_no there) ≡ None
+      by_there true = refl
+      by_there false = refl
+
+  pub comes_of_no_page : host.volume.geo.vpages ≤ page → Comes h (VExists page) (fate h (VExists page)) (Refused because.Range) now d d
+  comes_of_no_page past =
+      let beyond : h.geometry.vpages ≤ page = omega (arith, past, pages_there) in
+      let gives : fate h (VExists page) ≡ Gives (Refused because.Range) h = fate_vexists false (le-ltb page h.geometry.vpages beyond) in
+      subst (λ fate. Comes h (VExists page) fate (Refused because.Range) now d d) (sym gives) (same_state now d h (VExists page) (Refused because.Range) refl stands)
+
+-- where the volume lies is answered at once
+pub comes_of_vranges : (now : HostState) (d : Device) (h : Machine) (ranges : List Span) → now.mode ≡ On → Stands now d h → ranges ≡ volume_ranges now.geometry
+    → Comes h VRanges (fate h VRanges) (Ranges ranges) now d d
+unfolding refusal
+comes_of_vranges now d h ranges on stands is =
+    let gives : fate h VRanges ≡ Gives (Ranges ranges) h =
+    ap (λ mode. unless_refused h (first_reason (mode_refusal mode Usable) h.bad_meta no_reasons) (Gives (Ranges (volume_ranges h.geometry)) h)) (sym stands.mode ∙ on)
+    ∙ ap (λ r. Gives (Ranges r) h) (ap volume_ranges (sym stands.geometry) ∙ sym is) in
+    subst (λ fate. Comes h VRanges fate (Ranges ranges) now d d) (sym gives) (same_state now d h VRanges (Ranges ranges) refl stands)
+
+-- such an answer can be printed
+pub printable_ranges : (geo : Geometry) (ranges : List Span) → IsValid geo → ranges ≡ volume_ranges geo → IsPrintable (Ranges ranges)
+unfolding size
+printable_ranges geo ranges valid is = subst (λ r. IsPrintable (Ranges r)) (sym is) (omega (arith, valid.most_vpages))
+
+pub room_of_ranges : (geo : Geometry) (ranges : List Span) → ranges ≡ volume_ranges geo → most_of (Ranges ranges) ≤ 133
+room_of_ranges geo ranges is = let two : length ranges ≡ 2 = ap length is in omega (arith, two)

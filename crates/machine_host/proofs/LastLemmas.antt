@@ -29,18 +29,19 @@ abbrev pub word_last : Image → ℕ → List ℕ → Bool
 word_last image p [] = false
 word_last image p (x ∷ xs) = image.word p == newest (x ∷ xs)
 
--- it has line n with its mark and its last values; a page's lines are numbered from 64 * i
+-- it has a line with its mark and its last values
 abbrev pub cell_last : Image → ℕ → Cell → Bool
-cell_last image n Bad = image.is_bad n
-cell_last image n (Kept true words) = false
-cell_last image n (Kept false words) = not (image.is_bad n) && (not (image.is_weak n) && all_from (word_last image) (8 * n) words)
+cell_last image line Bad = image.is_bad line
+cell_last image line (Kept true words) = false
+cell_last image line (Kept false words) = not (image.is_bad line) && (not (image.is_weak line) && all_from (word_last image) (8 * line) words)
 
-abbrev pub page_last : Image → ℕ → Page → Bool
-page_last image i Absent = true
-page_last image i (Present cells) = all_from (cell_last image) (64 * i) cells
+-- and so all lines of pages, at their places; a page's lines are numbered from 64 * i
+abbrev pub page_last : (ℕ → ℕ) → Image → ℕ → Page → Bool
+page_last place image i Absent = true
+page_last place image i (Present cells) = all_from (λ n. cell_last image (place n)) (64 * i) cells
 
-abbrev pub pages_last : Image → List Page → Bool
-pages_last image pages = all_from (page_last image) 0 pages
+abbrev pub pages_last : (ℕ → ℕ) → Image → List Page → Bool
+pages_last place image pages = all_from (page_last place image) 0 pages
 
 newest-in : (x : ℕ) (xs : List ℕ) → IsIn (newest (x ∷ xs)) (x ∷ xs)
 newest-in x [] = inl refl
@@ -64,16 +65,16 @@ cell_kept choice image n (Kept false words) e =
     )
 
 -- what passes may be left
-pub keeps-last : (choice : Choice) (image : Image) (pages : List Page) → pages_last image pages ≡ true → KeepsPages choice image pages
-keeps-last choice image pages all n cell is = by_page (slice_get pages (n / 64)) refl is
+pub keeps-last : (choice : Choice) (place : ℕ → ℕ) (image : Image) (pages : List Page) → pages_last place image pages ≡ true → KeepsPages choice place image pages
+keeps-last choice place image pages all n cell is = by_page (slice_get pages (n / 64)) refl is
   where
     line : 64 * (0 + n / 64) + n % 64 ≡ n
     line = omega arith
 
-    by_page : (page : Option Page) → slice_get pages (n / 64) ≡ page → option_and_then (λ p. cell_in p (n % 64)) page ≡ Some cell → KeepsCell choice image n cell
+    by_page : (page : Option Page) → slice_get pages (n / 64) ≡ page → option_and_then (λ p. cell_in p (n % 64)) page ≡ Some cell → KeepsCell choice image (place n) cell
     by_page None found is = cc
     by_page (Some Absent) found is = cc
     by_page (Some (Present cells)) found is =
-        let here = all_from-get (page_last image) 0 (n / 64) pages (Present cells) all found in
-        cell_kept choice image n cell
-        (ap (λ k. cell_last image k cell) (sym line) ∙ all_from-get (cell_last image) (64 * (0 + n / 64)) (n % 64) cells cell here is)
+        let here = all_from-get (page_last place image) 0 (n / 64) pages (Present cells) all found in
+        cell_kept choice image (place n) cell
+        (ap (λ k. cell_last image (place k) cell) (sym line) ∙ all_from-get (λ k. cell_last image (place k)) (64 * (0 + n / 64)) (n % 64) cells cell here is)

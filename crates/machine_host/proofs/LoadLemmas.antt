@@ -1,60 +1,111 @@
--- Bytes of a line that a load lent, as bytes of a span.
-use Rattle.std.proofs.Common.{◌≡◌, ℕ, ◌+◌, ◌*◌, ◌/◌, ◌%◌, ◌<◌, ◌≤◌, List, length, get_or, take, drop, sym, ap, ◌∙◌, arith, length-take, length-drop, ◌++◌, append_assoc, append-nil}
-use Rattle.std.proofs.lemmas.List.{get_or-take, get_or-drop}
-use Rattle.std.specs.Int.{byte_at}
-use Rattle.line_device.specs.History.{newest}
-use Rattle.line_device.specs.Medium.{Medium, IsLine, WritesBack}
-use Rattle.line_device.proofs.WordLemmas.{byte_at-word_from}
-use Rattle.line_device.proofs.WriteBackLemmas.{newest-write_back}
-use Rattle.nvm_model.specs.Numbered.{list_from}
-use Rattle.nvm_model.specs.Lines.{shown_byte, span_shown}
-use Rattle.machine_host.specs.Volume.{byte_in_line}
-use Rattle.nvm_model.proofs.NumberedLemmas.{list_from-is, list_from-same, list_from-append}
+-- What a load of the volume comes to.
+use Rattle.std.proofs.Common.{◌≡◌, ◌+◌, ◌*◌, ◌==◌, ◌≤◌, ◌++◌, ℕ, Some, None, Result, Ok, Err, OnOk, List, [], length, replicate, take, drop, refl, sym, ap, subst, ◌∙◌, arith}
+use Rattle.std.proofs.lemmas.Bool.{le-ltb, ne_eqb}
+use Rattle.std.proofs.lemmas.List.{length-replicate, length-take}
+use Rattle.std.proofs.Math.Nat.{min-le_left}
+use Rattle.line_device.specs.Medium.{WritesBack}
+use Rattle.line_device.specs.Panel.{Runs}
+use Rattle.line_device.specs.Device.{Device}
+use Rattle.line_words.specs.Told.{Answers, OnRefused, OnWorked, is_done, outcome_by}
+use Rattle.word_tables.specs.declared.geometry.Geometry.{Geometry}
+use Rattle.nvm_model.specs.Blocks.{first_there}
+use Rattle.nvm_model.specs.Page.{Page, look}
+use Rattle.nvm_model.proofs.NumberedLemmas.{length-list_from}
+use Rattle.page_lines.proofs.OthersLemmas.{others-write_back}
+use Rattle.pm_volume.specs.Area.{IsOfVolume}
+use Rattle.pm_volume.specs.Costs.{lines_touched}
+use Rattle.pm_volume.specs.Images.{EachReadsPages}
+use Rattle.pm_volume.specs.Object.{VolumeState, VolumeHolds, VolumeServes}
+use Rattle.pm_volume.specs.Refusals.{bytes_refusal, load_refusal, refused_if, volume_says}
+use Rattle.pm_volume.specs.Refusals.VolumeRefusal.{Range, Length}
+use Rattle.pm_volume.specs.declared.fault.VolumeFault.{VolumeFault}
+use Rattle.pm_volume.proofs.StandingLemmas.{line_kept-write_back, served_pages}
+use Rattle.reply_text.specs.Answer.{Answer, IsPrintable}
+use Rattle.reply_text.specs.Answer.Answer.{Bytes}
+use Rattle.reply_text.specs.Room.{most_of}
+use Rattle.script_text.specs.Action.Action.{VLoad}
+use Rattle.machine_host.specs.declared.mode.Mode.TheVariants.{On}
+use Rattle.machine_host.specs.Machine.{Machine}
+use Rattle.machine_host.specs.Commands.{MayLeaveVolume, longest}
+use Rattle.machine_host.specs.Faults.{answer_after, mode_after}
+use Rattle.machine_host.specs.OnVolume.{volume_answer}
+use Rattle.machine_host.specs.Responding.{Answered}
+use Rattle.machine_host.specs.Stands.{HostState, HostServes}
+use Rattle.machine_host.proofs.BlockReadLemmas.{refilled}
+use Rattle.machine_host.proofs.ElsewhereLemmas.{volume_holds_elsewhere}
+use Rattle.machine_host.proofs.VolumeCallLemmas.{VolumeCalled, no_bad_lines, same_volume, settled_was, volume_after, volume_pages, volume_sizes, work_comes, work_serves}
+use Rattle.machine_host.proofs.VolumeFateLemmas.{fate_vload}
 
--- bytes that spell words, one by one
-pub byte_in_line-is : (bytes : List ℕ) (i : ℕ) → ((k : ℕ) → get_or bytes k 0 < 256) → get_or bytes i 0 ≡ byte_in_line bytes i
-byte_in_line-is bytes i small =
-    sym (byte_at-word_from (λ k. get_or bytes (8 * (i / 8) + k) 0) (i % 8) (λ k _. small (8 * (i / 8) + k)) (omega arith) ∙ ap (λ k. get_or bytes k 0) here)
-  where
-    here : 8 * (i / 8) + i % 8 ≡ i
-    here = omega arith
+-- bytes that are there
+bytes_right : (geo : Geometry) (offset len : ℕ) → 1 ≤ len → offset + len ≤ 4096 * geo.vpages → bytes_refusal geo offset len ≡ None
+bytes_right geo offset len some within =
+    ap (λ b. first_there (refused_if b Range) (refused_if (len == 0) Length)) (le-ltb (4096 * geo.vpages) (offset + len) within)
+    ∙ ap (λ b. refused_if b Length) (ne_eqb len 0 (λ e. omega arith))
 
--- a stretch of them
-pub list_from-line : (bytes : List ℕ) (start len : ℕ) → start + len ≤ length bytes → ((k : ℕ) → get_or bytes k 0 < 256)
-    → take len (drop start bytes) ≡ list_from (byte_in_line bytes) start len
-list_from-line bytes start len fits small = list_from-is (byte_in_line bytes) start _ each ∙ ap (list_from (byte_in_line bytes) start) size
-  where
-    size : length (take len (drop start bytes)) ≡ len
-    size = omega (arith, length-take {A = ℕ}, length-drop {A = ℕ})
+-- a buffer of so many zeros
+pub loaded_size : (len : ℕ) (before items : List ℕ) → before ≡ [] → items ≡ before ++ replicate len 0 → length items ≡ len
+loaded_size len before items none filled = ap length filled ∙ ap (λ xs. length (xs ++ replicate len 0)) none ∙ length-replicate len 0
 
-    each : (k : ℕ) → k < length (take len (drop start bytes)) → get_or (take len (drop start bytes)) k 0 ≡ byte_in_line bytes (start + k)
-    each k lt = get_or-take len (drop start bytes) k 0 (omega (arith, size)) ∙ get_or-drop start bytes k 0 ∙ byte_in_line-is bytes (start + k) small
+-- the bytes of a buffer that they were loaded into
+pub loaded_bytes : (len : ℕ) (old items out : List ℕ) (pages : List Page) (offset : ℕ) → old ≡ items → length items ≡ len → out ≡ look pages offset (length old)
+    → take (length items) (out ++ drop (length out) items) ≡ look pages offset len
+unfolding look
+loaded_bytes len old items out pages offset same size is =
+    let many : length old ≡ len = ap length same ∙ size in
+    let long : length out ≡ length items = ap length is ∙ length-list_from _ offset (length old) ∙ ap length same in
+    refilled items out long ∙ is ∙ ap (look pages offset) many
 
--- what a load lends is what the span shows
-pub span_shown-line : (m : Medium) (start len : ℕ) (bytes : List ℕ) → IsLine m (start / 64) bytes → start % 64 + len ≤ 64
-    → list_from (byte_in_line bytes) (start % 64) len ≡ span_shown m start len
-span_shown-line m start len bytes is fits = list_from-same (byte_in_line bytes) (shown_byte m) (start % 64) start len each
-  where
-    each : (k : ℕ) → k < len → byte_in_line bytes (start % 64 + k) ≡ shown_byte m (start + k)
-    each k lt =
-        let i : (start % 64 + k) % 8 ≡ (start + k) % 8 = omega arith in
-        let p : 8 * (start / 64) + (start % 64 + k) / 8 ≡ (start + k) / 8 = omega arith in
-        ap (byte_at ((start % 64 + k) % 8)) (sym (is.words ((start % 64 + k) / 8) (omega arith)))
-        ∙ ap (λ q. byte_at ((start % 64 + k) % 8) (newest (m.history q))) p
-        ∙ ap (λ j. byte_at j (newest (m.history ((start + k) / 8)))) i
+module _ (now host after : HostState) (s : VolumeState) (r : Result (Unit {0}) VolumeFault) (offset len calls : ℕ) (Q : Type 0) (old new : Device)
+    (inside : host ≡ now) (state : after ≡ volume_after host s (mode_after volume_says r)) (on : now.mode ≡ On) (serves : HostServes now old) (few : calls ≤ lines_touched offset len)
+    (untouched : OnRefused volume_says r (Q × (new ≡ old))) (lines : WritesBack old.medium new.medium) (served : VolumeServes s new.medium)
+    (object : s ≡ record host.volume { settled = is_done (outcome_by volume_says r) }) (runs : Runs calls 0 (outcome_by volume_says r) old.panel new.panel) where
+  -- the volume stands for the same pages
+  holds_after : (pages : List Page) → VolumeHolds host.volume old.medium pages → VolumeHolds s new.medium pages
+  holds_after pages holds =
+      let mounted = serves.mounted on in
+      let kept = volume_holds_elsewhere now.geometry old.medium new.medium serves.layout.valid (λ line of. line_kept-write_back old.medium new.medium line lines) host.volume pages
+      (ap (λ k. k.volume.geo) inside ∙ mounted.volume_geometry) (ap (λ k. length k.volume.present) inside ∙ mounted.volume_serves.all ∙ sym (ap (λ k. k.volume.geo.vpages) inside)) holds in
+      subst (λ v. VolumeHolds v new.medium pages) (sym object) (record { there = kept.there; stand = kept.stand })
 
--- lines that were only written back show what they showed
-pub span_shown-write_back : (a b : Medium) (start len : ℕ) → WritesBack a b → span_shown b start len ≡ span_shown a start len
-span_shown-write_back a b start len w =
-    list_from-same (shown_byte b) (shown_byte a) start start len (λ k lt. ap (byte_at ((start + k) % 8)) (newest-write_back a b w ((start + k) / 8)))
+  same_again : (q : Result (Unit {0}) VolumeFault) → OnRefused volume_says q (Q × (new ≡ old)) → OnRefused volume_says q (new ≡ old)
+  same_again (Ok x) left = tt
+  same_again (Err f) left = λ told. (left told).1
 
--- one stretch more
-pub said-next : (f : ℕ → ℕ) (out a b : List ℕ) (start n from len more : ℕ) → a ≡ out ++ list_from f start n → b ≡ a ++ list_from f from len
-    → from ≡ start + n → more ≡ n + len → b ≡ out ++ list_from f start more
-said-next f out a b start n from len more one two place size =
-    two ∙ ap (λ xs. xs ++ list_from f from len) one ∙ append_assoc out (list_from f start n) (list_from f from len)
-    ∙ ap (λ xs. out ++ xs) (ap (λ x. list_from f start n ++ list_from f x len) place ∙ sym (list_from-append f start n len) ∙ ap (list_from f start) (sym size))
+  on_worked : {P : Type 0} (q : Result (Unit {0}) VolumeFault) → P → OnWorked volume_says q P
+  on_worked (Ok x) p = p
+  on_worked (Err f) p = λ stop. p
 
--- nothing yet
-pub said-none : (f : ℕ → ℕ) (out : List ℕ) (start n : ℕ) → n ≡ 0 → out ≡ out ++ list_from f start n
-said-none f out start n none = sym (append-nil out) ∙ ap (λ k. out ++ list_from f start k) (sym none)
+  call : VolumeCalled host s r (MayLeaveVolume host.volume.geo (Some (VLoad offset len))) calls 0 old new
+  call = record {
+    untouched = same_volume (new ≡ old) host.volume s r object (settled_was now host old inside on serves) (same_again r untouched);
+    images = on_worked r (λ pages holds. subst (λ g. EachReadsPages g new.medium (λ x. x ≡ pages)) (ap (λ k. k.geo) object) (served_pages s new.medium pages served (holds_after pages holds)));
+    outside = others-write_back (IsOfVolume host.volume.geo) old.medium new.medium lines;
+    serves = λ _. served;
+    object = (ap (λ k. k.geo) object, ap (λ k. k.settled) object);
+    runs = runs;
+  }
+
+  on_ok : {P : Type 0} (q : Result (Unit {0}) VolumeFault) → P → OnOk q P
+  on_ok (Ok x) p = p
+  on_ok (Err f) p = tt
+
+  pub load_answered : (answer : Answer) → 1 ≤ len → offset + len ≤ 4096 * now.geometry.vpages → len ≤ 65536
+      → ((pages : List Page) → VolumeHolds host.volume old.medium pages → Answers volume_says (load_refusal host.volume pages offset len) r)
+      → ((h : Machine) → VolumeHolds host.volume old.medium h.volume → answer ≡ answer_after volume_says volume_answer (Bytes (look h.volume offset len)) r)
+      → IsPrintable answer → most_of answer ≤ longest (VLoad offset len) → Answered (VLoad offset len) answer now after old new
+  load_answered answer some within most refused answer_is printable room = record {
+    step = λ h stands.
+        let holds = volume_pages now host old h inside on serves stands in
+        let there = subst (λ g. offset + len ≤ 4096 * g.vpages) stands.geometry within in
+        work_comes now host after s r calls 0 old new inside state on serves (VLoad offset len) (λ h stands. (few, omega arith)) (λ h bs same. same) call h (Bytes (look h.volume offset len)) answer
+        (load_refusal host.volume h.volume offset len) h.volume refl stands
+        (fate_vload h host.volume (sym stands.mode ∙ on) (no_bad_lines now host old h inside on serves stands) (volume_sizes now host old h inside on serves stands) offset len some there most (bytes_right h.geometry offset len some there))
+        (refused h.volume holds) (on_ok r (holds_after h.volume holds)) (answer_is h holds);
+    printable = printable;
+    room = room;
+    serves = work_serves now host after s r calls 0 old new inside state on serves (VLoad offset len) (λ h stands. (few, omega arith)) (λ h bs same. same) call;
+  }
+
+-- as many bytes as the buffer has
+pub taken_short : (len : ℕ) (items bytes : List ℕ) → length items ≡ len → most_of (Bytes (take (length items) bytes)) ≤ 64 + 3 * len
+taken_short len items bytes size = let few : length (take (length items) bytes) ≤ length items = subst (λ n. n ≤ length items) (sym (length-take (length items) bytes)) (min-le_left (length items) (length bytes)) in omega (arith, few, size)

@@ -9,7 +9,7 @@ use Rattle.word_tables.specs.declared.geometry.Geometry.{Geometry}
 use Rattle.word_tables.specs.Layout.{first_line, meta_lines, total_lines}
 use Rattle.block_device.specs.Object.{HasGoodMetadata}
 use Rattle.recovery.proofs.SuperblockLemmas.{superblock-outside, superblock-beside, superblock-restarted}
-use Rattle.machine_host.specs.Volume.{HasLayout}
+use Rattle.machine_host.specs.Lines.{HasLayout}
 use Rattle.machine_host.specs.Stands.{MetadataStands}
 
 -- no number passes

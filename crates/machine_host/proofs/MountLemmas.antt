@@ -1,5 +1,5 @@
 -- What a mount finds, and what it leaves.
-use Rattle.std.proofs.Common.{◌≡◌, ℕ, ◌+◌, ◌/◌, ◌<◌, ◌≤◌, false, Option, Some, None, option_map, List, [], map, Result, Ok, Err, inl, inr, refl, sym, ap, subst, ◌∙◌, arith}
+use Rattle.std.proofs.Common.{◌≡◌, ℕ, ◌/◌, ◌<◌, ◌≤◌, false, Option, Some, None, option_map, List, [], map, Result, Ok, Err, inl, inr, refl, sym, ap, subst, ◌∙◌, arith}
 use Rattle.std.specs.Prelude.{IfErr}
 use Rattle.std.proofs.Math.Nat.{min-le_right}
 use Rattle.std.proofs.lemmas.Bool.{cases_Bool, cases_lt}
@@ -14,7 +14,6 @@ use Rattle.word_tables.specs.declared.geometry.Geometry.{Geometry}
 use Rattle.word_tables.specs.Bounds.{IsValid}
 use Rattle.word_tables.specs.Layout.{meta_lines}
 use Rattle.word_tables.specs.Words.{place, of_block}
-use Rattle.word_log.specs.Area.{IsOf}
 use Rattle.word_log.specs.Replay.{first_wrong}
 use Rattle.block_map.specs.States.{IsMap, word_of}
 use Rattle.block_map.specs.Wrong as table
@@ -32,17 +31,23 @@ use Rattle.block_device.proofs.ReachLemmas.{reads_right}
 use Rattle.block_device.proofs.RestartLemmas.{block_image-last, is_only-none}
 use Rattle.recovery.specs.Fresh.{IsFresh, fresh_word}
 use Rattle.recovery.specs.Findings.{geometry_told, early_finding, first_finding}
-use Rattle.word_log.specs.Mount.Finding.{wrong_word}
-use Rattle.recovery.specs.Mounting.{Finds, HasDurableBlocks, IsInOrder, blocks_told}
+use Rattle.recovery.specs.Mounting.{Finds, HasDurableBlocks, IsInOrder, IsOfLogs, blocks_told, vpages_told, mount_calls_told, mount_persists_told}
+use Rattle.std.proofs.lemmas.List.{length-map}
+use Rattle.word_log.specs.Rest.{IsImageOn}
+use Rattle.nvm_model.specs.Page.{is_present, presence_of}
+use Rattle.pm_volume.specs.Area.{volume_area}
+use Rattle.pm_volume.specs.Images.{ReadsPages, EachReadsPages}
+use Rattle.pm_volume.specs.Presence.{wrong_volume_place}
+use Rattle.pm_volume.proofs.StandingLemmas.{nothing_wrong}
 use Rattle.recovery.specs.declared.fault.MountFault.{MountFault}
 use Rattle.recovery.specs.declared.fault.MountFault.TheVariants as fault
-use Rattle.recovery.proofs.FindingLemmas.{early_none as both_none, first_late, is_superblock, nothing_early}
+use Rattle.recovery.proofs.FindingLemmas.{all_right, early_none as both_none, is_superblock, nothing_early, nothing_found}
 use Rattle.recovery.proofs.SuperblockLemmas.{early_none, some_lines, superblock_told, superblock-outside}
-use Rattle.machine_host.specs.Volume.{HasGoodData, HasLayout}
+use Rattle.machine_host.specs.Lines.{HasGoodData, HasLayout}
 use Rattle.machine_host.specs.Stands.{IsFlushed, MetadataStands}
 use Rattle.machine_host.specs.Costs.{mount_calls, mount_persists}
 use Rattle.machine_host.proofs.MetadataLemmas.{good_metadata, none_bad}
-use Rattle.machine_host.proofs.ElsewhereLemmas.{first_not_blocks}
+use Rattle.machine_host.proofs.ElsewhereLemmas.{area_of_volume, first_not_blocks, first_not_volume, volume_within}
 
 -- there is a first line
 pub line_zero : (geo : Geometry) (m : Medium) → HasLayout geo m → 1 ≤ m.count
@@ -82,7 +87,7 @@ found_map m none = by_log (first_wrong (block_area geo) (last_image m)) right
     geo = geometry_told m
 
     right : wrong_place geo (last_image m) ≡ None
-    right = not_mapped wrong_word (wrong_place geo (last_image m)) (sym (first_late m (nothing_early m none)) ∙ none)
+    right = (nothing_found m none).1
 
     by_log : (o : Option ℕ) → first_there o (option_map (λ b. place geo (of_block b)) (table.first_wrong_entry (map word_of (states_read geo (last_image m))))) ≡ None
         → IsMap (states_read geo (last_image m))
@@ -102,12 +107,16 @@ durable_flushed m flushed none block unit at p from to =
 first_place : (p : ℕ) → p < 8 → p / 8 ≡ 0
 first_place p below = omega arith
 
--- the first line has no word of log and map
-pub first_not_area : (geo : Geometry) → IsValid geo → (p : ℕ) → p < 8 → IsOf (block_area geo) p → ⊥
-first_not_area geo valid p below of = first_not_blocks geo (subst (IsBlockLine geo) (first_place p below) (area_is_block geo valid p of))
+-- the first line has no word of logs and tables
+pub first_not_area : (geo : Geometry) → IsValid geo → (p : ℕ) → p < 8 → IsOfLogs geo p → ⊥
+first_not_area geo valid p below of =
+    elim of as (λ _. ⊥) [
+      | inl of_blocks ↦ first_not_blocks geo (subst (IsBlockLine geo) (first_place p below) (area_is_block geo valid p of_blocks))
+      | inr of_volume ↦ first_not_volume geo p below (area_of_volume geo p valid of_volume)
+    ]
 
 -- of a device in order whose first line was durable, its metadata after a mount
-pub metadata_mounted : (old new : Medium) → 1 ≤ old.count → IsFlushed old → first_finding old ≡ None → WritesBackOutside (IsOf (block_area (geometry_told old))) old new
+pub metadata_mounted : (old new : Medium) → 1 ≤ old.count → IsFlushed old → first_finding old ≡ None → WritesBackOutside (IsOfLogs (geometry_told old)) old new
     → IsInOrder (geometry_told old) new → MetadataStands (geometry_told old) new []
 metadata_mounted old new some flushed none x order =
     let geo = geometry_told old in
@@ -116,7 +125,7 @@ metadata_mounted old new some flushed none x order =
       lines = order.count;
       bad = none_bad geo new order.good;
       strong = order.strong;
-      superblock = superblock-outside geo (IsOf (block_area geo)) old new x (first_not_area geo is.valid)
+      superblock = superblock-outside geo (IsOfLogs geo) old new x (first_not_area geo is.valid)
           (λ p below. subst (λ v. IsOnly v (old.history p)) (is.words p below) (flushed p (omega (arith, first_place p below, some))));
     }
 
@@ -152,15 +161,28 @@ StopsMount fault.Device = Unit {0}
 StopsMount fault.PowerLost = Unit {0}
 StopsMount fault.Memory = Unit {0}
 
+-- the last values are an image of log and presence words
+pub volume_image-last : (geo : Geometry) (m : Medium) → IsSound m → HasLayout geo m → IsImageOn (volume_area geo) m (last_image m)
+volume_image-last geo m sound layout p of =
+    let on : p / 8 < m.count = subst (λ c. p / 8 < c) (sym layout.lines) (volume_within geo (p / 8) (area_of_volume geo p layout.valid of)) in
+    sound.last p (on, (layout.intact (p / 8) on).0)
+
 -- Of such a device a mount is refused by nothing but device, power and memory.
-pub only_stops : {T : Type 0} → (geo : Geometry) (m : Medium) (r : Result T MountFault) → HasLayout geo m → IsTold geo m → IsSound m → AreReadable geo m → Finds (first_finding m) r → IfErr r StopsMount
-only_stops {T} geo m r layout told sound readable finds = by_answer r (subst (λ found. Finds found r) nothing finds)
+pub only_stops : {T : Type 0} → (geo : Geometry) (m : Medium) (r : Result T MountFault) → HasLayout geo m → IsTold geo m → IsSound m → AreReadable geo m → EachReadsPages geo m (λ _. Unit {0})
+    → Finds (first_finding m) r → IfErr r StopsMount
+only_stops {T} geo m r layout told sound readable each finds = by_answer r (subst (λ found. Finds found r) nothing finds)
   where
     none_wrong : wrong_place geo (last_image m) ≡ None
     none_wrong = reads_right geo m (λ _. Unit {0}) (last_image m) (readable (last_image m) (block_image-last geo layout.valid m sound layout.lines))
 
+    pages : ReadsPages geo m (λ _. Unit {0}) (last_image m)
+    pages = each (last_image m) (volume_image-last geo m sound layout)
+
+    no_page_wrong : wrong_volume_place geo (last_image m) ≡ None
+    no_page_wrong = nothing_wrong geo (last_image m) (presence_of pages.pages) (length-map pages.pages is_present ∙ pages.all) pages.replays
+
     nothing : first_finding m ≡ None
-    nothing = first_late m told.early ∙ ap (option_map wrong_word) (ap (λ g. wrong_place g (last_image m)) told.sizes ∙ none_wrong)
+    nothing = all_right m told.early (ap (λ g. wrong_place g (last_image m)) told.sizes ∙ none_wrong) (ap (λ g. wrong_volume_place g (last_image m)) told.sizes ∙ no_page_wrong)
 
     by_answer : (q : Result T MountFault) → Finds None q → IfErr q StopsMount
     by_answer (Ok x) f = tt
@@ -170,7 +192,8 @@ only_stops {T} geo m r layout told sound readable finds = by_answer r (subst (λ
     by_answer (Err fault.PowerLost) f = tt
     by_answer (Err fault.Memory) f = tt
 
-pub mount_within : (m : Medium) (e : Outcome) (p q : Panel) → Runs (blocks_told m / 4 + 280) (blocks_told m / 8 + 84) e p q → Runs mount_calls mount_persists e p q
+pub mount_within : (m : Medium) (e : Outcome) (p q : Panel) → Runs (mount_calls_told m) (mount_persists_told m) e p q → Runs mount_calls mount_persists e p q
 mount_within m e p q runs =
     let most : blocks_told m ≤ 4096 = min-le_right (geometry_told m).blocks 4096 in
-    runs_within (blocks_told m / 4 + 280) (blocks_told m / 8 + 84) mount_calls mount_persists e p q runs (omega (arith, most)) (omega (arith, most))
+    let most_pages : vpages_told m ≤ 256 = min-le_right (geometry_told m).vpages 256 in
+    runs_within (mount_calls_told m) (mount_persists_told m) mount_calls mount_persists e p q runs (omega (arith, most, most_pages)) (omega (arith, most, most_pages))

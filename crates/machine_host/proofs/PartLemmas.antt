@@ -12,11 +12,10 @@ use Rattle.line_words.specs.declared.interruption.Interruption.{Interruption}
 use Rattle.line_words.specs.declared.interruption.Interruption.TheVariants.{Failed, PowerLost as Lost}
 use Rattle.nvm_base.specs.Numbers.{number_of}
 use Rattle.nvm_base.specs.Data.{runs_of, data_within, data_text}
-use Rattle.word_tables.specs.Layout.{size, first_line, total_lines}
+use Rattle.word_tables.specs.Layout.{volume_line, size, first_line}
 use Rattle.nvm_model.specs.Storage.{Block}
-use Rattle.nvm_model.specs.Page.{read_pages, bad_lines, KeepsPages}
+use Rattle.nvm_model.specs.Page.{presence_of, read_page, read_pages, bad_lines}
 use Rattle.nvm_model.specs.Blocks.{first_obstacle, bad_block_lines, write, look_blocks}
-use Rattle.nvm_model.proofs.PageLemmas.{bad_lines-none, cell_of-read_pages}
 use Rattle.word_log.specs.Replay.{listed}
 use Rattle.block_device.specs.Images.{IsEither}
 use Rattle.block_device.specs.Reading.{states_read, blocks_read}
@@ -29,13 +28,14 @@ use Rattle.script_text.specs.Action.Action.{BRead, CutIn, Restart}
 use Rattle.script_text.specs.Script.{Input, lines_of, words_of, command_action, line_input}
 use Rattle.script_text.specs.Script.Input.{Asked}
 use Rattle.machine_host.specs.declared.mode.Mode.TheVariants as modes
-use Rattle.machine_host.specs.Volume.{volume_image}
+use Rattle.pm_volume.specs.Presence.{presence_read, words_read}
+use Rattle.nvm_model.specs.Numbered.{map_from}
 use Rattle.machine_host.specs.Machine.{Machine}
 use Rattle.machine_host.specs.OnBlocks.{refusal_answer}
 use Rattle.machine_host.specs.Commands.{fate, meaning, refusal, unless_refused, while_interrupted}
 use Rattle.machine_host.specs.Machine.Fate.{Gives, Works, Orders, Restarts}
 use Rattle.machine_host.specs.Interrupted.{interrupted_answer}
-use Rattle.machine_host.specs.Restarting.{RestartMayLeave, reading, fresh, restarted, restart_answer, zero_image}
+use Rattle.machine_host.specs.Restarting.{RestartMayLeave, reading, fresh, restarted, restart_answer}
 use Rattle.machine_host.specs.Run.{Transcript, Run, Takes, Ends, followed_by}
 use Rattle.machine_host.specs.Rows.{small, text}
 use Rattle.machine_host.specs.CutRows.{MayWrite, with_cut_write, cut_write_lines}
@@ -117,10 +117,9 @@ abbrev struck : Bool → Bool → Machine
 struck cut fail = record (while_interrupted armed the_write) { mode = modes.Off; cut_armed = cut; fail_armed = fail }
 
 -- none of the volume's lines is bad after it
-no_bad_line : (choice : Choice) (image : Image) → KeepsPages choice (volume_image small image) (fresh small).volume → bad_lines (read_pages (volume_image small image) 2) ≡ 0
-unfolding reading
-no_bad_line choice image keeps =
-    bad_lines-none (volume_image small image) 2 (λ k lt. (keeps k _ (cell_of-read_pages (volume_image small (zero_image (total_lines small))) 2 k lt)).0)
+no_bad_line : (image : Image) → presence_of (fresh small).volume ≡ presence_read small image.word → bad_lines (read_pages (volume_line small) image (presence_read small image.word)) ≡ 0
+unfolding reading words_read listed read_pages size first_line
+no_bad_line image there = ap (λ t. bad_lines (map_from (read_page (volume_line small) image) 0 t)) (sym there)
 
 -- blocks all of which can be read, and what their first two show
 record Shows (blocks : List Block) (seen : List ℕ) : Type 0 where
@@ -163,13 +162,13 @@ module _ (shown : List ℕ) (image : Image) (cut fail : Bool) (blocks : List Blo
           sym (append_cancel_right seen shown (10 ∷ []) (ap (drop 5) same))
       by_end answer next rest (inr stop) last e = absurd (never_stopped stop.0 rest 100 _ (omega arith) (sym (ap (λ a. reply_text (a ∷ rest)) stop.1) ∙ e))
 
-  restart_shows : (answer : Answer) (next : Machine) (rest : List Answer) → bad_lines (read_pages (volume_image small image) 2) ≡ 0
+  restart_shows : (answer : Answer) (next : Machine) (rest : List Answer) → bad_lines (read_pages (volume_line small) image (presence_read small image.word)) ≡ 0
       → Ends (restart_answer (struck cut fail) image) back back answer next → Later next (Asked (BRead 0 2) ∷ []) rest
       → reply_text (answer ∷ rest) ≡ text (codes "ok bad 0" ∷ line shown ∷ []) → shown ≡ seen
   unfolding answer_line digits reading
   restart_shows answer next rest healthy (inl good) later e =
       let none : restart_answer (struck cut fail) image ≡ DoneBad 0 =
-      ap (λ n. DoneBad (n + bad_lines (read_pages (volume_image small image) 2))) (ap bad_block_lines is ∙ good_blocks.whole) ∙ ap (λ n. DoneBad (0 + n)) healthy in
+      ap (λ n. DoneBad (n + bad_lines (read_pages (volume_line small) image (presence_read small image.word)))) (ap bad_block_lines is ∙ good_blocks.whole) ∙ ap (λ n. DoneBad (0 + n)) healthy in
       let wrote : reply_text (DoneBad 0 ∷ rest) ≡ text (codes "ok bad 0" ∷ line shown ∷ []) = sym (ap (λ a. reply_text (a ∷ rest)) (good.0 ∙ none)) ∙ e in
       read_shows rest (subst (λ k. Later k (Asked (BRead 0 2) ∷ []) rest) good.1 later) (ap (drop 9) wrote)
   restart_shows answer next rest healthy (inr stop) later e =
@@ -193,10 +192,10 @@ back_shows shown cut fail answers later wrote =
         → reply_text (answer ∷ rest) ≡ text (codes "ok bad 0" ∷ line shown ∷ []) → Whole shown
     by_blocks image answer next rest keeps ends later (inl old) e =
         inl (restart_shows shown image cut fail (fresh small).blocks old (codes "00*1024") old_shows answer next rest
-        (no_bad_line Firsts image (subst (KeepsPages Firsts (volume_image small image)) keeps.may keeps.volume)) ends later e)
+        (no_bad_line image (ap presence_of (sym keeps.may) ∙ keeps.there)) ends later e)
     by_blocks image answer next rest keeps ends later (inr new) e =
         inr (restart_shows shown image cut fail (written (fresh small)).blocks new (codes "11*1024") new_shows answer next rest
-        (no_bad_line Firsts image (subst (KeepsPages Firsts (volume_image small image)) keeps.may keeps.volume)) ends later e)
+        (no_bad_line image (ap presence_of (sym keeps.may) ∙ keeps.there)) ends later e)
 
 struck_shows : (shown : List ℕ) (answers : List Answer) → Later armed (Asked the_write ∷ Asked (BRead 0 1) ∷ Asked (Restart Firsts) ∷ Asked (BRead 0 2) ∷ []) answers
     → reply_text answers ≡ text (codes "power lost" ∷ codes "refused off" ∷ codes "ok bad 0" ∷ line shown ∷ []) → Whole shown

@@ -8,7 +8,7 @@ use Rattle.nvm_model.specs.Storage.{Block}
 use Rattle.block_device.specs.Refusals.{Refusal}
 use Rattle.block_device.specs.Refusals.Refusal.{Unreadable}
 use Rattle.script_text.specs.Action.{Action}
-use Rattle.script_text.specs.Action.Action.{BRead, BWrite, BAtomic, BMulti, BDiscard, BDiscardIf, BExists, BScar, VLoad, VStore, VSync, Cut, CutIn, Restart}
+use Rattle.script_text.specs.Action.Action.{BRead, BWrite, BAtomic, BMulti, BDiscard, BDiscardIf, BExists, BScar, VLoad, VStore, VSync, VRanges, VPSync, VDiscard, VDiscardIf, VExists, Cut, CutIn, Restart}
 use Rattle.reply_text.specs.declared.reply.Why.{Why}
 use Rattle.reply_text.specs.declared.reply.Why.TheVariants.{Range, Length, Limit}
 use Rattle.reply_text.specs.Answer.Answer.{Done, Bytes, Refused}
@@ -16,9 +16,9 @@ use Rattle.machine_host.specs.declared.mode.Mode.{Mode}
 use Rattle.machine_host.specs.declared.mode.Mode.TheVariants.{On, Off, Unsettled}
 use Rattle.machine_host.specs.Machine.{Machine, Fate}
 use Rattle.machine_host.specs.Machine.Fate.{Works}
-use Rattle.machine_host.specs.Meaning.{BlocksLeft, Needs, first_reason, mode_refusal, no_reasons, span_refusal}
+use Rattle.machine_host.specs.Meaning.{BlocksLeft, Needs, first_reason, metadata_refusal, mode_refusal, most_refusal, no_reasons, span_refusal}
 use Rattle.machine_host.specs.Meaning.Needs.{Usable, Powered, Unpowered}
-use Rattle.machine_host.specs.OnBlocks.{changing_blocks, count_refusal, refusal_answer}
+use Rattle.machine_host.specs.OnBlocks.{changing_blocks, refusal_answer}
 use Rattle.machine_host.specs.Commands.{early_refusal, fate, meaning, refusal, unless_refused}
 
 -- the mode of what is not refused
@@ -68,13 +68,6 @@ span_allowed size offset len = by_tests (ltb size (offset + len)) (eqb len 0) re
     by_tests false true e f none = cc
     by_tests false false e f none = (grind (arith, nat_tests), grind (arith, nat_tests))
 
-pub store_within : (size end : ℕ) → cond (ltb size end) (Some Range) None ≡ None → end ≤ size
-store_within size end = by_test (ltb size end) refl
-  where
-    by_test : (past : Bool) → ltb size end ≡ past → cond past (Some Range) None ≡ None → end ≤ size
-    by_test true e none = cc
-    by_test false e none = grind (arith, nat_tests)
-
 pub cut_in_some : (calls : ℕ) → cond (eqb calls 0) (Some Range) None ≡ None → 1 ≤ calls
 cut_in_some calls = by_test (eqb calls 0) refl
   where
@@ -82,15 +75,16 @@ cut_in_some calls = by_test (eqb calls 0) refl
     by_test true e none = cc
     by_test false e none = grind (arith, nat_tests)
 
-pub read_within : (blocks block count : ℕ) → count_refusal blocks block count ≡ None → (1 ≤ count) × (block + count ≤ blocks) × (count ≤ 128)
-read_within blocks block count none = by_span (span_refusal blocks block count) refl none
+-- so of a read, which asks for no more than is read at once
+pub read_within : (most size start len : ℕ) → most_refusal most size start len ≡ None → (1 ≤ len) × (start + len ≤ size) × (len ≤ most)
+read_within most size start len none = by_span (span_refusal size start len) refl none
   where
-    by_limit : (over : Bool) → ltb 128 count ≡ over → cond over (Some Limit) None ≡ None → count ≤ 128
+    by_limit : (over : Bool) → ltb most len ≡ over → cond over (Some Limit) None ≡ None → len ≤ most
     by_limit true e none = cc
     by_limit false e none = grind (arith, nat_tests)
 
-    by_span : (o : Option Why) → span_refusal blocks block count ≡ o → first_there o (cond (ltb 128 count) (Some Limit) None) ≡ None → (1 ≤ count) × (block + count ≤ blocks) × (count ≤ 128)
-    by_span None e none = let places = span_allowed blocks block count e in (places.0, places.1, by_limit (ltb 128 count) refl none)
+    by_span : (o : Option Why) → span_refusal size start len ≡ o → first_there o (cond (ltb most len) (Some Limit) None) ≡ None → (1 ≤ len) × (start + len ≤ size) × (len ≤ most)
+    by_span None e none = let places = span_allowed size start len e in (places.0, places.1, by_limit (ltb most len) refl none)
     by_span (Some why) e none = cc
 
 -- and places that are right
@@ -99,16 +93,13 @@ span_right size offset len some within =
     ap (λ b. cond b (Some Range) (cond (eqb len 0) (Some Length) None)) (le-ltb size (offset + len) within)
     ∙ ap (λ b. cond b (Some Length) None) (ne_eqb len 0 (λ e. omega arith))
 
-pub end_right : (size end : ℕ) → end ≤ size → cond (ltb size end) (Some Range) None ≡ None
-end_right size end within = ap (λ b. cond b (Some Range) None) (le-ltb size end within)
-
 pub calls_right : (calls : ℕ) → 1 ≤ calls → cond (eqb calls 0) (Some Range) None ≡ None
 calls_right calls some = ap (λ b. cond b (Some Range) None) (ne_eqb calls 0 (λ e. omega arith))
 
-pub read_right : (blocks block count : ℕ) → 1 ≤ count → block + count ≤ blocks → count ≤ 128 → count_refusal blocks block count ≡ None
-read_right blocks block count some within few =
-    ap (λ o. first_there o (cond (ltb 128 count) (Some Limit) None)) (span_right blocks block count some within)
-    ∙ ap (λ b. cond b (Some Limit) None) (le-ltb 128 count few)
+pub read_right : (most size start len : ℕ) → 1 ≤ len → start + len ≤ size → len ≤ most → most_refusal most size start len ≡ None
+read_right most size start len some within few =
+    ap (λ o. first_there o (cond (ltb most len) (Some Limit) None)) (span_right size start len some within)
+    ∙ ap (λ b. cond b (Some Limit) None) (le-ltb most len few)
 
 pub first_alone : {A : Type 0} (o : Option A) → first_there o None ≡ o
 first_alone None = refl
@@ -126,8 +117,13 @@ places_refused h (BDiscardIf block count) why is = cc is
 places_refused h (BExists block) why is = cc is
 places_refused h (BScar ranges) why is = cc is
 places_refused h (VLoad offset len) why is = (refl, ap (option_map Refused) is)
-places_refused h (VStore offset bytes) why is = (refl, ap (option_map Refused) is)
-places_refused h (VSync offset len) why is = (refl, ap (option_map Refused) is)
+places_refused h (VStore offset bytes) why is = cc is
+places_refused h (VSync offset len) why is = cc is
+places_refused h VRanges why is = cc is
+places_refused h (VPSync address len) why is = cc is
+places_refused h (VDiscard page count) why is = cc is
+places_refused h (VDiscardIf page count) why is = cc is
+places_refused h (VExists page) why is = cc is
 places_refused h Cut why is = cc is
 places_refused h (CutIn calls) why is = (refl, ap (option_map Refused) is)
 places_refused h (Restart choice) why is = cc is
@@ -184,9 +180,28 @@ fate_read h block count on some within few =
     let r = (meaning (BRead block count)).reasons h in
     let comes : Fate = Works (Bytes (look_blocks h.blocks block count)) h in
     ap (λ mode. unless_refused h (first_reason (mode_refusal mode Usable) h.bad_meta r) comes) on
-    ∙ ap (λ o. unless_refused h (first_reason None h.bad_meta (record r { places = option_map Refused o })) comes) (read_right h.geometry.blocks block count some within few)
+    ∙ ap (λ o. unless_refused h (first_reason None h.bad_meta (record r { places = option_map Refused o })) comes) (read_right 128 h.geometry.blocks block count some within few)
     ∙ ap (λ o. unless_refused h o comes) (mapped_twice (first_obstacle h.blocks block count))
   where
     mapped_twice : (o : Option Obstacle) → option_map (λ obstacle. refusal_answer (Unreadable obstacle)) o ≡ option_map refusal_answer (option_map Unreadable o)
     mapped_twice None = refl
     mapped_twice (Some obstacle) = refl
+
+-- What comes of a command whose places a part of storage looks at, with the power on and no line of metadata bad: the reasons of
+-- its row, places first.
+pub fate_worked : (h : Machine) (action : Action) → (meaning action).needs ≡ Usable → h.mode ≡ On → h.bad_meta ≡ [] → ((meaning action).reasons h).named ≡ None
+    → ((meaning action).reasons h).full ≡ None
+    → fate h action ≡ unless_refused h (first_there ((meaning action).reasons h).places ((meaning action).reasons h).unreadable) ((meaning action).comes h)
+unfolding refusal
+fate_worked h action needs on good named full =
+    let r = (meaning action).reasons h in
+    let comes = (meaning action).comes h in
+    ap (λ m. unless_refused h (first_reason m h.bad_meta r) comes) (ap (mode_refusal h.mode) needs ∙ ap (λ mode. mode_refusal mode Usable) on)
+    ∙ ap (λ bad. unless_refused h (first_reason None bad r) comes) good
+    ∙ ap (λ o. unless_refused h (first_there o (first_there r.places (first_there r.full (first_there (metadata_refusal r.changes_metadata []) r.unreadable)))) comes) named
+    ∙ ap (λ o. unless_refused h (first_there r.places (first_there o (first_there (metadata_refusal r.changes_metadata []) r.unreadable))) comes) full
+    ∙ ap (λ o. unless_refused h (first_there r.places (first_there o r.unreadable)) comes) (no_bad_line r.changes_metadata)
+  where
+    no_bad_line : (changes : Bool) → metadata_refusal changes [] ≡ None
+    no_bad_line true = refl
+    no_bad_line false = refl

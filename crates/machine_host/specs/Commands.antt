@@ -1,13 +1,14 @@
 -- The table of commands: a row each, and what follows from the rows.
-use Rattle.std.specs.Prelude.{◌≡◌, ℕ, List, Option, Some, None}
+use Rattle.std.specs.Prelude.{◌≡◌, ◌⊎◌, ℕ, List, Option, Some, None}
 use Rattle.nvm_model.specs.Blocks.{first_there, IsMixed}
 use Rattle.nvm_model.specs.Interrupted.{MayStore, MaySync}
+use Rattle.nvm_model.specs.Numbered.{AreMixed}
 use Rattle.nvm_model.specs.Page.{Page}
 use Rattle.nvm_model.specs.Storage.{Block}
 use Rattle.block_device.specs.Images.{IsEither}
 use Rattle.word_tables.specs.declared.geometry.Geometry.{Geometry}
 use Rattle.script_text.specs.Action.{Action}
-use Rattle.script_text.specs.Action.Action.{BRead, BWrite, BAtomic, BMulti, BDiscard, BDiscardIf, BExists, BScar, VLoad, VStore, VSync, Cut, CutIn, Restart}
+use Rattle.script_text.specs.Action.Action.{BRead, BWrite, BAtomic, BMulti, BDiscard, BDiscardIf, BExists, BScar, VLoad, VStore, VSync, VRanges, VPSync, VDiscard, VDiscardIf, VExists, Cut, CutIn, Restart}
 use Rattle.reply_text.specs.declared.reply.Why.{Why}
 use Rattle.reply_text.specs.Answer.{Answer}
 use Rattle.machine_host.specs.declared.mode.Mode.{Mode}
@@ -16,7 +17,7 @@ use Rattle.machine_host.specs.Machine.{Machine, Fate}
 use Rattle.machine_host.specs.Machine.Fate.{Gives}
 use Rattle.machine_host.specs.Meaning.{BlocksLeft, Meaning, VolumeLeft, first_reason, mode_refusal}
 use Rattle.machine_host.specs.Meaning.BlocksLeft.{Same, Either, Mixed}
-use Rattle.machine_host.specs.Meaning.VolumeLeft.{Kept, PartStored, PartSynced}
+use Rattle.machine_host.specs.Meaning.VolumeLeft.{Kept, PartStored, PartSynced, AllOrNone, PageByPage}
 use Rattle.machine_host.specs.OnBlocks as on_blocks
 use Rattle.machine_host.specs.OnVolume as on_volume
 use Rattle.machine_host.specs.OnPower as on_power
@@ -33,6 +34,11 @@ meaning (BScar ranges) = on_blocks.bscar ranges
 meaning (VLoad offset len) = on_volume.vload offset len
 meaning (VStore offset bytes) = on_volume.vstore offset bytes
 meaning (VSync offset len) = on_volume.vsync offset len
+meaning VRanges = on_volume.vranges
+meaning (VPSync address len) = on_volume.vpsync address len
+meaning (VDiscard page count) = on_volume.vdiscard page count
+meaning (VDiscardIf page count) = on_volume.vdiscardif page count
+meaning (VExists page) = on_volume.vexists page
 meaning Cut = on_power.cut
 meaning (CutIn calls) = on_power.cut_in calls
 meaning (Restart choice) = on_power.restart choice
@@ -65,22 +71,24 @@ spending h action = (meaning action).spends h
 abbrev pub longest : Action → ℕ
 longest action = (meaning action).room
 
--- what an interruption leaves of blocks that would become others, and of the volume
+-- what an interruption leaves of blocks that would become others, and of pages
 abbrev pub LeavesBlocks : BlocksLeft → List Block → List Block → List Block → Type 0
 LeavesBlocks Same old to new = new ≡ old
 LeavesBlocks Either old to new = IsEither old to new
 LeavesBlocks Mixed old to new = IsMixed old to new
 
-abbrev pub LeavesVolume : VolumeLeft → List Page → List Page → Type 0
-LeavesVolume Kept old new = new ≡ old
-LeavesVolume (PartStored offset bytes) old new = MayStore offset bytes old new
-LeavesVolume (PartSynced offset len) old new = MaySync offset len old new
+abbrev pub LeavesVolume : VolumeLeft → List Page → List Page → List Page → Type 0
+LeavesVolume Kept old to new = new ≡ old
+LeavesVolume (PartStored offset bytes) old to new = MayStore offset bytes old new
+LeavesVolume (PartSynced offset len) old to new = MaySync offset len old new
+LeavesVolume AllOrNone old to new = (new ≡ old) ⊎ (new ≡ to)
+LeavesVolume PageByPage old to new = AreMixed Page old to new
 
 -- what the interrupted action may have left, if there is one
 abbrev pub MayLeaveBlocks : Option Action → List Block → List Block → Type 0
 MayLeaveBlocks None old new = new ≡ old
 MayLeaveBlocks (Some action) old new = LeavesBlocks (meaning action).blocks_left old ((meaning action).blocks old) new
 
-abbrev pub MayLeaveVolume : Option Action → List Page → List Page → Type 0
-MayLeaveVolume None old new = new ≡ old
-MayLeaveVolume (Some action) old new = LeavesVolume (meaning action).volume_left old new
+abbrev pub MayLeaveVolume : Geometry → Option Action → List Page → List Page → Type 0
+MayLeaveVolume geo None old new = new ≡ old
+MayLeaveVolume geo (Some action) old new = LeavesVolume ((meaning action).volume_left geo) old ((meaning action).volume geo old) new

@@ -1,7 +1,6 @@
 -- What commands and mounts may spend of a device's calls.
 use Rattle.std.specs.Prelude.{◌+◌, ◌≤◌, ℕ}
 use Rattle.line_device.specs.Panel.{Panel, ArmsNothing, SameOrders}
-use Rattle.nvm_base.specs.Units.{units_of}
 
 -- counted calls and persists
 pub record Spending : Type 0 where
@@ -15,16 +14,13 @@ no_spending = record { calls = 0; persists = 0 }
 abbrev pub spent_with : Spending → Spending → Spending
 spent_with one other = record { calls = one.calls + other.calls; persists = one.persists + other.persists }
 
--- lines that a span touches
-abbrev pub lines_touched : ℕ → ℕ → ℕ
-lines_touched start len = (units_of 64 (record { start = start; len = len })).len
-
--- what a mount makes at most: it reads the superblock, makes log and map of the blocks durable, replays, and reads the map
+-- What a mount makes at most: it reads the superblock, looks into both logs, makes logs and tables durable, replays, and reads
+-- the tables.
 abbrev pub mount_calls : ℕ
-mount_calls = 1304
+mount_calls = 3107
 
 abbrev pub mount_persists : ℕ
-mount_persists = 596
+mount_persists = 952
 
 -- What a mount does to a device's counts: no more counted calls and persists than these, and no order. No count falls.
 pub record Opens (old new : Panel) : Type 0 where

@@ -9,7 +9,7 @@ use Rattle.script_text.specs.Script.{inputs}
 use Rattle.machine_host.specs.Machine.{Machine}
 use Rattle.machine_host.specs.Restarting.{fresh, zero_image}
 use Rattle.machine_host.specs.Run.{Transcript, Run}
-use Rattle.machine_host.specs.Rows.{small, text, leaving, Writes, WritesOn}
+use Rattle.machine_host.specs.Rows.{small, text, leaving, with_page, Writes, WritesOn}
 
 -- ten times as many blocks
 abbrev pub larger : Geometry
@@ -84,4 +84,4 @@ pub record CutRuns : Type 0 where
   pub write_all_or_nothing : (starts : List Start) (shown : List ℕ) → MayWrite with_cut_write starts (cut_write_lines (codes "data " ++ shown))
       → (shown ≡ codes "00*1024") ⊎ (shown ≡ codes "11*1024")
   pub write_never_in_part : (starts : List Start) → ¬ MayWrite with_cut_write starts (cut_write_lines (codes "data 11*512,00*512"))
-  pub store_in_part : MayWrite with_cut_store (leaving Lasts 7 18446744069414584320 ∷ []) (cut_store_lines (codes "data ff*4,00*4"))
+  pub store_in_part : MayWrite with_cut_store (leaving Lasts (with_page 7 18446744069414584320) ∷ []) (cut_store_lines (codes "data ff*4,00*4"))

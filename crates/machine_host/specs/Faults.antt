@@ -9,13 +9,16 @@ use Rattle.script_text.specs.Action.{Action}
 use Rattle.reply_text.specs.Answer.{Answer}
 use Rattle.reply_text.specs.Answer.Answer.{DeviceFailed, PowerLost}
 use Rattle.block_device.specs.declared.fault.BlockFault.{BlockFault}
-use Rattle.block_device.specs.Refusals.{Refusal, block_says}
+use Rattle.block_device.specs.Refusals.{block_says}
 use Rattle.line_words.specs.Told.{Told}
 use Rattle.line_words.specs.Told.Told.{Refuses, Stops, Starves}
 use Rattle.recovery.specs.declared.fault.MountFault.{MountFault}
 use Rattle.recovery.specs.declared.fault.MountFault.TheVariants as mount
 use Rattle.machine_host.specs.Machine.{Machine}
 use Rattle.machine_host.specs.OnBlocks.{refusal_answer}
+use Rattle.machine_host.specs.OnVolume.{volume_answer}
+use Rattle.pm_volume.specs.declared.fault.VolumeFault.{VolumeFault}
+use Rattle.pm_volume.specs.Refusals.{volume_says}
 use Rattle.machine_host.specs.Commands.{meaning}
 use Rattle.machine_host.specs.Interrupted.{interrupted_answer, interrupted_mode}
 use Rattle.machine_host.specs.Restarting.{RestartMayLeave, restarted}
@@ -45,32 +48,38 @@ LeavesStarved (Some choice) host after old new = (after ≡ host) × ((new ≡ o
 abbrev pub Leaves : Action → HostState → HostState → Device → Device → Type 0
 Leaves action = LeavesStarved (meaning action).remounts
 
--- the mode after a call whose fault told this, and what it is answered; no call on the blocks wants memory
-abbrev pub told_mode : Mode → Told Refusal → Mode
+-- the mode after a call whose fault told this, and what it is answered; no call on blocks or volume wants memory
+abbrev pub told_mode : {R : Type 0} → Mode → Told R → Mode
 told_mode mode (Refuses why) = mode
 told_mode mode (Stops by) = interrupted_mode by
 told_mode mode Starves = mode
 
-abbrev pub told_answer : Told Refusal → Answer
-told_answer (Refuses why) = refusal_answer why
-told_answer (Stops by) = interrupted_answer by
-told_answer Starves = DeviceFailed
+abbrev pub told_answer : {R : Type 0} → (R → Answer) → Told R → Answer
+told_answer answer (Refuses why) = answer why
+told_answer answer (Stops by) = interrupted_answer by
+told_answer answer Starves = DeviceFailed
 
--- the same of a fault of the blocks
+-- the same of a fault of the blocks, and of the volume
 abbrev pub fault_mode : Mode → BlockFault → Mode
 fault_mode mode fault = told_mode mode (block_says fault)
 
 abbrev pub fault_answer : BlockFault → Answer
-fault_answer fault = told_answer (block_says fault)
+fault_answer fault = told_answer refusal_answer (block_says fault)
 
--- the mode after a call on the blocks, and what it is answered where it gives this at Ok
-abbrev pub mode_after : {T : Type 0} → Result T BlockFault → Mode
-mode_after (Ok x) = modes.On
-mode_after (Err f) = fault_mode modes.On f
+abbrev pub volume_fault_mode : Mode → VolumeFault → Mode
+volume_fault_mode mode fault = told_mode mode (volume_says fault)
 
-abbrev pub answer_after : {T : Type 0} → Answer → Result T BlockFault → Answer
-answer_after good (Ok x) = good
-answer_after good (Err f) = fault_answer f
+abbrev pub volume_fault_answer : VolumeFault → Answer
+volume_fault_answer fault = told_answer volume_answer (volume_says fault)
+
+-- the mode after a call whose faults say this, and what it is answered where it gives that at Ok
+abbrev pub mode_after : {T E R : Type 0} → (E → Told R) → Result T E → Mode
+mode_after says (Ok x) = modes.On
+mode_after says (Err f) = told_mode modes.On (says f)
+
+abbrev pub answer_after : {T E R : Type 0} → (E → Told R) → (R → Answer) → Answer → Result T E → Answer
+answer_after says answer good (Ok x) = good
+answer_after says answer good (Err f) = told_answer answer (says f)
 
 -- what a restart is answered after a mount that was not done, and the mode
 abbrev pub unmounted_answer : MountFault → Answer

@@ -1,4 +1,4 @@
-pub mod Volume
+pub mod Lines
 pub mod Costs
 pub mod Machine
 pub mod Meaning
@@ -17,3 +17,4 @@ pub mod Responding
 pub mod Rows
 pub mod BlockRows
 pub mod CutRows
+pub mod VolumeRows

@@ -38,11 +38,13 @@ pub data BlocksLeft : Type 0 where
   Either : BlocksLeft
   Mixed : BlocksLeft
 
--- and of the volume: all as it was, or a part of what is stored there or made durable
+-- and of the volume: all as it was, a part of what is stored there or made durable, all pages old or all new, or each of them
 pub data VolumeLeft : Type 0 where
   Kept : VolumeLeft
   PartStored : ℕ → List ℕ → VolumeLeft
   PartSynced : ℕ → ℕ → VolumeLeft
+  AllOrNone : VolumeLeft
+  PageByPage : VolumeLeft
 
 -- A command: the mode that it needs, the places that the host looks at before anything else does, all that refuses it, what
 -- comes of it where nothing does, what it makes of blocks and volume, what an interruption may leave of them, whether it mounts
@@ -53,9 +55,9 @@ pub record Meaning : Type 0 where
   pub reasons : Machine → Reasons
   pub comes : Machine → Fate
   pub blocks : List Block → List Block
-  pub volume : List Page → List Page
+  pub volume : Geometry → List Page → List Page
   pub blocks_left : BlocksLeft
-  pub volume_left : VolumeLeft
+  pub volume_left : Geometry → VolumeLeft
   pub remounts : Option Choice
   pub spends : Machine → Spending
   pub room : ℕ
@@ -72,9 +74,9 @@ quiet needs checked comes = record {
   reasons = placed checked;
   comes = comes;
   blocks = λ blocks. blocks;
-  volume = λ pages. pages;
+  volume = λ geo pages. pages;
   blocks_left = Same;
-  volume_left = Kept;
+  volume_left = λ geo. Kept;
   remounts = None;
   spends = λ h. no_spending;
   room = 64;
@@ -112,3 +114,7 @@ first_reason mode bad_meta r =
 abbrev pub span_refusal : ℕ → ℕ → ℕ → Option Why
 span_refusal size offset len =
     if nat_lt size (offset + len) then Some because.Range else (if len == 0 then Some because.Length else None)
+
+-- the same of what a read asks for, where no more than that is read at once
+abbrev pub most_refusal : ℕ → ℕ → ℕ → ℕ → Option Why
+most_refusal most size start len = first_there (span_refusal size start len) (if nat_lt most len then Some because.Limit else None)

@@ -13,7 +13,7 @@ use Rattle.reply_text.specs.declared.reply.Why.TheVariants as because
 use Rattle.reply_text.specs.Answer.{Answer}
 use Rattle.reply_text.specs.Answer.Answer.{Done, Bytes, Yes, No, Scarred, PoisonBlock, Refused, RefusedMeta}
 use Rattle.machine_host.specs.Machine.Fate.{Gives, Works}
-use Rattle.machine_host.specs.Meaning.{BlocksLeft, Meaning, anywhere, no_reasons, placed, quiet, span_refusal}
+use Rattle.machine_host.specs.Meaning.{BlocksLeft, Meaning, anywhere, most_refusal, no_reasons, placed, quiet}
 use Rattle.machine_host.specs.Meaning.BlocksLeft.{Either, Mixed}
 use Rattle.machine_host.specs.Meaning.Needs.{Usable}
 
@@ -30,10 +30,6 @@ refusal_answer (Unreadable (bad_line block line)) = PoisonBlock block line
 -- a span of blocks
 abbrev pub blocks_from : ℕ → ℕ → List Span
 blocks_from block count = record { start = block; len = count } ∷ []
-
--- so many blocks that a read asks for: past the last one, none, or more than are read at once
-abbrev pub count_refusal : ℕ → ℕ → ℕ → Option Why
-count_refusal blocks block count = first_there (span_refusal blocks block count) (if nat_lt 128 count then Some because.Limit else None)
 
 -- a change of the blocks, refused for these places by their number
 abbrev pub changing_blocks : (ℕ → Option Refusal) → (List Block → List Block) → BlocksLeft → ℕ → ℕ → Meaning
@@ -72,7 +68,7 @@ bdiscardif block count = changing_blocks (λ blocks. spans_refusal blocks (block
 -- each line of the blocks is loaded
 abbrev pub bread : ℕ → ℕ → Meaning
 bread block count =
-    let past : Geometry → Option Why = λ geo. count_refusal geo.blocks block count in
+    let past : Geometry → Option Why = λ geo. most_refusal 128 geo.blocks block count in
     record (quiet Usable past (λ h. Works (Bytes (look_blocks h.blocks block count)) h)) {
       reasons = λ h. record (placed past h) {
         unreadable = option_map (λ obstacle. refusal_answer (Unreadable obstacle)) (first_obstacle h.blocks block count);

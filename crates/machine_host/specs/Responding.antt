@@ -2,7 +2,7 @@
 use Rattle.std.specs.Prelude.{◌≤◌, Result, Ok, Err}
 use Rattle.line_device.specs.Device.{Device}
 use Rattle.script_text.specs.Action.{Action}
-use Rattle.reply_text.specs.Answer.{Answer, answer_of}
+use Rattle.reply_text.specs.Answer.{Answer, IsPrintable, answer_of}
 use Rattle.reply_text.specs.declared.reply.Reply.{Reply}
 use Rattle.reply_text.specs.Room.{most_of}
 use Rattle.machine_host.specs.Machine.{Machine}
@@ -10,10 +10,11 @@ use Rattle.machine_host.specs.Commands.{fate, longest}
 use Rattle.machine_host.specs.Stands.{HostState, HostServes, Stands, Comes}
 use Rattle.machine_host.specs.Faults.{Leaves}
 
--- A command was answered so: the machine comes to it in whichever state host and device stood for, its line has room, and the
--- host may go on.
+-- A command was answered so: the machine comes to it in whichever state host and device stood for, its line can be printed and
+-- has room, and the host may go on.
 pub record Answered (action : Action) (answer : Answer) (before after : HostState) (old new : Device) : Type 0 where
   pub step : (h : Machine) → Stands before old h → Comes h action (fate h action) answer after old new
+  pub printable : IsPrintable answer
   pub room : most_of answer ≤ longest action
   pub serves : HostServes after new
 

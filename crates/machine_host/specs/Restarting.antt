@@ -1,16 +1,16 @@
 -- What a restart may leave, and the state that the machine reads there.
-use Rattle.std.specs.Prelude.{◌+◌, ℕ, false, List, [], None}
+use Rattle.std.specs.Prelude.{◌≡◌, ◌+◌, ℕ, false, List, [], None}
 use Rattle.line_device.specs.Panel.{Image}
 use Rattle.line_device.specs.declared.line.Choice.{Choice}
 use Rattle.word_tables.specs.declared.geometry.Geometry.{Geometry}
-use Rattle.word_tables.specs.Layout.{total_lines}
-use Rattle.nvm_model.specs.Page.{Page, read_pages, bad_lines, KeepsPages}
+use Rattle.word_tables.specs.Layout.{total_lines, volume_line}
+use Rattle.pm_volume.specs.Presence.{presence_read}
+use Rattle.nvm_model.specs.Page.{Page, presence_of, read_pages, bad_lines, KeepsPages}
 use Rattle.nvm_model.specs.Blocks.{bad_block_lines}
 use Rattle.block_device.specs.Reading.{blocks_read}
 use Rattle.reply_text.specs.Answer.{Answer}
 use Rattle.reply_text.specs.Answer.Answer.{DoneBad}
 use Rattle.machine_host.specs.declared.mode.Mode.TheVariants as modes
-use Rattle.machine_host.specs.Volume.{volume_image}
 use Rattle.machine_host.specs.Machine.{Machine}
 use Rattle.machine_host.specs.Commands.{MayLeaveBlocks, MayLeaveVolume}
 
@@ -19,7 +19,7 @@ unfoldable pub reading : Geometry → Image → Machine
 reading geometry image = record {
   geometry = geometry;
   blocks = blocks_read geometry image.is_bad image.word;
-  volume = read_pages (volume_image geometry image) geometry.vpages;
+  volume = read_pages (volume_line geometry) image (presence_read geometry image.word);
   files = [];
   mappings = [];
   next_handle = 0;
@@ -38,15 +38,16 @@ restarted h image = record (reading h.geometry image) { cut_armed = h.cut_armed;
 -- what a restart answers: how many lines of storage are bad
 abbrev pub restart_answer : Machine → Image → Answer
 restart_answer h image =
-    DoneBad (bad_block_lines (blocks_read h.geometry image.is_bad image.word) + bad_lines (read_pages (volume_image h.geometry image) h.geometry.vpages))
+    DoneBad (bad_block_lines (blocks_read h.geometry image.is_bad image.word) + bad_lines (read_pages (volume_line h.geometry) image (presence_read h.geometry image.word)))
 
--- What a restart may leave of a state: blocks and volume as an interrupted action may have left them, and of each word of the
--- volume one of its values.
+-- What a restart may leave of a state: blocks and volume as an interrupted action may have left them, the same pages there, and
+-- of each word of them one of its values.
 pub record RestartMayLeave (choice : Choice) (image : Image) (h : Machine) : Type 0 where
   pub blocks : MayLeaveBlocks h.interrupted h.blocks (blocks_read h.geometry image.is_bad image.word)
   pub left : List Page
-  pub may : MayLeaveVolume h.interrupted h.volume left
-  pub volume : KeepsPages choice (volume_image h.geometry image) left
+  pub may : MayLeaveVolume h.geometry h.interrupted h.volume left
+  pub there : presence_of left ≡ presence_read h.geometry image.word
+  pub volume : KeepsPages choice (volume_line h.geometry) image left
 
 -- a medium of zeros
 abbrev pub zero_image : ℕ → Image

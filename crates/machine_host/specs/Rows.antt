@@ -1,8 +1,9 @@
 -- Worked scripts: what the machine writes, from the script's bytes and what each restart left.
-use Rattle.std.specs.Prelude.{◌≡◌, ◌+◌, ◌==◌, ℕ, List, [], ◌∷◌, ◌++◌, codes, if◌then◌else◌}
+use Rattle.std.specs.Prelude.{◌≡◌, ◌+◌, ℕ, List, [], ◌∷◌, ◌++◌, codes}
 use Rattle.line_device.specs.Panel.{Start}
 use Rattle.line_device.specs.declared.line.Choice.{Choice}
 use Rattle.line_device.specs.declared.line.Choice.TheVariants.{Firsts, Lasts}
+use Rattle.word_log.specs.Changes.{changed}
 use Rattle.word_tables.specs.declared.geometry.Geometry.{Geometry}
 use Rattle.reply_text.specs.Answer.{reply_text}
 use Rattle.script_text.specs.Script.{inputs}
@@ -13,10 +14,13 @@ use Rattle.machine_host.specs.Performing.{perform}
 abbrev pub small : Geometry
 small = record { blocks = 8; vpages = 2; fpages = 32 }
 
--- a restart that left zeros but for one word of the volume, which begins at line 2304 of 5056
-abbrev pub leaving : Choice → ℕ → ℕ → Start
-leaving choice word value =
-    record { choice = choice; image = record (zero_image 5056) { word = λ p. if p == 18432 + word then value else 0 } }
+-- a restart that left zeros but for these words
+abbrev pub leaving : Choice → List (ℕ × ℕ) → Start
+leaving choice words = record { choice = choice; image = record (zero_image 5056) { word = changed words (λ _. 0) } }
+
+-- the volume's first page is there, and has this word: presence words begin at line 84 of 5056, the page at line 2304
+abbrev pub with_page : ℕ → ℕ → List (ℕ × ℕ)
+with_page word value = (672, 1) ∷ (18432 + word, value) ∷ []
 
 -- lines, each ended by a newline
 abbrev pub text : List (List ℕ) → List ℕ
@@ -32,13 +36,13 @@ Writes = WritesOn small
 
 pub record Rows : Type 0 where
   pub unsynced_store_lost : Writes (text (codes "vstore 0 07*8" ∷ codes "cut" ∷ codes "restart none" ∷ codes "vload 0 8" ∷ []))
-      (leaving Firsts 0 0 ∷ []) (codes "ok" ∷ codes "ok" ∷ codes "ok bad 0" ∷ codes "data 00*8" ∷ [])
+      (leaving Firsts (with_page 0 0) ∷ []) (codes "ok" ∷ codes "ok" ∷ codes "ok bad 0" ∷ codes "data 00*8" ∷ [])
   pub synced_store_kept : Writes
       (text (codes "vstore 0 07*8" ∷ codes "vsync 0 1" ∷ codes "cut" ∷ codes "restart none" ∷ codes "vload 0 8" ∷ []))
-      (leaving Firsts 0 506381209866536711 ∷ [])
+      (leaving Firsts (with_page 0 506381209866536711) ∷ [])
       (codes "ok" ∷ codes "ok" ∷ codes "ok" ∷ codes "ok bad 0" ∷ codes "data 07*8" ∷ [])
   pub last_values_kept : Writes (text (codes "vstore 0 07*8" ∷ codes "cut" ∷ codes "restart all" ∷ codes "vload 0 8" ∷ []))
-      (leaving Lasts 0 506381209866536711 ∷ []) (codes "ok" ∷ codes "ok" ∷ codes "ok bad 0" ∷ codes "data 07*8" ∷ [])
+      (leaving Lasts (with_page 0 506381209866536711) ∷ []) (codes "ok" ∷ codes "ok" ∷ codes "ok bad 0" ∷ codes "data 07*8" ∷ [])
   pub refusals_in_order : Writes
       (text (codes "vload 8184 8" ∷ codes "vload 8188 8" ∷ codes "vload 0 0" ∷ codes "restart all" ∷ codes "cut" ∷ codes "vload 0 1"
       ∷ codes "fread a 0 1" ∷ []))
@@ -55,12 +59,12 @@ pub record Rows : Type 0 where
       [] (codes "ok" ∷ codes "data 01,02,ff*3,ab,00" ∷ codes "refused syntax" ∷ codes "refused syntax" ∷ [])
   pub nothing_while_off : Writes
       (text (codes "cut" ∷ codes "vsync 0 1" ∷ codes "cut" ∷ codes "vload 9000 0" ∷ codes "restart all" ∷ codes "restart none" ∷ []))
-      (leaving Lasts 0 0 ∷ [])
+      (leaving Lasts [] ∷ [])
       (codes "ok" ∷ codes "refused off" ∷ codes "refused off" ∷ codes "refused off" ∷ codes "ok bad 0" ∷ codes "refused on" ∷ [])
   pub two_restarts : Writes
       (text (codes "vstore 0 05" ∷ codes "cut" ∷ codes "restart all" ∷ codes "vstore 0 06" ∷ codes "cut" ∷ codes "restart none"
       ∷ codes "vload 0 2" ∷ []))
-      (leaving Lasts 0 5 ∷ leaving Firsts 0 5 ∷ [])
+      (leaving Lasts (with_page 0 5) ∷ leaving Firsts (with_page 0 5) ∷ [])
       (codes "ok" ∷ codes "ok" ∷ codes "ok bad 0" ∷ codes "ok" ∷ codes "ok" ∷ codes "ok bad 0" ∷ codes "data 05,00" ∷ [])
   pub across_lines_and_pages : Writes
       (text (codes "vstore 60 aa*8" ∷ codes "vload 58 12" ∷ codes "vstore 4092 11*8" ∷ codes "vload 4091 10" ∷ codes "vsync 4095 2" ∷ []))

@@ -1,12 +1,11 @@
 -- When a host and its device stand for a state of the machine, and what one step is.
-use Rattle.std.specs.Prelude.{◌≡◌, ◌/◌, ◌<◌, ◌++◌, ℕ, Bool, true, false, IsTrue, List, [], ◌∷◌, filter, length, Option, None}
+use Rattle.std.specs.Prelude.{◌≡◌, ◌/◌, ◌<◌, ◌++◌, ℕ, Bool, true, false, IsTrue, List, [], ◌∷◌, filter, None}
 use Rattle.std.specs.List.{range_with_len}
 use Rattle.line_device.specs.Medium.{Medium, last_image}
 use Rattle.line_device.specs.Device.{Device}
 use Rattle.line_words.specs.Words.{IsOnly}
 use Rattle.word_tables.specs.declared.geometry.Geometry.{Geometry}
 use Rattle.word_tables.specs.Layout.{meta_lines, total_lines}
-use Rattle.nvm_model.specs.Page.{Page, PagesStand}
 use Rattle.block_device.specs.Object.{BlocksState, BlocksServe, HasStrongMetadata, blocks_of}
 use Rattle.block_device.specs.Images.{EachReads}
 use Rattle.recovery.specs.Fresh.{HasSuperblock}
@@ -18,13 +17,16 @@ use Rattle.machine_host.specs.Machine.{Machine, Fate}
 use Rattle.machine_host.specs.Commands.{MayLeaveBlocks, MayLeaveVolume, fate}
 use Rattle.machine_host.specs.Run.{Transcript, Takes}
 use Rattle.machine_host.specs.Telling.{Tells}
-use Rattle.machine_host.specs.Volume.{volume_of, HasLayout}
+use Rattle.machine_host.specs.Lines.{HasLayout}
+use Rattle.pm_volume.specs.Images.{EachReadsPages}
+use Rattle.pm_volume.specs.Object.{VolumeState, VolumeHolds, VolumeServes}
 
--- what callers see of a host: the sizes of its medium, its mode, and the blocks that it mounted last
+-- what callers see of a host: the sizes of its medium, its mode, and the blocks and the volume that it mounted last
 pub record HostState : Type 0 where
   pub geometry : Geometry
   pub mode : Mode
   pub blocks : BlocksState
+  pub volume : VolumeState
 
 -- whether the power is on in a mode
 abbrev pub is_powered : Mode → Bool
@@ -32,18 +34,21 @@ is_powered modes.On = true
 is_powered modes.Off = false
 is_powered modes.Unsettled = true
 
--- the mounted blocks are those of the device, ready for the next call
-pub record AreMounted (geo : Geometry) (s : BlocksState) (m : Medium) : Type 0 where
-  pub geometry : s.geo ≡ geo
-  pub settled : IsTrue s.settled
-  pub serves : BlocksServe s m
+-- the mounted blocks and the volume are those of the device, ready for the next call
+pub record AreMounted (geo : Geometry) (b : BlocksState) (v : VolumeState) (m : Medium) : Type 0 where
+  pub geometry : b.geo ≡ geo
+  pub settled : IsTrue b.settled
+  pub serves : BlocksServe b m
+  pub volume_geometry : v.geo ≡ geo
+  pub volume_settled : IsTrue v.settled
+  pub volume_serves : VolumeServes v m
 
 -- The host may command the device: it has the lines of the host's sizes, its power is off exactly in mode Off, and in mode On
--- the blocks are mounted.
+-- blocks and volume are mounted.
 pub record HostServes (host : HostState) (d : Device) : Type 0 where
   pub layout : HasLayout host.geometry d.medium
   pub power : d.panel.power ≡ is_powered host.mode
-  pub mounted : host.mode ≡ modes.On → AreMounted host.geometry host.blocks d.medium
+  pub mounted : host.mode ≡ modes.On → AreMounted host.geometry host.blocks host.volume d.medium
 
 -- each word of the device has one value, as where the power just came back
 abbrev pub IsFlushed : Medium → Type 0
@@ -57,29 +62,23 @@ pub record MetadataStands (geo : Geometry) (m : Medium) (bad_meta : List ℕ) : 
   pub strong : HasStrongMetadata geo m
   pub superblock : HasSuperblock geo m
 
--- the volume's lines stand for pages that an interrupted action may have left of these
-pub record VolumeStands (geo : Geometry) (m : Medium) (interrupted : Option Action) (volume : List Page) : Type 0 where
-  pub pages : List Page
-  pub may : MayLeaveVolume interrupted volume pages
-  pub length : length pages ≡ geo.vpages
-  pub stand : PagesStand (volume_of geo m) geo.vpages pages
-
--- The device stands for the state: its metadata, its blocks in each image, each line of the volume for its cell, and what is
--- armed. Where an action was interrupted, blocks and volume are as it may have left them. What is not built yet is not there.
+-- The device stands for the state: its metadata, its blocks and pages in each image, and what is armed. Where an action was
+-- interrupted, blocks and volume are as it may have left them. What is not built yet is not there.
 pub record DeviceStands (d : Device) (h : Machine) : Type 0 where
   pub metadata : MetadataStands h.geometry d.medium h.bad_meta
   pub blocks : EachReads h.geometry d.medium (MayLeaveBlocks h.interrupted h.blocks)
-  pub volume : VolumeStands h.geometry d.medium h.interrupted h.volume
+  pub volume : EachReadsPages h.geometry d.medium (MayLeaveVolume h.geometry h.interrupted h.volume)
   pub power : d.panel.power ≡ is_powered h.mode
   pub cut_armed : d.panel.cut_armed ≡ h.cut_armed
   pub fail_armed : d.panel.fail_armed ≡ h.fail_armed
   pub whole : h.mode ≡ modes.On → h.interrupted ≡ None
 
--- and the host is in its mode, and sees its blocks
+-- and the host is in its mode, and sees its blocks and pages
 pub record Stands (host : HostState) (d : Device) (h : Machine) : Type 0 where
   pub geometry : host.geometry ≡ h.geometry
   pub mode : host.mode ≡ h.mode
   pub blocks : host.mode ≡ modes.On → blocks_of host.blocks d.medium ≡ h.blocks
+  pub volume : host.mode ≡ modes.On → VolumeHolds host.volume d.medium h.volume
   pub device : DeviceStands d h
 
 -- The command came to this in h: the device tells what was said, and stands for the state after.

@@ -5,12 +5,14 @@ mod power;
 mod refusals;
 #[cfg(test)]
 mod tests;
+mod volume;
 
 use crate::Mode;
 use block_device::Blocks;
 use commands::longest_reply;
 use line_device::LineDevice;
 use nvm_base::Bytes;
+use pm_volume::Volume;
 use recovery::MountFault;
 use reply_text::{Reply, print};
 use script_text::Command;
@@ -25,6 +27,7 @@ pub struct Host {
     geometry: Geometry,
     mode: Mode,
     blocks: Blocks,
+    volume: Volume,
 }
 
 impl Model for Host {
@@ -32,7 +35,7 @@ impl Model for Host {
 
     ghost Value = { HostState };
 
-    ghost view = { λ h. record { geometry = h.geometry; mode = h.mode; blocks = h.blocks } };
+    ghost view = { λ h. record { geometry = h.geometry; mode = h.mode; blocks = h.blocks; volume = h.volume } };
 }
 
 impl Host {
@@ -44,16 +47,17 @@ impl Host {
     ghost use Rattle.line_device.specs.Panel.{Runs};
     ghost use Rattle.line_words.specs.Words.{WritesBackOutside};
     ghost use Rattle.word_tables.specs.Layout.{meta_lines};
-    ghost use Rattle.word_log.specs.Area.{IsOf};
-    ghost use Rattle.block_device.specs.Area.{block_area};
+    ghost use Rattle.word_log.specs.Rest.{EachImage, IsReached};
+    ghost use Rattle.pm_volume.specs.Area.{volume_area};
+    ghost use Rattle.pm_volume.specs.Presence.{presence_read};
     ghost use Rattle.block_device.specs.Reading.{blocks_read};
     ghost use Rattle.block_device.specs.Object.{blocks_of};
     ghost use Rattle.block_device.specs.Images.{KeepsReads};
     ghost use Rattle.recovery.specs.Findings.{geometry_told, early_finding, first_finding};
-    ghost use Rattle.recovery.specs.Mounting.{Finds, mount_outcome};
+    ghost use Rattle.recovery.specs.Mounting.{Finds, IsOfLogs, mount_outcome};
     ghost use Rattle.machine_host.specs.Machine.{Machine};
     ghost use Rattle.machine_host.specs.Stands.{HostServes, IsFlushed, MetadataStands, Stands, Steps};
-    ghost use Rattle.machine_host.specs.Volume.{HasGoodData};
+    ghost use Rattle.machine_host.specs.Lines.{HasGoodData};
     ghost use Rattle.machine_host.specs.Costs.{mount_calls, mount_persists};
     ghost use Rattle.machine_host.specs.Faults.{Leaves};
 
@@ -65,12 +69,15 @@ impl Host {
         ensures ok { IfOk result (λ host. (host.geometry ≡ geometry_told (D.state device.old).medium) × (host.mode ≡ modes.On)
             × (blocks_of host.blocks (D.state device.new).medium
             ≡ blocks_read (geometry_told (D.state device.old).medium) (D.state device.old).medium.is_bad
-            (last_image (D.state device.old).medium))) }
+            (last_image (D.state device.old).medium))
+            × (host.volume.present ≡ presence_read (geometry_told (D.state device.old).medium) (last_image (D.state device.old).medium))) }
         ensures finds { Finds (first_finding (D.state device.old).medium) result }
-        ensures lines { WritesBackOutside (IsOf (block_area (geometry_told (D.state device.old).medium)))
+        ensures lines { WritesBackOutside (IsOfLogs (geometry_told (D.state device.old).medium))
             (D.state device.old).medium (D.state device.new).medium }
         ensures reads { early_finding (D.state device.old).medium ≡ None
             → KeepsReads (geometry_told (D.state device.old).medium) (D.state device.old).medium (D.state device.new).medium }
+        ensures presence { EachImage (volume_area (geometry_told (D.state device.old).medium)) (D.state device.new).medium
+            (IsReached (volume_area (geometry_told (D.state device.old).medium)) (D.state device.old).medium) }
         ensures metadata { IfOk result (λ host. MetadataStands host.geometry (D.state device.new).medium []) }
         ensures serves { HasGoodData (geometry_told (D.state device.old).medium) (D.state device.old).medium
             → IfOk result (λ host. HostServes host (D.state device.new)) }
@@ -82,6 +89,7 @@ impl Host {
             geometry: mounted.geo,
             mode: Mode::On,
             blocks: mounted.blocks,
+            volume: mounted.volume,
         })
     }
 

@@ -4,7 +4,6 @@
 mod host;
 mod mode;
 mod rows;
-mod volume;
 
 pub use host::Host;
 pub use mode::Mode;

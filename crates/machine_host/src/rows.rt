@@ -1,15 +1,18 @@
 ghost use Rattle.machine_host.specs.Rows.{Rows};
 ghost use Rattle.machine_host.specs.BlockRows.{BlockRows};
 ghost use Rattle.machine_host.specs.CutRows.{CutRows, CutRuns};
+ghost use Rattle.machine_host.specs.VolumeRows.{VolumeRows, VolumeRuns};
 
 /// What the machine writes for the worked scripts.
 pub fn worked_scripts()
     ensures volume { Rows }
     ensures blocks { BlockRows }
+    ensures pages { VolumeRows }
 {}
 
 /// What it writes for those with cuts and with blocks that are written together, and what it may write after a cut.
 pub fn worked_cuts()
     ensures writes { CutRows }
     ensures may_write { CutRuns }
+    ensures pages { VolumeRuns }
 {}

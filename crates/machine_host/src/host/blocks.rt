@@ -5,6 +5,8 @@ ghost use Rattle.machine_host.specs.declared.mode.Mode.TheVariants.{On};
 ghost use Rattle.script_text.specs.Action.Action.{BRead, BWrite, BAtomic, BMulti, BDiscard, BDiscardIf, BExists, BScar};
 ghost use Rattle.reply_text.specs.Answer.{answer_of};
 ghost use Rattle.reply_text.specs.Answer.Answer.{Done};
+ghost use Rattle.block_device.specs.Refusals.{block_says};
+ghost use Rattle.machine_host.specs.OnBlocks.{refusal_answer};
 ghost use Rattle.machine_host.specs.Stands.{HostServes};
 ghost use Rattle.machine_host.specs.Faults.{answer_after, fault_answer, fault_mode, mode_after};
 ghost use Rattle.machine_host.specs.Responding.{Answered, Responds};
@@ -144,8 +146,8 @@ impl Host {
     // What a call that changes blocks is answered, and the mode after it.
     fn answer(&mut self, call: Result<(), BlockFault>) -> Reply
         requires on { self.old.mode ≡ On }
-        ensures state { self.new ≡ record self.old { mode = mode_after call } }
-        ensures answer { answer_of result ≡ answer_after Done call }
+        ensures state { self.new ≡ record self.old { mode = mode_after block_says call } }
+        ensures answer { answer_of result ≡ answer_after block_says refusal_answer Done call }
     {
         match call {
             Ok(()) => Reply::Done,

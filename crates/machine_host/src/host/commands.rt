@@ -1,21 +1,15 @@
 // Each command on the device, once nothing refuses it.
-ghost use Rattle.std.specs.Prelude.{◌≡◌, ◌≤◌, ◌+◌, ◌*◌, None, length};
-ghost use Rattle.machine_host.specs.declared.mode.Mode.TheVariants.{On};
+ghost use Rattle.std.specs.Prelude.{◌≡◌, None};
 ghost use Rattle.script_text.specs.Action.{action_of};
-ghost use Rattle.script_text.specs.Action.Action.{VLoad, VStore, VSync};
 ghost use Rattle.script_text.specs.Parsing.{InBounds};
-ghost use Rattle.reply_text.specs.Answer.{answer_of};
 ghost use Rattle.machine_host.specs.Commands.{early_refusal, longest};
 ghost use Rattle.machine_host.specs.Stands.{HostServes};
-ghost use Rattle.machine_host.specs.Responding.{Answered, Responds};
+ghost use Rattle.machine_host.specs.Responding.{Responds};
 
 use super::Host;
-use crate::Mode;
-use crate::volume::{load_span, persist_span, store_span};
-use line_device::{Choice, LineDevice};
-use line_words::Interruption;
-use nvm_base::{BLOCK, Bytes, Span};
-use reply_text::{Reply, Why};
+use line_device::LineDevice;
+use nvm_base::BLOCK;
+use reply_text::Reply;
 use script_text::Command;
 use std::alloc::AllocError;
 
@@ -27,12 +21,13 @@ pub fn longest_reply(command: &Command) -> u64
     match command {
         Command::BRead { count, .. } => 64 + 3 * (BLOCK * *count),
         Command::VLoad { len, .. } => 64 + 3 * *len,
+        Command::VRanges => 133,
         _ => 64,
     }
 }
 
 impl Host {
-    #[tactic(auto, using(crate::proofs::RefusalLemmas::is_on, crate::proofs::RefusalLemmas::is_off, crate::proofs::RefusalLemmas::is_powered, crate::proofs::RefusalLemmas::places_right, crate::proofs::RefusalLemmas::span_allowed, crate::proofs::RefusalLemmas::store_within, crate::proofs::RefusalLemmas::read_within, crate::proofs::RefusalLemmas::cut_in_some))]
+    #[tactic(auto, using(crate::proofs::RefusalLemmas::is_on, crate::proofs::RefusalLemmas::is_off, crate::proofs::RefusalLemmas::is_powered, crate::proofs::RefusalLemmas::places_right, crate::proofs::RefusalLemmas::span_allowed, crate::proofs::RefusalLemmas::read_within, crate::proofs::RefusalLemmas::cut_in_some))]
     pub fn perform<D: LineDevice>(
         &mut self,
         device: &mut D,
@@ -57,56 +52,14 @@ impl Host {
             Command::VLoad { offset, len } => self.vload(device, *offset, *len),
             Command::VStore { offset, bytes } => Ok(self.vstore(device, *offset, bytes.as_slice())),
             Command::VSync { offset, len } => Ok(self.vsync(device, *offset, *len)),
+            Command::VRanges => self.vranges(device),
+            Command::VPSync { address, len } => Ok(self.vpsync(device, *address, *len)),
+            Command::VDiscard { page, count } => Ok(self.vdiscard(device, *page, *count)),
+            Command::VDiscardIf { page, count } => Ok(self.vdiscardif(device, *page, *count)),
+            Command::VExists { page } => Ok(self.vexists(device, *page)),
             Command::Cut => Ok(self.cut(device)),
             Command::CutIn { calls } => Ok(self.cut_in(device, *calls)),
             Command::Restart { choice } => self.restart(device, *choice),
-        }
-    }
-
-    fn vload<D: LineDevice>(
-        &mut self,
-        device: &mut D,
-        offset: u64,
-        len: u64,
-    ) -> Result<Reply, AllocError>
-        requires serves { HostServes self.old (D.state device.old) }
-        requires on { self.old.mode ≡ On }
-        requires some { 1 ≤ len }
-        requires within { offset + len ≤ 4096 * self.old.geometry.vpages }
-        ensures { Responds (VLoad offset len) result self.old self.new (D.state device.old) (D.state device.new) }
-    {
-        let mut bytes = Bytes::new(self.alloc);
-        bytes.reserve(len)?;
-        let span = Span { start: offset, len };
-        match load_span(device, self.geometry, span, &mut bytes) {
-            Ok(()) => Ok(Reply::Bytes(bytes)),
-            Err(interruption) => Ok(self.interrupt(interruption)),
-        }
-    }
-
-    fn vstore<D: LineDevice>(&mut self, device: &mut D, offset: u64, bytes: &[u8]) -> Reply
-        requires serves { HostServes self.old (D.state device.old) }
-        requires on { self.old.mode ≡ On }
-        requires some { 1 ≤ length bytes.now }
-        requires within { offset + length bytes.now ≤ 4096 * self.old.geometry.vpages }
-        ensures { Answered (VStore offset bytes.now) (answer_of result) self.old self.new (D.state device.old) (D.state device.new) }
-    {
-        match store_span(device, self.geometry, offset, bytes) {
-            Ok(()) => Reply::Done,
-            Err(interruption) => self.interrupt(interruption),
-        }
-    }
-
-    fn vsync<D: LineDevice>(&mut self, device: &mut D, offset: u64, len: u64) -> Reply
-        requires serves { HostServes self.old (D.state device.old) }
-        requires on { self.old.mode ≡ On }
-        requires some { 1 ≤ len }
-        requires within { offset + len ≤ 4096 * self.old.geometry.vpages }
-        ensures { Answered (VSync offset len) (answer_of result) self.old self.new (D.state device.old) (D.state device.new) }
-    {
-        match persist_span(device, self.geometry, Span { start: offset, len }) {
-            Ok(()) => Reply::Done,
-            Err(interruption) => self.interrupt(interruption),
         }
     }
 }

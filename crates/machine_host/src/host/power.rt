@@ -57,7 +57,7 @@ impl Host {
 
     // What a restart is answered where the device is mounted. One of other sizes is not the host's.
     fn mounted(&mut self, mounted: Mounted) -> Reply
-        ensures { ((mounted.geo ≡ self.old.geometry) × (self.new ≡ record self.old { mode = On; blocks = mounted.blocks })
+        ensures { ((mounted.geo ≡ self.old.geometry) × (self.new ≡ record self.old { mode = On; blocks = mounted.blocks; volume = mounted.volume })
             × (answer_of result ≡ DoneBad 0))
             ⊎ ((mounted.geo ≢ self.old.geometry) × (self.new ≡ record self.old { mode = Unsettled }) × (answer_of result ≡ DeviceFailed)) }
     {
@@ -65,6 +65,7 @@ impl Host {
             return self.interrupt(Interruption::Failed);
         }
         self.blocks = mounted.blocks;
+        self.volume = mounted.volume;
         self.mode = Mode::On;
         Reply::DoneBad(0)
     }

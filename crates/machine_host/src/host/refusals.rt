@@ -1,21 +1,20 @@
 // Why a command is not done: the mode decides first, then the places that it names.
-ghost use Rattle.std.specs.Prelude.{◌≡◌, ◌≤◌, ◌<◌, ◌+◌, ◌*◌, ◌^◌, length};
+ghost use Rattle.std.specs.Prelude.{◌≡◌, ◌<◌, ◌+◌, ◌^◌};
 ghost use Rattle.word_tables.specs.Bounds.{IsValid};
 ghost use Rattle.script_text.specs.Action.{action_of};
 ghost use Rattle.script_text.specs.Parsing.{InBounds};
-ghost use Rattle.machine_host.specs.Meaning.{mode_refusal, span_refusal};
-ghost use Rattle.machine_host.specs.OnBlocks.{count_refusal};
+ghost use Rattle.machine_host.specs.Meaning.{mode_refusal, most_refusal, span_refusal};
 ghost use Rattle.machine_host.specs.Commands.{early_refusal, meaning};
 
 use super::Host;
 use crate::Mode;
-use nvm_base::PAGE;
+use nvm_base::{MOST, PAGE};
 use reply_text::Why;
 use script_text::Command;
 use word_tables::Geometry;
 
 /// Most blocks that are read at once.
-const MOST_READ: u64 = 128;
+const MOST_BLOCKS: u64 = 128;
 
 #[tactic(auto, unfolding(crate::specs::Commands::early_refusal))]
 impl Host {
@@ -50,28 +49,36 @@ fn place_refusal(geo: Geometry, command: &Command) -> Option<Why>
     ensures { result ≡ (meaning (action_of command.now)).checked geo }
 {
     match command {
-        Command::BRead { block, count } => count_refusal(geo.blocks, *block, *count),
-        Command::VLoad { offset, len } | Command::VSync { offset, len } => span_refusal(
-            PAGE * geo.vpages,
-            *offset,
-            *len,
-        ),
-        Command::VStore { offset, bytes } => {
-            (*offset + bytes.len() > PAGE * geo.vpages).then_some(Why::Range)
-        }
+        Command::BRead { block, count } => most_refusal(geo.blocks, *block, *count, MOST_BLOCKS),
+        Command::VLoad { offset, len } => most_refusal(PAGE * geo.vpages, *offset, *len, MOST),
         Command::CutIn { calls } => (*calls == 0).then_some(Why::Range),
-        _ => None,
+        Command::BWrite { .. }
+        | Command::BAtomic { .. }
+        | Command::BMulti { .. }
+        | Command::BDiscard { .. }
+        | Command::BDiscardIf { .. }
+        | Command::BExists { .. }
+        | Command::BScar { .. }
+        | Command::VStore { .. }
+        | Command::VSync { .. }
+        | Command::VRanges
+        | Command::VPSync { .. }
+        | Command::VDiscard { .. }
+        | Command::VDiscardIf { .. }
+        | Command::VExists { .. }
+        | Command::Cut
+        | Command::Restart { .. } => None,
     }
 }
 
-// What is wrong with so many blocks that a read asks for.
-fn count_refusal(blocks: u64, block: u64, count: u64) -> Option<Why>
-    requires { block + count < 2 ^ 64 }
-    ensures { result ≡ count_refusal blocks block count }
+// What is wrong with so many of something that a read asks for, where at most so many are read at once.
+fn most_refusal(size: u64, start: u64, len: u64, most: u64) -> Option<Why>
+    requires { start + len < 2 ^ 64 }
+    ensures { result ≡ most_refusal most size start len }
 {
-    match span_refusal(blocks, block, count) {
+    match span_refusal(size, start, len) {
         Some(why) => Some(why),
-        None => (count > MOST_READ).then_some(Why::Limit),
+        None => (len > most).then_some(Why::Limit),
     }
 }
 

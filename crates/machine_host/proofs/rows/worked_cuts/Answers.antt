@@ -6,6 +6,7 @@ use Rattle.nvm_base.specs.Numbers.{number_of}
 use Rattle.nvm_base.specs.Data.{data_of, runs_of, data_within, data_text}
 use Rattle.word_tables.specs.Layout.{size, first_line, total_lines, volume_line}
 use Rattle.nvm_model.specs.Page.{read_pages}
+use Rattle.pm_volume.specs.Presence.{words_read}
 use Rattle.nvm_model.specs.Blocks.{write, look_blocks}
 use Rattle.word_log.specs.Replay.{listed}
 use Rattle.block_device.specs.Reading.{states_read, blocks_read}
@@ -17,6 +18,7 @@ use Rattle.machine_host.specs.Rows.{text, WritesOn}
 use Rattle.machine_host.specs.CutRows.{larger}
 use Rattle.machine_host.proofs.CutLemmas.{write_lost, write_kept, cut_that_never_came, store_in_part}
 use Rattle.machine_host.proofs.PartLemmas.{write_all_or_nothing, write_never_in_part}
+use Rattle.machine_host.proofs.PageRunLemmas.{discard_kept, discard_lost, discarded_together, fill_kept, fill_lost, filled_together}
 use Rattle.machine_host.proofs.rows.worked_cuts.Goals as goal
 
 -- the blocks are not looked at
@@ -29,7 +31,7 @@ unfolding digits number_of data_of runs_of answer_line lines_of words_of command
 many_in_ranges = refl
 
 pub returns-clause-writes : goal.returns-clause-writes
-unfolding digits number_of data_of runs_of data_within data_text read_pages answer_line lines_of words_of command_action line_input refusal size first_line total_lines volume_line reading write look_blocks states_read blocks_read listed
+unfolding digits number_of data_of runs_of data_within data_text read_pages answer_line lines_of words_of command_action line_input refusal size first_line total_lines volume_line reading write look_blocks states_read blocks_read listed words_read
 returns-clause-writes c = record {
   ranges_apart_and_whole = refl;
   sixty_four_together = many_together;
@@ -48,4 +50,14 @@ returns-clause-may_write c = record {
   write_all_or_nothing = write_all_or_nothing;
   write_never_in_part = write_never_in_part;
   store_in_part = store_in_part;
+}
+
+pub returns-clause-pages : goal.returns-clause-pages
+returns-clause-pages c = record {
+  fill_lost = fill_lost;
+  fill_kept = fill_kept;
+  filled_together = filled_together;
+  discard_lost = discard_lost;
+  discard_kept = discard_kept;
+  discarded_together = discarded_together;
 }

@@ -5,7 +5,8 @@ use Rattle.line_device.specs.Word.{word_from, byte_over, word_over, reaches}
 use Rattle.nvm_base.specs.Numbers.{number_of}
 use Rattle.nvm_base.specs.Data.{runs_of, data_within, data_text}
 use Rattle.word_tables.specs.Layout.{size, first_line, total_lines, volume_line}
-use Rattle.nvm_model.specs.Page.{fill, put, persist, look, read_pages}
+use Rattle.nvm_model.specs.Page.{fill, put, persist, discard, first_bad_line, first_uncovered_line, look, read_pages}
+use Rattle.pm_volume.specs.Presence.{words_read}
 use Rattle.nvm_model.specs.Blocks.{write, change, look_blocks}
 use Rattle.word_log.specs.Replay.{listed}
 use Rattle.block_device.specs.Reading.{states_read, blocks_read}
@@ -16,7 +17,7 @@ use Rattle.machine_host.specs.Restarting.{reading}
 use Rattle.machine_host.proofs.rows.worked_scripts.Goals as goal
 
 pub returns-clause-volume : goal.returns-clause-volume
-unfolding digits word_from byte_over word_over reaches number_of runs_of data_within data_text fill put persist look read_pages answer_line lines_of words_of command_action line_input refusal size first_line total_lines volume_line reading states_read blocks_read listed
+unfolding digits word_from byte_over word_over reaches number_of runs_of data_within data_text fill put persist discard first_bad_line first_uncovered_line look read_pages words_read answer_line lines_of words_of command_action line_input refusal size first_line total_lines volume_line reading states_read blocks_read listed
 returns-clause-volume c = record {
   unsynced_store_lost = refl;
   synced_store_kept = refl;
@@ -31,7 +32,7 @@ returns-clause-volume c = record {
 }
 
 pub returns-clause-blocks : goal.returns-clause-blocks
-unfolding digits word_from byte_over word_over reaches number_of runs_of data_within data_text fill put persist look read_pages answer_line lines_of words_of command_action line_input refusal size first_line total_lines volume_line reading write change look_blocks states_read blocks_read listed
+unfolding digits word_from byte_over word_over reaches number_of runs_of data_within data_text fill put persist discard first_bad_line first_uncovered_line look read_pages words_read answer_line lines_of words_of command_action line_input refusal size first_line total_lines volume_line reading write change look_blocks states_read blocks_read listed
 returns-clause-blocks c = record {
   read_of_new_blocks = refl;
   discard_of_absent_block = refl;
@@ -43,4 +44,18 @@ returns-clause-blocks c = record {
   whole_blocks_alone = refl;
   limits_of_spans = refl;
   blocks_and_volume_apart = refl;
+}
+
+pub returns-clause-pages : goal.returns-clause-pages
+unfolding digits word_from byte_over word_over reaches number_of runs_of data_within data_text fill put persist discard first_bad_line first_uncovered_line look read_pages words_read answer_line lines_of words_of command_action line_input refusal size first_line total_lines volume_line reading states_read blocks_read listed
+returns-clause-pages c = record {
+  half_synced_by_its_address = refl;
+  store_over_the_end_of_a_range = refl;
+  discarded_page = refl;
+  hint_over_both = refl;
+  sync_of_an_absent_page = refl;
+  refusals_of_pages = refl;
+  refusals_of_addresses = refl;
+  most_that_a_load_asks_for = refl;
+  synced_page_kept = refl;
 }

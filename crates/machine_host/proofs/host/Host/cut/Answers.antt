@@ -1,19 +1,17 @@
 use Rattle.std.proofs.Common.{ap, refl, subst, sym, ◌∙◌, arith}
-use Rattle.line_words.proofs.FrameLemmas.{outside-write_back}
 use Rattle.script_text.specs.Action.Action.{Cut}
 use Rattle.reply_text.specs.Answer.Answer.{Done}
 use Rattle.machine_host.specs.declared.mode.Mode.TheVariants.{Off}
 use Rattle.machine_host.specs.Responding.{Answered}
 use Rattle.machine_host.specs.Stands.{HostState, HostServes}
-use Rattle.machine_host.specs.Volume.{IsVolumePlace}
-use Rattle.machine_host.proofs.ElsewhereLemmas.{serves-volume}
+use Rattle.machine_host.proofs.ElsewhereLemmas.{serves_ordered}
 use Rattle.machine_host.proofs.StepLemmas.{comes_of_cut, comes_placed}
 use Rattle.machine_host.proofs.RefusalLemmas.{power_allows}
 use Rattle.machine_host.proofs.host.Host.cut.Goals as goal
 
 pub returns : goal.returns
 returns g c =
-    let host : HostState = record { geometry = c.self.inside.geometry; mode = c.self.inside.mode; blocks = c.self.inside.blocks } in
+    let host : HostState = record { geometry = c.self.inside.geometry; mode = c.self.inside.mode; blocks = c.self.inside.blocks; volume = c.self.inside.volume } in
     let old = (g.D.Lines.state c.args.device.now) in
     let new = (g.D.Lines.state c.power_off.new.self) in
     let said = c.power_off.ensures in
@@ -21,6 +19,7 @@ returns g c =
     subst (λ k. Answered Cut Done k (record host { mode = Off }) old new) c.self.view_is (record {
       step = λ h stands. comes_placed host _ old new h Cut Done stands (power_allows c.self.inside.mode (λ off. c.requires.powered (sym (ap (λ k. k.mode) c.self.view_is) ∙ off))) refl refl
           (comes_of_cut host old new h stands serves said.lines said.panel);
+      printable = tt;
       room = omega arith;
-      serves = serves-volume host Off old new serves (outside-write_back (IsVolumePlace c.self.inside.geometry) old.medium new.medium said.lines) (ap (λ p. p.power) said.panel) (λ on. cc);
+      serves = serves_ordered host Off old new serves said.lines (ap (λ p. p.power) said.panel) (λ on. cc);
     })

@@ -1,7 +1,7 @@
 use Rattle.std.proofs.Common.{[], sym, subst, ◌∙◌}
 use Rattle.recovery.specs.Mounting.{IsInOrder}
 use Rattle.machine_host.specs.Stands.{MetadataStands}
-use Rattle.machine_host.specs.Volume.{HasGoodData}
+use Rattle.machine_host.specs.Lines.{HasGoodData}
 use Rattle.machine_host.proofs.MountLemmas.{durable_flushed, layout_mounted, metadata_mounted}
 use Rattle.machine_host.proofs.host.Host.mount.Goals as goal
 
@@ -21,5 +21,12 @@ returns-clause-serves g c = λ good.
     record {
       layout = layout_mounted c.in_ok-mounted.mounted.geo _ old new x.order x.outside (subst (λ geo. HasGoodData geo old) (sym x.ok.0) good);
       power = x.runs.cause.0 ∙ c.requires.on;
-      mounted = λ _. record { geometry = x.ok.1 ∙ sym x.ok.0; settled = x.settled; serves = x.serves (durable_flushed _ c.requires.flushed) };
+      mounted = λ _. record {
+        geometry = x.ok.1 ∙ sym x.ok.0;
+        settled = x.settled.0;
+        serves = x.serves (durable_flushed _ c.requires.flushed);
+        volume_geometry = x.ok.3 ∙ sym x.ok.0;
+        volume_settled = x.settled.1;
+        volume_serves = x.volume;
+      };
     }

@@ -2,7 +2,8 @@ use Rattle.std.proofs.Common.{inl, inr, refl}
 use Rattle.std.proofs.lemmas.Result.{err_from_is_err_and}
 use Rattle.reply_text.specs.Answer.{answer_of}
 use Rattle.machine_host.proofs.MountLemmas.{durable_flushed, flushed-restarted, line_zero, mount_within}
-use Rattle.machine_host.proofs.RestartLemmas.{layout-restarted, restart_mounted, restart_unmounted, serves_waited}
+use Rattle.machine_host.proofs.RestartAnswerLemmas.{restart_mounted, restart_unmounted}
+use Rattle.machine_host.proofs.RestartLemmas.{layout-restarted, serves_waited}
 use Rattle.machine_host.proofs.host.Host.restart.Goals as goal
 
 pub returns-in_err-restart : goal.returns-in_err-restart
@@ -22,7 +23,7 @@ returns-in-Ok g c =
     let x = c.in-Ok.ensures in
     let left = c.in_ok-restart.ensures in
     restart_mounted c.args.self.now c.args.self.now c.mounted.new.self c.args.choice old mid new left.0 refl c.requires.serves left.1 (g.met.D.Lines.sound c.args.device.now) (g.met.D.Lines.sound c.restart.new.self)
-    (record { outside = x.outside; reads = x.reads }) c.requires.off c.in-Ok.mounted.geo c.in-Ok.mounted.blocks (answer_of c.mounted.result) (mount_within mid.medium _ mid.panel new.panel x.runs) x.ok.0 x.ok.1 x.settled (x.serves (durable_flushed _ (flushed-restarted c.args.choice _ _ (g.met.D.Lines.sound c.args.device.now) c.in_ok-restart.ensures.1.lines))) x.ok.2 c.mounted.ensures
+    (record { outside = x.outside; reads = x.reads; presence = x.presence }) c.requires.off c.in-Ok.mounted.geo c.in-Ok.mounted.blocks c.in-Ok.mounted.volume (answer_of c.mounted.result) (mount_within mid.medium _ mid.panel new.panel x.runs) x.ok.0 x.ok.1 x.settled.0 (x.serves (durable_flushed _ (flushed-restarted c.args.choice _ _ (g.met.D.Lines.sound c.args.device.now) c.in_ok-restart.ensures.1.lines))) x.ok.2 x.ok.3 x.ok.4 x.settled.1 x.volume c.mounted.ensures
 
 pub returns-in-Err : goal.returns-in-Err
 returns-in-Err g c =
@@ -32,4 +33,4 @@ returns-in-Err g c =
     let x = c.in-Err.ensures in
     let left = c.in_ok-restart.ensures in
     restart_unmounted c.args.self.now c.args.self.now c.unmounted.new.self c.args.choice old mid new left.0 refl c.requires.serves left.1 (g.met.D.Lines.sound c.args.device.now) (g.met.D.Lines.sound c.restart.new.self)
-    (record { outside = x.outside; reads = x.reads }) c.requires.off c.in-Err.fault c.unmounted.result x.finds (mount_within mid.medium _ mid.panel new.panel x.runs) c.unmounted.ensures.state c.unmounted.ensures.answer
+    (record { outside = x.outside; reads = x.reads; presence = x.presence }) c.requires.off c.in-Err.fault c.unmounted.result x.finds (mount_within mid.medium _ mid.panel new.panel x.runs) c.unmounted.ensures.state c.unmounted.ensures.answer

@@ -1,38 +1,51 @@
-use Rattle.std.proofs.Common.{◌≡◌, ◌∙◌, refl, ap, subst, ◌++◌, length, arith}
-use Rattle.nvm_model.specs.Lines.{span_shown}
-use Rattle.nvm_model.proofs.NumberedLemmas.{length-list_from}
-use Rattle.line_words.proofs.FrameLemmas.{outside-write_back}
-use Rattle.script_text.specs.Action.Action.{VLoad}
-use Rattle.machine_host.specs.Volume.{volume_of, IsVolumePlace}
-use Rattle.machine_host.proofs.ElsewhereLemmas.{serves_worked, serves_stopped}
-use Rattle.machine_host.proofs.StepLemmas.{comes_of_load, comes_of_interrupted_load, comes_placed, answered_interrupted}
-use Rattle.machine_host.proofs.RefusalLemmas.{on_allowed, span_right}
+use Rattle.std.proofs.Common.{◌≡◌, ◌++◌, ◌≤◌, Ok, Err, length, drop, sym, ap, subst, ◌∙◌, arith}
+use Rattle.reply_text.specs.Answer.{IsPrintable}
+use Rattle.reply_text.specs.Answer.Answer.{Bytes}
+use Rattle.reply_text.specs.Room.{most_of}
+use Rattle.pm_volume.specs.Refusals.{load_refusal, volume_says}
+use Rattle.line_words.specs.Told.{Answers}
+use Rattle.machine_host.specs.OnVolume.{volume_answer}
+use Rattle.machine_host.specs.Stands.{HostState}
+use Rattle.machine_host.specs.Faults.{volume_fault_mode}
+use Rattle.machine_host.proofs.CallLemmas.{printable_told, short_told}
+use Rattle.machine_host.proofs.LoadLemmas.{load_answered, loaded_bytes, loaded_size, taken_short}
+use Rattle.machine_host.proofs.VolumeCallLemmas.{volume_part}
 use Rattle.machine_host.proofs.host.Host.vload.Goals as goal
 
 pub returns-in-Ok : goal.returns-in-Ok
 returns-in-Ok g c =
     let said = c.in-Ok.ensures in
-    let old = (g.D.Lines.state c.args.device.now) in
-    let new = (g.D.Lines.state c.load_span.new.device) in
-    let same = ap (λ host. host.geometry) c.self.view_is in
-    let shown = said.ok ∙ ap (λ xs. xs ++ span_shown (volume_of c.self.inside.geometry old.medium) c.args.offset c.args.len) (c.reserve.ensures.items ∙ c.new-bytes.ensures) in
-    let size : length c.load_span.new.out.items ≡ c.args.len = ap length shown ∙ length-list_from _ c.args.offset c.args.len in
-    record {
-      step = λ h stands. comes_placed c.args.self.now c.args.self.now old new h (VLoad c.args.offset c.args.len) _ stands (on_allowed c.requires.on) refl (span_right _ _ _ c.requires.some c.requires.within)
-          (comes_of_load c.args.self.now old new h c.args.offset c.args.len stands c.requires.serves c.requires.on said.lines _ said.runs c.requires.within
-          (subst (λ geo. c.load_span.new.out.items ≡ span_shown (volume_of geo old.medium) c.args.offset c.args.len) same shown));
-      room = omega (arith, size);
-      serves = serves_worked c.args.self.now c.self.inside.geometry _ _ old new same c.requires.serves (outside-write_back (IsVolumePlace c.self.inside.geometry) old.medium new.medium said.lines) said.runs;
-    }
+    let now = c.args.self.now in
+    let host : HostState = record { geometry = c.self.inside.geometry; mode = c.self.inside.mode; blocks = c.self.inside.blocks; volume = c.self.inside.volume } in
+    let old = g.D.Lines.state c.args.device.now in
+    let new = g.D.Lines.state c.load_into.new.dev in
+    let items = c.repeat.new.self.items in
+    let lent = c.as_mut_slice.ensures.value in
+    let size : length items ≡ c.args.len = loaded_size c.args.len _ items c.new-bytes.ensures c.in_ok-repeat.ensures.ok in
+    let asked : length c.as_mut_slice.result.now ≡ c.args.len = ap length lent ∙ size in
+    load_answered now host _ c.load_into.new.self (Ok tt) c.args.offset c.args.len _ (Unit {0}) old new c.self.view_is
+    (ap (λ m. record { geometry = c.self.inside.geometry; mode = m; blocks = c.self.inside.blocks; volume = c.load_into.new.self }) (ap (λ k. k.mode) c.self.view_is ∙ c.requires.on))
+    c.requires.on c.requires.serves (omega (arith, asked)) tt said.lines said.serves said.object said.runs _ c.requires.some c.requires.within c.requires.few
+    (λ pages holds. subst (λ n. Answers volume_says (load_refusal host.volume pages c.args.offset n) (Ok tt)) asked (said.refused pages holds))
+    (λ h holds. ap (λ bytes. Bytes bytes) (loaded_bytes c.args.len c.as_mut_slice.result.now items c.load_into.new.out h.volume c.args.offset lent size (said.ok h.volume holds)))
+    tt (taken_short c.args.len items (c.load_into.new.out ++ drop (length c.load_into.new.out) items) size)
 
 pub returns-in-Err : goal.returns-in-Err
 returns-in-Err g c =
     let said = c.in-Err.ensures in
-    let old = (g.D.Lines.state c.args.device.now) in
-    let new = (g.D.Lines.state c.load_span.new.device) in
     let now = c.args.self.now in
-    answered_interrupted now _ c.in-Err.interruption _ (VLoad c.args.offset c.args.len) old new c.interrupt.ensures.state c.interrupt.ensures.answer (omega arith)
-    (λ h stands. comes_placed now _ old new h (VLoad c.args.offset c.args.len) _ stands (on_allowed c.requires.on) refl (span_right _ _ _ c.requires.some c.requires.within)
-    (comes_of_interrupted_load now old new h c.args.offset c.args.len stands c.requires.serves c.requires.on said.lines c.in-Err.interruption said.runs))
-    (serves_stopped now _ c.self.inside.geometry _ _ old new c.in-Err.interruption (ap (λ host. host.geometry) c.self.view_is) c.interrupt.ensures.state c.requires.on c.requires.serves
-    (outside-write_back (IsVolumePlace c.self.inside.geometry) old.medium new.medium said.lines) said.runs)
+    let host : HostState = record { geometry = c.self.inside.geometry; mode = c.self.inside.mode; blocks = c.self.inside.blocks; volume = c.self.inside.volume } in
+    let old = g.D.Lines.state c.args.device.now in
+    let new = g.D.Lines.state c.load_into.new.dev in
+    let items = c.repeat.new.self.items in
+    let size : length items ≡ c.args.len = loaded_size c.args.len _ items c.new-bytes.ensures c.in_ok-repeat.ensures.ok in
+    let asked : length c.as_mut_slice.result.now ≡ c.args.len = ap length c.as_mut_slice.ensures.value ∙ size in
+    let told = sym c.volume_fault.ensures.answer in
+    load_answered now host _ c.load_into.new.self (Err c.in-Err.fault) c.args.offset c.args.len _ _ old new c.self.view_is
+    (c.volume_fault.ensures.state ∙ ap (λ m. record { geometry = c.self.inside.geometry; mode = volume_fault_mode m c.in-Err.fault; blocks = c.self.inside.blocks; volume = c.load_into.new.self }) (ap (λ k. k.mode) c.self.view_is ∙ c.requires.on))
+    c.requires.on c.requires.serves (omega (arith, asked))
+    (λ refused. let same = said.untouched refused in (same.0, ap (λ d. g.D.Lines.state d) same.1)) said.lines said.serves said.object said.runs _ c.requires.some c.requires.within c.requires.few
+    (λ pages holds. subst (λ n. Answers {T = Unit {0}} volume_says (load_refusal host.volume pages c.args.offset n) (Err c.in-Err.fault)) asked (said.refused pages holds))
+    (λ h holds. c.volume_fault.ensures.answer)
+    (subst IsPrintable told (printable_told volume_answer volume_part.printable (volume_says c.in-Err.fault)))
+    (let short = subst (λ a. most_of a ≤ 64) told (short_told volume_answer volume_part.short (volume_says c.in-Err.fault)) in omega (arith, short))

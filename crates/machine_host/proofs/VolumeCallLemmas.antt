@@ -1,0 +1,335 @@
+-- What a host and its device stand for, after a call on the volume.
+use Rattle.std.proofs.Common.{◌≡◌, ◌≢◌, ◌==◌, ◌<◌, ◌≤◌, ℕ, Bool, true, false, IsTrue, Option, Some, None, option_map, option_and_then, is_none, Result, Ok, Err, OnOk, List, [], refl, sym, ap, subst, ◌∙◌, arith}
+use Rattle.line_device.specs.Medium.{Medium}
+use Rattle.line_device.specs.Panel.{Runs}
+use Rattle.line_device.specs.Device.{Device}
+use Rattle.line_words.specs.Told.{Answers, OnRefused, OnWorked, is_done, outcome_by, refusal_of}
+use Rattle.line_words.specs.Told.Told.{Starves}
+use Rattle.line_words.specs.Words.{WritesBackOutside}
+use Rattle.word_tables.specs.Layout.{meta_lines}
+use Rattle.nvm_model.specs.Blocks.{first_there}
+use Rattle.nvm_model.specs.Interrupted.{MaySync}
+use Rattle.nvm_model.specs.Page.{Page, first_bad_line, persist, presence_of}
+use Rattle.nvm_model.specs.Storage.{Block}
+use Rattle.page_lines.specs.Turns.{WritesBackOthers}
+use Rattle.block_device.specs.Images.{EachReads}
+use Rattle.block_device.specs.Object.{HasGoodMetadata}
+use Rattle.block_device.proofs.ImageLemmas.{each_reads-then}
+use Rattle.block_device.proofs.PositionLemmas.{none_below}
+use Rattle.pm_volume.specs.Area.{IsOfVolume, IsVolumePlace}
+use Rattle.pm_volume.specs.Images.{EachReadsPages}
+use Rattle.pm_volume.specs.Object.{VolumeState, VolumeHolds, VolumeServes}
+use Rattle.pm_volume.specs.Refusals.{VolumeRefusal, metadata_refusal_if, physical_offset, physical_refusal, poisoned_at, refused_if, volume_says}
+use Rattle.pm_volume.specs.Refusals.VolumeRefusal.{Range, Length, Address, Meta, Poison}
+use Rattle.pm_volume.specs.declared.fault.VolumeFault.{VolumeFault}
+use Rattle.pm_volume.specs.declared.fault.VolumeFault.TheVariants as fault
+use Rattle.pm_volume.proofs.StandingLemmas.{served_pages}
+use Rattle.reply_text.specs.Answer.{Answer, IsPrintable}
+use Rattle.reply_text.specs.Answer.Answer.{Done}
+use Rattle.reply_text.specs.Room.{most_of}
+use Rattle.script_text.specs.Action.{Action}
+use Rattle.script_text.specs.Action.Action.{VPSync}
+use Rattle.machine_host.specs.declared.mode.Mode.{Mode}
+use Rattle.machine_host.specs.declared.mode.Mode.TheVariants.{On}
+use Rattle.machine_host.specs.Machine.{Machine}
+use Rattle.machine_host.specs.Machine.Fate.{Works}
+use Rattle.machine_host.specs.Commands.{LeavesVolume, MayLeaveBlocks, MayLeaveVolume, fate, longest, spending, unless_refused}
+use Rattle.machine_host.specs.Faults.{answer_after, mode_after}
+use Rattle.machine_host.specs.Interrupted.{stop_in}
+use Rattle.machine_host.specs.Lines.{HasLayout}
+use Rattle.machine_host.specs.OnVolume.{part_synced_at, persist_at, volume_answer}
+use Rattle.machine_host.specs.Responding.{Answered}
+use Rattle.machine_host.specs.Stands.{HostState, HostServes, AreMounted, Stands, Comes}
+use Rattle.machine_host.proofs.BlockLemmas.{good_state}
+use Rattle.machine_host.proofs.CallLemmas.{IsPart, comes_of_call, printable_after, serves_of_call, short_told}
+use Rattle.machine_host.proofs.ElsewhereLemmas.{mounted-worked, volume_within}
+use Rattle.machine_host.proofs.MetadataLemmas.{good_metadata}
+use Rattle.machine_host.proofs.StepLemmas.{DeviceLeft, blocks_elsewhere, is_whole, metadata_elsewhere, stands_done}
+use Rattle.machine_host.proofs.VolumeLemmas.{has_layout-outside, outside-others}
+
+-- What a call on the volume says, whichever it is. What it may leave is told of the pages that the volume stood for.
+pub record VolumeCalled {T : Type 0} (host : HostState) (s : VolumeState) (r : Result T VolumeFault) (may : List Page → List Page → Type 0) (calls persists : ℕ) (old new : Device) : Type 0 where
+  pub untouched : OnRefused volume_says r ((s ≡ host.volume) × (new ≡ old))
+  pub images : OnWorked volume_says r ((pages : List Page) → VolumeHolds host.volume old.medium pages → EachReadsPages host.volume.geo new.medium (may pages))
+  pub outside : WritesBackOthers (IsOfVolume host.volume.geo) old.medium new.medium
+  pub serves : IsTrue s.settled → VolumeServes s new.medium
+  pub object : (s.geo ≡ host.volume.geo) × (s.settled ≡ is_done (outcome_by volume_says r))
+  pub runs : Runs calls persists (outcome_by volume_says r) old.panel new.panel
+
+-- its answers
+never_starves : (f : VolumeFault) → volume_says f ≡ Starves → ⊥
+never_starves fault.Range e = cc e
+never_starves fault.Length e = cc e
+never_starves fault.Address e = cc e
+never_starves (fault.Meta line) e = cc e
+never_starves (fault.Poison offset) e = cc e
+never_starves fault.Device e = cc e
+never_starves fault.PowerLost e = cc e
+
+no_stop : (w : VolumeRefusal) → stop_in (volume_answer w) ≡ None
+no_stop Range = refl
+no_stop Length = refl
+no_stop Address = refl
+no_stop (Meta line) = refl
+no_stop (Poison offset) = refl
+
+short_refusal : (w : VolumeRefusal) → most_of (volume_answer w) ≤ 64
+short_refusal Range = omega arith
+short_refusal Length = omega arith
+short_refusal Address = omega arith
+short_refusal (Meta line) = omega arith
+short_refusal (Poison offset) = omega arith
+
+printable_refusal : (w : VolumeRefusal) → IsPrintable (volume_answer w)
+printable_refusal Range = tt
+printable_refusal Length = tt
+printable_refusal Address = tt
+printable_refusal (Meta line) = tt
+printable_refusal (Poison offset) = tt
+
+pub volume_part : IsPart volume_says volume_answer
+volume_part = record { printable = printable_refusal; quiet = no_stop; short = short_refusal; fed = never_starves }
+
+pub short_after : (good : Answer) → most_of good ≤ 64 → (r : Result (Unit {0}) VolumeFault) → most_of (answer_after volume_says volume_answer good r) ≤ 64
+short_after good short (Ok x) = short
+short_after good short (Err f) = short_told volume_answer short_refusal (volume_says f)
+
+-- the host in a mode after the call
+abbrev pub volume_after : HostState → VolumeState → Mode → HostState
+volume_after host s mode = record { geometry = host.geometry; mode = mode; blocks = host.blocks; volume = s }
+
+module _ (host : HostState) (s : VolumeState) (old new : Device) (on : host.mode ≡ On) (serves : HostServes host old) (outside : WritesBackOthers (IsOfVolume host.volume.geo) old.medium new.medium) where
+  mounted : AreMounted host.geometry host.blocks host.volume old.medium
+  mounted = serves.mounted on
+
+  -- other words than the volume's are only written back
+  pub outside_volume : WritesBackOutside (IsVolumePlace host.geometry) old.medium new.medium
+  outside_volume =
+      outside-others host.geometry (IsOfVolume host.geometry) old.medium new.medium serves.layout
+      (λ n below. mounted.serves.strong n (subst (λ g. n < meta_lines g) (sym mounted.geometry) below))
+      (volume_within host.geometry) (subst (λ g. WritesBackOthers (IsOfVolume g) old.medium new.medium) mounted.volume_geometry outside)
+
+  layout_worked : HasLayout host.geometry new.medium
+  layout_worked = has_layout-outside host.geometry (IsVolumePlace host.geometry) old.medium new.medium serves.layout outside_volume
+
+module _ (host : HostState) (s : VolumeState) (action : Action) (calls persists : ℕ) (h : Machine) (few : calls ≤ (spending h action).calls) (few_persists : persists ≤ (spending h action).persists)
+    (old new : Device) (on : host.mode ≡ On) (serves : HostServes host old) (stands : Stands host old h) where
+  geo_is : host.volume.geo ≡ h.geometry
+  geo_is = (serves.mounted on).volume_geometry ∙ stands.geometry
+
+  -- the blocks, which such a call leaves
+  blocks_left : WritesBackOthers (IsOfVolume host.volume.geo) old.medium new.medium → EachReads h.geometry new.medium (λ bs. bs ≡ h.blocks)
+  blocks_left outside =
+      subst (λ interrupted. EachReads h.geometry new.medium (MayLeaveBlocks interrupted h.blocks)) (is_whole host old h stands on)
+      (blocks_elsewhere host old new h stands serves (outside_volume host s old new on serves outside)).0
+
+  -- the state after a call that went well
+  stands_worked : {T : Type 0} {may : List Page → List Page → Type 0} (r : Result T VolumeFault) (pages : List Page) → VolumeCalled host s r may calls persists old new → OnOk r (VolumeHolds s new.medium pages)
+      → OnOk r (Stands (volume_after host s On) new (record h { volume = pages }))
+  stands_worked (Ok x) pages c holds =
+      let moved = outside_volume host s old new on serves c.outside in
+      stands_done host (volume_after host s On) old new h action stands on calls persists few few_persists refl h.blocks pages refl c.runs (metadata_elsewhere host old new h stands moved)
+      (blocks_left c.outside) ((blocks_elsewhere host old new h stands serves moved).1 on)
+      (subst (λ g. EachReadsPages g new.medium (λ x. x ≡ pages)) (c.object.0 ∙ geo_is) (served_pages s new.medium pages (c.serves c.object.1) holds)) holds
+  stands_worked (Err e) pages c holds = tt
+
+  left_by : ((bs : List Block) → bs ≡ h.blocks → MayLeaveBlocks (Some action) h.blocks bs) → WritesBackOthers (IsOfVolume host.volume.geo) old.medium new.medium
+      → EachReadsPages host.volume.geo new.medium (MayLeaveVolume host.volume.geo (Some action) h.volume) → DeviceLeft h action new.medium
+  left_by kept outside each = record {
+    metadata = metadata_elsewhere host old new h stands (outside_volume host s old new on serves outside);
+    blocks = each_reads-then h.geometry new.medium (λ bs. bs ≡ h.blocks) (MayLeaveBlocks (Some action) h.blocks) kept (blocks_left outside);
+    volume = subst (λ g. EachReadsPages g new.medium (MayLeaveVolume g (Some action) h.volume)) geo_is each;
+  }
+
+  left_worked : {T : Type 0} (r : Result T VolumeFault) → ((bs : List Block) → bs ≡ h.blocks → MayLeaveBlocks (Some action) h.blocks bs)
+      → VolumeCalled host s r (MayLeaveVolume host.volume.geo (Some action)) calls persists old new → OnWorked volume_says r (DeviceLeft h action new.medium)
+  left_worked (Ok x) kept c = left_by kept c.outside (c.images h.volume (stands.volume on))
+  left_worked (Err e) kept c = λ worked. left_by kept c.outside (c.images worked h.volume (stands.volume on))
+
+same_host : {T : Type 0} (host : HostState) (s : VolumeState) (r : Result T VolumeFault) (old new : Device) → OnRefused volume_says r ((s ≡ host.volume) × (new ≡ old))
+    → OnRefused volume_says r ((volume_after host s host.mode ≡ host) × (new ≡ old))
+same_host host s (Ok x) old new untouched = tt
+same_host host s (Err e) old new untouched = λ told. let same = untouched told in (ap (λ v. record { geometry = host.geometry; mode = host.mode; blocks = host.blocks; volume = v }) same.0, same.1)
+
+mounted_ok : {T : Type 0} {may : List Page → List Page → Type 0} (host : HostState) (s : VolumeState) (r : Result T VolumeFault) (calls persists : ℕ) (old new : Device) → host.mode ≡ On → HostServes host old
+    → VolumeCalled host s r may calls persists old new → OnOk r (AreMounted host.geometry host.blocks s new.medium)
+mounted_ok host s (Ok x) calls persists old new on serves c =
+    mounted-worked host.geometry host.blocks host.volume s old.medium new.medium serves.layout.valid (outside_volume host s old new on serves c.outside) (serves.mounted on) c.object.0 c.object.1 (c.serves c.object.1)
+mounted_ok host s (Err e) calls persists old new on serves c = tt
+
+on_refused-then : {T P Q : Type 0} (r : Result T VolumeFault) → (P → Q) → OnRefused volume_says r P → OnRefused volume_says r Q
+on_refused-then (Ok x) then_ p = tt
+on_refused-then (Err f) then_ p = λ told. then_ (p told)
+
+-- a call on the volume, whichever, by its clauses
+pub volume_called : {D : Type 0} (state : D → Device) (host : HostState) (s : VolumeState) (r : Result (Unit {0}) VolumeFault) (may : List Page → List Page → Type 0) (calls persists : ℕ) (before after : D)
+    → OnRefused volume_says r ((s ≡ host.volume) × (after ≡ before))
+    → OnWorked volume_says r ((pages : List Page) → VolumeHolds host.volume (state before).medium pages → EachReadsPages host.volume.geo (state after).medium (may pages))
+    → WritesBackOthers (IsOfVolume host.volume.geo) (state before).medium (state after).medium → (IsTrue s.settled → VolumeServes s (state after).medium)
+    → (s.geo ≡ host.volume.geo) × (s.settled ≡ is_done (outcome_by volume_says r)) → Runs calls persists (outcome_by volume_says r) (state before).panel (state after).panel
+    → VolumeCalled host s r may calls persists (state before) (state after)
+volume_called state host s r may calls persists before after untouched images outside serves object runs = record {
+  untouched = on_refused-then r (λ same. (same.0, ap state same.1)) untouched;
+  images = images;
+  outside = outside;
+  serves = serves;
+  object = object;
+  runs = runs;
+}
+
+-- Of a host behind a reference: `host` is what is inside `now`, and `after` what the answer leaves.
+module _ (now host after : HostState) (s : VolumeState) (r : Result (Unit {0}) VolumeFault) (calls persists : ℕ) (old new : Device)
+    (inside : host ≡ now) (state : after ≡ volume_after host s (mode_after volume_says r)) (on : now.mode ≡ On) (serves : HostServes now old) (action : Action)
+    (few : (h : Machine) → Stands now old h → (calls ≤ (spending h action).calls) × (persists ≤ (spending h action).persists))
+    (kept : (h : Machine) (bs : List Block) → bs ≡ h.blocks → MayLeaveBlocks (Some action) h.blocks bs)
+    (call : VolumeCalled host s r (MayLeaveVolume host.volume.geo (Some action)) calls persists old new) where
+  on_inside : host.mode ≡ On
+  on_inside = ap (λ k. k.mode) inside ∙ on
+
+  serves_inside : HostServes host old
+  serves_inside = subst (λ k. HostServes k old) (sym inside) serves
+
+  pub work_serves : HostServes after new
+  work_serves =
+      subst (λ k. HostServes k new) (sym state)
+      (serves_of_call volume_says volume_answer volume_part host (volume_after host s) old new on_inside (λ m. refl) (λ m. refl) calls persists r serves_inside
+      (same_host host s r old new call.untouched) (layout_worked host s old new on_inside serves_inside call.outside) (mounted_ok host s r calls persists old new on_inside serves_inside call) call.runs)
+
+  pub work_comes : (h : Machine) (good answer : Answer) (why : Option VolumeRefusal) (pages : List Page) → stop_in good ≡ None → Stands now old h
+      → fate h action ≡ unless_refused h (option_map volume_answer why) (Works good (record h { volume = pages })) → Answers volume_says why r → OnOk r (VolumeHolds s new.medium pages)
+      → answer ≡ answer_after volume_says volume_answer good r → Comes h action (fate h action) answer after old new
+  work_comes h good answer why pages quiet stands fate_is refused ok answer_is =
+      let stands_inside = subst (λ k. Stands k old h) (sym inside) stands in
+      let spent = few h stands in
+      subst (λ a. Comes h action (fate h action) a after old new) (sym answer_is)
+      (subst (λ k. Comes h action (fate h action) (answer_after volume_says volume_answer good r) k old new) (sym state)
+      (subst (λ fate. Comes h action fate (answer_after volume_says volume_answer good r) (volume_after host s (mode_after volume_says r)) old new) (sym fate_is)
+      (comes_of_call volume_says volume_answer volume_part host (volume_after host s) old new on_inside (λ m. refl) (λ m. refl) calls persists action h stands_inside spent.0 spent.1
+      r good why (record h { volume = pages }) quiet refused (same_host host s r old new call.untouched)
+      (stands_worked host s action calls persists h spent.0 spent.1 old new on_inside serves_inside stands_inside r pages call ok)
+      (left_worked host s action calls persists h spent.0 spent.1 old new on_inside serves_inside stands_inside r (kept h) call) call.runs)))
+
+-- The refusals of the volume are the machine's, of a state that the host stands for.
+module _ (now host : HostState) (old : Device) (h : Machine) (inside : host ≡ now) (on : now.mode ≡ On) (serves : HostServes now old) (stands : Stands now old h) where
+  pub volume_sizes : host.volume.geo ≡ h.geometry
+  volume_sizes = ap (λ k. k.volume.geo) inside ∙ (serves.mounted on).volume_geometry ∙ stands.geometry
+
+  pub volume_pages : VolumeHolds host.volume old.medium h.volume
+  volume_pages = subst (λ k. VolumeHolds k.volume old.medium h.volume) (sym inside) (stands.volume on)
+
+  pub presence_seen : presence_of h.volume ≡ host.volume.present
+  presence_seen = volume_pages.there
+
+  -- no line of metadata refuses a change
+  pub no_bad_meta : (changes : Bool) → metadata_refusal_if changes host.volume.geo old.medium ≡ None
+  no_bad_meta true =
+      ap (option_map Meta)
+      (none_below old.medium.is_bad (meta_lines host.volume.geo)
+      (subst (λ g. HasGoodMetadata g old.medium) (sym (ap (λ k. k.volume.geo) inside ∙ (serves.mounted on).volume_geometry)) (good_metadata now.geometry old.medium serves.layout)))
+  no_bad_meta false = refl
+
+  pub no_bad_lines : h.bad_meta ≡ []
+  no_bad_lines = good_state now old h serves stands on
+
+-- a call that was not refused or stopped, of the pages that the volume stands for
+pub of_pages : {T : Type 0} (s t : VolumeState) (m n : Medium) (r : Result T VolumeFault) (f : List Page → List Page) (pages : List Page)
+    → OnOk r ((pages : List Page) → VolumeHolds s m pages → VolumeHolds t n (f pages)) → VolumeHolds s m pages → OnOk r (VolumeHolds t n (f pages))
+of_pages s t m n (Ok x) f pages so holds = so pages holds
+of_pages s t m n (Err e) f pages so holds = tt
+
+module _ (now host after : HostState) (s : VolumeState) (r : Result (Unit {0}) VolumeFault) (calls persists : ℕ) (old new : Device)
+    (inside : host ≡ now) (state : after ≡ volume_after host s (mode_after volume_says r)) (on : now.mode ≡ On) (serves : HostServes now old) (action : Action)
+    (few : (h : Machine) → Stands now old h → (calls ≤ (spending h action).calls) × (persists ≤ (spending h action).persists))
+    (kept : (h : Machine) (bs : List Block) → bs ≡ h.blocks → MayLeaveBlocks (Some action) h.blocks bs)
+    (call : VolumeCalled host s r (MayLeaveVolume host.volume.geo (Some action)) calls persists old new) where
+  -- A change of the volume is answered.
+  pub work_answered : (answer : Answer) (why : List Page → Option VolumeRefusal) (to : Machine → List Page) → longest action ≡ 64
+      → ((h : Machine) → Stands now old h → fate h action ≡ unless_refused h (option_map volume_answer (why h.volume)) (Works Done (record h { volume = to h })))
+      → ((h : Machine) → Stands now old h → Answers volume_says (why h.volume) r) → ((h : Machine) → Stands now old h → OnOk r (VolumeHolds s new.medium (to h)))
+      → answer ≡ answer_after volume_says volume_answer Done r → Answered action answer now after old new
+  work_answered answer why to long fate_is refused ok answer_is = record {
+    step = λ h stands. work_comes now host after s r calls persists old new inside state on serves action few kept call h Done answer (why h.volume) (to h) refl stands (fate_is h stands) (refused h stands) (ok h stands) answer_is;
+    printable = subst IsPrintable (sym answer_is) (printable_after volume_says volume_answer volume_part Done tt r);
+    room = let short = subst (λ a. most_of a ≤ 64) (sym answer_is) (short_after Done (omega arith) r) in subst (λ n. most_of answer ≤ n) (sym long) short;
+    serves = work_serves now host after s r calls persists old new inside state on serves action few kept call;
+  }
+
+-- a fault that refuses leaves the volume settled
+refused_done : (f : VolumeFault) → refusal_of (volume_says f) ≢ None → is_done (outcome_by {T = Unit {0}} volume_says (Err f)) ≡ true
+refused_done fault.Range told = refl
+refused_done fault.Length told = refl
+refused_done fault.Address told = refl
+refused_done (fault.Meta line) told = refl
+refused_done (fault.Poison offset) told = refl
+refused_done fault.Device told = absurd (told refl)
+refused_done fault.PowerLost told = absurd (told refl)
+
+-- so a call that changes no more than that leaves it as it was
+pub same_volume : (Q : Type 0) (v s : VolumeState) (r : Result (Unit {0}) VolumeFault) → s ≡ record v { settled = is_done (outcome_by volume_says r) } → v.settled ≡ true → OnRefused volume_says r Q
+    → OnRefused volume_says r ((s ≡ v) × Q)
+same_volume Q v s (Ok x) is was q = tt
+same_volume Q v s (Err f) is was q = λ told. (is ∙ ap (λ b. record v { settled = b }) (refused_done f told ∙ sym was), q told)
+
+pub settled_was : (now host : HostState) (old : Device) → host ≡ now → now.mode ≡ On → HostServes now old → host.volume.settled ≡ true
+settled_was now host old inside on serves = ap (λ k. k.volume.settled) inside ∙ (serves.mounted on).volume_settled
+
+-- a span of addresses that lies in no range is refused
+unplaced : (s : VolumeState) (pages : List Page) (address len : ℕ) → physical_offset s.geo address len ≡ None → (w : VolumeRefusal) × (physical_refusal s pages address len ≡ Some w)
+unplaced s pages address len none = first_of (refused_if (len == 0) Length) (ap whole none)
+  where
+    whole : Option ℕ → Option VolumeRefusal
+    whole o = first_there (first_there (refused_if (len == 0) Length) (refused_if (is_none o) Address)) (option_and_then (λ offset. poisoned_at (first_bad_line pages offset len)) o)
+
+    first_of : (o : Option VolumeRefusal) → physical_refusal s pages address len ≡ first_there (first_there o (Some Address)) None → (w : VolumeRefusal) × (physical_refusal s pages address len ≡ Some w)
+    first_of None is = (Address, is)
+    first_of (Some w) is = (w, is)
+
+never_worked : {T : Type 0} (P : Type 0) (r : Result T VolumeFault) (why : Option VolumeRefusal) (w : VolumeRefusal) → why ≡ Some w → Answers volume_says why r → OnWorked volume_says r P
+never_worked P (Ok x) None w is answers = cc is
+never_worked P (Ok x) (Some v) w is answers = absurd answers
+never_worked P (Err f) None w is answers = cc is
+never_worked P (Err f) (Some v) w is answers = λ stop. cc (stop, answers)
+
+module _ (s t : VolumeState) (address len : ℕ) (m n : Medium) (r : Result (Unit {0}) VolumeFault)
+    (refused : (pages : List Page) → VolumeHolds s m pages → Answers volume_says (physical_refusal s pages address len) r) where
+  -- what a sync by addresses may leave, by its offset
+  pub physical_images : OnWorked volume_says r ((offset : ℕ) (pages : List Page) → physical_offset s.geo address len ≡ Some offset → VolumeHolds s m pages → EachReadsPages s.geo n (MaySync offset len pages))
+      → OnWorked volume_says r ((pages : List Page) → VolumeHolds s m pages → EachReadsPages s.geo n (MayLeaveVolume s.geo (Some (VPSync address len)) pages))
+  physical_images = by_result r refused
+    where
+      by_offset : (o : Option ℕ) (pages : List Page) → physical_offset s.geo address len ≡ o → ((offset : ℕ) → o ≡ Some offset → EachReadsPages s.geo n (MaySync offset len pages)) → (o ≡ None → ⊥)
+          → EachReadsPages s.geo n (LeavesVolume (part_synced_at o len) pages (persist_at o len pages))
+      by_offset None pages is each never = absurd (never refl)
+      by_offset (Some offset) pages is each never = each offset refl
+
+      images_of : (pages : List Page) → ((offset : ℕ) → physical_offset s.geo address len ≡ Some offset → EachReadsPages s.geo n (MaySync offset len pages)) → (physical_offset s.geo address len ≡ None → ⊥)
+          → EachReadsPages s.geo n (MayLeaveVolume s.geo (Some (VPSync address len)) pages)
+      images_of pages each never = by_offset (physical_offset s.geo address len) pages refl each never
+
+      by_result : (r : Result (Unit {0}) VolumeFault) → ((pages : List Page) → VolumeHolds s m pages → Answers volume_says (physical_refusal s pages address len) r)
+          → OnWorked volume_says r ((offset : ℕ) (pages : List Page) → physical_offset s.geo address len ≡ Some offset → VolumeHolds s m pages → EachReadsPages s.geo n (MaySync offset len pages))
+          → OnWorked volume_says r ((pages : List Page) → VolumeHolds s m pages → EachReadsPages s.geo n (MayLeaveVolume s.geo (Some (VPSync address len)) pages))
+      by_result (Ok x) refused each = λ pages holds.
+          images_of pages (λ offset is. each offset pages is holds)
+          (λ none. let w = unplaced s pages address len none in never_worked ⊥ (Ok x) _ w.0 w.1 (refused pages holds))
+      by_result (Err f) refused each = λ stop pages holds.
+          images_of pages (λ offset is. each stop offset pages is holds)
+          (λ none. let w = unplaced s pages address len none in never_worked {T = Unit {0}} ⊥ (Err f) _ w.0 w.1 (refused pages holds) stop)
+
+  -- and what it comes to
+  pub physical_ok : (pages : List Page) → VolumeHolds s m pages
+      → OnOk r ((offset : ℕ) (pages : List Page) → physical_offset s.geo address len ≡ Some offset → VolumeHolds s m pages → VolumeHolds t n (persist offset len pages))
+      → OnOk r (VolumeHolds t n (persist_at (physical_offset s.geo address len) len pages))
+  physical_ok pages holds = by_result r (refused pages holds)
+    where
+      by_offset : (o : Option ℕ) → ((offset : ℕ) → o ≡ Some offset → VolumeHolds t n (persist offset len pages)) → (o ≡ None → ⊥) → VolumeHolds t n (persist_at o len pages)
+      by_offset None done never = absurd (never refl)
+      by_offset (Some offset) done never = done offset refl
+
+      by_result : (r : Result (Unit {0}) VolumeFault) → Answers volume_says (physical_refusal s pages address len) r
+          → OnOk r ((offset : ℕ) (pages : List Page) → physical_offset s.geo address len ≡ Some offset → VolumeHolds s m pages → VolumeHolds t n (persist offset len pages))
+          → OnOk r (VolumeHolds t n (persist_at (physical_offset s.geo address len) len pages))
+      by_result (Ok x) answers done =
+          by_offset (physical_offset s.geo address len) (λ offset is. done offset pages is holds)
+          (λ none. let w = unplaced s pages address len none in never_worked ⊥ (Ok x) _ w.0 w.1 answers)
+      by_result (Err f) answers done = tt
