@@ -5,8 +5,8 @@ use Rattle.std.proofs.lemmas.Bool.{or_parts}
 use Rattle.std.proofs.lemmas.Bool.Decides.{nat_tests}
 use Rattle.std.proofs.lemmas.List.{length-take}
 use Rattle.nvm_base.specs.declared.units.Span.{Span}
-use Rattle.nvm_model.specs.Blocks.{change, change_block, data_from, is_among, nth, write, write_block, write_ranges}
-use Rattle.nvm_model.specs.Numbered.{map_from}
+use Rattle.nvm_model.specs.Blocks.{change, change_block, data_from, nth, write, write_block, write_ranges}
+use Rattle.nvm_model.specs.Numbered.{is_among, map_from}
 use Rattle.nvm_model.specs.Storage.{Block}
 use Rattle.nvm_model.specs.Storage.Block.{Absent, Scarred}
 use Rattle.block_device.specs.Refusals.{block_spans}

@@ -1,5 +1,5 @@
 -- What a step keeps: the byte at a place that it spares, and that the state is whole.
-use Rattle.std.proofs.Common.{◌≡◌, ◌⊎◌, inl, inr, ℕ, ◌*◌, ◌/◌, ◌%◌, ◌<◌, Bool, true, false, Option, Some, None, List, refl, sym, ap, subst, ◌∙◌}
+use Rattle.std.proofs.Common.{◌≡◌, ◌⊎◌, inl, inr, ℕ, ◌/◌, ◌%◌, Bool, true, false, Option, Some, None, List, refl, sym, ap, subst, ◌∙◌}
 use Rattle.std.proofs.lemmas.Bool.{both_ways}
 use Rattle.line_words.specs.declared.interruption.Interruption.{Interruption}
 use Rattle.line_words.specs.declared.interruption.Interruption.TheVariants.{Failed, PowerLost as Lost}
@@ -10,23 +10,27 @@ use Rattle.nvm_model.specs.Storage.{Block}
 use Rattle.reply_text.specs.Answer.{Answer}
 use Rattle.reply_text.specs.Answer.Answer.{Done}
 use Rattle.script_text.specs.Action.{Action}
-use Rattle.script_text.specs.Action.Action.{VStore, VSync}
+use Rattle.script_text.specs.Action.Action.{VStore, VSync, VPSync, VDiscard, VDiscardIf}
 use Rattle.machine_host.specs.declared.mode.Mode.TheVariants.{On}
 use Rattle.machine_host.specs.Machine.{Machine}
-use Rattle.machine_host.specs.Commands.{MayLeaveBlocks, MayLeaveVolume, meaning}
-use Rattle.machine_host.specs.Volume.{volume_image}
+use Rattle.machine_host.specs.Commands.{LeavesVolume, MayLeaveBlocks, MayLeaveVolume, meaning}
+use Rattle.machine_host.specs.OnVolume.{part_synced_at, persist_at}
+use Rattle.word_tables.specs.declared.geometry.Geometry.{Geometry}
+use Rattle.word_tables.specs.Layout.{volume_line}
+use Rattle.pm_volume.specs.Presence.{presence_read}
+use Rattle.pm_volume.specs.Refusals.{physical_offset}
 use Rattle.durable.specs.Place.{Place, block_has, byte_at_place}
 use Rattle.durable.specs.Place.Place.{of_volume, of_blocks}
 use Rattle.durable.specs.Touching.{changes, is_begun}
 use Rattle.durable.specs.Durable.{BringsBytes}
 use Rattle.durable.proofs.StepLemmas.{Alters, ChangesNothing, Returns, Step}
 use Rattle.durable.proofs.StepLemmas.Step.{idles, alters, stops, returns}
-use Rattle.durable.proofs.LineLemmas.{VolumeKeeps, line_has-kept, keeps-persist, keeps-stored, keeps-may_store, keeps-may_sync, keeps-read}
+use Rattle.durable.proofs.LineLemmas.{VolumeKeeps, byte-kept, keeps-persist, keeps-stored, keeps-may_store, keeps-may_sync, keeps-discard, keeps-may_discard, keeps-read}
 use Rattle.durable.proofs.BlockLemmas.{nth-spared, nth-left}
 
 -- the place has this byte, whatever a cut leaves
 abbrev pub PlaceKeeps : Machine → Place → Option ℕ → Type 0
-PlaceKeeps h (of_volume i) v = (i / 64 < 64 * h.geometry.vpages) × VolumeKeeps h.volume i v
+PlaceKeeps h (of_volume i) v = VolumeKeeps h.volume i v
 PlaceKeeps h (of_blocks i) v = block_has (nth h.blocks (i / 512)) (i % 512) ≡ v
 
 -- the action that is interrupted, if there is one, spares the place
@@ -40,26 +44,44 @@ pub record Keeps (h : Machine) (x : Place) (v : Option ℕ) : Type 0 where
   pub settled : h.mode ≡ On → h.interrupted ≡ None
 
 pub keeps_byte : (h : Machine) (x : Place) (v : Option ℕ) → Keeps h x v → byte_at_place h x ≡ v
-keeps_byte h (of_volume i) v keeps = line_has-kept _ (i % 64) v keeps.place.1
+keeps_byte h (of_volume i) v keeps = byte-kept h.volume i v keeps.place
 keeps_byte h (of_blocks i) v keeps = keeps.place
 
 -- an action that spares a byte of the volume
-altered_volume : (action : Action) (i : ℕ) (v : Option ℕ) (pages : List Page) → changes action (of_volume i) ≡ false → BringsBytes action → VolumeKeeps pages i v
-    → VolumeKeeps ((meaning action).volume pages) i v
-altered_volume (VStore offset bytes) i v pages out small keeps = keeps-stored offset i v bytes pages small out keeps
-altered_volume (VSync offset len) i v pages out small keeps = keeps-persist offset len i v pages keeps
-altered_volume action i v pages out small keeps = keeps
+persisted_at : (o : Option ℕ) (len i : ℕ) (v : Option ℕ) (pages : List Page) → VolumeKeeps pages i v → VolumeKeeps (persist_at o len pages) i v
+persisted_at None len i v pages keeps = keeps
+persisted_at (Some offset) len i v pages keeps = keeps-persist offset len i v pages keeps
+
+altered_volume : (geo : Geometry) (action : Action) (i : ℕ) (v : Option ℕ) (pages : List Page) → changes action (of_volume i) ≡ false → BringsBytes action
+    → VolumeKeeps pages i v → VolumeKeeps ((meaning action).volume geo pages) i v
+altered_volume geo (VStore offset bytes) i v pages out small keeps = keeps-stored offset i v bytes pages small out keeps
+altered_volume geo (VSync offset len) i v pages out small keeps = keeps-persist offset len i v pages keeps
+altered_volume geo (VPSync address len) i v pages out small keeps = persisted_at (physical_offset geo address len) len i v pages keeps
+altered_volume geo (VDiscard page count) i v pages out small keeps = keeps-discard page count i v pages out keeps
+altered_volume geo (VDiscardIf page count) i v pages out small keeps = keeps-discard page count i v pages out keeps
+altered_volume geo action i v pages out small keeps = keeps
 
 -- and one that was interrupted
-left_volume : (action : Action) (i : ℕ) (v : Option ℕ) (pages left : List Page) → changes action (of_volume i) ≡ false → BringsBytes action → VolumeKeeps pages i v
-    → MayLeaveVolume (Some action) pages left → VolumeKeeps left i v
-left_volume (VStore offset bytes) i v pages left out small keeps may = keeps-may_store offset i v bytes pages left small out keeps may
-left_volume (VSync offset len) i v pages left out small keeps may = keeps-may_sync offset len i v pages left keeps may
-left_volume action i v pages left out small keeps is = subst (λ p. VolumeKeeps p i v) {x = pages} (sym is) keeps
+synced_at : (o : Option ℕ) (len i : ℕ) (v : Option ℕ) (pages to left : List Page) → VolumeKeeps pages i v → LeavesVolume (part_synced_at o len) pages to left → VolumeKeeps left i v
+synced_at None len i v pages to left keeps may = keeps-may_sync 0 0 i v pages left keeps may
+synced_at (Some offset) len i v pages to left keeps may = keeps-may_sync offset len i v pages left keeps may
 
-volume_left : (o : Option Action) (i : ℕ) (v : Option ℕ) (pages left : List Page) → SparedBy o (of_volume i) → VolumeKeeps pages i v → MayLeaveVolume o pages left → VolumeKeeps left i v
-volume_left None i v pages left spared keeps is = subst (λ p. VolumeKeeps p i v) {x = pages} (sym is) keeps
-volume_left (Some action) i v pages left spared keeps may = left_volume action i v pages left spared.0 spared.1 keeps may
+left_volume : (geo : Geometry) (action : Action) (i : ℕ) (v : Option ℕ) (pages left : List Page) → changes action (of_volume i) ≡ false → BringsBytes action
+    → VolumeKeeps pages i v → MayLeaveVolume geo (Some action) pages left → VolumeKeeps left i v
+left_volume geo (VStore offset bytes) i v pages left out small keeps may = keeps-may_store offset i v bytes pages left small out keeps may
+left_volume geo (VSync offset len) i v pages left out small keeps may = keeps-may_sync offset len i v pages left keeps may
+left_volume geo (VPSync address len) i v pages left out small keeps may =
+    synced_at (physical_offset geo address len) len i v pages (persist_at (physical_offset geo address len) len pages) left keeps may
+left_volume geo (VDiscard page count) i v pages left out small keeps (inl is) = subst (λ p. VolumeKeeps p i v) {x = pages} (sym is) keeps
+left_volume geo (VDiscard page count) i v pages left out small keeps (inr is) =
+    subst (λ p. VolumeKeeps p i v) (sym is) (keeps-discard page count i v pages out keeps)
+left_volume geo (VDiscardIf page count) i v pages left out small keeps may = keeps-may_discard page count i v pages left out keeps may
+left_volume geo action i v pages left out small keeps is = subst (λ p. VolumeKeeps p i v) {x = pages} (sym is) keeps
+
+volume_left : (geo : Geometry) (o : Option Action) (i : ℕ) (v : Option ℕ) (pages left : List Page) → SparedBy o (of_volume i) → VolumeKeeps pages i v
+    → MayLeaveVolume geo o pages left → VolumeKeeps left i v
+volume_left geo None i v pages left spared keeps is = subst (λ p. VolumeKeeps p i v) {x = pages} (sym is) keeps
+volume_left geo (Some action) i v pages left spared keeps may = left_volume geo action i v pages left spared.0 spared.1 keeps may
 
 blocks_left : (o : Option Action) (i : ℕ) (old new : List Block) → SparedBy o (of_blocks i) → MayLeaveBlocks o old new → nth new (i / 512) ≡ nth old (i / 512)
 blocks_left None i old new spared is = ap (λ bs. nth bs (i / 512)) is
@@ -67,27 +89,22 @@ blocks_left (Some action) i old new spared may =
     nth-left (meaning action).blocks_left (i / 512) old ((meaning action).blocks old) new (nth-spared action i old spared.0) may
 
 -- the place after a step that leaves it
-same_place : (h next : Machine) (x : Place) (v : Option ℕ) → next.geometry ≡ h.geometry → next.blocks ≡ h.blocks → next.volume ≡ h.volume → PlaceKeeps h x v → PlaceKeeps next x v
-same_place h next (of_volume i) v geometry blocks volume keeps =
-    (subst (λ g. i / 64 < 64 * g.vpages) (sym geometry) keeps.0, subst (λ p. VolumeKeeps p i v) {x = h.volume} (sym volume) keeps.1)
-same_place h next (of_blocks i) v geometry blocks volume keeps = ap (λ bs. block_has (nth bs (i / 512)) (i % 512)) blocks ∙ keeps
+same_place : (h next : Machine) (x : Place) (v : Option ℕ) → next.blocks ≡ h.blocks → next.volume ≡ h.volume → PlaceKeeps h x v → PlaceKeeps next x v
+same_place h next (of_volume i) v blocks volume keeps = subst (λ p. VolumeKeeps p i v) {x = h.volume} (sym volume) keeps
+same_place h next (of_blocks i) v blocks volume keeps = ap (λ bs. block_has (nth bs (i / 512)) (i % 512)) blocks ∙ keeps
 
 altered_place : (h : Machine) (action : Action) (next : Machine) (x : Place) (v : Option ℕ) → Alters h action next → changes action x ≡ false → BringsBytes action
     → PlaceKeeps h x v → PlaceKeeps next x v
-altered_place h action next (of_volume i) v to out small keeps = (
-  subst (λ g. i / 64 < 64 * g.vpages) (sym to.geometry) keeps.0,
-  subst (λ p. VolumeKeeps p i v) {x = (meaning action).volume h.volume} (sym to.volume) (altered_volume action i v h.volume out small keeps.1),
-)
+altered_place h action next (of_volume i) v to out small keeps =
+    subst (λ p. VolumeKeeps p i v) {x = (meaning action).volume h.geometry h.volume} (sym to.volume) (altered_volume h.geometry action i v h.volume out small keeps)
 altered_place h action next (of_blocks i) v to out small keeps =
     ap (λ bs. block_has (nth bs (i / 512)) (i % 512)) to.blocks ∙ ap (λ b. block_has b (i % 512)) (nth-spared action i h.blocks out) ∙ keeps
 
 returned_place : (h next : Machine) (x : Place) (v : Option ℕ) → Returns h next → SparedBy h.interrupted x → PlaceKeeps h x v → PlaceKeeps next x v
-returned_place h next (of_volume i) v back spared keeps = (
-  subst (λ g. i / 64 < 64 * g.vpages) (sym back.geometry) keeps.0,
-  subst (λ p. VolumeKeeps p i v) (sym back.volume)
-      (keeps-read back.choice (volume_image h.geometry back.image) h.geometry.vpages i v back.may.left keeps.0
-      (volume_left h.interrupted i v h.volume back.may.left spared keeps.1 back.may.may) back.may.volume),
-)
+returned_place h next (of_volume i) v back spared keeps =
+    subst (λ p. VolumeKeeps p i v) (sym back.volume)
+    (keeps-read back.choice (volume_line h.geometry) back.image (presence_read h.geometry back.image.word) i v back.may.left
+    (volume_left h.geometry h.interrupted i v h.volume back.may.left spared keeps back.may.may) back.may.there back.may.volume)
 returned_place h next (of_blocks i) v back spared keeps =
     ap (λ bs. block_has (nth bs (i / 512)) (i % 512)) back.blocks
     ∙ ap (λ b. block_has b (i % 512)) (blocks_left h.interrupted i h.blocks _ spared back.may.blocks) ∙ keeps
@@ -112,7 +129,7 @@ stop_begun Lost = refl
 pub keeps-step : (h : Machine) (action : Action) (answer : Answer) (next : Machine) (x : Place) (v : Option ℕ) → (changes action x ≡ true → is_begun answer ≡ false) → BringsBytes action
     → Keeps h x v → Step h action answer next → Keeps next x v
 keeps-step h action answer next x v only small keeps (idles why to) = record {
-  place = same_place h next x v to.geometry to.blocks to.volume keeps.place;
+  place = same_place h next x v to.blocks to.volume keeps.place;
   spared = subst (λ o. SparedBy o x) (sym to.interrupted) keeps.spared;
   settled = λ on. to.interrupted ∙ keeps.settled (to.mode on);
 }
@@ -122,7 +139,7 @@ keeps-step h action answer next x v only small keeps (alters begun none to) = re
   settled = λ on. to.interrupted ∙ keeps.settled (sym to.mode ∙ on);
 }
 keeps-step h action answer next x v only small keeps (stops by is to) = record {
-  place = same_place h next x v to.geometry to.blocks to.volume keeps.place;
+  place = same_place h next x v to.blocks to.volume keeps.place;
   spared = subst (λ o. SparedBy o x) (sym to.interrupted) (spares action x answer only (ap is_begun is ∙ stop_begun by), small);
   settled = λ on. absurd (to.mode on);
 }

@@ -1,44 +1,43 @@
 -- What was made durable stays: by induction over a run.
-use Rattle.std.proofs.Common.{◌≡◌, inl, inr, ℕ, ◌+◌, ◌-◌, ◌*◌, ◌/◌, ◌%◌, ◌<◌, ◌≤◌, true, cond, Option, Some, None, option_map, List, [], ◌∷◌, ◌++◌, slice_index_or, refl, sym, ap, subst, ◌∙◌, arith}
+use Rattle.std.proofs.Common.{◌≡◌, inl, inr, ℕ, ◌+◌, ◌-◌, ◌*◌, ◌/◌, ◌%◌, ◌<◌, ◌≤◌, Bool, true, false, cond, Option, Some, None, option_map, List, [], ◌∷◌, ◌++◌, slice_index_or, refl, sym, ap, subst, ◌∙◌, arith}
 use Rattle.std.specs.Prelude.{IfSome, slice_index}
 use Rattle.std.proofs.lemmas.Bool.{both_ways}
 use Rattle.std.proofs.lemmas.Bool.Decides.{nat_tests}
 use Rattle.std.proofs.lemmas.Option.{get_or_from_slice_get, same_Some}
 use Rattle.line_words.specs.declared.interruption.Interruption.{Interruption}
 use Rattle.line_words.specs.declared.interruption.Interruption.TheVariants.{Failed, PowerLost as Lost}
-use Rattle.nvm_model.specs.Blocks.{block_byte, byte_of_blocks, is_among, line_byte, look_blocks, nth}
+use Rattle.nvm_model.specs.Blocks.{block_byte, byte_of_blocks, line_byte, look_blocks, nth}
 use Rattle.nvm_model.specs.Cell.{Cell, cell_byte, flush_cell, persist_cell, touches}
 use Rattle.nvm_model.specs.Cell.Cell.{Bad, Kept}
-use Rattle.nvm_model.specs.Numbered.{list_from}
+use Rattle.nvm_model.specs.Numbered.{is_among, list_from}
 use Rattle.nvm_model.specs.Page.{Page, byte_in, cell_of, look, persist}
 use Rattle.nvm_model.specs.Storage.{Block}
 use Rattle.nvm_model.specs.Storage.Block.{Absent, Scarred, Data}
 use Rattle.nvm_model.proofs.NumberedLemmas.{slice_get-list_from}
-use Rattle.nvm_model.proofs.PageLemmas.{cell_of-persist}
+use Rattle.nvm_model.proofs.PageLemmas.{cell_of-persist, presence_of-persist}
 use Rattle.reply_text.specs.Answer.{Answer}
 use Rattle.reply_text.specs.Answer.Answer.{Done, Bytes}
 use Rattle.script_text.specs.Action.{Action}
-use Rattle.script_text.specs.Action.Action.{BRead, VLoad, VSync, Cut, CutIn, Restart}
+use Rattle.script_text.specs.Action.Action.{BRead, VLoad, VSync, VPSync, Cut, CutIn, Restart}
 use Rattle.script_text.specs.Script.{Input}
 use Rattle.script_text.specs.Script.Input.{Skipped, Malformed, Asked}
 use Rattle.machine_host.specs.Machine.{Machine}
 use Rattle.machine_host.specs.Machine.Fate.{Works}
 use Rattle.machine_host.specs.Commands.{fate, meaning, refusal, unless_refused}
 use Rattle.machine_host.specs.Interrupted.{interrupted_answer}
-use Rattle.machine_host.specs.Meaning.{span_refusal}
 use Rattle.machine_host.specs.Meaning.Needs.{Usable}
-use Rattle.machine_host.specs.OnVolume.{volume_size}
+use Rattle.machine_host.specs.OnVolume.{persist_at}
+use Rattle.pm_volume.specs.Refusals.{physical_offset}
 use Rattle.machine_host.specs.Run.{Hears, Run, Takes, Transcript}
-use Rattle.machine_host.proofs.RefusalLemmas.{span_allowed}
-use Rattle.durable.specs.Place.{Place, block_has, byte_at_place, line_has}
+use Rattle.durable.specs.Place.{Place, block_has, byte_at_place, is_line_present, line_has}
 use Rattle.durable.specs.Place.Place.{of_volume, of_blocks}
-use Rattle.durable.specs.Touching.{is_made_durable}
-use Rattle.durable.specs.Durable.{BringBytes, Has, Does, IsDurable, IsLineThere, IsComplete, Reads, Spares}
+use Rattle.durable.specs.Touching.{is_made_durable, touched_lines_at}
+use Rattle.durable.specs.Durable.{BringBytes, Has, Does, HaveLines, IsDurable, IsLineThere, IsComplete, Reads, Spares}
 use Rattle.durable.proofs.StepLemmas.{Alters, Step, step_of}
 use Rattle.durable.proofs.StepLemmas.Step.{idles, alters, stops, returns}
-use Rattle.durable.proofs.LineLemmas.{LineKeeps, VolumeKeeps, line_keeps-flushed}
+use Rattle.durable.proofs.LineLemmas.{LineKeeps, VolumeKeeps, absent-kept, line_keeps-flushed}
 use Rattle.durable.proofs.KeepLemmas.{Keeps, PlaceKeeps, SparedBy, keeps-step, keeps_byte}
-use Rattle.durable.proofs.RefusalLemmas.{is_on, is_refused, places_allowed, refused_told}
+use Rattle.durable.proofs.RefusalLemmas.{is_on, is_refused, refused_told}
 
 -- answers of a first step and of the rest
 keeps-heard : (input : Input) (inputs : List Input) (h next : Machine) (first : Transcript) (answers : List Answer) (x : Place) (v : Option ℕ) → BringBytes (input ∷ inputs)
@@ -67,20 +66,19 @@ keeps-run (input ∷ inputs) h later said x v bytes run spares keeps =
     keeps-run inputs run.2 later run.1 x v heard.2 run.5 heard.1 heard.0
 
 -- a command that covers something needs a machine that is on
-covers_usable : (action : Action) (x : Place) → is_made_durable action x ≡ true → (meaning action).needs ≡ Usable
-covers_usable Cut (of_volume i) covered = cc covered
-covers_usable Cut (of_blocks i) covered = cc covered
-covers_usable (CutIn calls) (of_volume i) covered = cc covered
-covers_usable (CutIn calls) (of_blocks i) covered = cc covered
-covers_usable (Restart choice) (of_volume i) covered = cc covered
-covers_usable (Restart choice) (of_blocks i) covered = cc covered
-covers_usable action x covered = refl
+covers_usable : (h : Machine) (action : Action) (x : Place) → is_made_durable h action x ≡ true → (meaning action).needs ≡ Usable
+covers_usable h Cut (of_volume i) covered = cc covered
+covers_usable h Cut (of_blocks i) covered = cc covered
+covers_usable h (CutIn calls) (of_volume i) covered = cc covered
+covers_usable h (CutIn calls) (of_blocks i) covered = cc covered
+covers_usable h (Restart choice) (of_volume i) covered = cc covered
+covers_usable h (Restart choice) (of_blocks i) covered = cc covered
+covers_usable h action x covered = refl
 
 -- what a sync left of a line that it touches
-synced_line : (start len i : ℕ) (pages : List Page) → touches start len (i / 64) ≡ true → IsLineThere (cell_of pages (i / 64))
+synced_line : (start len i : ℕ) (pages : List Page) → touches start len (i / 64) ≡ true → HaveLines pages
     → VolumeKeeps (persist start len pages) i (line_has (cell_of (persist start len pages) (i / 64)) (i % 64))
-synced_line start len i pages touched there =
-    subst (λ o. LineKeeps o (i % 64) (line_has o (i % 64))) (sym (cell_of-persist start len pages (i / 64))) (by_cell (cell_of pages (i / 64)) there)
+synced_line start len i pages touched lines = by_page (is_line_present pages (i / 64)) refl
   where
     by_cell : (o : Option Cell) → IsLineThere o
         → LineKeeps (option_map (persist_cell start len (i / 64)) o) (i % 64) (line_has (option_map (persist_cell start len (i / 64)) o) (i % 64))
@@ -89,43 +87,48 @@ synced_line start len i pages touched there =
         subst (λ b. LineKeeps (Some (cond b (flush_cell cell) cell)) (i % 64) (line_has (Some (cond b (flush_cell cell) cell)) (i % 64))) (sym touched)
         (line_keeps-flushed cell (i % 64) (omega arith) size)
 
--- a line that a span of the volume touches is there
-pub within : (h : Machine) (offset len i : ℕ) → refusal h (VSync offset len) ≡ None → touches offset len (i / 64) ≡ true → i / 64 < 64 * h.geometry.vpages
-within h offset len i none touched =
-    let allowed = span_allowed (volume_size h.geometry) offset len
-    (places_allowed h (VSync offset len) (span_refusal (volume_size h.geometry) offset len) refl none) in
-    let end = allowed.1 in grind (arith, nat_tests)
+    by_page : (b : Bool) → is_line_present pages (i / 64) ≡ b → VolumeKeeps (persist start len pages) i (line_has (cell_of (persist start len pages) (i / 64)) (i % 64))
+    by_page true there =
+        inr (subst (λ o. LineKeeps o (i % 64) (line_has o (i % 64))) (sym (cell_of-persist start len pages (i / 64))) (by_cell (cell_of pages (i / 64)) (lines (i / 64) there)))
+    by_page false absent =
+        absent-kept (persist start len pages) i (ap (λ bs. slice_index_or bs (i / 64 / 64) false) (presence_of-persist start len pages) ∙ absent)
+
+-- the same where a span is synced that may be none
+synced_at : (o : Option ℕ) (len i : ℕ) (pages : List Page) → HaveLines pages → (touched_lines_at o len).volume i ≡ true
+    → VolumeKeeps (persist_at o len pages) i (line_has (cell_of (persist_at o len pages) (i / 64)) (i % 64))
+synced_at None len i pages lines covered = cc covered
+synced_at (Some start) len i pages lines covered = synced_line start len i pages covered lines
 
 -- A command that covers the place was done: each value of its word has the byte.
-covered_place : (h : Machine) (action : Action) (next : Machine) (x : Place) → IsComplete h → is_made_durable action x ≡ true → refusal h action ≡ None → Alters h action next
+covered_place : (h : Machine) (action : Action) (next : Machine) (x : Place) → IsComplete h → is_made_durable h action x ≡ true → Alters h action next
     → PlaceKeeps next x (byte_at_place next x)
-covered_place h action next (of_blocks i) whole covered none to = refl
-covered_place h (VSync offset len) next (of_volume i) whole covered none to =
-    let lt = within h offset len i none covered in (
-      subst (λ g. i / 64 < 64 * g.vpages) (sym to.geometry) lt,
-      subst (λ p. VolumeKeeps p i (line_has (cell_of p (i / 64)) (i % 64))) (sym to.volume) (synced_line offset len i h.volume covered (whole.volume (i / 64) lt)),
-    )
-covered_place h action next (of_volume i) whole covered none to = cc covered
+covered_place h action next (of_blocks i) whole covered to = refl
+covered_place h (VSync offset len) next (of_volume i) whole covered to =
+    subst (λ p. VolumeKeeps p i (line_has (cell_of p (i / 64)) (i % 64))) (sym to.volume) (synced_at (Some offset) len i h.volume whole.lines covered)
+covered_place h (VPSync address len) next (of_volume i) whole covered to =
+    subst (λ p. VolumeKeeps p i (line_has (cell_of p (i / 64)) (i % 64))) (sym to.volume)
+    (synced_at (physical_offset h.geometry address len) len i h.volume whole.lines covered)
+covered_place h action next (of_volume i) whole covered to = cc covered
 
 pub stop_done : (by : Interruption) → Done ≡ interrupted_answer by → ⊥
 stop_done Failed is = cc is
 stop_done Lost is = cc is
 
-covered_step : (h : Machine) (action : Action) (answer : Answer) (next : Machine) (x : Place) → IsComplete h → is_made_durable action x ≡ true → answer ≡ Done → Step h action answer next
+covered_step : (h : Machine) (action : Action) (answer : Answer) (next : Machine) (x : Place) → IsComplete h → is_made_durable h action x ≡ true → answer ≡ Done → Step h action answer next
     → Keeps next x (byte_at_place next x)
 covered_step h action answer next x whole covered done (idles (inl why) to) = absurd (both_ways (is_refused answer) (ap is_refused done) (refused_told h action answer why))
 covered_step h action answer next x whole covered done (idles (inr is_made_durable) to) = absurd (both_ways _ (is_made_durable x) covered)
 covered_step h action answer next x whole covered done (stops by is to) = absurd (stop_done by (sym done ∙ is))
 covered_step h action answer next x whole covered done (returns is_made_durable back) = absurd (both_ways _ (is_made_durable x) covered)
 covered_step h action answer next x whole covered done (alters begun none to) =
-    let free = to.interrupted ∙ whole.settled (is_on h action (covers_usable action x covered) none) in
+    let free = to.interrupted ∙ whole.settled (is_on h action (covers_usable h action x covered) none) in
     record {
-      place = covered_place h action next x whole covered none to;
+      place = covered_place h action next x whole covered to;
       spared = subst (λ o. SparedBy o x) (sym free) tt;
       settled = λ on. free;
     }
 
-made : (h next : Machine) (action : Action) (x : Place) → Does h action next → is_made_durable action x ≡ true → Keeps next x (byte_at_place next x)
+made : (h next : Machine) (action : Action) (x : Place) → Does h action next → is_made_durable h action x ≡ true → Keeps next x (byte_at_place next x)
 made h next action x does covered =
     let taken = step_of h action does.said next does.came in
     let done : taken.answer ≡ Done = cc (taken.answers, does.done) in covered_step h action taken.answer next x does.whole covered done taken.step
@@ -205,6 +208,6 @@ has h x v is = record { kept = is; shown = by_value v is }
     by_value None none = tt
     by_value (Some byte) some = reads h x byte some
 
-pub durable : (h next : Machine) (action : Action) (x : Place) → Does h action next → is_made_durable action x ≡ true → IsDurable next x
+pub durable : (h next : Machine) (action : Action) (x : Place) → Does h action next → is_made_durable h action x ≡ true → IsDurable next x
 durable h next action x does covered inputs said later bytes run spares =
     has later x (byte_at_place next x) (keeps_byte later x (byte_at_place next x) (keeps-run inputs next later said x (byte_at_place next x) bytes run spares (made h next action x does covered)))

@@ -1,5 +1,6 @@
 pub mod StepLemmas
 pub mod WordLemmas
+pub mod PresenceLemmas
 pub mod LineLemmas
 pub mod BlockLemmas
 pub mod KeepLemmas

@@ -1,5 +1,5 @@
 -- A byte of a line of the volume that each value of its word has.
-use Rattle.std.proofs.Common.{◌≡◌, inl, inr, ℕ, ◌+◌, ◌*◌, ◌/◌, ◌%◌, ◌<◌, Bool, true, false, cond, Option, Some, None, option_map, List, [], ◌∷◌, length, map, get_or, slice_get, slice_index_or, replicate, refl, sym, ap, subst, ◌∙◌, arith}
+use Rattle.std.proofs.Common.{◌≡◌, ◌⊎◌, ◌^◌, zero, suc, inl, inr, ℕ, ◌+◌, ◌*◌, ◌/◌, ◌%◌, ◌<◌, Bool, true, false, cond, Option, Some, None, option_map, option_and_then, List, [], ◌∷◌, length, map, get_or, slice_get, slice_index_or, replicate, refl, sym, ap, subst, ◌∙◌, arith}
 use Rattle.std.proofs.lemmas.Bool.Decides.{nat_tests}
 use Rattle.std.proofs.lemmas.Option.{slice_get-get_or, slice_get-map, get_or_from_slice_get}
 use Rattle.std.specs.Int.{byte_at}
@@ -7,16 +7,19 @@ use Rattle.line_device.specs.History.{latest, newest}
 use Rattle.line_device.specs.Medium.{word_stored}
 use Rattle.line_device.specs.Panel.{Image}
 use Rattle.line_device.specs.declared.line.Choice.{Choice}
-use Rattle.nvm_model.specs.Blocks.{is_among}
-use Rattle.nvm_model.specs.Numbered.{list_from, map_from}
-use Rattle.nvm_model.specs.Cell.{Cell, KeepsCell, covers, flush_cell, persist_cell, put_cell, read_cell, touches}
+use Rattle.nvm_model.specs.Numbered.{AreMixed, is_among, list_from, map_from}
+use Rattle.nvm_model.specs.Cell.{Cell, KeepsCell, covers, flush_cell, persist_cell, put_cell, read_cell, touches, zero_cell}
 use Rattle.nvm_model.specs.Cell.Cell.{Bad, Kept}
-use Rattle.nvm_model.specs.Interrupted.{Became, MayPersist, MayPut, MayStore, MaySync}
-use Rattle.nvm_model.specs.Page.{Page, KeepsPages, cell_of, fill, persist, put, read_pages}
+use Rattle.nvm_model.specs.Interrupted.{Became, LineByLine, MayPersist, MayPut, MayStore, MaySync}
+use Rattle.nvm_model.specs.Page.{Page, KeepsPages, cell_in, cell_of, discard, discard_page, fill, fill_page, is_present, persist, presence_of, put, read_pages, touches_page}
+use Rattle.nvm_model.specs.Page.Page.{Absent, Present}
 use Rattle.nvm_model.proofs.NumberedLemmas.{slice_get-list_from, slice_get-map_from}
-use Rattle.nvm_model.proofs.PageLemmas.{cell_of-fill, cell_of-persist, cell_of-put, cell_of-read_pages}
-use Rattle.durable.specs.Place.{line_has}
+use Rattle.nvm_model.proofs.PageLemmas.{cell_of-fill, cell_of-persist, cell_of-put, cell_of-read_pages, presence_of-persist, presence_of-put, presence_of-read_pages}
+use Rattle.durable.specs.Place.{is_line_present, line_has}
 use Rattle.durable.specs.Durable.{IsLineThere}
+use Rattle.durable.proofs.PresenceLemmas.{has_lines, line_in, page_present, zero_at}
+use Rattle.std.proofs.lemmas.List.{get_or-replicate}
+use native.Mathlib.Nat.{zero-div}
 use Rattle.durable.proofs.WordLemmas.{WordKeeps, word_keeps-flushed, word_keeps-latest, word_keeps-one, word_keeps-stored}
 
 -- byte i of the words is v, in each value
@@ -133,9 +136,53 @@ line_keeps-read choice image n i v (Kept weak words) lt keeps kept =
       },
     )
 
+-- a line of zeros has no other byte
+byte_at-zero : (k : ℕ) → byte_at k 0 ≡ 0
+byte_at-zero zero = refl
+byte_at-zero (suc k) = ap (λ n. n % 256) (zero-div (256 ^ suc k))
+
+line_keeps-zero : (i : ℕ) (v : Option ℕ) → i < 64 → v ≡ Some 0 → LineKeeps (Some zero_cell) i v
+line_keeps-zero i v lt is = subst (LineKeeps (Some zero_cell) i) (shown ∙ sym is) (line_keeps-flushed zero_cell i lt refl)
+  where
+    zero_word : List ℕ
+    zero_word = 0 ∷ []
+
+    word : slice_index_or (replicate 8 zero_word) (i / 8) [] ≡ zero_word
+    word = get_or-replicate 8 (i / 8) zero_word [] (omega arith)
+
+    shown : line_has (Some (flush_cell zero_cell)) i ≡ Some 0
+    shown = ap (λ h. Some (byte_at (i % 8) (newest h))) word ∙ ap Some (byte_at-zero (i % 8))
+
+-- the page of the byte is absent, where it reads as 0
+pub record AbsentKeeps (pages : List Page) (i : ℕ) (v : Option ℕ) : Type 0 where
+  pub absent : is_line_present pages (i / 64) ≡ false
+  pub zero : v ≡ Some 0
+
 -- The byte i of the volume has v, whatever a cut leaves.
 abbrev pub VolumeKeeps : List Page → ℕ → Option ℕ → Type 0
-VolumeKeeps pages i v = LineKeeps (cell_of pages (i / 64)) (i % 64) v
+VolumeKeeps pages i v = AbsentKeeps pages i v ⊎ LineKeeps (cell_of pages (i / 64)) (i % 64) v
+
+-- an absent page has no line
+absent_line : (pages : List Page) (n : ℕ) → is_line_present pages n ≡ false → cell_of pages n ≡ None
+absent_line pages n absent = by_page (slice_get pages (n / 64)) (sym (page_present pages n) ∙ absent)
+  where
+    by_page : (o : Option Page) → has_lines o ≡ false → line_in n o ≡ None
+    by_page None none = refl
+    by_page (Some Absent) none = refl
+    by_page (Some (Present cells)) there = cc there
+
+pub byte-kept : (pages : List Page) (i : ℕ) (v : Option ℕ) → VolumeKeeps pages i v → line_has (cell_of pages (i / 64)) (i % 64) ≡ v
+byte-kept pages i v (inl keeps) = ap (λ o. line_has o (i % 64)) (absent_line pages (i / 64) keeps.absent) ∙ sym keeps.zero
+byte-kept pages i v (inr keeps) = line_has-kept (cell_of pages (i / 64)) (i % 64) v keeps
+
+-- and what an absent page has is kept
+pub absent-kept : (pages : List Page) (i : ℕ) → is_line_present pages (i / 64) ≡ false → VolumeKeeps pages i (line_has (cell_of pages (i / 64)) (i % 64))
+absent-kept pages i absent = inl (record { absent = absent; zero = ap (λ o. line_has o (i % 64)) (absent_line pages (i / 64) absent) })
+
+-- pages of which the same are there
+absent_as : (i : ℕ) (v : Option ℕ) (pages new : List Page) → presence_of new ≡ presence_of pages → AbsentKeeps pages i v → AbsentKeeps new i v
+absent_as i v pages new same keeps =
+    record { absent = ap (λ bs. slice_index_or bs (i / 64 / 64) false) same ∙ keeps.absent; zero = keeps.zero }
 
 -- a line that keeps is one that is there
 pub record KeptLine (o : Option Cell) (i : ℕ) (v : Option ℕ) : Type 0 where
@@ -148,49 +195,143 @@ kept_line None i v keeps = absurd keeps
 kept_line (Some cell) i v keeps = record { cell = cell; is = refl; keeps = keeps }
 
 pub keeps-persist : (start len i : ℕ) (v : Option ℕ) (pages : List Page) → VolumeKeeps pages i v → VolumeKeeps (persist start len pages) i v
-keeps-persist start len i v pages keeps =
+keeps-persist start len i v pages (inl keeps) = inl (absent_as i v pages (persist start len pages) (presence_of-persist start len pages) keeps)
+keeps-persist start len i v pages (inr keeps) =
     let line = kept_line (cell_of pages (i / 64)) (i % 64) v keeps in
-    subst (λ o. LineKeeps o (i % 64) v)
+    inr (subst (λ o. LineKeeps o (i % 64) v)
     (sym (cell_of-persist start len pages (i / 64) ∙ ap (option_map (persist_cell start len (i / 64))) line.is))
-    (line_keeps-persist start len (i / 64) (i % 64) v line.cell line.keeps)
+    (line_keeps-persist start len (i / 64) (i % 64) v line.cell line.keeps))
+
+-- pages that a store fills
+page_of-fill : (at len : ℕ) (pages : List Page) (k : ℕ) → slice_get (fill at len pages) k ≡ option_map (fill_page at len (0 + k)) (slice_get pages k)
+unfolding fill
+page_of-fill at len pages k = slice_get-map_from (fill_page at len) 0 pages k
+
+keeps-fill : (at len i : ℕ) (v : Option ℕ) (pages : List Page) → VolumeKeeps pages i v → VolumeKeeps (fill at len pages) i v
+keeps-fill at len i v pages (inr keeps) =
+    let line = kept_line (cell_of pages (i / 64)) (i % 64) v keeps in
+    inr (subst (λ o. LineKeeps o (i % 64) v) (sym (cell_of-fill at len pages (i / 64) line.cell line.is)) line.keeps)
+keeps-fill at len i v pages (inl keeps) = filled
+  where
+    found : slice_get (fill at len pages) (i / 64 / 64) ≡ option_map (fill_page at len (0 + i / 64 / 64)) (slice_get pages (i / 64 / 64))
+    found = page_of-fill at len pages (i / 64 / 64)
+
+    still : has_lines (option_map (fill_page at len (0 + i / 64 / 64)) (slice_get pages (i / 64 / 64))) ≡ false → VolumeKeeps (fill at len pages) i v
+    still absent = inl (record { absent = page_present (fill at len pages) (i / 64) ∙ ap has_lines found ∙ absent; zero = keeps.zero })
+
+    zeros : option_map (fill_page at len (0 + i / 64 / 64)) (slice_get pages (i / 64 / 64)) ≡ Some (Present (replicate 64 zero_cell)) → VolumeKeeps (fill at len pages) i v
+    zeros is =
+        let line : cell_of (fill at len pages) (i / 64) ≡ Some zero_cell = ap (line_in (i / 64)) (found ∙ is) ∙ zero_at 64 (i / 64 % 64) (omega arith) in
+        inr (subst (λ o. LineKeeps o (i % 64) v) (sym line) (line_keeps-zero (i % 64) v (omega arith) keeps.zero))
+
+    by_page : (o : Option Page) → has_lines o ≡ false
+        → (has_lines (option_map (fill_page at len (0 + i / 64 / 64)) o) ≡ false) ⊎ (option_map (fill_page at len (0 + i / 64 / 64)) o ≡ Some (Present (replicate 64 zero_cell)))
+    by_page None none = inl refl
+    by_page (Some Absent) none = by_test (touches_page at len (0 + i / 64 / 64))
+      where
+        by_test : (t : Bool) → (is_present (cond t (Present (replicate 64 zero_cell)) Absent) ≡ false) ⊎ (Some (cond t (Present (replicate 64 zero_cell)) Absent) ≡ Some (Present (replicate 64 zero_cell)))
+        by_test true = inr refl
+        by_test false = inl refl
+    by_page (Some (Present cells)) there = cc there
+
+    filled : VolumeKeeps (fill at len pages) i v
+    filled = elim (by_page (slice_get pages (i / 64 / 64)) (sym (page_present pages (i / 64)) ∙ keeps.absent)) as (λ _. VolumeKeeps (fill at len pages) i v) [
+      | inl absent ↦ still absent
+      | inr is ↦ zeros is
+    ]
+
+keeps-put : (at i : ℕ) (v : Option ℕ) (bytes : List ℕ) (pages : List Page) → ((k : ℕ) → get_or bytes k 0 < 256) → is_among at (length bytes) i ≡ false
+    → VolumeKeeps pages i v → VolumeKeeps (put at bytes pages) i v
+keeps-put at i v bytes pages small out (inl keeps) = inl (absent_as i v pages (put at bytes pages) (presence_of-put at bytes pages) keeps)
+keeps-put at i v bytes pages small out (inr keeps) =
+    let line = kept_line (cell_of pages (i / 64)) (i % 64) v keeps in
+    inr (subst (λ o. LineKeeps o (i % 64) v)
+    (sym (cell_of-put at bytes pages (i / 64) ∙ ap (option_map (put_cell at bytes (i / 64))) line.is))
+    (line_keeps-put at i v bytes line.cell small out line.keeps))
 
 pub keeps-stored : (at i : ℕ) (v : Option ℕ) (bytes : List ℕ) (pages : List Page) → ((k : ℕ) → get_or bytes k 0 < 256) → is_among at (length bytes) i ≡ false
     → VolumeKeeps pages i v → VolumeKeeps (put at bytes (fill at (length bytes) pages)) i v
-keeps-stored at i v bytes pages small out keeps =
-    let line = kept_line (cell_of pages (i / 64)) (i % 64) v keeps in
-    let filled = cell_of-fill at (length bytes) pages (i / 64) line.cell line.is in
-    subst (λ o. LineKeeps o (i % 64) v)
-    (sym (cell_of-put at bytes (fill at (length bytes) pages) (i / 64) ∙ ap (option_map (put_cell at bytes (i / 64))) filled))
-    (line_keeps-put at i v bytes line.cell small out line.keeps)
+keeps-stored at i v bytes pages small out keeps = keeps-put at i v bytes (fill at (length bytes) pages) small out (keeps-fill at (length bytes) i v pages keeps)
 
 became : (R : Cell → Cell → Type 0) (i : ℕ) (v : Option ℕ) (old : Cell) (new : Option Cell) → ((c : Cell) → R old c → LineKeeps (Some c) i v)
     → Became R (Some old) new → LineKeeps new i v
 became R i v old None then may = absurd may
 became R i v old (Some c) then may = then c may
 
+-- pages each line of which became one that keeps it
+by_lines : (R : ℕ → Cell → Cell → Type 0) (i : ℕ) (v : Option ℕ) (pages left : List Page)
+    → ((cell c : Cell) → LineKeeps (Some cell) (i % 64) v → R (i / 64) cell c → LineKeeps (Some c) (i % 64) v) → VolumeKeeps pages i v → LineByLine R pages left
+    → VolumeKeeps left i v
+by_lines R i v pages left each (inl keeps) lines = inl (absent_as i v pages left lines.there keeps)
+by_lines R i v pages left each (inr keeps) lines =
+    let line = kept_line (cell_of pages (i / 64)) (i % 64) v keeps in
+    inr (became (R (i / 64)) (i % 64) v line.cell (cell_of left (i / 64)) (λ c may. each line.cell c line.keeps may)
+    (subst (λ o. Became (R (i / 64)) o (cell_of left (i / 64))) line.is (lines.each (i / 64))))
+
 pub keeps-may_store : (at i : ℕ) (v : Option ℕ) (bytes : List ℕ) (pages left : List Page) → ((k : ℕ) → get_or bytes k 0 < 256) → is_among at (length bytes) i ≡ false
     → VolumeKeeps pages i v → MayStore at bytes pages left → VolumeKeeps left i v
 keeps-may_store at i v bytes pages left small out keeps (inl is) = subst (λ p. VolumeKeeps p i v) {x = pages} (sym is) keeps
 keeps-may_store at i v bytes pages left small out keeps (inr lines) =
-    let line = kept_line (cell_of pages (i / 64)) (i % 64) v keeps in
-    let filled = cell_of-fill at (length bytes) pages (i / 64) line.cell line.is in
-    became (MayPut at bytes (i / 64)) (i % 64) v line.cell (cell_of left (i / 64)) (λ c may. line_keeps-may_put at i v bytes line.cell c small out line.keeps may)
-    (subst (λ o. Became (MayPut at bytes (i / 64)) o (cell_of left (i / 64))) filled (lines.each (i / 64)))
+    by_lines (MayPut at bytes) i v (fill at (length bytes) pages) left (λ cell c line may. line_keeps-may_put at i v bytes cell c small out line may)
+    (keeps-fill at (length bytes) i v pages keeps) lines
 
 pub keeps-may_sync : (start len i : ℕ) (v : Option ℕ) (pages left : List Page) → VolumeKeeps pages i v → MaySync start len pages left → VolumeKeeps left i v
-keeps-may_sync start len i v pages left keeps lines =
-    let line = kept_line (cell_of pages (i / 64)) (i % 64) v keeps in
-    became (MayPersist start len (i / 64)) (i % 64) v line.cell (cell_of left (i / 64)) (synced line.cell line.keeps)
-    (subst (λ o. Became (MayPersist start len (i / 64)) o (cell_of left (i / 64))) line.is (lines.each (i / 64)))
+keeps-may_sync start len i v pages left keeps lines = by_lines (MayPersist start len) i v pages left synced keeps lines
   where
-    synced : (cell : Cell) → LineKeeps (Some cell) (i % 64) v → (c : Cell) → MayPersist start len (i / 64) cell c → LineKeeps (Some c) (i % 64) v
-    synced cell line c (inl is) = subst (λ o. LineKeeps (Some o) (i % 64) v) {x = cell} (sym is) line
-    synced cell line c (inr is) =
+    synced : (cell c : Cell) → LineKeeps (Some cell) (i % 64) v → MayPersist start len (i / 64) cell c → LineKeeps (Some c) (i % 64) v
+    synced cell c line (inl is) = subst (λ o. LineKeeps (Some o) (i % 64) v) {x = cell} (sym is) line
+    synced cell c line (inr is) =
         subst (λ o. LineKeeps (Some o) (i % 64) v) {x = persist_cell start len (i / 64) cell} (sym is) (line_keeps-persist start len (i / 64) (i % 64) v cell line)
 
-pub keeps-read : (choice : Choice) (image : Image) (count i : ℕ) (v : Option ℕ) (pages : List Page) → i / 64 < 64 * count → VolumeKeeps pages i v
-    → KeepsPages choice image pages → VolumeKeeps (read_pages image count) i v
-keeps-read choice image count i v pages within keeps kept =
+-- pages that have the page of the byte
+same_page : (i : ℕ) (v : Option ℕ) (pages new : List Page) → slice_get new (i / 64 / 64) ≡ slice_get pages (i / 64 / 64) → VolumeKeeps pages i v → VolumeKeeps new i v
+same_page i v pages new is (inl keeps) =
+    inl (record { absent = page_present new (i / 64) ∙ ap has_lines is ∙ sym (page_present pages (i / 64)) ∙ keeps.absent; zero = keeps.zero })
+same_page i v pages new is (inr keeps) = inr (subst (λ o. LineKeeps (line_in (i / 64) o) (i % 64) v) (sym is) keeps)
+
+page_of-discard : (first count k : ℕ) (pages : List Page) → is_among first count k ≡ false → slice_get (discard first count pages) k ≡ slice_get pages k
+unfolding discard
+page_of-discard first count k pages out = slice_get-map_from (discard_page first count) 0 pages k ∙ by_page (slice_get pages k)
+  where
+    number : 0 + k ≡ k
+    number = omega arith
+
+    by_page : (o : Option Page) → option_map (discard_page first count (0 + k)) o ≡ o
+    by_page None = refl
+    by_page (Some page) = ap (λ j. Some (discard_page first count j page)) number ∙ ap (λ b. Some (cond b Absent page)) out
+
+-- a byte of a page that is not discarded
+spared_page : (first count i : ℕ) (pages : List Page) → is_among first count (i / 4096) ≡ false
+    → slice_get (discard first count pages) (i / 64 / 64) ≡ slice_get pages (i / 64 / 64)
+spared_page first count i pages out =
+    let number : i / 64 / 64 ≡ i / 4096 = omega arith in page_of-discard first count (i / 64 / 64) pages (ap (is_among first count) number ∙ out)
+
+pub keeps-discard : (first count i : ℕ) (v : Option ℕ) (pages : List Page) → is_among first count (i / 4096) ≡ false → VolumeKeeps pages i v
+    → VolumeKeeps (discard first count pages) i v
+keeps-discard first count i v pages out keeps = same_page i v pages (discard first count pages) (spared_page first count i pages out) keeps
+
+pub keeps-may_discard : (first count i : ℕ) (v : Option ℕ) (pages left : List Page) → is_among first count (i / 4096) ≡ false → VolumeKeeps pages i v
+    → AreMixed Page pages (discard first count pages) left → VolumeKeeps left i v
+keeps-may_discard first count i v pages left out keeps may = elim (may.each (i / 64 / 64)) as (λ _. VolumeKeeps left i v) [
+  | inl is ↦ same_page i v pages left is keeps
+  | inr is ↦ same_page i v pages left (is ∙ spared_page first count i pages out) keeps
+]
+
+-- a line that is there is one of a page that is there
+page_there : (pages : List Page) (n : ℕ) (cell : Cell) → cell_of pages n ≡ Some cell → slice_get (presence_of pages) (n / 64) ≡ Some true
+page_there pages n cell is = slice_get-map is_present pages (n / 64) ∙ by_page (slice_get pages (n / 64)) is
+  where
+    by_page : (o : Option Page) → option_and_then (λ page. cell_in page (n % 64)) o ≡ Some cell → option_map is_present o ≡ Some true
+    by_page None none = cc none
+    by_page (Some Absent) none = cc none
+    by_page (Some (Present cells)) found = refl
+
+pub keeps-read : (choice : Choice) (place : ℕ → ℕ) (image : Image) (there : List Bool) (i : ℕ) (v : Option ℕ) (pages : List Page) → VolumeKeeps pages i v
+    → presence_of pages ≡ there → KeepsPages choice place image pages → VolumeKeeps (read_pages place image there) i v
+keeps-read choice place image there i v pages (inl keeps) present kept =
+    inl (absent_as i v pages (read_pages place image there) (presence_of-read_pages place image there ∙ sym present) keeps)
+keeps-read choice place image there i v pages (inr keeps) present kept =
     let line = kept_line (cell_of pages (i / 64)) (i % 64) v keeps in
-    subst (λ o. LineKeeps o (i % 64) v) (sym (cell_of-read_pages image count (i / 64) within))
-    (line_keeps-read choice image (i / 64) (i % 64) v line.cell (omega arith) line.keeps (kept (i / 64) line.cell line.is))
+    let is : slice_get there (i / 64 / 64) ≡ Some true = ap (λ bs. slice_get bs (i / 64 / 64)) (sym present) ∙ page_there pages (i / 64) line.cell line.is in
+    inr (subst (λ o. LineKeeps o (i % 64) v) (sym (cell_of-read_pages place image there (i / 64) is))
+    (line_keeps-read choice image (place (i / 64)) (i % 64) v line.cell (omega arith) line.keeps (kept (i / 64) line.cell line.is)))

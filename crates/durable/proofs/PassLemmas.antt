@@ -1,5 +1,5 @@
 -- A run as it comes to one of its commands.
-use Rattle.std.proofs.Common.{◌≡◌, List, [], ◌∷◌, ◌++◌, true, refl, sym, ap, ◌∙◌, append_assoc}
+use Rattle.std.proofs.Common.{List, [], ◌∷◌, ◌++◌, refl, sym, ap, ◌∙◌, append_assoc}
 use Rattle.reply_text.specs.Answer.{Answer}
 use Rattle.script_text.specs.Action.{Action}
 use Rattle.script_text.specs.Script.{Input}
@@ -7,7 +7,6 @@ use Rattle.script_text.specs.Script.Input.{Asked}
 use Rattle.machine_host.specs.Machine.{Machine}
 use Rattle.machine_host.specs.Run.{Run, Transcript, followed_by, silence}
 use Rattle.durable.specs.Place.{Place}
-use Rattle.durable.specs.Touching.{is_made_durable}
 use Rattle.durable.specs.Durable.{BringBytes, IsComplete, KeepsThrough, Passes}
 use Rattle.durable.proofs.LawLemmas.{durable}
 use Rattle.durable.proofs.WholeLemmas.{whole-run}
@@ -40,13 +39,13 @@ pass (input ∷ before) h end action after said run =
           ∙ sym (append_assoc run.0.answers later.early.answers (later.middle.answers ++ later.late.answers));
     }
 
-pub keeps_through : (h end : Machine) (before after : List Input) (action : Action) (said : Transcript) (x : Place) → IsComplete h → BringBytes after → is_made_durable action x ≡ true
+pub keeps_through : (h end : Machine) (before after : List Input) (action : Action) (said : Transcript) (x : Place) → IsComplete h → BringBytes after
     → Run h (before ++ Asked action ∷ after) said end → KeepsThrough h before action after said end x
-keeps_through h end before after action said x whole bytes covered run =
+keeps_through h end before after action said x whole bytes run =
     let passes = pass before h end action after said run in
     record {
       passes = passes;
-      keeps = λ done spares.
+      keeps = λ covered done spares.
           durable passes.here passes.next action x
           (record { whole = whole-run before h passes.here passes.early whole passes.run; said = passes.middle; came = passes.came; done = done }) covered after passes.late end bytes
           passes.rest spares;

@@ -1,21 +1,25 @@
 -- What a refusal is answered, and what is known where there is none.
-use Rattle.std.proofs.Common.{◌≡◌, ℕ, Bool, true, false, cond, Option, Some, None, option_map, List, [], ◌∷◌, refl, ◌∙◌, sym, ap}
+use Rattle.std.proofs.Common.{◌≡◌, ℕ, length, Bool, true, false, cond, Option, Some, None, option_map, option_and_then, List, [], ◌∷◌, refl, ◌∙◌, sym, ap}
 use Rattle.nvm_model.specs.Blocks.{Obstacle, first_there, first_obstacle}
 use Rattle.nvm_model.specs.Blocks.Obstacle.{scar, bad_line}
 use Rattle.block_device.specs.Refusals.{Refusal}
 use Rattle.block_device.specs.Refusals.Refusal.{Range, Length, Limit, Overlap, Meta, Unreadable}
+use Rattle.pm_volume.specs.Refusals.{VolumeRefusal, physical_offset, poisoned_at}
+use Rattle.pm_volume.specs.Refusals.VolumeRefusal.{Range as Past, Length as Empty, Address, Meta as BadMeta, Poison}
+use Rattle.nvm_model.specs.Page.{first_bad_line, first_uncovered_line}
 use Rattle.reply_text.specs.declared.reply.Why.{Why}
 use Rattle.reply_text.specs.Answer.{Answer}
-use Rattle.reply_text.specs.Answer.Answer.{Done, DoneBad, Bytes, Yes, No, Scarred, PoisonBlock, DeviceFailed, PowerLost, Refused, RefusedMeta}
+use Rattle.reply_text.specs.Answer.Answer.{Done, DoneBad, Bytes, Ranges, Yes, No, Scarred, PoisonBlock, PoisonVolume, DeviceFailed, PowerLost, Refused, RefusedMeta}
 use Rattle.reply_text.specs.declared.reply.Why.TheVariants as because
 use Rattle.script_text.specs.Action.{Action}
-use Rattle.script_text.specs.Action.Action.{BRead, BWrite, BAtomic, BMulti, BDiscard, BDiscardIf, BExists, BScar, VLoad, VStore, VSync, Cut, CutIn, Restart}
+use Rattle.script_text.specs.Action.Action.{BRead, BWrite, BAtomic, BMulti, BDiscard, BDiscardIf, BExists, BScar, VLoad, VStore, VSync, VRanges, VPSync, VDiscard, VDiscardIf, VExists, Cut, CutIn, Restart}
 use Rattle.machine_host.specs.declared.mode.Mode.{Mode}
 use Rattle.machine_host.specs.declared.mode.Mode.TheVariants.{On, Off, Unsettled}
 use Rattle.machine_host.specs.Machine.{Machine}
 use Rattle.machine_host.specs.Meaning.{Reasons, first_reason, metadata_refusal, mode_refusal}
 use Rattle.machine_host.specs.Meaning.Needs.{Usable}
 use Rattle.machine_host.specs.OnBlocks.{refusal_answer}
+use Rattle.machine_host.specs.OnVolume.{volume_answer}
 use Rattle.machine_host.specs.Commands.{meaning, refusal}
 
 -- the answers of refusals
@@ -23,10 +27,12 @@ abbrev pub is_refused : Answer → Bool
 is_refused Done = false
 is_refused (DoneBad n) = false
 is_refused (Bytes bytes) = false
+is_refused (Ranges ranges) = false
 is_refused Yes = false
 is_refused No = false
 is_refused (Scarred block) = true
 is_refused (PoisonBlock block line) = true
+is_refused (PoisonVolume offset) = true
 is_refused DeviceFailed = false
 is_refused PowerLost = false
 is_refused (Refused why) = true
@@ -68,6 +74,21 @@ refuses_obstacle : (o : Option Obstacle) → Refuses (option_map (λ obstacle. r
 refuses_obstacle None = tt
 refuses_obstacle (Some obstacle) = refuses_refusal (Unreadable obstacle)
 
+refuses_volume_refusal : (why : VolumeRefusal) → is_refused (volume_answer why) ≡ true
+refuses_volume_refusal Past = refl
+refuses_volume_refusal Empty = refl
+refuses_volume_refusal Address = refl
+refuses_volume_refusal (BadMeta line) = refl
+refuses_volume_refusal (Poison offset) = refl
+
+refuses_volume : (o : Option VolumeRefusal) → Refuses (option_map volume_answer o)
+refuses_volume None = tt
+refuses_volume (Some why) = refuses_volume_refusal why
+
+refuses_span : (f : ℕ → Option VolumeRefusal) (o : Option ℕ) → Refuses (option_and_then (λ offset. option_map volume_answer (f offset)) o)
+refuses_span f None = tt
+refuses_span f (Some offset) = refuses_volume (f offset)
+
 refuses_metadata : (changes : Bool) (lines : List ℕ) → Refuses (metadata_refusal changes lines)
 refuses_metadata false lines = tt
 refuses_metadata true [] = tt
@@ -83,6 +104,13 @@ blocks_reasons o = record { named = tt; places = refuses_blocks o; full = tt; un
 why_reasons : (o : Option Why) → RefusingReasons (record { named = None; places = option_map Refused o; full = None; changes_metadata = false; unreadable = None })
 why_reasons o = record { named = tt; places = refuses_why o; full = tt; unreadable = tt }
 
+volume_reasons : (places poison : Option VolumeRefusal) (changes : Bool)
+    → RefusingReasons (record { named = None; places = option_map volume_answer places; full = None; changes_metadata = changes; unreadable = option_map volume_answer poison })
+volume_reasons places poison changes = record { named = tt; places = refuses_volume places; full = tt; unreadable = refuses_volume poison }
+
+past_reasons : (b : Bool) → RefusingReasons (record { named = None; places = cond b None (Some (Refused because.Range)); full = None; changes_metadata = false; unreadable = None })
+past_reasons b = record { named = tt; places = refuses_past b; full = tt; unreadable = tt }
+
 refusing_reasons : (h : Machine) (action : Action) → RefusingReasons ((meaning action).reasons h)
 refusing_reasons h (BRead block count) =
     record { named = tt; places = refuses_why _; full = tt; unreadable = refuses_obstacle (first_obstacle h.blocks block count) }
@@ -91,11 +119,22 @@ refusing_reasons h (BAtomic block bytes) = blocks_reasons _
 refusing_reasons h (BMulti ranges bytes) = blocks_reasons _
 refusing_reasons h (BDiscard block count) = blocks_reasons _
 refusing_reasons h (BDiscardIf block count) = blocks_reasons _
-refusing_reasons h (BExists block) = record { named = tt; places = refuses_past _; full = tt; unreadable = tt }
+refusing_reasons h (BExists block) = past_reasons _
 refusing_reasons h (BScar ranges) = blocks_reasons _
-refusing_reasons h (VLoad offset len) = why_reasons _
-refusing_reasons h (VStore offset bytes) = why_reasons _
-refusing_reasons h (VSync offset len) = why_reasons _
+refusing_reasons h (VLoad offset len) =
+    record { named = tt; places = refuses_why _; full = tt; unreadable = refuses_volume (poisoned_at (first_bad_line h.volume offset len)) }
+refusing_reasons h (VStore offset bytes) = volume_reasons _ (poisoned_at (first_uncovered_line h.volume offset (length bytes))) _
+refusing_reasons h (VSync offset len) = volume_reasons _ (poisoned_at (first_bad_line h.volume offset len)) false
+refusing_reasons h VRanges = why_reasons None
+refusing_reasons h (VPSync address len) = record {
+  named = tt;
+  places = refuses_volume _;
+  full = tt;
+  unreadable = refuses_span (λ offset. poisoned_at (first_bad_line h.volume offset len)) (physical_offset h.geometry address len);
+}
+refusing_reasons h (VDiscard page count) = volume_reasons _ None true
+refusing_reasons h (VDiscardIf page count) = volume_reasons _ None true
+refusing_reasons h (VExists page) = past_reasons _
 refusing_reasons h Cut = why_reasons None
 refusing_reasons h (CutIn calls) = why_reasons _
 refusing_reasons h (Restart choice) = why_reasons None
@@ -133,14 +172,6 @@ pub is_on : (h : Machine) (action : Action) → (meaning action).needs ≡ Usabl
 unfolding refusal
 is_on h action needs none =
     usable_on h.mode (sym (ap (mode_refusal h.mode) needs) ∙ why_none (mode_refusal h.mode (meaning action).needs) (first_none _ _ none).0)
-
-pub places_allowed : (h : Machine) (action : Action) (o : Option Why) → (meaning action).reasons h ≡ record { named = None; places = option_map Refused o; full = None; changes_metadata = false; unreadable = None }
-    → refusal h action ≡ None → o ≡ None
-unfolding refusal
-places_allowed h action o is none =
-    let rest = (first_none (option_map Refused (mode_refusal h.mode (meaning action).needs)) _ none).1 in
-    let places = (first_none ((meaning action).reasons h).places _ (first_none ((meaning action).reasons h).named _ rest).1).0 in
-    why_none o (sym (ap (λ r. r.places) is) ∙ places)
 
 pub places_none : (h : Machine) (action : Action) → refusal h action ≡ None → ((meaning action).reasons h).places ≡ None
 unfolding refusal

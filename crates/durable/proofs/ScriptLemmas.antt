@@ -13,8 +13,8 @@ use Rattle.line_device.specs.declared.line.Choice.TheVariants.{Firsts, Lasts}
 use Rattle.nvm_base.specs.Data.{ByteRun, byte_count, data_within, followed, item_of, items_of, pair_of, pairs_of, repeated, run, runs_of, spelled, within}
 use Rattle.nvm_base.specs.Numbers.{number_of}
 use Rattle.script_text.specs.Action.{Action}
-use Rattle.script_text.specs.Action.Action.{BRead, BWrite, BAtomic, BMulti, BDiscard, BDiscardIf, BExists, BScar, VLoad, VStore, VSync, CutIn, Restart}
-use Rattle.script_text.specs.Script.{Input, asked, command_action, cut_action, data_action, fitting, inputs, inputs_of, is_comment, line_input, lines_of, number_action, of_data, of_numbers, plain_action, ranges_action, ranges_of, restart_action, span_action, spans_action, spans_of, volume_action, words_input, words_of}
+use Rattle.script_text.specs.Action.Action.{BRead, BWrite, BAtomic, BMulti, BDiscard, BDiscardIf, BExists, BScar, VLoad, VStore, VSync, VRanges, VPSync, VDiscard, VDiscardIf, VExists, CutIn, Restart}
+use Rattle.script_text.specs.Script.{Input, asked, bare_action, command_action, cut_action, data_action, fitting, inputs, inputs_of, is_comment, line_input, lines_of, number_action, of_data, of_numbers, plain_action, power_action, ranges_action, ranges_of, restart_action, span_action, spans_action, spans_of, volume_action, words_input, words_of}
 use Rattle.script_text.specs.Script.Input.{Skipped, Malformed}
 use Rattle.durable.specs.Durable.{BringBytes, BringsBytes}
 
@@ -186,12 +186,24 @@ brings-restart (x ∷ []) =
     brings-cond (bytes_eq x (codes "none")) (Some (Restart Firsts)) _ tt (brings-cond (bytes_eq x (codes "all")) (Some (Restart Lasts)) None tt tt)
 brings-restart (x ∷ y ∷ more) = tt
 
+brings-bare : (action : Action) (words : List (List ℕ)) → BringsBytes action → Brings (bare_action action words)
+brings-bare action [] small = small
+brings-bare action (x ∷ words) small = tt
+
+brings-power : (name : List ℕ) (words : List (List ℕ)) → Brings (power_action name words)
+brings-power name words =
+    brings-cond (bytes_eq name (codes "cut")) (cut_action words) _ (brings-cut words)
+    (brings-cond (bytes_eq name (codes "restart")) (restart_action words) None (brings-restart words) tt)
+
 brings-volume : (name : List ℕ) (words : List (List ℕ)) → Brings (volume_action name words)
 brings-volume name words =
     brings-cond (bytes_eq name (codes "vload")) (span_action VLoad words) _ (brings-span VLoad words (λ a b. tt))
     (brings-cond (bytes_eq name (codes "vsync")) (span_action VSync words) _ (brings-span VSync words (λ a b. tt))
-    (brings-cond (bytes_eq name (codes "cut")) (cut_action words) _ (brings-cut words)
-    (brings-cond (bytes_eq name (codes "restart")) (restart_action words) None (brings-restart words) tt)))
+    (brings-cond (bytes_eq name (codes "vpsync")) (span_action VPSync words) _ (brings-span VPSync words (λ a b. tt))
+    (brings-cond (bytes_eq name (codes "vdiscard")) (span_action VDiscard words) _ (brings-span VDiscard words (λ a b. tt))
+    (brings-cond (bytes_eq name (codes "vdiscardif")) (span_action VDiscardIf words) _ (brings-span VDiscardIf words (λ a b. tt))
+    (brings-cond (bytes_eq name (codes "vexists")) (number_action VExists words) _ (brings-number VExists words (λ a. tt))
+    (brings-cond (bytes_eq name (codes "vranges")) (bare_action VRanges words) _ (brings-bare VRanges words tt) (brings-power name words)))))))
 
 brings-plain : (name : List ℕ) (words : List (List ℕ)) → Brings (plain_action name words)
 brings-plain name words =

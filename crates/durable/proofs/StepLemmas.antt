@@ -9,14 +9,15 @@ use Rattle.block_device.specs.Reading.{blocks_read}
 use Rattle.reply_text.specs.Answer.{Answer}
 use Rattle.reply_text.specs.Answer.Answer.{Done}
 use Rattle.script_text.specs.Action.{Action}
-use Rattle.script_text.specs.Action.Action.{BRead, BExists, VLoad, Cut, CutIn, Restart}
+use Rattle.script_text.specs.Action.Action.{BRead, BWrite, BAtomic, BMulti, BDiscard, BDiscardIf, BExists, BScar, VLoad, VStore, VSync, VRanges, VPSync, VDiscard, VDiscardIf, VExists, Cut, CutIn, Restart}
 use Rattle.machine_host.specs.declared.mode.Mode.TheVariants.{On}
 use Rattle.machine_host.specs.Machine.{Machine, Fate}
 use Rattle.machine_host.specs.Machine.Fate.{Gives, Works, Orders, Cuts, Restarts}
 use Rattle.machine_host.specs.Commands.{fate, meaning, refusal, unless_refused, while_interrupted}
 use Rattle.machine_host.specs.Interrupted.{interrupted_answer, interrupted_mode}
 use Rattle.machine_host.specs.Restarting.{RestartMayLeave, reading, restarted, restart_answer}
-use Rattle.machine_host.specs.Volume.{volume_image}
+use Rattle.word_tables.specs.Layout.{volume_line}
+use Rattle.pm_volume.specs.Presence.{presence_read}
 use Rattle.machine_host.specs.Run.{Ends, Takes, Transcript}
 use Rattle.durable.specs.Place.{Place}
 use Rattle.durable.specs.Place.Place.{of_volume, of_blocks}
@@ -34,7 +35,7 @@ pub record Idles (h next : Machine) : Type 0 where
 pub record Alters (h : Machine) (action : Action) (next : Machine) : Type 0 where
   pub geometry : next.geometry ≡ h.geometry
   pub blocks : next.blocks ≡ (meaning action).blocks h.blocks
-  pub volume : next.volume ≡ (meaning action).volume h.volume
+  pub volume : next.volume ≡ (meaning action).volume h.geometry h.volume
   pub interrupted : next.interrupted ≡ h.interrupted
   pub mode : next.mode ≡ h.mode
 
@@ -53,29 +54,29 @@ pub record Returns (h next : Machine) : Type 0 where
   pub may : RestartMayLeave choice image h
   pub geometry : next.geometry ≡ h.geometry
   pub blocks : next.blocks ≡ blocks_read h.geometry image.is_bad image.word
-  pub volume : next.volume ≡ read_pages (volume_image h.geometry image) h.geometry.vpages
+  pub volume : next.volume ≡ read_pages (volume_line h.geometry) image (presence_read h.geometry image.word)
   pub interrupted : next.interrupted ≡ None
 
 -- it makes nothing durable
-abbrev pub CoversNothing : Action → Type 0
-CoversNothing action = (x : Place) → is_made_durable action x ≡ false
+abbrev pub CoversNothing : Machine → Action → Type 0
+CoversNothing h action = (x : Place) → is_made_durable h action x ≡ false
 
 abbrev pub ChangesNothing : Action → Type 0
 ChangesNothing action = (x : Place) → changes action x ≡ false
 
 pub data Step (h : Machine) (action : Action) (answer : Answer) (next : Machine) : Type 0 where
-  idles : (refusal h action ≡ Some answer) ⊎ CoversNothing action → Idles h next → Step h action answer next
+  idles : (refusal h action ≡ Some answer) ⊎ CoversNothing h action → Idles h next → Step h action answer next
   alters : (answer ≡ Done) ⊎ ChangesNothing action → refusal h action ≡ None → Alters h action next → Step h action answer next
   stops : (by : Interruption) → answer ≡ interrupted_answer by → Stops h action next → Step h action answer next
-  returns : CoversNothing action → Returns h next → Step h action answer next
+  returns : CoversNothing h action → Returns h next → Step h action answer next
 
 -- what comes of a command that is not refused
 abbrev Suits : Machine → Action → Fate → Type 0
-Suits h action (Gives good to) = CoversNothing action × Idles h to
+Suits h action (Gives good to) = CoversNothing h action × Idles h to
 Suits h action (Works good to) = ((good ≡ Done) ⊎ ChangesNothing action) × Alters h action to
-Suits h action (Orders order to) = CoversNothing action × Idles h to
-Suits h action (Cuts to) = CoversNothing action × Idles h to
-Suits h action (Restarts choice) = CoversNothing action
+Suits h action (Orders order to) = CoversNothing h action × Idles h to
+Suits h action (Cuts to) = CoversNothing h action × Idles h to
+Suits h action (Restarts choice) = CoversNothing h action
 
 nowhere : (x : Place) → holds nothing x ≡ false
 nowhere (of_volume i) = refl
@@ -84,14 +85,31 @@ nowhere (of_blocks i) = refl
 same : (h : Machine) → Idles h h
 same h = record { geometry = refl; blocks = refl; volume = refl; interrupted = refl; mode = λ on. on }
 
+works : (h to : Machine) (action : Action) → to.geometry ≡ h.geometry → to.blocks ≡ (meaning action).blocks h.blocks → to.volume ≡ (meaning action).volume h.geometry h.volume
+    → to.interrupted ≡ h.interrupted → to.mode ≡ h.mode → Alters h action to
+works h to action geometry blocks volume interrupted mode =
+    record { geometry = geometry; blocks = blocks; volume = volume; interrupted = interrupted; mode = mode }
+
 suits : (h : Machine) (action : Action) → Suits h action ((meaning action).comes h)
-suits h (BRead block count) = (inr nowhere, record { geometry = refl; blocks = refl; volume = refl; interrupted = refl; mode = refl })
+suits h (BRead block count) = (inr nowhere, works h h (BRead block count) refl refl refl refl refl)
+suits h (BWrite block bytes) = (inl refl, works h _ (BWrite block bytes) refl refl refl refl refl)
+suits h (BAtomic block bytes) = (inl refl, works h _ (BAtomic block bytes) refl refl refl refl refl)
+suits h (BMulti ranges bytes) = (inl refl, works h _ (BMulti ranges bytes) refl refl refl refl refl)
+suits h (BDiscard block count) = (inl refl, works h _ (BDiscard block count) refl refl refl refl refl)
+suits h (BDiscardIf block count) = (inl refl, works h _ (BDiscardIf block count) refl refl refl refl refl)
 suits h (BExists block) = (nowhere, same h)
-suits h (VLoad offset len) = (inr nowhere, record { geometry = refl; blocks = refl; volume = refl; interrupted = refl; mode = refl })
+suits h (BScar ranges) = (inl refl, works h _ (BScar ranges) refl refl refl refl refl)
+suits h (VLoad offset len) = (inr nowhere, works h h (VLoad offset len) refl refl refl refl refl)
+suits h (VStore offset bytes) = (inl refl, works h _ (VStore offset bytes) refl refl refl refl refl)
+suits h (VSync offset len) = (inl refl, works h _ (VSync offset len) refl refl refl refl refl)
+suits h VRanges = (nowhere, same h)
+suits h (VPSync address len) = (inl refl, works h _ (VPSync address len) refl refl refl refl refl)
+suits h (VDiscard page count) = (inl refl, works h _ (VDiscard page count) refl refl refl refl refl)
+suits h (VDiscardIf page count) = (inl refl, works h _ (VDiscardIf page count) refl refl refl refl refl)
+suits h (VExists page) = (nowhere, same h)
 suits h Cut = (nowhere, record { geometry = refl; blocks = refl; volume = refl; interrupted = refl; mode = λ on. cc on })
 suits h (CutIn calls) = (nowhere, record { geometry = refl; blocks = refl; volume = refl; interrupted = refl; mode = λ on. on })
 suits h (Restart choice) = nowhere
-suits h action = (inl refl, record { geometry = refl; blocks = refl; volume = refl; interrupted = refl; mode = refl })
 
 stops_on : (by : Interruption) → interrupted_mode by ≡ On → ⊥
 stops_on Failed on = cc on

@@ -1,5 +1,5 @@
 -- A store that is not synced may be lost.
-use Rattle.std.proofs.Common.{◌≡◌, ℕ, ◌+◌, ◌*◌, ◌/◌, ◌%◌, ◌<◌, Bool, true, false, cond, Option, Some, None, option_and_then, option_map, List, [], ◌∷◌, ◌++◌, length, slice_get, refl, sym, ap, subst, ◌∙◌, inl, arith}
+use Rattle.std.proofs.Common.{◌≡◌, ℕ, ◌+◌, ◌*◌, ◌<◌, Bool, true, false, cond, Option, Some, None, option_map, List, [], ◌∷◌, ◌++◌, length, replicate, slice_get, refl, sym, ap, subst, ◌∙◌, inl, arith}
 use Rattle.std.proofs.lemmas.Option.{slice_get_within, same_Some}
 use Rattle.line_device.specs.Word.{reaches, word_over}
 use Rattle.line_device.specs.History.{IsIn, newest}
@@ -7,31 +7,26 @@ use Rattle.line_device.specs.Medium.{word_stored}
 use Rattle.line_device.specs.Panel.{Image, Start}
 use Rattle.line_device.specs.declared.line.Choice.TheVariants.{Firsts}
 use Rattle.word_tables.specs.declared.geometry.Geometry.{Geometry}
-use Rattle.word_tables.specs.Layout.{total_lines}
+use Rattle.word_tables.specs.Layout.{volume_line}
 use Rattle.nvm_model.specs.Numbered.{list_from, map_from}
-use Rattle.nvm_model.specs.Cell.{Cell, KeepsCell, MaySurvive, put_cell, read_cell}
+use Rattle.nvm_model.specs.Cell.{Cell, KeepsCell, MaySurvive, covers, put_cell, read_cell}
 use Rattle.nvm_model.specs.Cell.Cell.{Bad, Kept}
-use Rattle.nvm_model.specs.Page.{KeepsPages, Page, cell_in, cell_of, fill, map_lines, put, read_pages}
+use Rattle.nvm_model.specs.Page.{KeepsPages, cell_of, fill, put, read_pages, touches_absent}
 use Rattle.nvm_model.proofs.NumberedLemmas.{length-list_from, length-map_from, slice_get-list_from, slice_get-map_from}
-use Rattle.nvm_model.proofs.PageLemmas.{cell_of-fill, cell_of-put, cell_of-read_pages, length-fill, length-read_pages}
+use Rattle.nvm_model.proofs.PageLemmas.{cell_of-put, cell_of-read_pages, presence_of-put, presence_of-read_pages, read_pages-there}
+use Rattle.nvm_model.proofs.FillLemmas.{fill-nothing}
+use Rattle.std.proofs.lemmas.Bool.{both_ways}
 use Rattle.reply_text.specs.Answer.Answer.{Done}
 use Rattle.script_text.specs.Action.Action.{Cut, Restart, VStore}
 use Rattle.script_text.specs.Script.Input.{Asked}
 use Rattle.machine_host.specs.declared.mode.Mode.TheVariants.{Off}
 use Rattle.machine_host.specs.Machine.{Machine}
 use Rattle.machine_host.specs.Commands.{refusal, spending}
-use Rattle.machine_host.specs.Restarting.{fresh, reading, restart_answer, zero_image}
-use Rattle.machine_host.specs.Volume.{volume_image}
+use Rattle.machine_host.specs.Restarting.{reading, restart_answer}
+use Rattle.pm_volume.specs.Presence.{presence_read}
 use Rattle.machine_host.specs.Run.{Run, Transcript, followed_by, silence, with_cut, with_start}
 use Rattle.durable.specs.Durable.{Does}
 use Rattle.durable.proofs.WrittenLemmas.{works_done}
-
-within_pages : (pages : List Page) (n : ℕ) (cell : Cell) (count : ℕ) → cell_of pages n ≡ Some cell → length pages ≡ count → n < 64 * count
-within_pages pages n cell count is size = by_page (slice_get pages (n / 64)) refl is
-  where
-    by_page : (page : Option Page) → slice_get pages (n / 64) ≡ page → option_and_then (λ p. cell_in p (n % 64)) page ≡ Some cell → n < 64 * count
-    by_page None found here = cc here
-    by_page (Some page) found here = omega (arith, slice_get_within pages (n / 64) page found, size)
 
 -- the first value of a word that was stored over
 first_kept : (at p x : ℕ) (bytes : List ℕ) → IsIn x (word_stored at bytes p (x ∷ []))
@@ -41,86 +36,113 @@ first_kept at p x bytes = by_test (reaches at (length bytes) p)
     by_test true = inl refl
     by_test false = inl refl
 
-module _ (image : Image) (good : (n : ℕ) → image.is_bad n ≡ false) (at count : ℕ) (bytes : List ℕ) where
-  line_kept : (n : ℕ) → KeepsCell Firsts image n (put_cell at bytes n (read_cell image n))
-  line_kept n = subst (λ b. KeepsCell Firsts image n (put_cell at bytes n (cond b Bad (Kept (image.is_weak n) (list_from (λ p. image.word p ∷ []) (8 * n) 8))))) (sym (good n)) (
-    good n,
-    refl,
-    λ w history found. kept w history found,
-  )
+module _ (image : Image) (n at : ℕ) (bytes : List ℕ) where
+  -- n is the line of the device
+  word_kept : (line w : ℕ) (history : List ℕ) → slice_get (map_from (word_stored at bytes) (8 * line) (list_from (λ p. image.word p ∷ []) (8 * n) 8)) w ≡ Some history
+      → MaySurvive Firsts history (image.word (8 * n + w))
+  word_kept line w history found =
+      let words = map_from (word_stored at bytes) (8 * line) (list_from (λ p. image.word p ∷ []) (8 * n) 8) in
+      let small : w < 8 = omega (
+        arith,
+        slice_get_within words w history found,
+        length-map_from (word_stored at bytes) (8 * line) (list_from (λ p. image.word p ∷ []) (8 * n) 8),
+        length-list_from (λ p. image.word p ∷ []) (8 * n) 8,
+      ) in
+      let is : Some (word_stored at bytes (8 * line + w) (image.word (8 * n + w) ∷ [])) ≡ Some history =
+      sym (slice_get-map_from (word_stored at bytes) (8 * line) (list_from (λ p. image.word p ∷ []) (8 * n) 8) w
+      ∙ ap (option_map (word_stored at bytes (8 * line + w))) (slice_get-list_from (λ p. image.word p ∷ []) (8 * n) 8 w small)) ∙ found in
+      record {
+        was = subst (IsIn (image.word (8 * n + w))) (same_Some _ history is) (first_kept at (8 * line + w) (image.word (8 * n + w)) bytes);
+        last = λ lasts. cc lasts;
+      }
+
+  -- what was there before a store may be left of a line that it doesn't heal
+  line_kept : (line : ℕ) → (covers at (length bytes) line ≡ true → image.is_bad n ≡ false) → KeepsCell Firsts image n (put_cell at bytes line (read_cell image n))
+  line_kept line good = by_mark (image.is_bad n) refl
     where
-      kept : (w : ℕ) (history : List ℕ) → slice_get (map_from (word_stored at bytes) (8 * n) (list_from (λ p. image.word p ∷ []) (8 * n) 8)) w ≡ Some history
-          → MaySurvive Firsts history (image.word (8 * n + w))
-      kept w history found =
-          let words = map_from (word_stored at bytes) (8 * n) (list_from (λ p. image.word p ∷ []) (8 * n) 8) in
-          let small : w < 8 = omega (
-            arith,
-            slice_get_within words w history found,
-            length-map_from (word_stored at bytes) (8 * n) (list_from (λ p. image.word p ∷ []) (8 * n) 8),
-            length-list_from (λ p. image.word p ∷ []) (8 * n) 8,
-          ) in
-          let is : Some (word_stored at bytes (8 * n + w) (image.word (8 * n + w) ∷ [])) ≡ Some history =
-          sym (slice_get-map_from (word_stored at bytes) (8 * n) (list_from (λ p. image.word p ∷ []) (8 * n) 8) w
-          ∙ ap (option_map (word_stored at bytes (8 * n + w))) (slice_get-list_from (λ p. image.word p ∷ []) (8 * n) 8 w small)) ∙ found in
-          record {
-            was = subst (IsIn (image.word (8 * n + w))) (same_Some _ history is) (first_kept at (8 * n + w) (image.word (8 * n + w)) bytes);
-            last = λ lasts. cc lasts;
-          }
+      by_mark : (b : Bool) → image.is_bad n ≡ b
+          → KeepsCell Firsts image n (put_cell at bytes line (cond b Bad (Kept (image.is_weak n) (list_from (λ p. image.word p ∷ []) (8 * n) 8))))
+      by_mark false is = (is, refl, λ w history found. word_kept line w history found)
+      by_mark true is = by_cover (covers at (length bytes) line) refl
+        where
+          by_cover : (c : Bool) → covers at (length bytes) line ≡ c
+              → KeepsCell Firsts image n (cond c (Kept false (map_from (word_stored at bytes) (8 * line) (replicate 8 (0 ∷ [])))) Bad)
+          by_cover true covered = absurd (both_ways (image.is_bad n) (good covered) is)
+          by_cover false out = is
 
-  length-put : length (put at bytes (fill at (length bytes) (read_pages image count))) ≡ count
-  unfolding put
-  length-put = length-map_from (map_lines (put_cell at bytes)) 0 _ ∙ length-fill at (length bytes) (read_pages image count) ∙ length-read_pages image count
-
-  -- what was there before the store may be left of it
-  before_kept : KeepsPages Firsts image (put at bytes (fill at (length bytes) (read_pages image count)))
-  before_kept n cell is =
-      let lt = within_pages (put at bytes (fill at (length bytes) (read_pages image count))) n cell count is length-put in
-      let there = cell_of-fill at (length bytes) (read_pages image count) n (read_cell image n) (cell_of-read_pages image count n lt) in
-      let same = sym (cell_of-put at bytes (fill at (length bytes) (read_pages image count)) n ∙ ap (option_map (put_cell at bytes n)) there) ∙ is in
-      subst (KeepsCell Firsts image n) (same_Some (put_cell at bytes n (read_cell image n)) cell same) (line_kept n)
+-- what was there before the store may be left of it
+before_kept : (place : ℕ → ℕ) (image : Image) (there : List Bool) (at : ℕ) (bytes : List ℕ) → ((n : ℕ) → covers at (length bytes) n ≡ true → image.is_bad (place n) ≡ false)
+    → KeepsPages Firsts place image (put at bytes (read_pages place image there))
+before_kept place image there at bytes good n cell is = by_line (cell_of (read_pages place image there) n) refl (sym (cell_of-put at bytes (read_pages place image there) n) ∙ is)
+  where
+    by_line : (o : Option Cell) → cell_of (read_pages place image there) n ≡ o → option_map (put_cell at bytes n) o ≡ Some cell → KeepsCell Firsts image (place n) cell
+    by_line None was none = cc none
+    by_line (Some old) was found =
+        let read : read_cell image (place n) ≡ old =
+        same_Some _ old (sym (cell_of-read_pages place image there n (read_pages-there place image there n old was)) ∙ was) in
+        subst (KeepsCell Firsts image (place n)) (ap (put_cell at bytes n) read ∙ same_Some _ cell found) (line_kept image (place n) at bytes n (good n))
 
 -- the start that a restart may leave
-abbrev zeros : Geometry → Start
-zeros geo = record { choice = Firsts; image = zero_image (total_lines geo) }
+abbrev again : Image → Start
+again image = record { choice = Firsts; image = image }
 
 abbrev off : Machine → Machine
 off h = record h { mode = Off; cut_armed = false; fail_armed = false }
 
-abbrev stored_over : Geometry → ℕ → List ℕ → Machine
-stored_over geo at bytes = record (fresh geo) { volume = put at bytes (fill at (length bytes) (fresh geo).volume) }
+abbrev stored_over : Geometry → Image → ℕ → List ℕ → Machine
+stored_over geo image at bytes = record (reading geo image) { volume = put at bytes (reading geo image).volume }
 
-abbrev told : Machine → Geometry → Transcript
-told h geo = followed_by (with_cut Done) (followed_by (with_start (spending (off h) (Restart Firsts)) (zeros geo) (restart_answer (off h) (zeros geo).image)) silence)
+abbrev told : Machine → Image → Transcript
+told h image = followed_by (with_cut Done) (followed_by (with_start (spending (off h) (Restart Firsts)) (again image) (restart_answer (off h) image)) silence)
 
-lost : (geo : Geometry) (at : ℕ) (bytes : List ℕ) → Run (stored_over geo at bytes) (Asked Cut ∷ Asked (Restart Firsts) ∷ []) (told (stored_over geo at bytes) geo) (fresh geo)
+lost : (geo : Geometry) (image : Image) (at : ℕ) (bytes : List ℕ) → ((n : ℕ) → covers at (length bytes) n ≡ true → image.is_bad (volume_line geo n) ≡ false)
+    → Run (stored_over geo image at bytes) (Asked Cut ∷ Asked (Restart Firsts) ∷ []) (told (stored_over geo image at bytes) image) (reading geo image)
 unfolding refusal reading
-lost geo at bytes =
-    let h = stored_over geo at bytes in (
+lost geo image at bytes good =
+    let h = stored_over geo image at bytes in
+    let there = presence_read geo image.word in
+    let pages = read_pages (volume_line geo) image there in (
       with_cut Done,
-      followed_by (with_start (spending (off h) (Restart Firsts)) (zeros geo) (restart_answer (off h) (zeros geo).image)) silence,
+      followed_by (with_start (spending (off h) (Restart Firsts)) (again image) (restart_answer (off h) image)) silence,
       off h,
       refl,
       (refl, refl),
       (
-        with_start (spending (off h) (Restart Firsts)) (zeros geo) (restart_answer (off h) (zeros geo).image),
+        with_start (spending (off h) (Restart Firsts)) (again image) (restart_answer (off h) image),
         silence,
-        fresh geo,
+        reading geo image,
         refl,
         (
-          zeros geo,
-          restart_answer (off h) (zeros geo).image,
+          again image,
+          restart_answer (off h) image,
           refl,
           refl,
-          record { blocks = refl; left = h.volume; may = refl; volume = before_kept (volume_image geo (zeros geo).image) (λ n. refl) at geo.vpages bytes },
+          record {
+            blocks = refl;
+            left = put at bytes pages;
+            may = refl;
+            there = presence_of-put at bytes pages ∙ presence_of-read_pages (volume_line geo) image there;
+            volume = before_kept (volume_line geo) image there at bytes good;
+          },
           inl (refl, refl),
         ),
         (refl, refl),
       ),
     )
 
-pub unsynced : (geo : Geometry) (stored : Machine) (at : ℕ) (bytes : List ℕ) → Does (fresh geo) (VStore at bytes) stored
-    → (said : Transcript) × Run stored (Asked Cut ∷ Asked (Restart Firsts) ∷ []) said (fresh geo)
-unsynced geo stored at bytes does =
-    let done = works_done (fresh geo) (VStore at bytes) (stored_over geo at bytes) stored refl does in
-    subst (λ h. (said : Transcript) × Run h (Asked Cut ∷ Asked (Restart Firsts) ∷ []) said (fresh geo)) {x = stored_over geo at bytes} (sym done.1)
-    (told (stored_over geo at bytes) geo, lost geo at bytes)
+nothing_filled : (geo : Geometry) (image : Image) (at len : ℕ) → touches_absent at len (presence_read geo image.word) ≡ false
+    → fill at len (reading geo image).volume ≡ (reading geo image).volume
+unfolding reading
+nothing_filled geo image at len none =
+    let there = presence_read geo image.word in
+    fill-nothing at len (read_pages (volume_line geo) image there) (ap (touches_absent at len) (presence_of-read_pages (volume_line geo) image there) ∙ none)
+
+pub unsynced : (geo : Geometry) (image : Image) (stored : Machine) (at : ℕ) (bytes : List ℕ) → touches_absent at (length bytes) (presence_read geo image.word) ≡ false
+    → ((n : ℕ) → covers at (length bytes) n ≡ true → image.is_bad (volume_line geo n) ≡ false) → Does (reading geo image) (VStore at bytes) stored
+    → (said : Transcript) × Run stored (Asked Cut ∷ Asked (Restart Firsts) ∷ []) said (reading geo image)
+unsynced geo image stored at bytes present good does =
+    let h = reading geo image in
+    let done = works_done h (VStore at bytes) (record h { volume = put at bytes (fill at (length bytes) h.volume) }) stored refl does in
+    let is : stored ≡ stored_over geo image at bytes = done.1 ∙ ap (λ p. record h { volume = put at bytes p }) (nothing_filled geo image at (length bytes) present) in
+    subst (λ m. (said : Transcript) × Run m (Asked Cut ∷ Asked (Restart Firsts) ∷ []) said (reading geo image)) {x = stored_over geo image at bytes} (sym is)
+    (told (stored_over geo image at bytes) image, lost geo image at bytes good)

@@ -1,17 +1,18 @@
 -- Whole states lead to whole states.
-use Rattle.std.proofs.Common.{◌≡◌, ℕ, ◌*◌, ◌<◌, Bool, true, false, cond, Option, Some, None, option_map, List, [], ◌∷◌, length, take, drop, replicate, refl, sym, ap, subst, ◌∙◌}
+use Rattle.std.proofs.Common.{◌≡◌, ℕ, zero, suc, ◌+◌, ◌*◌, ◌/◌, ◌%◌, ◌==◌, Bool, true, false, cond, Option, Some, None, option_map, List, [], ◌∷◌, length, take, drop, replicate, slice_get, slice_index_or, refl, sym, ap, subst, ◌∙◌, arith}
 use Rattle.std.proofs.lemmas.List.{length-map}
 use Rattle.line_device.specs.History.{latest}
 use Rattle.line_device.specs.Medium.{word_stored}
 use Rattle.line_device.specs.Panel.{Image}
 use Rattle.word_tables.specs.declared.geometry.Geometry.{Geometry}
-use Rattle.word_tables.specs.Layout.{total_lines}
-use Rattle.nvm_model.specs.Numbered.{list_from, map_from}
-use Rattle.nvm_model.specs.Cell.{Cell, covers, flush_cell, persist_cell, put_cell, touches}
+use Rattle.word_tables.specs.Layout.{total_lines, volume_line}
+use Rattle.nvm_model.specs.Numbered.{is_among, list_from, map_from}
+use Rattle.nvm_model.specs.Cell.{Cell, covers, flush_cell, persist_cell, put_cell, touches, zero_cell}
 use Rattle.nvm_model.specs.Cell.Cell.{Bad, Kept}
-use Rattle.nvm_model.specs.Page.{Page, cell_of, fill, read_pages}
-use Rattle.nvm_model.proofs.NumberedLemmas.{length-list_from, length-map_from}
-use Rattle.nvm_model.proofs.PageLemmas.{cell_of-fill, cell_of-persist, cell_of-put, cell_of-read_pages}
+use Rattle.nvm_model.specs.Page.{Page, cell_in, cell_of, discard, discard_page, fill, fill_page, is_present, persist, put, read_pages, touches_page}
+use Rattle.nvm_model.specs.Page.Page.{Absent as Missing, Present}
+use Rattle.nvm_model.proofs.NumberedLemmas.{length-list_from, length-map_from, slice_get-map_from}
+use Rattle.nvm_model.proofs.PageLemmas.{cell_of-persist, cell_of-put, cell_of-read_pages, length-discard, length-persist, length-put_fill, length-read_pages, presence_of-persist, presence_of-put, presence_of-read_pages}
 use Rattle.nvm_base.specs.declared.units.Span.{Span}
 use Rattle.nvm_model.specs.Blocks.{change, change_block, write, write_block, write_ranges}
 use Rattle.nvm_model.specs.Storage.{Block}
@@ -20,15 +21,19 @@ use Rattle.block_device.specs.Reading.{block_read, blocks_read, states_read}
 use Rattle.machine_host.specs.OnBlocks.{blocks_from}
 use Rattle.reply_text.specs.Answer.{Answer}
 use Rattle.script_text.specs.Action.{Action}
-use Rattle.script_text.specs.Action.Action.{BWrite, BAtomic, BMulti, BDiscard, BDiscardIf, BScar, VStore, VSync}
+use Rattle.script_text.specs.Action.Action.{BWrite, BAtomic, BMulti, BDiscard, BDiscardIf, BScar, VStore, VSync, VPSync, VDiscard, VDiscardIf}
 use Rattle.script_text.specs.Script.{Input}
 use Rattle.script_text.specs.Script.Input.{Skipped, Malformed, Asked}
 use Rattle.machine_host.specs.Machine.{Machine}
 use Rattle.machine_host.specs.Commands.{meaning}
 use Rattle.machine_host.specs.Restarting.{fresh, reading, zero_image}
-use Rattle.machine_host.specs.Volume.{volume_image}
+use Rattle.machine_host.specs.declared.mode.Mode.TheVariants.{On}
+use Rattle.machine_host.specs.OnVolume.{persist_at}
+use Rattle.pm_volume.specs.Presence.{presence_read, words_read}
+use Rattle.pm_volume.specs.Refusals.{physical_offset}
 use Rattle.machine_host.specs.Run.{Hears, Run, Transcript}
-use Rattle.durable.specs.Durable.{IsLineThere, IsComplete}
+use Rattle.durable.specs.Durable.{HaveLines, IsLineThere, IsComplete}
+use Rattle.durable.proofs.PresenceLemmas.{has_lines, line_in, page_present, zero_at}
 use Rattle.durable.proofs.StepLemmas.{Step, step_of}
 use Rattle.durable.proofs.StepLemmas.Step.{idles, alters, stops, returns}
 
@@ -54,27 +59,102 @@ there-put at n bytes (Some Bad) there = by_test (covers at (length bytes) n)
     by_test true = length-map_from (word_stored at bytes) (8 * n) (replicate 8 (0 ∷ []))
     by_test false = tt
 
-there-fill : (at len n : ℕ) (pages : List Page) → IsLineThere (cell_of pages n) → IsLineThere (cell_of (fill at len pages) n)
-there-fill at len n pages there = by_cell (cell_of pages n) refl there
+-- pages each of which was changed by its number
+by_pages : (f : ℕ → Page → Page) (pages : List Page) → HaveLines pages
+    → ((i n : ℕ) (page : Page) → (is_present page ≡ true → IsLineThere (cell_in page (n % 64))) → is_present (f i page) ≡ true → IsLineThere (cell_in (f i page) (n % 64)))
+    → HaveLines (map_from f 0 pages)
+by_pages f pages whole each n there =
+    subst (λ o. IsLineThere (line_in n o)) (sym found)
+    (by_page (slice_get pages (n / 64)) refl (sym (ap has_lines found) ∙ sym (page_present (map_from f 0 pages) n) ∙ there))
   where
-    by_cell : (o : Option Cell) → cell_of pages n ≡ o → IsLineThere o → IsLineThere (cell_of (fill at len pages) n)
-    by_cell None is none = absurd none
-    by_cell (Some cell) is size = subst IsLineThere (sym (cell_of-fill at len pages n cell is)) size
+    found : slice_get (map_from f 0 pages) (n / 64) ≡ option_map (f (0 + n / 64)) (slice_get pages (n / 64))
+    found = slice_get-map_from f 0 pages (n / 64)
 
-there-read : (image : Image) (count n : ℕ) → n < 64 * count → IsLineThere (cell_of (read_pages image count) n)
-there-read image count n lt = subst IsLineThere (sym (cell_of-read_pages image count n lt)) (by_mark (image.is_bad n))
+    by_page : (o : Option Page) → slice_get pages (n / 64) ≡ o → has_lines (option_map (f (0 + n / 64)) o) ≡ true
+        → IsLineThere (line_in n (option_map (f (0 + n / 64)) o))
+    by_page None is none = cc none
+    by_page (Some page) is some = each (0 + n / 64) n page (λ was. subst (λ o. IsLineThere (line_in n o)) is (whole n (page_present pages n ∙ ap has_lines is ∙ was))) some
+
+pub lines-fill : (at len : ℕ) (pages : List Page) → HaveLines pages → HaveLines (fill at len pages)
+unfolding fill
+lines-fill at len pages whole = by_pages (fill_page at len) pages whole by_page
   where
-    by_mark : (b : Bool) → IsLineThere (Some (cond b Bad (Kept (image.is_weak n) (list_from (λ p. image.word p ∷ []) (8 * n) 8))))
+    by_page : (i n : ℕ) (page : Page) → (is_present page ≡ true → IsLineThere (cell_in page (n % 64))) → is_present (fill_page at len i page) ≡ true
+        → IsLineThere (cell_in (fill_page at len i page) (n % 64))
+    by_page i n Missing was there = by_test (touches_page at len i) there
+      where
+        by_test : (t : Bool) → is_present (cond t (Present (replicate 64 zero_cell)) Missing) ≡ true → IsLineThere (cell_in (cond t (Present (replicate 64 zero_cell)) Missing) (n % 64))
+        by_test true there = subst IsLineThere (sym (zero_at 64 (n % 64) (omega arith))) refl
+        by_test false none = cc none
+    by_page i n (Present cells) was there = was refl
+
+lines-discard : (first count : ℕ) (pages : List Page) → HaveLines pages → HaveLines (discard first count pages)
+unfolding discard
+lines-discard first count pages whole = by_pages (discard_page first count) pages whole by_page
+  where
+    by_page : (i n : ℕ) (page : Page) → (is_present page ≡ true → IsLineThere (cell_in page (n % 64))) → is_present (discard_page first count i page) ≡ true
+        → IsLineThere (cell_in (discard_page first count i page) (n % 64))
+    by_page i n page was there = by_test (is_among first count i) there
+      where
+        by_test : (t : Bool) → is_present (cond t Missing page) ≡ true → IsLineThere (cell_in (cond t Missing page) (n % 64))
+        by_test true none = cc none
+        by_test false there = was there
+
+lines-persist : (start len : ℕ) (pages : List Page) → HaveLines pages → HaveLines (persist start len pages)
+lines-persist start len pages whole n there =
+    subst IsLineThere (sym (cell_of-persist start len pages n))
+    (there-persist start len n (cell_of pages n) (whole n (ap (λ bs. slice_index_or bs (n / 64) false) (sym (presence_of-persist start len pages)) ∙ there)))
+
+lines-put : (at : ℕ) (bytes : List ℕ) (pages : List Page) → HaveLines pages → HaveLines (put at bytes pages)
+lines-put at bytes pages whole n there =
+    subst IsLineThere (sym (cell_of-put at bytes pages n))
+    (there-put at n bytes (cell_of pages n) (whole n (ap (λ bs. slice_index_or bs (n / 64) false) (sym (presence_of-put at bytes pages)) ∙ there)))
+
+lines-persist_at : (o : Option ℕ) (len : ℕ) (pages : List Page) → HaveLines pages → HaveLines (persist_at o len pages)
+lines-persist_at None len pages whole = whole
+lines-persist_at (Some start) len pages whole = lines-persist start len pages whole
+
+is_there : (there : List Bool) (k : ℕ) → slice_index_or there k false ≡ true → slice_get there k ≡ Some true
+is_there [] k none = cc none
+is_there (b ∷ there) zero is = ap Some is
+is_there (b ∷ there) (suc k) is = is_there there k is
+
+lines-read : (place : ℕ → ℕ) (image : Image) (there : List Bool) → HaveLines (read_pages place image there)
+lines-read place image there n present =
+    subst IsLineThere (sym (cell_of-read_pages place image there n (is_there there (n / 64) at))) (by_mark (image.is_bad (place n)))
+  where
+    at : slice_index_or there (n / 64) false ≡ true
+    at = ap (λ bs. slice_index_or bs (n / 64) false) (sym (presence_of-read_pages place image there)) ∙ present
+
+    by_mark : (b : Bool) → IsLineThere (Some (cond b Bad (Kept (image.is_weak (place n)) (list_from (λ p. image.word p ∷ []) (8 * place n) 8))))
     by_mark true = tt
-    by_mark false = length-list_from (λ p. image.word p ∷ []) (8 * n) 8
+    by_mark false = length-list_from (λ p. image.word p ∷ []) (8 * place n) 8
 
-there-altered : (action : Action) (n : ℕ) (pages : List Page) → IsLineThere (cell_of pages n) → IsLineThere (cell_of ((meaning action).volume pages) n)
-there-altered (VStore offset bytes) n pages there =
-    subst IsLineThere (sym (cell_of-put offset bytes (fill offset (length bytes) pages) n))
-    (there-put offset n bytes (cell_of (fill offset (length bytes) pages) n) (there-fill offset (length bytes) n pages there))
-there-altered (VSync offset len) n pages there =
-    subst IsLineThere (sym (cell_of-persist offset len pages n)) (there-persist offset len n (cell_of pages n) there)
-there-altered action n pages there = there
+lines-altered : (geo : Geometry) (action : Action) (pages : List Page) → HaveLines pages → HaveLines ((meaning action).volume geo pages)
+lines-altered geo (VStore offset bytes) pages whole = lines-put offset bytes (fill offset (length bytes) pages) (lines-fill offset (length bytes) pages whole)
+lines-altered geo (VSync offset len) pages whole = lines-persist offset len pages whole
+lines-altered geo (VPSync address len) pages whole = lines-persist_at (physical_offset geo address len) len pages whole
+lines-altered geo (VDiscard page count) pages whole = lines-discard page count pages whole
+lines-altered geo (VDiscardIf page count) pages whole = lines-discard page count pages whole
+lines-altered geo action pages whole = whole
+
+-- how many pages there are
+length-persist_at : (o : Option ℕ) (len : ℕ) (pages : List Page) → length (persist_at o len pages) ≡ length pages
+length-persist_at None len pages = refl
+length-persist_at (Some start) len pages = length-persist start len pages
+
+pages-altered : (geo : Geometry) (action : Action) (pages : List Page) → length ((meaning action).volume geo pages) ≡ length pages
+pages-altered geo (VStore offset bytes) pages = length-put_fill offset (length bytes) bytes pages
+pages-altered geo (VSync offset len) pages = length-persist offset len pages
+pages-altered geo (VPSync address len) pages = length-persist_at (physical_offset geo address len) len pages
+pages-altered geo (VDiscard page count) pages = length-discard page count pages
+pages-altered geo (VDiscardIf page count) pages = length-discard page count pages
+pages-altered geo action pages = refl
+
+pages-read : (geo : Geometry) (image : Image) → length (read_pages (volume_line geo) image (presence_read geo image.word)) ≡ geo.vpages
+unfolding words_read
+pages-read geo image =
+    length-read_pages (volume_line geo) image (presence_read geo image.word) ∙ length-map (words_read geo image.word) (λ w. w == 1) ∙ length-list_from _ 0 geo.vpages
 
 length-write : (at : ℕ) (bytes : List ℕ) (blocks : List Block) → length (write at bytes blocks) ≡ length blocks
 unfolding write
@@ -102,29 +182,30 @@ length-read : (geo : Geometry) (bad : ℕ → Bool) (word : ℕ → ℕ) → len
 unfolding blocks_read states_read
 length-read geo bad word = length-map (states_read geo word) (block_read geo bad word) ∙ length-list_from _ 0 geo.blocks
 
-same_blocks : (h next : Machine) → IsComplete h → next.geometry ≡ h.geometry → next.blocks ≡ h.blocks → length next.blocks ≡ next.geometry.blocks
-same_blocks h next whole geometry blocks = ap length blocks ∙ whole.blocks ∙ sym (ap (λ g. g.blocks) geometry)
-
-same_volume : (h next : Machine) → IsComplete h → next.geometry ≡ h.geometry → next.volume ≡ h.volume
-    → (n : ℕ) → n < 64 * next.geometry.vpages → IsLineThere (cell_of next.volume n)
-same_volume h next whole geometry volume n lt =
-    subst (λ p. IsLineThere (cell_of p n)) (sym volume) (whole.volume n (subst (λ g. n < 64 * g.vpages) geometry lt))
+-- a step that leaves blocks and volume
+same_storage : (h next : Machine) → IsComplete h → next.geometry ≡ h.geometry → next.blocks ≡ h.blocks → next.volume ≡ h.volume → (next.mode ≡ On → next.interrupted ≡ None)
+    → IsComplete next
+same_storage h next whole geometry blocks volume settled = record {
+  blocks = ap length blocks ∙ whole.blocks ∙ sym (ap (λ g. g.blocks) geometry);
+  pages = ap length volume ∙ whole.pages ∙ sym (ap (λ g. g.vpages) geometry);
+  lines = subst HaveLines {x = h.volume} (sym volume) whole.lines;
+  settled = settled;
+}
 
 pub whole-step : (h : Machine) (action : Action) (answer : Answer) (next : Machine) → IsComplete h → Step h action answer next → IsComplete next
 whole-step h action answer next whole (idles why to) =
-    record { blocks = same_blocks h next whole to.geometry to.blocks; volume = same_volume h next whole to.geometry to.volume; settled = λ on. to.interrupted ∙ whole.settled (to.mode on) }
+    same_storage h next whole to.geometry to.blocks to.volume (λ on. to.interrupted ∙ whole.settled (to.mode on))
 whole-step h action answer next whole (alters begun none to) = record {
   blocks = ap length to.blocks ∙ length-altered action h.blocks ∙ whole.blocks ∙ sym (ap (λ g. g.blocks) to.geometry);
-  volume = λ n lt. subst (λ p. IsLineThere (cell_of p n)) (sym to.volume)
-      (there-altered action n h.volume (whole.volume n (subst (λ g. n < 64 * g.vpages) to.geometry lt)));
+  pages = ap length to.volume ∙ pages-altered h.geometry action h.volume ∙ whole.pages ∙ sym (ap (λ g. g.vpages) to.geometry);
+  lines = subst HaveLines {x = (meaning action).volume h.geometry h.volume} (sym to.volume) (lines-altered h.geometry action h.volume whole.lines);
   settled = λ on. to.interrupted ∙ whole.settled (sym to.mode ∙ on);
 }
-whole-step h action answer next whole (stops by is to) =
-    record { blocks = same_blocks h next whole to.geometry to.blocks; volume = same_volume h next whole to.geometry to.volume; settled = λ on. absurd (to.mode on) }
+whole-step h action answer next whole (stops by is to) = same_storage h next whole to.geometry to.blocks to.volume (λ on. absurd (to.mode on))
 whole-step h action answer next whole (returns covers back) = record {
   blocks = ap length back.blocks ∙ length-read h.geometry back.image.is_bad back.image.word ∙ sym (ap (λ g. g.blocks) back.geometry);
-  volume = λ n lt. subst (λ p. IsLineThere (cell_of p n)) (sym back.volume)
-      (there-read (volume_image h.geometry back.image) h.geometry.vpages n (subst (λ g. n < 64 * g.vpages) back.geometry lt));
+  pages = ap length back.volume ∙ pages-read h.geometry back.image ∙ sym (ap (λ g. g.vpages) back.geometry);
+  lines = subst HaveLines (sym back.volume) (lines-read (volume_line h.geometry) back.image (presence_read h.geometry back.image.word));
   settled = λ on. back.interrupted;
 }
 
@@ -144,7 +225,8 @@ whole-zeros : (geo : Geometry) (cut fail : Bool) → IsComplete (record (fresh g
 unfolding reading
 whole-zeros geo cut fail = record {
   blocks = length-read geo (λ n. false) (λ p. 0);
-  volume = λ n lt. there-read (volume_image geo (zero_image (total_lines geo))) geo.vpages n lt;
+  pages = pages-read geo (zero_image (total_lines geo));
+  lines = lines-read (volume_line geo) (zero_image (total_lines geo)) (presence_read geo (λ p. 0));
   settled = λ on. refl;
 }
 

@@ -1,3 +1,4 @@
+use Rattle.nvm_model.specs.Numbered.{is_among}
 -- A byte of a word that each of its values has.
 use Rattle.std.proofs.Common.{◌≡◌, inl, inr, ℕ, ◌+◌, ◌*◌, ◌-◌, ◌<◌, Bool, true, false, cond, Option, Some, List, [], ◌∷◌, ◌++◌, length, get_or, refl, sym, ap, ◌∙◌}
 use Rattle.std.specs.Int.{byte_at}
@@ -5,7 +6,6 @@ use Rattle.line_device.specs.Word.{byte_over, reaches, word_over}
 use Rattle.line_device.specs.History.{IsIn, latest, newest}
 use Rattle.line_device.specs.Medium.{word_stored}
 use Rattle.line_device.proofs.HistoryLemmas.{is_in-latest, is_in-one, is_in-push, newest-latest, newest-push}
-use Rattle.nvm_model.specs.Blocks.{is_among}
 use Rattle.nvm_model.proofs.PutLemmas.{byte_at-word_stored}
 
 -- byte k of each value is v

@@ -1,5 +1,5 @@
 -- What was written is what lasts.
-use Rattle.std.proofs.Common.{◌≡◌, ◌⊎◌, inl, inr, ℕ, zero, suc, ◌||◌, ◌+◌, ◌-◌, ◌*◌, ◌/◌, ◌%◌, ◌<◌, ◌≤◌, Bool, true, false, cond, Option, Some, None, option_map, List, [], ◌∷◌, length, map, replicate, get_or, nat_lt, slice_get, slice_index_or, refl, sym, ap, subst, ◌∙◌, arith}
+use Rattle.std.proofs.Common.{◌≡◌, ◌⊎◌, inl, inr, ℕ, zero, suc, ◌||◌, ◌==◌, ◌+◌, ◌-◌, ◌*◌, ◌/◌, ◌%◌, ◌<◌, ◌≤◌, Bool, true, false, cond, Option, Some, None, option_map, List, [], ◌∷◌, length, map, replicate, get_or, nat_lt, slice_get, slice_index_or, refl, sym, ap, subst, ◌∙◌, arith}
 use Rattle.std.specs.Prelude.{slice_index}
 use Rattle.std.proofs.lemmas.Bool.{both_ways}
 use Rattle.std.proofs.lemmas.Bool.Decides.{nat_tests}
@@ -9,32 +9,40 @@ use Rattle.line_device.specs.History.{latest, newest}
 use Rattle.line_device.specs.Medium.{word_stored}
 use Rattle.line_device.proofs.WordLemmas.{byte_over-in}
 use Rattle.line_device.proofs.HistoryLemmas.{newest-latest}
-use Rattle.nvm_model.specs.Blocks.{data_from, first_there, is_among, nth, write, write_block}
+use Rattle.nvm_model.specs.Blocks.{data_from, first_there, nth, write, write_block}
 use Rattle.nvm_model.specs.Cell.{Cell, TakesPut, cell_byte, covers as holds_line, flush_cell, persist_cell, put_cell, touches}
 use Rattle.nvm_model.specs.Cell.Cell.{Bad, Kept}
-use Rattle.nvm_model.specs.Numbered.{list_from, map_from}
-use Rattle.nvm_model.specs.Page.{Page, byte_in, cell_of, fill, persist, put}
+use Rattle.nvm_model.specs.Numbered.{is_among, list_from, map_from}
+use Rattle.nvm_model.specs.Page.{Page, byte_in, cell_of, fill, is_present, persist, presence_of, put, touches_page}
 use Rattle.nvm_model.specs.Storage.{Block}
 use Rattle.nvm_model.specs.Storage.Block.{Absent}
 use Rattle.nvm_model.proofs.NumberedLemmas.{slice_get-list_from, slice_get-map_from}
-use Rattle.nvm_model.proofs.PageLemmas.{cell_of-fill, cell_of-persist, cell_of-put}
+use Rattle.nvm_model.proofs.PageLemmas.{cell_of-persist, cell_of-put}
+use Rattle.nvm_model.proofs.FillLemmas.{presence_of-fill}
+use Rattle.std.proofs.lemmas.List.{length-map}
+use Rattle.word_tables.specs.declared.geometry.Geometry.{Geometry}
+use Rattle.pm_volume.specs.Refusals.{VolumeRefusal, extent_refusal, physical_offset, refused_if}
+use Rattle.pm_volume.specs.Refusals.VolumeRefusal.{Range as Past, Length as Empty}
 use Rattle.nvm_model.proofs.PutLemmas.{byte_in-put}
 use Rattle.block_device.specs.Refusals.{Refusal, blocks_touched, bytes_refusal, where_}
 use Rattle.block_device.specs.Refusals.Refusal.{Range, Limit}
 use Rattle.reply_text.specs.Answer.{Answer}
 use Rattle.reply_text.specs.Answer.Answer.{Done}
 use Rattle.script_text.specs.Action.{Action}
-use Rattle.script_text.specs.Action.Action.{BWrite, BAtomic, VStore, VSync}
+use Rattle.script_text.specs.Action.Action.{BWrite, BAtomic, VStore, VSync, VPSync}
 use Rattle.machine_host.specs.Machine.{Machine}
 use Rattle.machine_host.specs.Machine.Fate.{Works}
 use Rattle.machine_host.specs.Commands.{meaning, refusal, unless_refused}
 use Rattle.machine_host.specs.OnBlocks.{refusal_answer}
+use Rattle.machine_host.specs.OnVolume.{persist_at, volume_answer}
 use Rattle.machine_host.specs.Run.{Takes}
-use Rattle.durable.specs.Place.{block_has, byte_at_place, line_has}
+use Rattle.durable.specs.Place.{block_has, byte_at_place, is_line_present, line_has}
 use Rattle.durable.specs.Place.Place.{of_volume, of_blocks}
+use Rattle.durable.specs.Touching.{is_made_durable, touched_lines_at}
 use Rattle.durable.specs.Durable.{Does, IsLineThere, Lasts}
 use Rattle.durable.proofs.RefusalLemmas.{is_refused, places_none, refused_told}
-use Rattle.durable.proofs.LawLemmas.{durable, stop_done, within}
+use Rattle.durable.proofs.LawLemmas.{durable, stop_done}
+use Rattle.durable.proofs.WholeLemmas.{lines-fill}
 
 -- a command that was done
 pub works_done : (h : Machine) (action : Action) (to next : Machine) → (meaning action).comes h ≡ Works Done to → Does h action next → (refusal h action ≡ None) × (next ≡ to)
@@ -141,15 +149,11 @@ ShowsPut at i bytes o = (line_has o (i % 64) ≡ None) ⊎ (line_has o (i % 64) 
 
 -- a byte that was stored in a line that is there, and then synced
 synced_byte : (at start len i : ℕ) (bytes : List ℕ) (pages : List Page) → ((k : ℕ) → get_or bytes k 0 < 256) → is_among at (length bytes) i ≡ true
-    → touches start len (i / 64) ≡ true → IsLineThere (cell_of pages (i / 64))
-    → ShowsPut at i bytes (cell_of (persist start len (put at bytes (fill at (length bytes) pages))) (i / 64))
+    → touches start len (i / 64) ≡ true → IsLineThere (cell_of pages (i / 64)) → ShowsPut at i bytes (cell_of (persist start len (put at bytes pages)) (i / 64))
 synced_byte at start len i bytes pages small among touched there = by_line (cell_of pages (i / 64)) refl there
   where
-    filled : List Page
-    filled = fill at (length bytes) pages
-
     stored : List Page
-    stored = put at bytes filled
+    stored = put at bytes pages
 
     synced : (cell : Cell) → cell_of stored (i / 64) ≡ Some cell → cell_of (persist start len stored) (i / 64) ≡ Some (flush_cell cell)
     synced cell is =
@@ -161,13 +165,12 @@ synced_byte at start len i bytes pages small among touched there = by_line (cell
 
     taken : (cell : Cell) → cell_of pages (i / 64) ≡ Some cell → TakesPut at (length bytes) (i / 64) cell → ShowsPut at i bytes (cell_of (persist start len stored) (i / 64))
     taken cell is takes =
-        let there_is = cell_of-fill at (length bytes) pages (i / 64) cell is in
         let put_is : cell_of stored (i / 64) ≡ Some (put_cell at bytes (i / 64) cell) =
-        cell_of-put at bytes filled (i / 64) ∙ ap (option_map (put_cell at bytes (i / 64))) there_is in
+        cell_of-put at bytes pages (i / 64) ∙ ap (option_map (put_cell at bytes (i / 64))) is in
         let from : at ≤ i = grind (arith, nat_tests) in
         let to : i < at + length bytes = grind (arith, nat_tests) in
         let byte : cell_byte (put_cell at bytes (i / 64) cell) (i % 64) ≡ slice_index bytes (i - at) =
-        sym (ap seen put_is) ∙ byte_in-put at i bytes filled cell small there_is takes ∙ byte_over-in at i (byte_in filled i) bytes from to in
+        sym (ap seen put_is) ∙ byte_in-put at i bytes pages cell small is takes ∙ byte_over-in at i (byte_in pages i) bytes from to in
         subst (ShowsPut at i bytes) (sym (synced (put_cell at bytes (i / 64) cell) put_is))
         (elim (flush_shown (put_cell at bytes (i / 64) cell) (i % 64)) as (λ _. ShowsPut at i bytes (Some (flush_cell (put_cell at bytes (i / 64) cell)))) [
           | inl none ↦ inl none
@@ -176,9 +179,8 @@ synced_byte at start len i bytes pages small among touched there = by_line (cell
 
     lost : cell_of pages (i / 64) ≡ Some Bad → holds_line at (length bytes) (i / 64) ≡ false → ShowsPut at i bytes (cell_of (persist start len stored) (i / 64))
     lost is out =
-        let there_is = cell_of-fill at (length bytes) pages (i / 64) Bad is in
         let put_is : cell_of stored (i / 64) ≡ Some Bad =
-        cell_of-put at bytes filled (i / 64) ∙ ap (option_map (put_cell at bytes (i / 64))) there_is
+        cell_of-put at bytes pages (i / 64) ∙ ap (option_map (put_cell at bytes (i / 64))) is
         ∙ ap (λ b. Some (cond b (Kept false (map_from (word_stored at bytes) (8 * (i / 64)) (replicate 8 (0 ∷ [])))) Bad)) out in
         subst (ShowsPut at i bytes) (sym (synced Bad put_is)) (inl refl)
 
@@ -191,19 +193,73 @@ synced_byte at start len i bytes pages small among touched there = by_line (cell
         by_cover true covered = taken Bad is covered
         by_cover false out = lost is out
 
+-- a store that is not refused ends within the volume
+volume_none : (o : Option VolumeRefusal) → option_map volume_answer o ≡ None → o ≡ None
+volume_none None none = refl
+volume_none (Some why) none = cc none
+
+stored_within : (geo : Geometry) (at len : ℕ) → extent_refusal (4096 * geo.vpages) at len ≡ None → at + len ≤ 4096 * geo.vpages
+stored_within geo at len none = by_test (nat_lt (4096 * geo.vpages) (at + len)) refl none
+  where
+    by_test : (b : Bool) → nat_lt (4096 * geo.vpages) (at + len) ≡ b → first_there (refused_if b Past) (refused_if (len == 0) Empty) ≡ None → at + len ≤ 4096 * geo.vpages
+    by_test true is refused = cc refused
+    by_test false is allowed = grind (arith, nat_tests)
+
+-- the pages that it touches are there
+filled_there : (at len i : ℕ) (pages : List Page) → is_among at len i ≡ true → i / 4096 < length pages → is_line_present (fill at len pages) (i / 64) ≡ true
+filled_there at len i pages among within =
+    let page = i / 64 / 64 in
+    let lt : page < length (presence_of pages) = omega (arith, length-map pages is_present) in
+    let was = slice_index_or (presence_of pages) page false in
+    let found : slice_get (presence_of (fill at len pages)) page ≡ Some (was || touches_page at len (0 + page)) =
+    ap (λ bs. slice_get bs page) (presence_of-fill at len pages)
+    ∙ slice_get-map_from (λ j b. b || touches_page at len j) 0 (presence_of pages) page
+    ∙ ap (option_map (λ b. b || touches_page at len (0 + page))) (slice_get-get_or (presence_of pages) page false lt) in
+    get_or_from_slice_get (presence_of (fill at len pages)) page (was || touches_page at len (0 + page)) false found ∙ either was (touches_page at len (0 + page)) touched
+  where
+    touched : touches_page at len (0 + i / 64 / 64) ≡ true
+    touched = grind (arith, nat_tests)
+
+    either : (a b : Bool) → b ≡ true → (a || b) ≡ true
+    either true b is = refl
+    either false b is = is
+
+-- a store, and a command after it that syncs a line of it
+synced_by : (h stored next : Machine) (action : Action) (at start len i : ℕ) (bytes : List ℕ) → ((k : ℕ) → get_or bytes k 0 < 256) → Does h (VStore at bytes) stored
+    → Does stored action next → next.volume ≡ persist start len stored.volume
+    → is_made_durable stored action (of_volume i) ≡ true
+    → is_among at (length bytes) i ≡ true → touches start len (i / 64) ≡ true
+    → (byte_at_place next (of_volume i) ≡ None) ⊎ Lasts next (of_volume i) (Some (slice_index bytes (i - at)))
+synced_by h stored next action at start len i bytes small stores syncs is covers among touched =
+    let filled = fill at (length bytes) h.volume in
+    let put_is = works_done h (VStore at bytes) (record h { volume = put at bytes filled }) stored refl stores in
+    let within = stored_within h.geometry at (length bytes) (volume_none _ (places_none h (VStore at bytes) put_is.0)) in
+    let to : i < at + length bytes = grind (arith, nat_tests) in
+    let there = filled_there at (length bytes) i h.volume among (omega (arith, within, to, stores.whole.pages)) in
+    let volume : stored.volume ≡ put at bytes filled = ap (λ m. m.volume) put_is.1 in
+    let shown : byte_at_place next (of_volume i) ≡ line_has (cell_of (persist start len (put at bytes filled)) (i / 64)) (i % 64) =
+    ap (λ p. line_has (cell_of p (i / 64)) (i % 64)) (is ∙ ap (persist start len) volume) in
+    elim (synced_byte at start len i bytes filled small among touched (lines-fill at (length bytes) h.volume stores.whole.lines (i / 64) there))
+    as (λ _. (byte_at_place next (of_volume i) ≡ None) ⊎ Lasts next (of_volume i) (Some (slice_index bytes (i - at)))) [
+      | inl none ↦ inl (shown ∙ none)
+      | inr byte ↦ inr (subst (Lasts next (of_volume i)) (shown ∙ byte) (durable stored next action (of_volume i) syncs covers))
+    ]
+
 pub synced : (h stored next : Machine) (at start len i : ℕ) (bytes : List ℕ) → ((k : ℕ) → get_or bytes k 0 < 256) → Does h (VStore at bytes) stored → Does stored (VSync start len) next
     → is_among at (length bytes) i ≡ true → touches start len (i / 64) ≡ true
     → (byte_at_place next (of_volume i) ≡ None) ⊎ Lasts next (of_volume i) (Some (slice_index bytes (i - at)))
 synced h stored next at start len i bytes small stores syncs among touched =
-    let put_is = works_done h (VStore at bytes) (record h { volume = put at bytes (fill at (length bytes) h.volume) }) stored refl stores in
     let sync_is = works_done stored (VSync start len) (record stored { volume = persist start len stored.volume }) next refl syncs in
-    let lt = within stored start len i sync_is.0 touched in
-    let geometry : stored.geometry ≡ h.geometry = ap (λ m. m.geometry) put_is.1 in
-    let there = stores.whole.volume (i / 64) (subst (λ g. i / 64 < 64 * g.vpages) geometry lt) in
-    let shown : byte_at_place next (of_volume i) ≡ line_has (cell_of (persist start len (put at bytes (fill at (length bytes) h.volume))) (i / 64)) (i % 64) =
-    ap (λ m. byte_at_place m (of_volume i)) sync_is.1 ∙ ap (λ (m : Machine). line_has (cell_of (persist start len m.volume) (i / 64)) (i % 64)) put_is.1 in
-    elim (synced_byte at start len i bytes h.volume small among touched there)
-    as (λ _. (byte_at_place next (of_volume i) ≡ None) ⊎ Lasts next (of_volume i) (Some (slice_index bytes (i - at)))) [
-      | inl none ↦ inl (shown ∙ none)
-      | inr byte ↦ inr (subst (Lasts next (of_volume i)) (shown ∙ byte) (durable stored next (VSync start len) (of_volume i) syncs touched))
-    ]
+    synced_by h stored next (VSync start len) at start len i bytes small stores syncs (ap (λ m. m.volume) sync_is.1) touched among touched
+
+pub synced_by_address : (h stored next : Machine) (at address start len i : ℕ) (bytes : List ℕ) → ((k : ℕ) → get_or bytes k 0 < 256) → Does h (VStore at bytes) stored
+    → Does stored (VPSync address len) next → physical_offset h.geometry address len ≡ Some start
+    → is_among at (length bytes) i ≡ true → touches start len (i / 64) ≡ true
+    → (byte_at_place next (of_volume i) ≡ None) ⊎ Lasts next (of_volume i) (Some (slice_index bytes (i - at)))
+synced_by_address h stored next at address start len i bytes small stores syncs begins among touched =
+    let put_is = works_done h (VStore at bytes) (record h { volume = put at bytes (fill at (length bytes) h.volume) }) stored refl stores in
+    let offset : physical_offset stored.geometry address len ≡ Some start = ap (λ m. physical_offset m.geometry address len) put_is.1 ∙ begins in
+    let sync_is = works_done stored (VPSync address len) (record stored { volume = persist_at (physical_offset stored.geometry address len) len stored.volume }) next refl syncs in
+    synced_by h stored next (VPSync address len) at start len i bytes small stores syncs
+    (ap (λ m. m.volume) sync_is.1 ∙ ap (λ o. persist_at o len stored.volume) offset)
+    (ap (λ o. (touched_lines_at o len).volume i) offset ∙ touched) among touched

@@ -1,21 +1,21 @@
 -- What was made durable stays.
 use Rattle.std.specs.Prelude.{◌≡◌, ◌*◌, ◌-◌, ◌/◌, ◌<◌, ℕ, true, false, List, [], ◌∷◌, ◌++◌, length, slice_index, Option, None, Some, IfSome}
-use Rattle.nvm_model.specs.Blocks.{is_among}
 use Rattle.nvm_model.specs.Cell.{Cell}
 use Rattle.nvm_model.specs.Cell.Cell.{Bad, Kept}
-use Rattle.nvm_model.specs.Page.{cell_of}
+use Rattle.nvm_model.specs.Numbered.{is_among}
+use Rattle.nvm_model.specs.Page.{Page, cell_of}
 use Rattle.reply_text.specs.Answer.{Answer}
 use Rattle.reply_text.specs.Answer.Answer.{Done, Bytes}
 use Rattle.script_text.specs.Action.{Action}
-use Rattle.script_text.specs.Action.Action.{BRead, VLoad, VStore}
+use Rattle.script_text.specs.Action.Action.{BRead, BWrite, BAtomic, BMulti, BDiscard, BDiscardIf, BExists, BScar, VLoad, VStore, VSync, VRanges, VPSync, VDiscard, VDiscardIf, VExists, Cut, CutIn, Restart}
 use Rattle.script_text.specs.Script.{Input}
 use Rattle.script_text.specs.Script.Input.{Skipped, Malformed, Asked}
 use Rattle.machine_host.specs.declared.mode.Mode.TheVariants.{On}
 use Rattle.machine_host.specs.Machine.{Machine}
 use Rattle.machine_host.specs.Run.{Transcript, Hears, Run}
-use Rattle.durable.specs.Place.{Place, byte_at_place}
+use Rattle.durable.specs.Place.{Place, byte_at_place, is_line_present}
 use Rattle.durable.specs.Place.Place.{of_volume, of_blocks}
-use Rattle.durable.specs.Touching.{changes, is_begun}
+use Rattle.durable.specs.Touching.{changes, is_begun, is_made_durable}
 
 -- a line of the volume is there: it is bad, or has its eight words
 abbrev pub IsLineThere : Option Cell → Type 0
@@ -23,16 +23,39 @@ IsLineThere None = ⊥
 IsLineThere (Some Bad) = Unit {0}
 IsLineThere (Some (Kept weak words)) = length words ≡ 8
 
--- A state that a run may come to: all blocks and each line of the volume are there, and nothing is interrupted in mode On.
+-- pages that are there have all their lines
+abbrev pub HaveLines : List Page → Type 0
+HaveLines pages = (n : ℕ) → is_line_present pages n ≡ true → IsLineThere (cell_of pages n)
+
+-- A state that a run may come to: all blocks and pages are counted, the pages that are there have their lines, and nothing is
+-- interrupted in mode On.
 pub record IsComplete (h : Machine) : Type 0 where
   pub blocks : length h.blocks ≡ h.geometry.blocks
-  pub volume : (n : ℕ) → n < 64 * h.geometry.vpages → IsLineThere (cell_of h.volume n)
+  pub pages : length h.volume ≡ h.geometry.vpages
+  pub lines : HaveLines h.volume
   pub settled : h.mode ≡ On → h.interrupted ≡ None
 
 -- what a store to the volume brings are bytes; nothing is asked of other data
 abbrev pub BringsBytes : Action → Type 0
+BringsBytes (BRead block count) = Unit {0}
+BringsBytes (BWrite block bytes) = Unit {0}
+BringsBytes (BAtomic block bytes) = Unit {0}
+BringsBytes (BMulti ranges bytes) = Unit {0}
+BringsBytes (BDiscard block count) = Unit {0}
+BringsBytes (BDiscardIf block count) = Unit {0}
+BringsBytes (BExists block) = Unit {0}
+BringsBytes (BScar ranges) = Unit {0}
+BringsBytes (VLoad offset len) = Unit {0}
 BringsBytes (VStore offset bytes) = (k : ℕ) → slice_index bytes k < 256
-BringsBytes action = Unit {0}
+BringsBytes (VSync offset len) = Unit {0}
+BringsBytes VRanges = Unit {0}
+BringsBytes (VPSync address len) = Unit {0}
+BringsBytes (VDiscard page count) = Unit {0}
+BringsBytes (VDiscardIf page count) = Unit {0}
+BringsBytes (VExists page) = Unit {0}
+BringsBytes Cut = Unit {0}
+BringsBytes (CutIn calls) = Unit {0}
+BringsBytes (Restart choice) = Unit {0}
 
 -- the same of all commands that are asked for
 abbrev pub BringBytes : List Input → Type 0
@@ -93,7 +116,8 @@ pub record Passes (h : Machine) (before : List Input) (action : Action) (after :
   pub rest : Run next after late end
   pub answers : said.answers ≡ early.answers ++ (middle.answers ++ late.answers)
 
--- where the command was done, and the rest spares the place, its byte is the one that the command left
+-- where the command made the place durable and was done, and the rest spares the place, its byte is the one that the command left
 pub record KeepsThrough (h : Machine) (before : List Input) (action : Action) (after : List Input) (said : Transcript) (end : Machine) (x : Place) : Type 0 where
   pub passes : Passes h before action after said end
-  pub keeps : passes.middle.answers ≡ Done ∷ [] → Spares x after passes.late.answers → Has end x (byte_at_place passes.next x)
+  pub keeps : is_made_durable passes.here action x ≡ true → passes.middle.answers ≡ Done ∷ [] → Spares x after passes.late.answers
+      → Has end x (byte_at_place passes.next x)

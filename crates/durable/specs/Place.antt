@@ -1,9 +1,9 @@
 -- A byte of storage, and what is read there.
-use Rattle.std.specs.Prelude.{◌/◌, ◌%◌, ℕ, Option, Some, None, option_map, slice_index, slice_index_or}
+use Rattle.std.specs.Prelude.{◌/◌, ◌%◌, ℕ, Bool, false, List, Option, Some, None, option_map, slice_index, slice_index_or}
 use Rattle.nvm_model.specs.Blocks.{nth}
 use Rattle.nvm_model.specs.Cell.{Cell, cell_byte}
 use Rattle.nvm_model.specs.Cell.Cell.{Bad, Kept}
-use Rattle.nvm_model.specs.Page.{cell_of}
+use Rattle.nvm_model.specs.Page.{Page, cell_of, presence_of}
 use Rattle.nvm_model.specs.Storage.{Block}
 use Rattle.nvm_model.specs.Storage.Block.{Absent, Scarred, Data}
 use Rattle.machine_host.specs.Machine.{Machine}
@@ -12,6 +12,10 @@ use Rattle.machine_host.specs.Machine.{Machine}
 pub data Place : Type 0 where
   of_volume : ℕ → Place
   of_blocks : ℕ → Place
+
+-- the page of a line of the volume is there
+abbrev pub is_line_present : List Page → ℕ → Bool
+is_line_present pages n = slice_index_or (presence_of pages) (n / 64) false
 
 -- byte i of a line of the volume and of a block: 0 where nothing is kept, None where it can't be read
 abbrev pub line_has : Option Cell → ℕ → Option ℕ

@@ -1,15 +1,18 @@
 -- Which bytes a command makes durable, and which it changes.
-use Rattle.std.specs.Prelude.{◌/◌, ℕ, Bool, true, false, List, length}
+use Rattle.std.specs.Prelude.{◌/◌, ℕ, Bool, true, false, List, Option, Some, None, length}
 use Rattle.std.specs.List.{list_any}
 use Rattle.nvm_base.specs.declared.units.Span.{Span}
-use Rattle.nvm_model.specs.Blocks.{is_among}
 use Rattle.nvm_model.specs.Cell.{touches}
+use Rattle.nvm_model.specs.Numbered.{is_among}
 use Rattle.block_device.specs.Refusals.{block_spans}
+use Rattle.pm_volume.specs.Refusals.{physical_offset}
 use Rattle.reply_text.specs.Answer.{Answer}
-use Rattle.reply_text.specs.Answer.Answer.{Done, DoneBad, Bytes, Yes, No, Scarred, PoisonBlock, DeviceFailed, PowerLost, Refused, RefusedMeta}
+use Rattle.reply_text.specs.Answer.Answer.{Done, DoneBad, Bytes, Ranges, Yes, No, Scarred, PoisonBlock, PoisonVolume, DeviceFailed, PowerLost, Refused, RefusedMeta}
 use Rattle.script_text.specs.Action.{Action}
-use Rattle.script_text.specs.Action.Action.{BRead, BWrite, BAtomic, BMulti, BDiscard, BDiscardIf, BExists, BScar, VLoad, VStore, VSync, Cut, CutIn, Restart}
+use Rattle.script_text.specs.Action.Action.{BRead, BWrite, BAtomic, BMulti, BDiscard, BDiscardIf, BExists, BScar, VLoad, VStore, VSync, VRanges, VPSync, VDiscard, VDiscardIf, VExists, Cut, CutIn, Restart}
 use Rattle.machine_host.specs.OnBlocks.{blocks_from}
+use Rattle.machine_host.specs.Machine.{Machine}
+use Rattle.word_tables.specs.declared.geometry.Geometry.{Geometry}
 use Rattle.durable.specs.Place.{Place}
 use Rattle.durable.specs.Place.Place.{of_volume, of_blocks}
 
@@ -25,33 +28,47 @@ nothing = record { volume = λ i. false; blocks = λ block. false }
 abbrev pub spanned : List Span → Region
 spanned spans = record nothing { blocks = λ block. list_any (λ (span : Span). is_among span.start span.len block) spans }
 
--- bytes of the volume, and all bytes of the lines that they touch
+-- bytes of the volume, and those of pages
 abbrev pub stored_bytes : ℕ → ℕ → Region
 stored_bytes offset len = record nothing { volume = is_among offset len }
 
+abbrev pub discarded_pages : ℕ → ℕ → Region
+discarded_pages page count = record nothing { volume = λ i. is_among page count (i / 4096) }
+
+-- all bytes of the lines that a span of the volume touches
 abbrev pub touched_lines : ℕ → ℕ → Region
 touched_lines offset len = record nothing { volume = λ i. touches offset len (i / 64) }
+
+-- the same where a span of addresses begins at this offset
+abbrev pub touched_lines_at : Option ℕ → ℕ → Region
+touched_lines_at None len = nothing
+touched_lines_at (Some offset) len = touched_lines offset len
 
 abbrev pub holds : Region → Place → Bool
 holds region (of_volume i) = region.volume i
 holds region (of_blocks i) = region.blocks (i / 512)
 
--- what is durable once a command is done: the blocks that it writes, and the lines that it syncs
-abbrev pub made_durable : Action → Region
-made_durable (BRead block count) = nothing
-made_durable (BWrite block bytes) = spanned (blocks_from block (length bytes / 512))
-made_durable (BAtomic block bytes) = spanned (blocks_from block (length bytes / 512))
-made_durable (BMulti ranges bytes) = spanned (block_spans ranges)
-made_durable (BDiscard block count) = nothing
-made_durable (BDiscardIf block count) = nothing
-made_durable (BExists block) = nothing
-made_durable (BScar ranges) = nothing
-made_durable (VLoad offset len) = nothing
-made_durable (VStore offset bytes) = nothing
-made_durable (VSync offset len) = touched_lines offset len
-made_durable Cut = nothing
-made_durable (CutIn calls) = nothing
-made_durable (Restart choice) = nothing
+-- what is durable once a command is done on storage of these sizes: the blocks that it writes, and the lines that it syncs
+abbrev pub made_durable : Geometry → Action → Region
+made_durable geo (BRead block count) = nothing
+made_durable geo (BWrite block bytes) = spanned (blocks_from block (length bytes / 512))
+made_durable geo (BAtomic block bytes) = spanned (blocks_from block (length bytes / 512))
+made_durable geo (BMulti ranges bytes) = spanned (block_spans ranges)
+made_durable geo (BDiscard block count) = nothing
+made_durable geo (BDiscardIf block count) = nothing
+made_durable geo (BExists block) = nothing
+made_durable geo (BScar ranges) = nothing
+made_durable geo (VLoad offset len) = nothing
+made_durable geo (VStore offset bytes) = nothing
+made_durable geo (VSync offset len) = touched_lines offset len
+made_durable geo VRanges = nothing
+made_durable geo (VPSync address len) = touched_lines_at (physical_offset geo address len) len
+made_durable geo (VDiscard page count) = nothing
+made_durable geo (VDiscardIf page count) = nothing
+made_durable geo (VExists page) = nothing
+made_durable geo Cut = nothing
+made_durable geo (CutIn calls) = nothing
+made_durable geo (Restart choice) = nothing
 
 -- what a command writes, discards, scars or stores
 abbrev pub region_changed : Action → Region
@@ -66,12 +83,17 @@ region_changed (BScar ranges) = spanned ranges
 region_changed (VLoad offset len) = nothing
 region_changed (VStore offset bytes) = stored_bytes offset (length bytes)
 region_changed (VSync offset len) = nothing
+region_changed VRanges = nothing
+region_changed (VPSync address len) = nothing
+region_changed (VDiscard page count) = discarded_pages page count
+region_changed (VDiscardIf page count) = discarded_pages page count
+region_changed (VExists page) = nothing
 region_changed Cut = nothing
 region_changed (CutIn calls) = nothing
 region_changed (Restart choice) = nothing
 
-abbrev pub is_made_durable : Action → Place → Bool
-is_made_durable action x = holds (made_durable action) x
+abbrev pub is_made_durable : Machine → Action → Place → Bool
+is_made_durable h action x = holds (made_durable h.geometry action) x
 
 abbrev pub changes : Action → Place → Bool
 changes action x = holds (region_changed action) x
@@ -81,10 +103,12 @@ abbrev pub is_begun : Answer → Bool
 is_begun Done = true
 is_begun (DoneBad n) = false
 is_begun (Bytes bytes) = false
+is_begun (Ranges ranges) = false
 is_begun Yes = false
 is_begun No = false
 is_begun (Scarred block) = false
 is_begun (PoisonBlock block line) = false
+is_begun (PoisonVolume offset) = false
 is_begun DeviceFailed = true
 is_begun PowerLost = true
 is_begun (Refused why) = false

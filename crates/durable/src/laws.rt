@@ -1,16 +1,21 @@
 // Laws of whole runs, each a function without a body.
-ghost use Rattle.std.specs.Prelude.{◌≡◌, ◌⊎◌, ◌-◌, ◌*◌, ◌/◌, ℕ, true, List, [], ◌∷◌, ◌++◌, length, slice_index, Some, None};
+ghost use Rattle.std.specs.Prelude.{◌≡◌, ◌⊎◌, ◌-◌, ◌*◌, ◌/◌, ℕ, true, false, List, [], ◌∷◌, ◌++◌, length, slice_index, Some, None};
 ghost use Rattle.word_tables.specs.declared.geometry.Geometry.{Geometry};
 ghost use Rattle.durable.specs.Touching.{is_made_durable};
-ghost use Rattle.nvm_model.specs.Blocks.{is_among};
-ghost use Rattle.nvm_model.specs.Cell.{touches};
+ghost use Rattle.nvm_model.specs.Cell.{covers, touches};
+ghost use Rattle.nvm_model.specs.Numbered.{is_among};
+ghost use Rattle.nvm_model.specs.Page.{touches_absent};
+ghost use Rattle.line_device.specs.Panel.{Image};
+ghost use Rattle.word_tables.specs.Layout.{volume_line};
+ghost use Rattle.pm_volume.specs.Presence.{presence_read};
+ghost use Rattle.pm_volume.specs.Refusals.{physical_offset};
 ghost use Rattle.script_text.specs.Action.{Action};
-ghost use Rattle.script_text.specs.Action.Action.{BWrite, BAtomic, Cut, Restart, VStore, VSync};
+ghost use Rattle.script_text.specs.Action.Action.{BWrite, BAtomic, Cut, Restart, VStore, VSync, VPSync};
 ghost use Rattle.script_text.specs.Script.{Input, inputs};
 ghost use Rattle.script_text.specs.Script.Input.{Asked};
 ghost use Rattle.line_device.specs.declared.line.Choice.TheVariants.{Firsts};
 ghost use Rattle.machine_host.specs.Machine.{Machine};
-ghost use Rattle.machine_host.specs.Restarting.{fresh};
+ghost use Rattle.machine_host.specs.Restarting.{fresh, reading};
 ghost use Rattle.machine_host.specs.Run.{Transcript, Run};
 ghost use Rattle.durable.specs.Place.{Place, byte_at_place};
 ghost use Rattle.durable.specs.Place.Place.{of_volume, of_blocks};
@@ -19,10 +24,9 @@ ghost use Rattle.durable.specs.Durable.{BringBytes, BringsBytes, Does, IsDurable
 /// A command that covers a byte was answered `ok`: the byte is the same in every later state, whatever is cut and restarted,
 /// until a command that changes it is begun.
 pub fn what_was_made_durable_stays()
-    ensures stays { (h next : Machine) (action : Action) (x : Place) → Does h action next → is_made_durable action x ≡ true → IsDurable next x }
+    ensures stays { (h next : Machine) (action : Action) (x : Place) → Does h action next → is_made_durable h action x ≡ true → IsDurable next x }
     ensures whole { (h end : Machine) (before after : List Input) (action : Action) (said : Transcript) (x : Place) → IsComplete h
-        → BringBytes after → is_made_durable action x ≡ true → Run h (before ++ Asked action ∷ after) said end
-        → KeepsThrough h before action after said end x }
+        → BringBytes after → Run h (before ++ Asked action ∷ after) said end → KeepsThrough h before action after said end x }
     ensures scripts { (script : List ℕ) → BringBytes (inputs script) }
 {}
 
@@ -39,13 +43,21 @@ pub fn what_was_written_lasts()
         → Does h (VStore offset bytes) stored → Does stored (VSync start len) next
         → is_among offset (length bytes) i ≡ true → touches start len (i / 64) ≡ true
         → (byte_at_place next (of_volume i) ≡ None) ⊎ Lasts next (of_volume i) (Some (slice_index bytes (i - offset))) }
+    ensures by_address { (h stored next : Machine) (offset address start len i : ℕ) (bytes : List ℕ) → BringsBytes (VStore offset bytes)
+        → Does h (VStore offset bytes) stored → Does stored (VPSync address len) next
+        → physical_offset h.geometry address len ≡ Some start
+        → is_among offset (length bytes) i ≡ true → touches start len (i / 64) ≡ true
+        → (byte_at_place next (of_volume i) ≡ None) ⊎ Lasts next (of_volume i) (Some (slice_index bytes (i - offset))) }
 {}
 
-/// No more lasts than that: a store that is not synced may be lost, though no later command changes anything. A run leads back
-/// to where it began.
+/// No more lasts than that: a store that is not synced may be lost, though no later command changes anything. Of a machine as a
+/// restart left it, where the pages are there and no bad line is stored over whole, a run leads back to where it began.
 pub fn what_is_not_synced_may_go()
-    ensures { (geo : Geometry) (stored : Machine) (offset : ℕ) (bytes : List ℕ) → Does (fresh geo) (VStore offset bytes) stored
-        → (said : Transcript) × Run stored (Asked Cut ∷ Asked (Restart Firsts) ∷ []) said (fresh geo) }
+    ensures { (geo : Geometry) (image : Image) (stored : Machine) (offset : ℕ) (bytes : List ℕ)
+        → touches_absent offset (length bytes) (presence_read geo image.word) ≡ false
+        → ((n : ℕ) → covers offset (length bytes) n ≡ true → image.is_bad (volume_line geo n) ≡ false)
+        → Does (reading geo image) (VStore offset bytes) stored
+        → (said : Transcript) × Run stored (Asked Cut ∷ Asked (Restart Firsts) ∷ []) said (reading geo image) }
 {}
 
 /// A new machine is in such a state, whatever is armed, and no run leaves them.
