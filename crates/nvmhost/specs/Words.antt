@@ -1,5 +1,5 @@
 -- The program's words.
-use Rattle.std.specs.Prelude.{◌≡◌, ◌≤◌, ℕ, List, [], ◌∷◌, Option, Some, None, if◌then◌else◌, codes}
+use Rattle.std.specs.Prelude.{◌≡◌, ℕ, List, [], ◌∷◌, Option, Some, None, if◌then◌else◌, codes}
 use Rattle.std.specs.Str.{bytes_eq}
 use Rattle.nvm_base.specs.Numbers.{number_of}
 use Rattle.word_tables.specs.declared.geometry.Geometry.{Geometry}
@@ -18,8 +18,7 @@ sizes_of (name ∷ blocks ∷ vpages ∷ fpages ∷ []) =
     if bytes_eq name (codes "run") then sizes_named (number_of blocks) (number_of vpages) (number_of fpages) else None
 sizes_of _ = None
 
--- The words are a form of the command line, with sizes within their limits. So far a volume has at most 16 pages.
+-- The words are a form of the command line, with sizes within their limits.
 pub record IsForm (words : List (List ℕ)) (geo : Geometry) : Type 0 where
   pub named : sizes_of words ≡ Some geo
   pub valid : IsValid geo
-  pub few : geo.vpages ≤ 16

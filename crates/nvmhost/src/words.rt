@@ -13,7 +13,7 @@ pub fn read_words(words: &[String]) -> Option<Geometry>
     ensures none { IfNone result ((geo : Sizes) → IsForm (map (λ word. string_bytes word) words.now) geo → ⊥) }
 {
     let geometry = sizes(words)?;
-    if geometry.valid() && geometry.vpages <= 16 {
+    if geometry.valid() {
         Some(geometry)
     } else {
         None

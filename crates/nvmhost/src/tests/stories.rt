@@ -5,7 +5,7 @@ pub const TWO_RESTARTS: &str =
     "vstore 0 07*8\ncut\nrestart none\ncut in 2\nvstore 60 aa*8\nrestart all\nvload 60 8\n";
 
 /// Each script with its replies.
-pub const STORIES: [(&str, &str); 16] = [
+pub const STORIES: [(&str, &str); 22] = [
     // What is not synced may be lost, or kept.
     (
         "vstore 0 07*8\ncut\nrestart none\nvload 0 8\n",
@@ -72,5 +72,30 @@ pub const STORIES: [(&str, &str); 16] = [
     (
         "cut in 1\ncut in 2\nvload 0 1\ncut\ncut in 1\nrestart none\nvload 0 2\ncut in 0\n",
         "ok\nok\ndata 00\nok\nrefused off\nok bad 0\ndata 00*2\nrefused range\n",
+    ),
+    // Pages that are absent, there and discarded, and physical addresses.
+    (
+        "vranges\nvstore 4092 11*8\nvpsync 151548 4\nvpsync 151552 1\ncut\nrestart none\nvload 4092 8\n",
+        "ranges 0 147456 4096 4096 188416 4096\nok\nok\nrefused address\nok\nok bad 0\ndata 11*4,00*4\n",
+    ),
+    (
+        "vstore 4095 aabb\nvload 4094 4\nvpsync 151551 1\nvpsync 188416 1\n",
+        "ok\ndata 00,aa,bb,00\nok\nok\n",
+    ),
+    (
+        "vstore 0 07*8\nvexists 0\nvdiscard 0 1\nvload 0 8\nvexists 0\nvstore 64 05\nvload 0 65\n",
+        "ok\nyes\nok\ndata 00*8\nno\nok\ndata 00*64,05\n",
+    ),
+    (
+        "vstore 0 07\nvdiscardif 0 2\nvexists 0\nvexists 1\nvload 0 1\n",
+        "ok\nok\nno\nno\ndata 00\n",
+    ),
+    (
+        "vsync 4096 64\nvexists 1\nvload 4096 1\n",
+        "ok\nno\ndata 00\n",
+    ),
+    (
+        "vstore 4096 11*8\nvsync 4096 8\ncut\nrestart none\nvexists 0\nvexists 1\nvload 4095 9\n",
+        "ok\nok\nok\nok bad 0\nno\nyes\ndata 00,11*8\n",
     ),
 ];
