@@ -15,7 +15,7 @@ use Rattle.nvm_base.specs.Numbers.{number_of}
 use Rattle.script_text.specs.Action.{Action}
 use Rattle.script_text.specs.Action.Action.{BRead, BWrite, BAtomic, BMulti, BDiscard, BDiscardIf, BExists, BScar, VLoad, VStore, VSync, VRanges, VPSync, VDiscard, VDiscardIf, VExists, CutIn, Restart}
 use Rattle.script_text.specs.Script.{Input, asked, bare_action, command_action, cut_action, data_action, fitting, inputs, inputs_of, is_comment, line_input, lines_of, number_action, of_data, of_numbers, plain_action, power_action, ranges_action, ranges_of, restart_action, span_action, spans_action, spans_of, volume_action, words_input, words_of}
-use Rattle.script_text.specs.Script.Input.{Skipped, Malformed}
+use Rattle.script_text.specs.Script.Input.{Skipped, Malformed, Asked}
 use Rattle.durable.specs.Durable.{BringBytes, BringsBytes}
 
 -- each number is below 256, and that of each run
@@ -242,9 +242,16 @@ bring-line line rest more = by_test (nat_lt 65536 (length line))
     by_test true = more
     by_test false = bring-words (words_of (strip_last 13 line)) rest more
 
-bring-lines : (lines : List (List ℕ)) → BringBytes (inputs_of lines)
+pub bring-lines : (lines : List (List ℕ)) → BringBytes (inputs_of lines)
 bring-lines [] = tt
 bring-lines (line ∷ lines) = bring-line line (inputs_of lines) (bring-lines lines)
+
+-- so do those that come after one of them
+pub bring-rest : (before : List Input) (action : Action) (after : List Input) → BringBytes (before ++ Asked action ∷ after) → BringBytes after
+bring-rest [] action after all = all.1
+bring-rest (Skipped ∷ before) action after all = bring-rest before action after all
+bring-rest (Malformed ∷ before) action after all = bring-rest before action after all
+bring-rest (Asked first ∷ before) action after all = bring-rest before action after all.1
 
 pub bring-script : (script : List ℕ) → BringBytes (inputs script)
 bring-script script = bring-lines (lines_of script)

@@ -60,7 +60,6 @@ printable_after says answer part good printable (Err f) = printable_told answer 
 -- Whatever the call, `after` is the host in a mode once the part is as the call left it.
 module _ {E R : Type 0} (says : E → Told R) (answer : R → Answer) (part : IsPart says answer) (host : HostState) (after : Mode → HostState) (old new : Device) (on : host.mode ≡ On)
     (same : (m : Mode) → (after m).geometry ≡ host.geometry) (in_mode : (m : Mode) → (after m).mode ≡ m) (calls persists : ℕ) where
-
   -- what it is answered, and what comes of it
   pub comes_of_call : (action : Action) (h : Machine) → Stands host old h → calls ≤ (spending h action).calls → persists ≤ (spending h action).persists
       → {T : Type 0} (r : Result T E) (good : Answer) (why : Option R) (to : Machine) → stop_in good ≡ None → Answers says why r → OnRefused says r ((after host.mode ≡ host) × (new ≡ old))

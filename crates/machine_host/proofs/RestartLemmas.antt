@@ -204,8 +204,8 @@ module _ (host : HostState) (choice : Choice) (old mid new : Device) (h : Machin
   no_bad_pages =
       bad_lines-none (volume_line geo) start.image there
       (λ k lt.
-          let on = line_there geo mid.medium k layout.lines (subst (λ n. k < 64 * n) (ap length there_is ∙ all_there) lt) in
-          left.image.bad (volume_line geo k) on ∙ (layout.intact (volume_line geo k) on).0)
+      let on = line_there geo mid.medium k layout.lines (subst (λ n. k < 64 * n) (ap length there_is ∙ all_there) lt) in
+      left.image.bad (volume_line geo k) on ∙ (layout.intact (volume_line geo k) on).0)
 
   no_bad_lines : bad_block_lines (blocks_read geo start.image.is_bad start.image.word) + bad_lines pages_back ≡ 0
   no_bad_lines =

@@ -13,16 +13,20 @@ use Rattle.nvm_base.specs.Counts.{Rose}
 use Rattle.script_text.specs.Script.{inputs_of, lines_of}
 use Rattle.machine_host.specs.Machine.{Machine}
 use Rattle.machine_host.specs.Restarting.{reading, fresh}
-use Rattle.machine_host.specs.Run.{Run, silence}
+use Rattle.machine_host.specs.Run.{Run, Transcript, silence}
 use Rattle.machine_host.specs.Stands.{HostState}
 use Rattle.machine_host.specs.Costs.{Opens}
 use Rattle.machine_host.proofs.RunLemmas.{tells_then}
+use Rattle.durable.specs.Durable.{BringBytes}
+use Rattle.durable.proofs.PassLemmas.{keeps_through}
+use Rattle.durable.proofs.ScriptLemmas.{bring-lines, bring-rest}
+use Rattle.durable.proofs.WholeLemmas.{whole-fresh}
 use Rattle.nvmhost.specs.declared.ending.Ending.{Ending}
 use Rattle.nvmhost.specs.declared.ending.Ending.TheVariants.{Usage, Read, Write, Memory, Script}
 use Rattle.nvmhost.specs.declared.ending.Ending.TheVariants as endings
 use Rattle.nvmhost.specs.Words.{IsForm}
 use Rattle.nvmhost.specs.Ending.{status, ending_text}
-use Rattle.nvmhost.specs.Whole.{Completes, WritesLine, Halts, SetUpFailed, IsReady, IsCaused, opening}
+use Rattle.nvmhost.specs.Whole.{Begins, Completes, WritesLine, Halts, SetUpFailed, IsReady, IsCaused, IsRun, opening}
 use Rattle.nvmhost.specs.Reading.{ReadsScript}
 use Rattle.nvmhost.specs.Running.{Performs}
 use Rattle.nvmhost.proofs.BytesLemmas.{appends-none}
@@ -45,6 +49,18 @@ writes_line ending text r a b c old new is all later cause = record {
 abbrev armed_as : Geometry → Panel → Machine
 armed_as geo p = record (fresh geo) { cut_armed = p.cut_armed; fail_armed = p.fail_armed }
 
+-- a run keeps what its commands made durable
+is_run : (geo : Geometry) (p : Panel) (lines : List (List ℕ)) (said : Transcript) (begin end : Machine) → Begins geo p begin → Run begin (inputs_of lines) said end
+    → IsRun geo p lines said end
+is_run geo p lines said begin end begins run = record {
+  begin = begin;
+  begins = begins;
+  run = run;
+  stays = λ before action after x is.
+      keeps_through begin end before after action said x (whole-fresh geo begin begins.state)
+      (bring-rest before action after (subst BringBytes is (bring-lines lines))) (subst (λ inputs. Run begin inputs said end) is run);
+}
+
 -- a call that performed no line
 pub halts-silent : (geo : Geometry) (left_old left_new written : Option (List ℕ)) (script : List ℕ) (old new : Device) → Consumes left_old left_new script
     → Opens old.panel new.panel → Halts geo left_old left_new written written old new
@@ -56,7 +72,7 @@ halts-silent geo left_old left_new written script old new read opens = record {
   end = armed_as geo new.panel;
   read = read;
   first = record { others = lines_of script; split = refl; whole = inl (record { rest = script; joined = refl }) };
-  run = record { begin = armed_as geo new.panel; begins = record { state = refl; cut = opens.armed.cut; fail = opens.armed.fail }; run = (refl, refl) };
+  run = is_run geo old.panel [] silence (armed_as geo new.panel) (armed_as geo new.panel) (record { state = refl; cut = opens.armed.cut; fail = opens.armed.fail }) (refl, refl);
   tells = tells_first-opened (armed_as geo new.panel) old.panel new.panel opens refl refl;
   wrote = record { part = []; front = record { rest = []; joined = refl }; wrote = appends-none written };
 }
@@ -77,11 +93,8 @@ ends_performed geo host left_old left_new written_old written_new script (Ok x) 
       short = reads.outcome.2;
       ran = record {
         end = says.end;
-        run = record {
-          begin = is_ready.begin;
-          begins = is_ready.begins;
-          run = subst (λ ls. Run is_ready.begin (inputs_of ls) says.said says.end) (sym all) says.run;
-        };
+        run = is_run geo old.panel (lines_of reads.script) says.said is_ready.begin says.end is_ready.begins
+            (subst (λ ls. Run is_ready.begin (inputs_of ls) says.said says.end) (sym all) says.run);
         tells = tells_then opening says.said old.panel ready.panel new.panel is_ready.tells whole.tells;
         stands = whole.stands;
       };
@@ -96,7 +109,7 @@ ends_performed geo host left_old left_new written_old written_new script (Err e)
       end = says.end;
       read = reads.read;
       first = record { others = says.others; split = ap lines_of (sym reads.outcome.0) ∙ says.split; whole = inr reads.outcome.1 };
-      run = record { begin = is_ready.begin; begins = is_ready.begins; run = says.run };
+      run = is_run geo old.panel says.lines says.said is_ready.begin says.end is_ready.begins says.run;
       tells = tells_first-after says.said says.end old.panel ready.panel new.panel is_ready.tells says.outcome;
       wrote = record { part = says.part; front = says.front; wrote = says.wrote };
     }

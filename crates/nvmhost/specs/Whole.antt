@@ -9,13 +9,17 @@ use Rattle.host_io.specs.declared.sink.WriteFault.{WriteFault}
 use Rattle.host_io.specs.declared.sink.WriteFault.TheVariants.{Failed}
 use Rattle.word_tables.specs.declared.geometry.Geometry.{Geometry}
 use Rattle.reply_text.specs.Answer.{reply_text}
-use Rattle.script_text.specs.Script.{inputs_of, lines_of}
+use Rattle.script_text.specs.Action.{Action}
+use Rattle.script_text.specs.Script.{Input, inputs_of, lines_of}
+use Rattle.script_text.specs.Script.Input.{Asked}
 use Rattle.machine_host.specs.Machine.{Machine}
 use Rattle.machine_host.specs.Restarting.{fresh}
 use Rattle.machine_host.specs.Run.{Transcript, Run, followed_by, silence}
 use Rattle.machine_host.specs.Telling.{Tells, bumped_by}
 use Rattle.machine_host.specs.Stands.{HostState, HostServes, DeviceStands, Stands}
 use Rattle.machine_host.specs.Costs.{mount_calls, mount_persists}
+use Rattle.durable.specs.Place.{Place}
+use Rattle.durable.specs.Durable.{KeepsThrough}
 use Rattle.nvmhost.specs.declared.ending.Ending.{Ending}
 use Rattle.nvmhost.specs.declared.ending.Ending.TheVariants.{Read, Write, Script}
 use Rattle.nvmhost.specs.declared.ending.Ending.TheVariants as endings
@@ -32,11 +36,13 @@ pub record Begins (geo : Geometry) (p : Panel) (h : Machine) : Type 0 where
   pub cut : IsTrue h.cut_armed → IsTrue p.cut_armed
   pub fail : IsTrue h.fail_armed → IsTrue p.fail_armed
 
--- the machine's run over these lines
+-- The machine's run over these lines. What one of its commands made durable is there at its end, unless a later one changed it.
 pub record IsRun (geo : Geometry) (p : Panel) (lines : List (List ℕ)) (said : Transcript) (end : Machine) : Type 0 where
   pub begin : Machine
   pub begins : Begins geo p begin
   pub run : Run begin (inputs_of lines) said end
+  pub stays : (before : List Input) (action : Action) (after : List Input) (x : Place) → inputs_of lines ≡ before ++ Asked action ∷ after
+      → KeepsThrough begin before action after said end x
 
 -- what setting up says: nothing, but it asks of the device what a mount may
 abbrev pub opening : Transcript

@@ -25,7 +25,7 @@ returns g c =
     (λ h stands. fate_vpsync h v (sym stands.mode ∙ c.requires.on) (no_bad_lines now host old h c.self.view_is c.requires.on c.requires.serves stands) (volume_sizes now host old h c.self.view_is c.requires.on c.requires.serves stands) c.args.address c.args.len)
     (λ h stands. said.refused h.volume (volume_pages now host old h c.self.view_is c.requires.on c.requires.serves stands))
     (λ h stands.
-        subst (λ geo. OnOk c.physical_sync-call.result (VolumeHolds c.physical_sync-call.new.self new.medium (persist_at (physical_offset geo c.args.address c.args.len) c.args.len h.volume)))
-        (volume_sizes now host old h c.self.view_is c.requires.on c.requires.serves stands)
-        (physical_ok v _ c.args.address c.args.len old.medium new.medium c.physical_sync-call.result said.refused h.volume (volume_pages now host old h c.self.view_is c.requires.on c.requires.serves stands) said.ok))
+    subst (λ geo. OnOk c.physical_sync-call.result (VolumeHolds c.physical_sync-call.new.self new.medium (persist_at (physical_offset geo c.args.address c.args.len) c.args.len h.volume)))
+    (volume_sizes now host old h c.self.view_is c.requires.on c.requires.serves stands)
+    (physical_ok v _ c.args.address c.args.len old.medium new.medium c.physical_sync-call.result said.refused h.volume (volume_pages now host old h c.self.view_is c.requires.on c.requires.serves stands) said.ok))
     c.volume_answer.ensures.answer
