@@ -6,6 +6,7 @@ use Rattle.line_device.specs.Device.{Device}
 use Rattle.line_words.specs.Told.{Answers, OnRefused, OnWorked, is_done, outcome_by, refusal_of}
 use Rattle.line_words.specs.Told.Told.{Starves}
 use Rattle.line_words.specs.Words.{WritesBackOutside}
+use Rattle.word_tables.specs.declared.geometry.Geometry.{Geometry}
 use Rattle.word_tables.specs.Layout.{meta_lines}
 use Rattle.nvm_model.specs.Blocks.{first_there}
 use Rattle.nvm_model.specs.Interrupted.{MaySync}
@@ -219,6 +220,12 @@ module _ (now host : HostState) (old : Device) (h : Machine) (inside : host ≡ 
 
   pub presence_seen : presence_of h.volume ≡ host.volume.present
   presence_seen = volume_pages.there
+
+  -- what is counted of the volume is counted of the machine's pages
+  pub counted_seen : (count : Geometry → List Bool → ℕ) → count host.volume.geo host.volume.present ≤ count h.geometry (presence_of h.volume)
+  counted_seen count =
+      subst (λ geo. count host.volume.geo host.volume.present ≤ count geo (presence_of h.volume)) volume_sizes
+      (subst (λ there. count host.volume.geo host.volume.present ≤ count host.volume.geo there) (sym presence_seen) (omega arith))
 
   -- no line of metadata refuses a change
   pub no_bad_meta : (changes : Bool) → metadata_refusal_if changes host.volume.geo old.medium ≡ None

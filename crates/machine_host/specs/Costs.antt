@@ -10,6 +10,10 @@ pub record Spending : Type 0 where
 abbrev pub no_spending : Spending
 no_spending = record { calls = 0; persists = 0 }
 
+-- so many lines made durable, each by one call
+abbrev pub lines_persisted : ℕ → Spending
+lines_persisted count = record { calls = count; persists = count }
+
 -- one and another
 abbrev pub spent_with : Spending → Spending → Spending
 spent_with one other = record { calls = one.calls + other.calls; persists = one.persists + other.persists }

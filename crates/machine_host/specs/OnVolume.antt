@@ -4,13 +4,14 @@ use Rattle.word_tables.specs.declared.geometry.Geometry.{Geometry}
 use Rattle.word_log.specs.Changes.{commit_calls, commit_persists}
 use Rattle.nvm_model.specs.Page.{Page, discard, fill, first_bad_line, first_uncovered_line, look, persist, presence_of, put, touches_absent}
 use Rattle.pm_volume.specs.Area.{volume_ranges}
-use Rattle.pm_volume.specs.Costs.{lines_touched, store_calls, store_persists}
+use Rattle.pm_volume.specs.Costs.{lines_there, lines_there_at, lines_touched, store_calls, store_persists}
 use Rattle.pm_volume.specs.Refusals.{VolumeRefusal, address_refusal, bytes_refusal, extent_refusal, physical_offset, poisoned_at}
 use Rattle.pm_volume.specs.Refusals.VolumeRefusal.{Range, Length, Address, Meta, Poison}
 use Rattle.reply_text.specs.declared.reply.Why.{Why}
 use Rattle.reply_text.specs.declared.reply.Why.TheVariants as because
 use Rattle.reply_text.specs.Answer.{Answer}
 use Rattle.reply_text.specs.Answer.Answer.{Done, Bytes, Ranges, Yes, No, PoisonVolume, Refused, RefusedMeta}
+use Rattle.machine_host.specs.Costs.{lines_persisted}
 use Rattle.machine_host.specs.Machine.Fate.{Gives, Works}
 use Rattle.machine_host.specs.Meaning.{Meaning, VolumeLeft, anywhere, most_refusal, no_reasons, placed, quiet}
 use Rattle.machine_host.specs.Meaning.Needs.{Usable}
@@ -60,7 +61,7 @@ vsync offset len = record (changing_volume (λ geo. persist offset len) (λ geo.
     places = option_map volume_answer (bytes_refusal h.geometry offset len);
     unreadable = option_map volume_answer (poisoned_at (first_bad_line h.volume offset len));
   };
-  spends = λ h. record { calls = lines_touched offset len; persists = lines_touched offset len };
+  spends = λ h. lines_persisted (lines_there h.geometry (presence_of h.volume) offset len);
 }
 
 -- what is made durable of a span of the volume, where there is one
@@ -81,7 +82,7 @@ vpsync address len =
         places = option_map volume_answer (address_refusal h.geometry address len);
         unreadable = option_and_then (λ offset. option_map volume_answer (poisoned_at (first_bad_line h.volume offset len))) (physical_offset h.geometry address len);
       };
-      spends = λ h. record { calls = lines_touched address len; persists = lines_touched address len };
+      spends = λ h. lines_persisted (lines_there_at h.geometry (presence_of h.volume) (physical_offset h.geometry address len) len);
     }
 
 -- pages that become absent

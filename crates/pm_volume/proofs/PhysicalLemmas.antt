@@ -5,16 +5,9 @@ use Rattle.word_tables.specs.declared.geometry.Geometry.{Geometry}
 use Rattle.word_tables.specs.Layout.{first_line, first_range, second_range, size}
 use Rattle.nvm_model.specs.Blocks.{first_there}
 use Rattle.nvm_model.specs.Page.{Page, first_bad_line}
-use Rattle.pm_volume.specs.Costs.{lines_touched}
 use Rattle.pm_volume.specs.Object.{VolumeState}
 use Rattle.pm_volume.specs.Refusals.VolumeRefusal.{Address, Length, Range}
 use Rattle.pm_volume.specs.Refusals.{physical_offset, physical_refusal, poisoned_at, refused_if, sync_refusal}
-
--- the span lies in the first range, or in the second one
-pub record IsAddressed (geo : Geometry) (address len offset : ℕ) : Type 0 where
-  pub lines : ℕ
-  pub at : (address ≡ 64 * lines + offset) ⊎ (offset ≡ 64 * lines + address)
-  pub within : offset + len ≤ 4096 * geo.vpages
 
 sizes_are : (geo : Geometry) → 64 * size geo first_range + 64 * size geo second_range ≡ 4096 * geo.vpages
 unfolding size
@@ -23,8 +16,9 @@ sizes_are geo = omega arith
 same_offset : (a b : ℕ) → Some a ≡ Some b → a ≡ b
 same_offset a b is = cc
 
-pub addressed : (geo : Geometry) (address len offset : ℕ) → physical_offset geo address len ≡ Some offset → IsAddressed geo address len offset
-addressed geo address len offset is =
+-- a span of addresses that is found lies within the volume
+pub address_within : (geo : Geometry) (address len offset : ℕ) → physical_offset geo address len ≡ Some offset → offset + len ≤ 4096 * geo.vpages
+address_within geo address len offset is =
     by_tests (nat_le f1 address && nat_le (address + len) (f1 + s1)) (nat_le f2 address && nat_le (address + len) (f2 + s2)) refl refl is
   where
     f1 : ℕ
@@ -40,38 +34,24 @@ addressed geo address len offset is =
     s2 = 64 * size geo second_range
 
     by_tests : (a b : Bool) → (nat_le f1 address && nat_le (address + len) (f1 + s1)) ≡ a → (nat_le f2 address && nat_le (address + len) (f2 + s2)) ≡ b
-        → (if a then Some (address - f1) else option_map (λ o. s1 + o) (if b then Some (address - f2) else None)) ≡ Some offset → IsAddressed geo address len offset
+        → (if a then Some (address - f1) else option_map (λ o. s1 + o) (if b then Some (address - f2) else None)) ≡ Some offset → offset + len ≤ 4096 * geo.vpages
     by_tests true b one two found =
         let parts = and_parts (nat_le f1 address) (nat_le (address + len) (f1 + s1)) one in
         let from : f1 ≤ address = leb-true f1 address parts.0 in
         let to : address + len ≤ f1 + s1 = leb-true (address + len) (f1 + s1) parts.1 in
         let same : address - f1 ≡ offset = same_offset _ _ found in
         let all = sizes_are geo in
-        record { lines = first_line geo first_range; at = inl (omega arith); within = omega arith }
+        omega arith
     by_tests false true one two found =
         let parts = and_parts (nat_le f2 address) (nat_le (address + len) (f2 + s2)) two in
         let from : f2 ≤ address = leb-true f2 address parts.0 in
         let to : address + len ≤ f2 + s2 = leb-true (address + len) (f2 + s2) parts.1 in
         let same : s1 + (address - f2) ≡ offset = same_offset _ _ found in
         let all = sizes_are geo in
-        elim (order (size geo first_range) (first_line geo second_range)) as (λ _. IsAddressed geo address len offset) [
-          | inl below ↦ record { lines = first_line geo second_range - size geo first_range; at = inl (omega (arith, below)); within = omega arith }
-          | inr above ↦ record { lines = size geo first_range - first_line geo second_range; at = inr (omega (arith, above)); within = omega arith }
-        ]
-      where
-        order : (a b : ℕ) → (a ≤ b) ⊎ (b ≤ a)
-        order a b = elim (cases_Bool (nat_le a b)) as (λ _. (a ≤ b) ⊎ (b ≤ a)) [ inl le ↦ inl (leb-true a b le) | inr gt ↦ inr (omega (arith, leb-false a b gt)) ]
+        omega arith
     by_tests false false one two found = cc
 
--- as many lines, by address or by offset
-pub same_lines : (geo : Geometry) (address len offset : ℕ) → 1 ≤ len → IsAddressed geo address len offset → lines_touched offset len ≡ lines_touched address len
-same_lines geo address len offset some is =
-    elim is.at as (λ _. lines_touched offset len ≡ lines_touched address len) [
-      | inl before ↦ let k : ℕ = is.lines in omega (arith, before)
-      | inr behind ↦ let k : ℕ = is.lines in omega (arith, behind)
-    ]
-
--- and refused for the same
+-- such a span is refused for the same as that of its addresses
 pub physical_is : (s : VolumeState) (pages : List Page) (address len offset : ℕ) → (len == 0) ≡ false → physical_offset s.geo address len ≡ Some offset → offset + len ≤ 4096 * s.geo.vpages → sync_refusal s pages offset len ≡ physical_refusal s pages address len
 physical_is s pages address len offset some at within =
     ap (λ t. first_there (first_there (refused_if t Range) (refused_if (len == 0) Length)) (poisoned_at (first_bad_line pages offset len))) (le-ltb (4096 * s.geo.vpages) (offset + len) within)

@@ -1,8 +1,11 @@
--- What a store may spend of a device's calls.
-use Rattle.std.specs.Prelude.{◌+◌, ◌*◌, ℕ, Bool, List, if◌then◌else◌}
+-- What stores and syncs may spend of a device's calls.
+use Rattle.std.specs.Prelude.{◌+◌, ◌*◌, ℕ, Bool, true, List, Option, Some, None, if◌then◌else◌}
 use Rattle.nvm_base.specs.Units.{units_of}
+use Rattle.word_tables.specs.declared.geometry.Geometry.{Geometry}
 use Rattle.word_log.specs.Changes.{commit_calls, commit_persists}
 use Rattle.nvm_model.specs.Page.{touches_absent}
+use Rattle.page_lines.specs.Placed.{there_in}
+use Rattle.pm_volume.specs.Object.{volume_place}
 
 -- how many lines, and how many pages, a span touches
 abbrev pub lines_touched : ℕ → ℕ → ℕ
@@ -19,3 +22,12 @@ store_calls there start len =
 
 abbrev pub store_persists : List Bool → ℕ → ℕ → ℕ
 store_persists there start len = if touches_absent start len there then commit_persists (pages_touched start len) else 0
+
+-- A sync makes each line once durable that it touches and whose page is there.
+abbrev pub lines_there : Geometry → List Bool → ℕ → ℕ → ℕ
+lines_there geo there start len = there_in (volume_place geo there true) (record { start = start; len = len })
+
+-- by addresses it may find none
+abbrev pub lines_there_at : Geometry → List Bool → Option ℕ → ℕ → ℕ
+lines_there_at geo there None len = 0
+lines_there_at geo there (Some start) len = lines_there geo there start len

@@ -1,17 +1,16 @@
 // What was stored, made durable.
-ghost use Rattle.std.specs.Prelude.{◌≡◌, ◌≤◌, IsTrue, List, OnOk, Some, true, ℕ};
+ghost use Rattle.std.specs.Prelude.{◌≡◌, IsTrue, List, OnOk, Some, ℕ};
 ghost use Rattle.line_device.specs.Panel.{Runs};
 ghost use Rattle.line_words.specs.Told.{Answers, OnRefused, OnWorked, is_done, outcome_by};
 ghost use Rattle.line_words.specs.Ending.{ended};
 ghost use Rattle.nvm_model.specs.Interrupted.{MaySync};
 ghost use Rattle.nvm_model.specs.Page.{Page, persist};
-ghost use Rattle.page_lines.specs.Placed.{there_in};
 ghost use Rattle.page_lines.specs.Turns.{WritesBackOthers};
 ghost use Rattle.pm_volume.specs.Area.{IsOfVolume};
 ghost use Rattle.pm_volume.specs.Checked.{IsReadable};
-ghost use Rattle.pm_volume.specs.Costs.{lines_touched};
+ghost use Rattle.pm_volume.specs.Costs.{lines_there, lines_there_at};
 ghost use Rattle.pm_volume.specs.Images.{EachReadsPages};
-ghost use Rattle.pm_volume.specs.Object.{VolumeHolds, VolumeServes, volume_place};
+ghost use Rattle.pm_volume.specs.Object.{VolumeHolds, VolumeServes};
 ghost use Rattle.pm_volume.specs.Refusals.{physical_offset, physical_refusal, sync_refusal, volume_says};
 
 use crate::{Volume, VolumeFault};
@@ -37,8 +36,8 @@ impl Volume {
         ensures outside { WritesBackOthers (IsOfVolume self.old.geo) (L.state dev.old).medium (L.state dev.new).medium }
         ensures serves { VolumeServes self.new (L.state dev.new).medium }
         ensures object { self.new ≡ record self.old { settled = is_done (outcome_by volume_says result) } }
-        ensures runs { Runs (there_in (volume_place self.old.geo self.old.present true) span) (there_in (volume_place self.old.geo self.old.present true) span)
-            (outcome_by volume_says result) (L.state dev.old).panel (L.state dev.new).panel }
+        ensures runs { let lines = lines_there self.old.geo self.old.present span.start span.len in
+            Runs lines lines (outcome_by volume_says result) (L.state dev.old).panel (L.state dev.new).panel }
     {
         self.check_readable(dev, span)?;
         self.settled = false;
@@ -64,8 +63,8 @@ impl Volume {
         ensures outside { WritesBackOthers (IsOfVolume self.old.geo) (L.state dev.old).medium (L.state dev.new).medium }
         ensures serves { VolumeServes self.new (L.state dev.new).medium }
         ensures object { self.new ≡ record self.old { settled = is_done (outcome_by volume_says result) } }
-        ensures runs { Runs (lines_touched span.start span.len) (lines_touched span.start span.len) (outcome_by volume_says result)
-            (L.state dev.old).panel (L.state dev.new).panel }
+        ensures runs { let lines = lines_there_at self.old.geo self.old.present (physical_offset self.old.geo span.start span.len) span.len in
+            Runs lines lines (outcome_by volume_says result) (L.state dev.old).panel (L.state dev.new).panel }
     {
         if span.len == 0 {
             return Err(VolumeFault::Length);
@@ -87,8 +86,8 @@ impl Volume {
             → EachReadsPages self.now.geo (L.state dev.new).medium (MaySync span.start span.len pages) }
         ensures outside { WritesBackOthers (IsOfVolume self.now.geo) (L.state dev.old).medium (L.state dev.new).medium }
         ensures serves { VolumeServes self.now (L.state dev.new).medium }
-        ensures runs { Runs (there_in (volume_place self.now.geo self.now.present true) span) (there_in (volume_place self.now.geo self.now.present true) span)
-            (ended result) (L.state dev.old).panel (L.state dev.new).panel }
+        ensures runs { let lines = lines_there self.now.geo self.now.present span.start span.len in
+            Runs lines lines (ended result) (L.state dev.old).panel (L.state dev.new).panel }
     {
         let lines = self.lines(true);
         persist_lines(dev, &lines, span)

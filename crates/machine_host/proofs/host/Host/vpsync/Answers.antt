@@ -1,9 +1,10 @@
-use Rattle.std.proofs.Common.{refl, sym, ap, subst, arith, ◌∙◌}
+use Rattle.std.proofs.Common.{refl, sym, ap, subst, ◌∙◌}
+use Rattle.pm_volume.specs.Costs.{lines_there_at}
 use Rattle.pm_volume.specs.Refusals.{physical_offset, physical_refusal}
 use Rattle.machine_host.specs.OnVolume.{persist_at}
 use Rattle.machine_host.specs.Stands.{HostState}
 use Rattle.script_text.specs.Action.Action.{VPSync}
-use Rattle.machine_host.proofs.VolumeCallLemmas.{no_bad_lines, physical_images, physical_ok, same_volume, settled_was, volume_called, volume_pages, volume_sizes, work_answered}
+use Rattle.machine_host.proofs.VolumeCallLemmas.{counted_seen, no_bad_lines, physical_images, physical_ok, same_volume, settled_was, volume_called, volume_pages, volume_sizes, work_answered}
 use Rattle.machine_host.proofs.VolumeFateLemmas.{fate_vpsync}
 use Rattle.std.proofs.Common.{OnOk}
 use Rattle.pm_volume.specs.Object.{VolumeHolds}
@@ -18,7 +19,9 @@ returns g c =
     let new = g.D.Lines.state c.physical_sync-call.new.dev in
     let v = host.volume in
     work_answered now host _ _ c.physical_sync-call.result _ _ old _ c.self.view_is c.volume_answer.ensures.state c.requires.on c.requires.serves (VPSync c.args.address c.args.len)
-    (λ h stands. (omega arith, omega arith)) (λ h bs same. same)
+    (λ h stands.
+    let few = counted_seen now host old h c.self.view_is c.requires.on c.requires.serves stands (λ geo there. lines_there_at geo there (physical_offset geo c.args.address c.args.len) c.args.len) in
+    (few, few)) (λ h bs same. same)
     (volume_called g.D.Lines.state host _ c.physical_sync-call.result _ _ _ _ _ (same_volume _ v _ c.physical_sync-call.result said.object (settled_was now host old c.self.view_is c.requires.on c.requires.serves) said.untouched)
     (physical_images v v c.args.address c.args.len old.medium new.medium c.physical_sync-call.result said.refused said.images) said.outside (λ _. said.serves) (ap (λ k. k.geo) said.object, ap (λ k. k.settled) said.object) said.runs)
     _ (λ pages. physical_refusal v pages c.args.address c.args.len) (λ h. persist_at (physical_offset h.geometry c.args.address c.args.len) c.args.len h.volume) refl

@@ -1,10 +1,10 @@
-use Rattle.std.proofs.Common.{◌≤◌, length, refl, sym, subst, arith, ◌∙◌}
+use Rattle.std.proofs.Common.{length, refl, sym, ◌∙◌}
 use Rattle.nvm_model.specs.Page.{fill, put}
 use Rattle.pm_volume.specs.Costs.{store_calls, store_persists}
 use Rattle.pm_volume.specs.Refusals.{store_refusal}
 use Rattle.machine_host.specs.Stands.{HostState}
 use Rattle.script_text.specs.Action.Action.{VStore}
-use Rattle.machine_host.proofs.VolumeCallLemmas.{no_bad_lines, no_bad_meta, of_pages, presence_seen, volume_called, volume_pages, volume_sizes, work_answered}
+use Rattle.machine_host.proofs.VolumeCallLemmas.{no_bad_lines, no_bad_meta, of_pages, counted_seen, volume_called, volume_pages, volume_sizes, work_answered}
 use Rattle.machine_host.proofs.VolumeFateLemmas.{fate_vstore}
 use Rattle.machine_host.proofs.host.Host.vstore.Goals as goal
 
@@ -18,10 +18,8 @@ returns g c =
     let len = length c.args.bytes.now in
     work_answered now host _ _ c.store-call.result _ _ old _ c.self.view_is c.volume_answer.ensures.state c.requires.on c.requires.serves (VStore c.args.offset c.args.bytes.now)
     (λ h stands.
-    let seen = presence_seen now host old h c.self.view_is c.requires.on c.requires.serves stands in (
-      subst (λ there. store_calls v.present c.args.offset len ≤ store_calls there c.args.offset len) (sym seen) (omega arith),
-      subst (λ there. store_persists v.present c.args.offset len ≤ store_persists there c.args.offset len) (sym seen) (omega arith),
-    )) (λ h bs same. same)
+    let seen = counted_seen now host old h c.self.view_is c.requires.on c.requires.serves stands in
+    (seen (λ geo there. store_calls there c.args.offset len), seen (λ geo there. store_persists there c.args.offset len))) (λ h bs same. same)
     (volume_called g.D.Lines.state host _ c.store-call.result _ _ _ _ _ said.untouched said.images said.outside said.serves said.object said.runs)
     _ (λ pages. store_refusal v old.medium pages c.args.offset len) (λ h. put c.args.offset c.args.bytes.now (fill c.args.offset len h.volume)) refl
     (λ h stands. fate_vstore h v (sym stands.mode ∙ c.requires.on) (no_bad_lines now host old h c.self.view_is c.requires.on c.requires.serves stands) (volume_sizes now host old h c.self.view_is c.requires.on c.requires.serves stands)

@@ -1,11 +1,10 @@
-use Rattle.std.proofs.Common.{true, refl, sym, ap, ◌∙◌}
+use Rattle.std.proofs.Common.{refl, sym, ap, ◌∙◌}
 use Rattle.nvm_model.specs.Page.{persist}
-use Rattle.pm_volume.proofs.CountLemmas.{there_in_most}
-use Rattle.pm_volume.specs.Object.{volume_place}
+use Rattle.pm_volume.specs.Costs.{lines_there}
 use Rattle.pm_volume.specs.Refusals.{sync_refusal}
 use Rattle.machine_host.specs.Stands.{HostState}
 use Rattle.script_text.specs.Action.Action.{VSync}
-use Rattle.machine_host.proofs.VolumeCallLemmas.{no_bad_lines, of_pages, same_volume, settled_was, volume_called, volume_pages, volume_sizes, work_answered}
+use Rattle.machine_host.proofs.VolumeCallLemmas.{counted_seen, no_bad_lines, of_pages, same_volume, settled_was, volume_called, volume_pages, volume_sizes, work_answered}
 use Rattle.machine_host.proofs.VolumeFateLemmas.{fate_vsync}
 use Rattle.machine_host.proofs.host.Host.vsync.Goals as goal
 
@@ -16,9 +15,10 @@ returns g c =
     let host : HostState = record { geometry = c.self.inside.geometry; mode = c.self.inside.mode; blocks = c.self.inside.blocks; volume = c.self.inside.volume } in
     let old = g.D.Lines.state c.args.device.now in
     let v = host.volume in
-    let few = there_in_most (volume_place v.geo v.present true) (record { start = c.args.offset; len = c.args.len }) in
     work_answered now host _ _ c.sync-call.result _ _ old _ c.self.view_is c.volume_answer.ensures.state c.requires.on c.requires.serves (VSync c.args.offset c.args.len)
-    (λ h stands. (few, few)) (λ h bs same. same)
+    (λ h stands.
+    let few = counted_seen now host old h c.self.view_is c.requires.on c.requires.serves stands (λ geo there. lines_there geo there c.args.offset c.args.len) in
+    (few, few)) (λ h bs same. same)
     (volume_called g.D.Lines.state host _ c.sync-call.result _ _ _ _ _ (same_volume _ v _ c.sync-call.result said.object (settled_was now host old c.self.view_is c.requires.on c.requires.serves) said.untouched)
     said.images said.outside (λ _. said.serves) (ap (λ k. k.geo) said.object, ap (λ k. k.settled) said.object) said.runs)
     _ (λ pages. sync_refusal v pages c.args.offset c.args.len) (λ h. persist c.args.offset c.args.len h.volume) refl
