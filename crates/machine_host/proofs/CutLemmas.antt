@@ -169,7 +169,7 @@ store_in_part =
     let came = followed_by (with_start (spending armed (Restart Lasts)) start all) shown in
     let stored = followed_by (worked (spending ready the_store) PowerLost) came in
     let ordered = followed_by (with_order (ForCut 2) Done) stored in
-    let synced = followed_by (worked (spending armed (VSync 0 64)) Done) ordered in
+    let synced = followed_by (worked (spending zeros (VSync 0 64)) Done) ordered in
     record {
       said = followed_by (worked (spending armed (VStore 0 (replicate 64 0))) Done) synced;
       end = restarted halted start.image;
@@ -180,7 +180,7 @@ store_in_part =
         refl,
         (Done, refl, inl (refl, refl)),
         (
-          worked (spending armed (VSync 0 64)) Done,
+          worked (spending zeros (VSync 0 64)) Done,
           ordered,
           durable,
           refl,
