@@ -24,6 +24,7 @@ use Rattle.pm_volume.specs.Area.{IsOfVolume, IsVolumePlace, volume_area}
 use Rattle.pm_volume.specs.Images.{EachReadsPages}
 use Rattle.pm_volume.specs.Object.{VolumeState, VolumeHolds, VolumeServes}
 use Rattle.pm_volume.proofs.StandingLemmas.{LineKept, line_kept-write_back, pages-kept, each_pages-kept, images-kept, volume_serves-kept}
+use Rattle.recovery.specs.Mounting.{IsOfLogs}
 use Rattle.machine_host.specs.declared.mode.Mode.{Mode}
 use Rattle.machine_host.specs.declared.mode.Mode.TheVariants.{On}
 use Rattle.machine_host.specs.Lines.{HasLayout}
@@ -124,6 +125,10 @@ kept-beside lines old new line apart x = record {
   weak = x.weak line apart;
   words = λ p at. subst (λ n. WordWritesBack (old.is_weak n) (old.history p) (new.history p)) at (x.word_write_back p (λ of. apart (subst lines at of)));
 }
+
+-- a mount leaves the lines of pages, but for write-back
+pub range_kept : (geo : Geometry) (old new : Medium) → IsValid geo → WritesBackOutside (IsOfLogs geo) old new → (n : ℕ) → n < 64 * geo.vpages → LineKept old new (volume_line geo n)
+range_kept geo old new valid x n lt = kept-outside (IsOfLogs geo) old new (volume_line geo n) (λ p at of. range_not_logs geo n p valid lt at of) x
 
 -- The volume where none of its lines is worked on: it is mounted still, its images read the same, and it stands for its pages.
 module _ (geo : Geometry) (old new : Medium) (valid : IsValid geo) (kept : (line : ℕ) → IsOfVolume geo line → LineKept old new line) where

@@ -18,7 +18,9 @@ pub mod CutLemmas
 pub mod PartLemmas
 pub mod PageRunLemmas
 pub mod MountLemmas
+pub mod MountedLemmas
 pub mod RestartLemmas
 pub mod RestartAnswerLemmas
+pub mod SettlingLemmas
 pub mod VolumeFateLemmas
 pub mod LoadLemmas

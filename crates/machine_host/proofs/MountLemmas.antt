@@ -80,7 +80,7 @@ not_mapped f None none = refl
 not_mapped f (Some x) none = cc none
 
 -- where nothing is found, the map is one
-found_map : (m : Medium) → first_finding m ≡ None → IsMap (states_read (geometry_told m) (last_image m))
+pub found_map : (m : Medium) → first_finding m ≡ None → IsMap (states_read (geometry_told m) (last_image m))
 found_map m none = by_log (first_wrong (block_area geo) (last_image m)) right
   where
     geo : Geometry

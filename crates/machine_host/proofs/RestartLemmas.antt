@@ -19,7 +19,7 @@ use Rattle.pm_volume.specs.Area.{volume_area}
 use Rattle.pm_volume.specs.Images.{ReadsPages, EachReadsPages}
 use Rattle.pm_volume.specs.Object.{VolumeState, VolumeHolds}
 use Rattle.pm_volume.specs.Presence.{presence_read, presence_words}
-use Rattle.pm_volume.proofs.StandingLemmas.{LineKept, each_pages-reached, each_pages-then, line_of_volume, pages-kept, presence_read-replays, reads_same}
+use Rattle.pm_volume.proofs.StandingLemmas.{each_pages-reached, each_pages-then, line_of_volume, presence_read-replays, reads_same}
 use Rattle.std.proofs.lemmas.List.{length-map}
 use Rattle.line_device.specs.History.{IsIn}
 use Rattle.line_device.proofs.HistoryLemmas.{is_in-one}
@@ -52,10 +52,10 @@ use Rattle.machine_host.specs.Lines.{HasLayout}
 use Rattle.machine_host.specs.Stands.{HostState, HostServes, MetadataStands, DeviceStands, Stands, AreMounted, Comes, is_powered}
 use Rattle.machine_host.specs.Faults.{StandsUnmounted}
 use Rattle.machine_host.proofs.VolumeLemmas.{has_layout-outside, line_there}
-use Rattle.machine_host.proofs.ElsewhereLemmas.{area_of_volume, kept-outside, range_not_logs, volume_within}
+use Rattle.machine_host.proofs.ElsewhereLemmas.{area_of_volume, range_kept, volume_within}
 use Rattle.machine_host.proofs.MetadataLemmas.{metadata-outside, metadata-restarted, nothing_bad}
 use Rattle.machine_host.proofs.TellingLemmas.{interrupts, never_on, power_struck, struck, tells_interrupted, tells_work}
-use Rattle.machine_host.proofs.DepictedLemmas.{blocks_depicted, reads_remounted}
+use Rattle.machine_host.proofs.DepictedLemmas.{blocks_depicted, holds_depicted, reads_remounted}
 use Rattle.machine_host.proofs.MountLemmas.{StopsMount, IsTold, all_intact, first_not_area, is_told, only_stops, volume_image-last}
 
 -- the layout after a restart, and after one that was refused
@@ -213,12 +213,6 @@ module _ (host : HostState) (choice : Choice) (old mid new : Device) (h : Machin
       let none = no_bad_blocks-restarted geo choice old.medium mid.medium start.image (MayLeaveBlocks h.interrupted h.blocks) was.valid intact was.lines left.lines left.image stands.device.blocks in
       omega (arith, none, no_bad_pages)
 
-  -- a mount leaves the lines of pages, but for write-back
-  range_kept : IsMount mid new → (n : ℕ) → n < 64 * geo.vpages → LineKept mid.medium new.medium (volume_line geo n)
-  range_kept x n lt =
-      kept-outside (IsOfLogs geo) mid.medium new.medium (volume_line geo n)
-      (λ p at of. range_not_logs geo n p was.valid lt at of) (subst (λ g. WritesBackOutside (IsOfLogs g) mid.medium new.medium) told.sizes x.outside)
-
   -- what the device stands for after a mount, however it ended, in this mode and with what is armed then
   remounted : (mode : Mode) → IsMount mid new → new.panel.power ≡ is_powered mode
       → DeviceStands new (record (restarted h start.image) { mode = mode; cut_armed = new.panel.cut_armed; fail_armed = new.panel.fail_armed })
@@ -232,7 +226,7 @@ module _ (host : HostState) (choice : Choice) (old mid new : Device) (h : Machin
         metadata = subst (MetadataStands geo new.medium) none_bad_meta
             (metadata-outside geo h.bad_meta mid.medium new.medium metadata (IsOfLogs geo) outside (first_not_area geo was.valid));
         blocks = reads_remounted geo mid.medium start.image layout left.image new.medium readable reads;
-        volume = each_pages-reached geo mid.medium new.medium (λ pages. pages ≡ pages_back) was.valid presence (range_kept x) each_back;
+        volume = each_pages-reached geo mid.medium new.medium (λ pages. pages ≡ pages_back) was.valid presence (range_kept geo mid.medium new.medium was.valid outside) each_back;
         power = power;
         cut_armed = refl;
         fail_armed = refl;
@@ -242,13 +236,10 @@ module _ (host : HostState) (choice : Choice) (old mid new : Device) (h : Machin
   -- and the volume that was mounted stands for the pages
   holds_back : (v : VolumeState) → IsMount mid new → v.geo ≡ geometry_told mid.medium → v.present ≡ presence_read (geometry_told mid.medium) (last_image mid.medium) → VolumeHolds v new.medium pages_back
   holds_back v x same present =
-      let here : v.geo ≡ geo = same ∙ told.sizes in
-      let last = replays_back (last_image mid.medium) (volume_image-last geo mid.medium sound layout) in
-      let size = length-map pages_back is_present ∙ all_back in
-      record {
-        there = sym (present ∙ ap (λ g. presence_read g (last_image mid.medium)) told.sizes ∙ presence_read-replays geo (last_image mid.medium) (presence_of pages_back) size last);
-        stand = subst (λ g. PagesStand (volume_line g) new.medium pages_back) (sym here) (pages-kept geo mid.medium new.medium pages_back all_back (range_kept x) pages_kept.1);
-      }
+      holds_depicted geo mid.medium start.image layout left.image new.medium v sound (replays_back (last_image mid.medium) (volume_image-last geo mid.medium sound layout)).valid
+      (subst (λ g. WritesBackOutside (IsOfLogs g) mid.medium new.medium) told.sizes x.outside)
+      (same ∙ told.sizes)
+      (present ∙ ap (λ g. presence_read g (last_image mid.medium)) told.sizes)
 
   cut_was : mid.panel.cut_armed ≡ h.cut_armed
   cut_was = ap (λ p. p.cut_armed) left.panel ∙ stands.device.cut_armed

@@ -176,6 +176,15 @@ written_back host old new h next stands serves write_back is power cut fail mode
       };
     })
 
+-- what stands after an order to the device, where other things are armed
+pub stands_ordered : (host : HostState) (old new : Device) (h next : Machine) → Stands host old h → HostServes host old → WritesBack old.medium new.medium → (next ≡ record h { cut_armed = next.cut_armed; fail_armed = next.fail_armed })
+    → new.panel.power ≡ old.panel.power → new.panel.cut_armed ≡ next.cut_armed → new.panel.fail_armed ≡ next.fail_armed → Stands host new next
+stands_ordered host old new h next stands serves write_back is power cut fail =
+    let mode : next.mode ≡ h.mode = ap (λ n. n.mode) is in
+    subst (λ (s : HostState). Stands s new next) (ap (λ m. record host { mode = m }) (mode ∙ sym stands.mode))
+    (written_back host old new h next stands serves write_back (is ∙ ap (λ m. record h { mode = m; cut_armed = next.cut_armed; fail_armed = next.fail_armed }) (sym mode))
+    (power ∙ stands.device.power ∙ ap is_powered (sym mode)) cut fail (λ on. sym mode ∙ on))
+
 -- A cut comes to the state without power.
 pub comes_of_cut : (host : HostState) (old new : Device) (h : Machine) → Stands host old h → HostServes host old → WritesBack old.medium new.medium
     → new.panel ≡ after_power_off old.panel

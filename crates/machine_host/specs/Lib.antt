@@ -14,6 +14,7 @@ pub mod Telling
 pub mod Stands
 pub mod Faults
 pub mod Responding
+pub mod Settling
 pub mod Rows
 pub mod BlockRows
 pub mod CutRows

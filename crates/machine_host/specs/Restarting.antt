@@ -7,6 +7,7 @@ use Rattle.word_tables.specs.Layout.{total_lines, volume_line}
 use Rattle.pm_volume.specs.Presence.{presence_read}
 use Rattle.nvm_model.specs.Page.{Page, presence_of, read_pages, bad_lines, KeepsPages}
 use Rattle.nvm_model.specs.Blocks.{bad_block_lines}
+use Rattle.nvm_model.specs.Storage.{Block}
 use Rattle.block_device.specs.Reading.{blocks_read}
 use Rattle.reply_text.specs.Answer.{Answer}
 use Rattle.reply_text.specs.Answer.Answer.{DoneBad}
@@ -56,3 +57,7 @@ zero_image count = record { count = count; is_bad = λ _. false; is_weak = λ _.
 -- the machine as a run begins
 abbrev pub fresh : Geometry → Machine
 fresh geometry = reading geometry (zero_image (total_lines geometry))
+
+-- the same of these blocks and pages
+abbrev pub holding : Geometry → List Block → List Page → Machine
+holding geometry blocks pages = record (fresh geometry) { blocks = blocks; volume = pages }

@@ -3,6 +3,7 @@ mod blocks;
 mod commands;
 mod power;
 mod refusals;
+mod settling;
 #[cfg(test)]
 mod tests;
 mod volume;
@@ -44,7 +45,8 @@ impl Host {
     ghost use Rattle.script_text.specs.Action.{action_of};
     ghost use Rattle.script_text.specs.Parsing.{InBounds};
     ghost use Rattle.line_device.specs.Medium.{last_image};
-    ghost use Rattle.line_device.specs.Panel.{Runs};
+    ghost use Rattle.line_device.specs.Panel.{Image, Runs};
+    ghost use Rattle.line_device.specs.Device.{Depicts};
     ghost use Rattle.line_words.specs.Words.{WritesBackOutside};
     ghost use Rattle.word_tables.specs.Layout.{meta_lines};
     ghost use Rattle.word_log.specs.Rest.{EachImage, IsReached};
@@ -58,6 +60,7 @@ impl Host {
     ghost use Rattle.machine_host.specs.Machine.{Machine};
     ghost use Rattle.machine_host.specs.Stands.{HostServes, IsFlushed, MetadataStands, Stands, Steps};
     ghost use Rattle.machine_host.specs.Lines.{HasGoodData};
+    ghost use Rattle.machine_host.specs.Restarting.{reading};
     ghost use Rattle.machine_host.specs.Costs.{mount_calls, mount_persists};
     ghost use Rattle.machine_host.specs.Faults.{Leaves};
 
@@ -81,6 +84,14 @@ impl Host {
         ensures metadata { IfOk result (λ host. MetadataStands host.geometry (D.state device.new).medium []) }
         ensures serves { HasGoodData (geometry_told (D.state device.old).medium) (D.state device.old).medium
             → IfOk result (λ host. HostServes host (D.state device.new)) }
+
+        // Where each word had one value, host and device stand for the state that is read there.
+        ensures stands { (image : Image) → Depicts (D.state device.old).medium image
+            → HasGoodData (geometry_told (D.state device.old).medium) (D.state device.old).medium
+            → IfOk result (λ host. Stands host (D.state device.new) (record (reading (geometry_told (D.state device.old).medium) image) {
+              cut_armed = (D.state device.new).panel.cut_armed;
+              fail_armed = (D.state device.new).panel.fail_armed;
+            })) }
         ensures runs { Runs mount_calls mount_persists (mount_outcome result) (D.state device.old).panel (D.state device.new).panel }
     {
         let mounted = recovery::mount(alloc, device)?;

@@ -1,5 +1,5 @@
 // Cuts and restarts, and what an interrupted command is answered.
-ghost use Rattle.std.specs.Prelude.{◌≡◌, ◌≢◌, ◌⊎◌, ◌≤◌, MatchResult};
+ghost use Rattle.std.specs.Prelude.{◌≡◌, ◌≢◌, ◌⊎◌, ◌≤◌, true, false, MatchResult};
 ghost use Rattle.machine_host.specs.declared.mode.Mode.TheVariants.{On, Off, Unsettled};
 ghost use Rattle.script_text.specs.Action.Action.{Cut, CutIn, Restart};
 ghost use Rattle.reply_text.specs.Answer.{answer_of};
@@ -61,13 +61,25 @@ impl Host {
             × (answer_of result ≡ DoneBad 0))
             ⊎ ((mounted.geo ≢ self.old.geometry) × (self.new ≡ record self.old { mode = Unsettled }) × (answer_of result ≡ DeviceFailed)) }
     {
+        if self.take(mounted) {
+            Reply::DoneBad(0)
+        } else {
+            self.interrupt(Interruption::Failed)
+        }
+    }
+
+    // The host takes over what was mounted, unless its sizes are others.
+    pub(super) fn take(&mut self, mounted: Mounted) -> bool
+        ensures taken { result ≡ true → (mounted.geo ≡ self.old.geometry) × (self.new ≡ record self.old { mode = On; blocks = mounted.blocks; volume = mounted.volume }) }
+        ensures other { result ≡ false → (mounted.geo ≢ self.old.geometry) × (self.new ≡ self.old) }
+    {
         if mounted.geo != self.geometry {
-            return self.interrupt(Interruption::Failed);
+            return false;
         }
         self.blocks = mounted.blocks;
         self.volume = mounted.volume;
         self.mode = Mode::On;
-        Reply::DoneBad(0)
+        true
     }
 
     // What it is answered where the device could not be mounted, and the mode after it.

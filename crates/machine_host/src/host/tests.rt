@@ -1,7 +1,8 @@
 // Stories of a host of eight blocks and two volume pages over a device of memory.
-ghost use Rattle.std.specs.Prelude.{IfOk};
+ghost use Rattle.std.specs.Prelude.{IfOk, OnOk};
 ghost use Rattle.line_device.specs.Plain.{device_of};
-ghost use Rattle.machine_host.specs.Stands.{HostServes};
+ghost use Rattle.machine_host.specs.Machine.{Machine};
+ghost use Rattle.machine_host.specs.Stands.{HostServes, Stands};
 
 use crate::{Host, Mode};
 use line_device::{LineDevice, Order, Plain};
@@ -13,7 +14,7 @@ use word_tables::Geometry;
 
 // A fresh device, and its host.
 fn set_up(alloc: Global) -> Result<(Host, Plain), Fail>
-    ensures { IfOk result (λ both. HostServes both.0 (device_of both.1)) }
+    ensures { IfOk result (λ both. HostServes both.0 (device_of both.1) × ((h : Machine) × Stands both.0 (device_of both.1) h)) }
 {
     let geometry = Geometry {
         blocks: 8,
@@ -34,8 +35,8 @@ fn tell(
     line: &str,
     out: &mut Bytes,
 ) -> Result<(), AllocError>
-    requires { HostServes host.old (device_of device.old) }
-    ensures { HostServes host.new (device_of device.new) }
+    requires { HostServes host.old (device_of device.old) × ((h : Machine) × Stands host.old (device_of device.old) h) }
+    ensures { OnOk result (HostServes host.new (device_of device.new) × ((h : Machine) × Stands host.new (device_of device.new) h)) }
 {
     match parse(alloc, line.as_bytes()) {
         Ok(Some(command)) => host.step(device, &command, out),
@@ -45,14 +46,22 @@ fn tell(
 
 // Arms a cut or a failure at so many counted calls from now on.
 fn arm(host: &Host, device: &mut Plain, order: Order)
-    requires { HostServes host.now (device_of device.old) }
-    ensures { HostServes host.now (device_of device.new) }
+    requires { HostServes host.now (device_of device.old) × ((h : Machine) × Stands host.now (device_of device.old) h) }
+    ensures { HostServes host.now (device_of device.new) × ((h : Machine) × Stands host.now (device_of device.new) h) }
 {
     match order {
         Order::Cut(calls) => device.arm_cut(calls.max(1)),
         Order::Fail(calls) => device.arm_fail(calls.max(1)),
         Order::Evict(lines) => device.evict(lines),
     }
+}
+
+// Settles the host.
+fn rest(host: &mut Host, device: &mut Plain) -> Result<(), AllocError>
+    requires { HostServes host.old (device_of device.old) × ((h : Machine) × Stands host.old (device_of device.old) h) }
+    ensures { OnOk result (HostServes host.new (device_of device.new) × ((h : Machine) × Stands host.new (device_of device.new) h)) }
+{
+    host.settle(device)
 }
 
 #[test]
@@ -161,6 +170,7 @@ fn a_restart_that_is_cut_can_be_done_again(rt: HostRuntime) -> Result<(), Fail> 
 fn after_a_failed_call_only_a_cut_is_done(rt: HostRuntime) -> Result<(), Fail> {
     let (mut host, mut device) = set_up(rt.alloc())?;
     let mut out = Bytes::new(rt.alloc());
+    tell(&mut host, &mut device, rt.alloc(), "vstore 0 00", &mut out)?;
     arm(&host, &mut device, Order::Fail(2));
     tell(
         &mut host,
@@ -178,7 +188,43 @@ fn after_a_failed_call_only_a_cut_is_done(rt: HostRuntime) -> Result<(), Fail> {
     tell(&mut host, &mut device, rt.alloc(), "vload 60 8", &mut out)?;
     assert_eq!(rt;
         out.as_slice(),
-        b"refused device\nrefused recover\nrefused on\nok\nok\nok bad 0\ndata aa*4,00*4\n".as_slice()
+        b"ok\nrefused device\nrefused recover\nrefused on\nok\nok\nok bad 0\ndata aa*4,00*4\n".as_slice()
+    );
+    Ok(())
+}
+
+#[test]
+fn a_settled_host_can_be_read_whatever_its_mode_was(rt: HostRuntime) -> Result<(), Fail> {
+    let (mut host, mut device) = set_up(rt.alloc())?;
+    let mut out = Bytes::new(rt.alloc());
+    tell(
+        &mut host,
+        &mut device,
+        rt.alloc(),
+        "vstore 60 aa*8",
+        &mut out,
+    )?;
+    tell(&mut host, &mut device, rt.alloc(), "cut in 1", &mut out)?;
+    rest(&mut host, &mut device)?;
+    tell(&mut host, &mut device, rt.alloc(), "vload 58 12", &mut out)?;
+    tell(&mut host, &mut device, rt.alloc(), "cut", &mut out)?;
+    rest(&mut host, &mut device)?;
+    tell(&mut host, &mut device, rt.alloc(), "vload 58 12", &mut out)?;
+    arm(&host, &mut device, Order::Fail(2));
+    tell(
+        &mut host,
+        &mut device,
+        rt.alloc(),
+        "vstore 60 bb*8",
+        &mut out,
+    )?;
+    assert_eq!(rt; host.mode(), Mode::Unsettled);
+    rest(&mut host, &mut device)?;
+    assert_eq!(rt; host.mode(), Mode::On);
+    tell(&mut host, &mut device, rt.alloc(), "vload 58 12", &mut out)?;
+    assert_eq!(rt;
+        out.as_slice(),
+        b"ok\nok\ndata 00*2,aa*8,00*2\nok\ndata 00*2,aa*8,00*2\nrefused device\ndata 00*2,bb*4,aa*4,00*2\n".as_slice()
     );
     Ok(())
 }

@@ -1,8 +1,9 @@
-use Rattle.std.proofs.Common.{[], sym, subst, ◌∙◌}
+use Rattle.std.proofs.Common.{[], refl, sym, subst, ◌∙◌}
 use Rattle.recovery.specs.Mounting.{IsInOrder}
 use Rattle.machine_host.specs.Stands.{MetadataStands}
 use Rattle.machine_host.specs.Lines.{HasGoodData}
 use Rattle.machine_host.proofs.MountLemmas.{durable_flushed, layout_mounted, metadata_mounted}
+use Rattle.machine_host.proofs.MountedLemmas.{stands_found}
 use Rattle.machine_host.proofs.host.Host.mount.Goals as goal
 
 pub returns-clause-metadata : goal.returns-clause-metadata
@@ -30,3 +31,11 @@ returns-clause-serves g c = λ good.
         volume_serves = x.volume;
       };
     }
+
+pub returns-clause-stands : goal.returns-clause-stands
+returns-clause-stands g c = λ image shows good.
+    let old = (g.D.Lines.state c.args.device.now) in
+    let new = (g.D.Lines.state c.mount.new.dev) in
+    let x = c.in_ok-mounted.ensures in
+    stands_found _ old new image (g.met.D.Lines.sound c.args.device.now) c.requires.flushed x.finds shows good x.ok.0 refl x.ok.2 x.ok.4 x.outside (returns-clause-metadata g c)
+    (returns-clause-serves g c good)

@@ -1,4 +1,9 @@
-use Rattle.std.proofs.Common.{refl, lit≤, arith}
+use Rattle.std.proofs.Common.{[], ◌∷◌, refl, sym, ap, ◌∙◌, lit≤, arith}
+use Rattle.line_device.specs.History.{newest}
+use Rattle.line_device.specs.Medium.{Medium, last_image}
+use Rattle.line_device.specs.Panel.{Image}
+use Rattle.line_device.specs.Device.{Depicts}
+use Rattle.recovery.specs.Fresh.{IsFresh}
 use Rattle.word_tables.specs.declared.geometry.Geometry.{Geometry}
 use Rattle.word_tables.specs.Bounds.{IsValid}
 use Rattle.recovery.proofs.SuperblockLemmas.{some_lines}
@@ -25,5 +30,21 @@ mount-requires-clause-some c = omega (arith, c.in_ok-format.ensures.ok.count, so
 pub mount-requires-clause-flushed : goal.mount-requires-clause-flushed
 mount-requires-clause-flushed c p there = fresh_flushed sizes _ c.in_ok-format.ensures.ok p there
 
+-- its one image
+now : Medium → Image
+now m = record { count = m.count; is_bad = m.is_bad; is_weak = m.is_weak; word = last_image m }
+
+depicted : (m : Medium) → IsFresh sizes m → Depicts m (now m)
+unfolding now
+depicted m fresh = record {
+  count = refl;
+  bad = λ n on. refl;
+  weak = λ n on. refl;
+  words = λ p healthy. let one = fresh.words p healthy.0 in one ∙ ap (λ v. v ∷ []) (sym (ap newest one));
+}
+
 pub returns : goal.returns
-returns c = c.in_ok-host.ensures.serves (λ n behind there. (c.in_ok-format.ensures.ok.good n, c.in_ok-format.ensures.ok.strong n))
+returns c =
+    let fresh = c.in_ok-format.ensures.ok in
+    let good = λ n behind there. (fresh.good n, fresh.strong n) in
+    (c.in_ok-host.ensures.serves good, (_, c.in_ok-host.ensures.stands (now _) (depicted _ fresh) good))

@@ -1,0 +1,104 @@
+-- What host and device stand for once the device is mounted.
+use Rattle.std.proofs.Common.{◌≡◌, ◌≤◌, false, None, List, [], inl, inr, refl, sym, ap, subst, ◌∙◌, arith}
+use Rattle.std.proofs.lemmas.Bool.{cases_lt}
+use Rattle.line_device.specs.Medium.{Medium, IsSound, last_image}
+use Rattle.line_device.specs.Panel.{Image}
+use Rattle.line_device.specs.Device.{Device, Depicts}
+use Rattle.line_words.specs.Words.{WritesBackOutside}
+use Rattle.word_tables.specs.Layout.{meta_lines, volume_line}
+use Rattle.word_log.specs.Replay as log
+use Rattle.nvm_model.specs.Page.{Page, read_pages}
+use Rattle.block_device.specs.Area.{block_area}
+use Rattle.block_device.specs.Images.{EachReads, ReadsAs}
+use Rattle.block_device.specs.Mounting.{wrong_map}
+use Rattle.block_device.specs.Object.{HasGoodMetadata, blocks_of}
+use Rattle.block_device.specs.Reading.{blocks_read}
+use Rattle.block_device.proofs.ImageLemmas.{served_reads}
+use Rattle.block_device.proofs.RestartLemmas.{block_image-last}
+use Rattle.pm_volume.specs.Area.{volume_area}
+use Rattle.pm_volume.specs.Images.{EachReadsPages}
+use Rattle.pm_volume.specs.Object.{VolumeHolds}
+use Rattle.pm_volume.specs.Presence.{presence_read, wrong_presence}
+use Rattle.pm_volume.proofs.StandingLemmas.{served_pages}
+use Rattle.recovery.specs.Findings.{geometry_told, first_finding}
+use Rattle.recovery.specs.Mounting.{IsOfLogs}
+use Rattle.recovery.proofs.FindingLemmas.{early_none as both_none, first_none, good_metadata as good_found, is_superblock, nothing_early, nothing_found}
+use Rattle.machine_host.specs.declared.mode.Mode.TheVariants as modes
+use Rattle.machine_host.specs.Lines.{HasGoodData, HasLayout}
+use Rattle.machine_host.specs.Restarting.{holding, reading}
+use Rattle.machine_host.specs.Stands.{HostState, HostServes, IsFlushed, MetadataStands, Stands, is_powered}
+use Rattle.machine_host.proofs.DepictedLemmas.{blocks_depicted, holds_depicted}
+use Rattle.machine_host.proofs.MetadataLemmas.{good_metadata}
+use Rattle.machine_host.proofs.MountLemmas.{durable_flushed, found_map}
+
+-- Once blocks and volume are mounted, host and device stand for them.
+pub stands_mounted : (host : HostState) (d : Device) (pages : List Page) → host.mode ≡ modes.On → HostServes host d → MetadataStands host.geometry d.medium [] → VolumeHolds host.volume d.medium pages
+    → Stands host d (record (holding host.geometry (blocks_of host.blocks d.medium) pages) { cut_armed = d.panel.cut_armed; fail_armed = d.panel.fail_armed })
+unfolding reading
+stands_mounted host d pages on serves metadata holds =
+    let mounted = serves.mounted on in
+    let good = subst (λ g. HasGoodMetadata g d.medium) (sym mounted.geometry) (good_metadata host.geometry d.medium serves.layout) in
+    record {
+      geometry = refl;
+      mode = on;
+      blocks = λ _. refl;
+      volume = λ _. holds;
+      device = record {
+        metadata = metadata;
+        blocks = subst (λ g. EachReads g d.medium (λ bs. bs ≡ blocks_of host.blocks d.medium)) mounted.geometry (served_reads host.blocks d.medium good mounted.serves);
+        volume = subst (λ g. EachReadsPages g d.medium (λ x. x ≡ pages)) mounted.volume_geometry (served_pages host.volume d.medium pages mounted.volume_serves holds);
+        power = serves.power ∙ ap is_powered on;
+        cut_armed = refl;
+        fail_armed = refl;
+        whole = λ _. refl;
+      };
+    }
+
+-- a medium on which nothing is found has the layout that it tells, where its other lines are good
+pub layout_found : (m : Medium) → first_finding m ≡ None → HasGoodData (geometry_told m) m → HasLayout (geometry_told m) m
+layout_found m none good =
+    let geo = geometry_told m in
+    let early = both_none m (nothing_early m none) in
+    let is = is_superblock m early.0 in
+    record {
+      valid = is.valid;
+      lines = is.count;
+      intact = λ n there. elim (cases_lt n (meta_lines geo)) as (λ _. (m.is_bad n ≡ false) × (meta_lines geo ≤ n → m.is_weak n ≡ false)) [
+        | inl below ↦ (good_found geo m early.1 n below, λ behind. absurd (omega (arith, below, behind)))
+        | inr behind ↦ let line = good n behind there in (line.0, λ _. line.1)
+      ];
+    }
+
+-- its last values are blocks, and a valid log of the volume
+blocks_found : (m : Medium) → IsFlushed m → first_finding m ≡ None → ReadsAs (geometry_told m) m (λ _. Unit {0}) (last_image m)
+blocks_found m flushed none =
+    let geo = geometry_told m in
+    record {
+      log = (first_none (log.first_wrong (block_area geo) (last_image m)) (wrong_map geo (last_image m)) (nothing_found m none).1).0;
+      map = found_map m none;
+      durable = durable_flushed m flushed none;
+      blocks = tt;
+    }
+
+volume_found : (m : Medium) → first_finding m ≡ None → log.first_wrong (volume_area (geometry_told m)) (last_image m) ≡ None
+volume_found m none =
+    let geo = geometry_told m in (first_none (log.first_wrong (volume_area geo) (last_image m)) (wrong_presence geo (last_image m)) (nothing_found m none).2).0
+
+-- A host that mounted a device stands for what is read there, where each word had one value.
+pub stands_found : (host : HostState) (old new : Device) (image : Image) → IsSound old.medium → IsFlushed old.medium → first_finding old.medium ≡ None → Depicts old.medium image
+    → HasGoodData (geometry_told old.medium) old.medium → host.geometry ≡ geometry_told old.medium → host.mode ≡ modes.On
+    → blocks_of host.blocks new.medium ≡ blocks_read (geometry_told old.medium) old.medium.is_bad (last_image old.medium)
+    → host.volume.present ≡ presence_read (geometry_told old.medium) (last_image old.medium) → WritesBackOutside (IsOfLogs (geometry_told old.medium)) old.medium new.medium
+    → MetadataStands host.geometry new.medium [] → HostServes host new
+    → Stands host new (record (reading (geometry_told old.medium) image) { cut_armed = new.panel.cut_armed; fail_armed = new.panel.fail_armed })
+unfolding reading
+stands_found host old new image sound flushed none shows good sizes on blocks present outside metadata serves =
+    let m = old.medium in
+    let geo = geometry_told m in
+    let layout = layout_found m none good in
+    let pages = read_pages (volume_line geo) image (presence_read geo image.word) in
+    let read = blocks ∙ blocks_depicted geo m image layout shows (last_image m) (λ _. Unit {0}) (block_image-last geo layout.valid m sound layout.lines) (blocks_found m flushed none) in
+    let holds = holds_depicted geo m image layout shows new.medium host.volume sound (volume_found m none) outside ((serves.mounted on).volume_geometry ∙ sizes) present in
+    subst (λ bs. Stands host new (record (holding geo bs pages) { cut_armed = new.panel.cut_armed; fail_armed = new.panel.fail_armed })) read
+    (subst (λ g. Stands host new (record (holding g (blocks_of host.blocks new.medium) pages) { cut_armed = new.panel.cut_armed; fail_armed = new.panel.fail_armed })) sizes
+    (stands_mounted host new pages on serves metadata holds))

@@ -1,0 +1,23 @@
+use Rattle.std.proofs.Common.{ap, sym, ◌∙◌}
+use Rattle.machine_host.proofs.SettlingLemmas.{left_of_back, left_of_mount, settled_of_back, settled_of_mount, settled_on}
+use Rattle.machine_host.proofs.host.Host.settle.Goals as goal
+
+pub returns-in-On-clause-settled : goal.returns-in-On-clause-settled
+returns-in-On-clause-settled g c =
+    settled_on c.args.self.now _ _ c.requires.serves c.disarm.ensures.lines c.disarm.ensures.panel (sym (ap (λ k. k.mode) c.self.view_is) ∙ c.in-On.is)
+
+pub returns-in-Off-clause-settled : goal.returns-in-Off-clause-settled
+returns-in-Off-clause-settled g c =
+    settled_of_back c.args.self.now _ _ c.requires.serves c.disarm.ensures.lines c.disarm.ensures.panel c.bring_back.new.self _ c.bring_back.result c.bring_back.ensures
+
+pub returns-in-Off-clause-memory : goal.returns-in-Off-clause-memory
+returns-in-Off-clause-memory g c =
+    left_of_back c.args.self.now _ _ c.requires.serves c.disarm.ensures.lines c.disarm.ensures.panel c.bring_back.new.self _ c.bring_back.result c.bring_back.ensures
+
+pub returns-in-Unsettled-clause-settled : goal.returns-in-Unsettled-clause-settled
+returns-in-Unsettled-clause-settled g c =
+    settled_of_mount c.args.self.now _ _ c.requires.serves c.disarm.ensures.lines c.disarm.ensures.panel c.mount_anew.new.self _ c.mount_anew.result c.mount_anew.ensures
+
+pub returns-in-Unsettled-clause-memory : goal.returns-in-Unsettled-clause-memory
+returns-in-Unsettled-clause-memory g c =
+    left_of_mount c.args.self.now _ _ c.requires.serves c.disarm.ensures.lines c.disarm.ensures.panel c.mount_anew.new.self _ c.mount_anew.result (sym (ap (λ k. k.mode) c.self.view_is) ∙ c.in-Unsettled.is) c.mount_anew.ensures

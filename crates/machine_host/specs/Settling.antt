@@ -1,0 +1,106 @@
+-- Bringing host and device to rest, so that the device can be read: what it comes to, and what it asks of the device.
+use Rattle.std.specs.Prelude.{◌≡◌, ◌+◌, ◌≤◌, false, List, [], ◌∷◌, length, Result, Ok, Err}
+use Rattle.line_device.specs.Panel.{Panel, Start, told}
+use Rattle.line_device.specs.Device.{Device}
+use Rattle.line_device.specs.declared.line.Choice.TheVariants.{Lasts}
+use Rattle.machine_host.specs.declared.mode.Mode.{Mode}
+use Rattle.machine_host.specs.declared.mode.Mode.TheVariants as modes
+use Rattle.machine_host.specs.Machine.{Machine}
+use Rattle.machine_host.specs.Commands.{MayLeaveBlocks, MayLeaveVolume}
+use Rattle.machine_host.specs.Restarting.{RestartMayLeave, holding, restarted}
+use Rattle.machine_host.specs.Costs.{mount_calls, mount_persists}
+use Rattle.machine_host.specs.Telling.{bumped_by}
+use Rattle.machine_host.specs.Stands.{HostState, HostServes, Stands}
+
+-- the state with nothing armed
+abbrev pub disarmed : Machine → Machine
+disarmed h = record h { cut_armed = false; fail_armed = false }
+
+-- The state after a mount while the power stayed on: blocks and volume are as an interrupted action may have left them.
+pub record IsRemounted (h next : Machine) : Type 0 where
+  pub blocks : MayLeaveBlocks h.interrupted h.blocks next.blocks
+  pub volume : MayLeaveVolume h.geometry h.interrupted h.volume next.volume
+  pub state : next ≡ holding h.geometry next.blocks next.volume
+
+-- What it comes to, by the mode. Where the host was on, only what is armed ends. Where the power was off it comes back, and
+-- each word keeps its last value; one restart was told. Where a call had failed, the device is mounted anew.
+abbrev pub SettlesTo : Mode → Machine → List Start → Machine → Type 0
+SettlesTo modes.On h starts next = (starts ≡ []) × (next ≡ disarmed h)
+SettlesTo modes.Off h starts next =
+    (start : Start) × (starts ≡ start ∷ []) × (start.choice ≡ Lasts) × RestartMayLeave Lasts start.image h
+    × (next ≡ restarted (disarmed h) start.image)
+SettlesTo modes.Unsettled h starts next = (starts ≡ []) × IsRemounted h next
+
+-- The state in which it leaves a device that it could not mount: nothing is armed, and it may be tried again. A mounted host
+-- is never left so.
+abbrev pub LeavesUnmounted : Mode → Machine → List Start → Machine → Type 0
+LeavesUnmounted modes.On h starts next = ⊥
+LeavesUnmounted modes.Off h starts next =
+    (start : Start) × (starts ≡ start ∷ []) × (start.choice ≡ Lasts) × RestartMayLeave Lasts start.image h
+    × (next ≡ record (restarted (disarmed h) start.image) { mode = modes.Unsettled })
+LeavesUnmounted modes.Unsettled h starts next = (starts ≡ []) × (next ≡ disarmed h)
+
+-- nothing is armed
+pub record IsQuiet (p : Panel) : Type 0 where
+  pub cut : p.cut_armed ≡ false
+  pub fail : p.fail_armed ≡ false
+
+-- What it asks of a device on which nothing is armed, and which tells these starts: as many calls as a mount at most, and no
+-- order. Nothing is armed after it, no power was lost, and the count of failures doesn't fall.
+pub record Asks (starts : List Start) (old new : Panel) : Type 0 where
+  pub tells : new.starts ≡ told old.starts starts
+  pub cut_armed : new.cut_armed ≡ false
+  pub fail_armed : new.fail_armed ≡ false
+  pub calls : new.counts.calls ≤ old.counts.calls + mount_calls
+  pub persists : new.counts.persists ≤ old.counts.persists + mount_persists
+  pub faults : old.counts.faults ≤ new.counts.faults
+  pub cuts : new.counts.cuts ≡ old.counts.cuts
+  pub offs : new.counts.offs ≡ old.counts.offs
+  pub arms : new.counts.arms ≡ old.counts.arms
+  pub evicts : new.counts.evicts ≡ old.counts.evicts
+  pub disarms : new.counts.disarms ≡ old.counts.disarms
+  pub last_order : new.last_order ≡ old.last_order
+
+-- The state h was settled, once the device was disarmed: host and device stand for the state that it came to.
+pub record Settled (h : Machine) (after : HostState) (quiet : Panel) (new : Device) : Type 0 where
+  pub starts : List Start
+  pub next : Machine
+  pub comes : SettlesTo h.mode h starts next
+  pub stands : Stands after new next
+  pub serves : HostServes after new
+  pub asks : Asks starts quiet new.panel
+  pub restarts : new.panel.counts.restarts ≡ bumped_by starts quiet.counts.restarts
+
+-- There was no memory to mount the device: host and device stand for what they did, and nothing is armed.
+pub record StaysUnmounted (host after : HostState) (old new : Device) : Type 0 where
+  pub same : after ≡ host
+  pub serves : HostServes after new
+  pub asks : Asks [] old.panel new.panel
+  pub restarts : new.panel.counts.restarts ≡ old.panel.counts.restarts
+  pub stands : (h : Machine) → Stands host old h → Stands after new (disarmed h)
+
+-- There was no memory for a settling: the host was not on and is not, and at most one restart was done, or refused.
+pub record LeftUnsettled (host after : HostState) (old : Device) (quiet : Panel) (new : Device) : Type 0 where
+  pub starts : List Start
+  pub few : length starts ≤ 1
+  pub was_not_on : host.mode ≡ modes.On → ⊥
+  pub is_not_on : after.mode ≡ modes.On → ⊥
+  pub serves : HostServes after new
+  pub asks : Asks starts quiet new.panel
+  pub restarts : bumped_by starts quiet.counts.restarts ≤ new.panel.counts.restarts
+  pub once : new.panel.counts.restarts ≤ quiet.counts.restarts + 1
+  pub stands : (h : Machine) → Stands host old h → after.mode ≡ modes.Unsettled
+      → (next : Machine) × LeavesUnmounted host.mode h starts next × Stands after new next
+
+-- the state was settled, and the host is on
+abbrev pub IsSettled : HostState → HostState → Device → Device → Type 0
+IsSettled host after old new = (after.mode ≡ modes.On) × ((h : Machine) → Stands host old h → Settled h after old.panel new)
+
+-- what a mount promises of its answer, of a device on which nothing is armed; and what a restart and a mount do
+abbrev pub MountsAnew : {E : Type 0} → Result (Unit {0}) E → HostState → HostState → Device → Device → Type 0
+MountsAnew (Ok u) host after old new = IsSettled host after old new
+MountsAnew (Err e) host after old new = StaysUnmounted host after old new
+
+abbrev pub Settles : {E : Type 0} → Result (Unit {0}) E → HostState → HostState → Device → Device → Type 0
+Settles (Ok u) host after old new = IsSettled host after old new
+Settles (Err e) host after old new = LeftUnsettled host after old old.panel new

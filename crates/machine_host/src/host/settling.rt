@@ -1,0 +1,77 @@
+// Bringing host and device to rest.
+ghost use Rattle.std.specs.Prelude.{◌≡◌, OnOk, OnErr};
+ghost use Rattle.line_device.specs.Panel.{after_disarm};
+ghost use Rattle.recovery.specs.declared.fault.MountFault.TheVariants.{Device, PowerLost};
+ghost use Rattle.machine_host.specs.declared.mode.Mode.TheVariants.{On, Off, Unsettled};
+ghost use Rattle.machine_host.specs.Machine.{Machine};
+ghost use Rattle.machine_host.specs.Stands.{HostServes, Stands};
+ghost use Rattle.machine_host.specs.Settling.{IsQuiet, LeftUnsettled, MountsAnew, Settled, Settles};
+
+use super::Host;
+use crate::Mode;
+use line_device::{Choice, LineDevice};
+use recovery::MountFault;
+use std::alloc::AllocError;
+
+impl Host {
+    /// Brings the host into mode On, so that the device can be read: what is armed ends, the power comes back where it is
+    /// off, and a device that is not mounted is mounted. Only memory can be wanting.
+    pub fn settle<D: LineDevice>(&mut self, device: &mut D) -> Result<(), AllocError>
+        requires serves { HostServes self.old (D.state device.old) }
+        ensures settled { OnOk result ((h : Machine) → Stands self.old (D.state device.old) h
+            → Settled h self.new (after_disarm (D.state device.old).panel) (D.state device.new)) }
+        ensures on { OnOk result (self.new.mode ≡ On) }
+        ensures memory { OnErr result
+            (LeftUnsettled self.old self.new (D.state device.old) (after_disarm (D.state device.old).panel) (D.state device.new)) }
+    {
+        device.disarm();
+        match self.mode {
+            Mode::On => Ok(()),
+            Mode::Off => self.bring_back(device),
+            Mode::Unsettled => self.mount_anew(device),
+        }
+    }
+
+    // The power comes back, and the device is mounted.
+    fn bring_back<D: LineDevice>(&mut self, device: &mut D) -> Result<(), AllocError>
+        requires serves { HostServes self.old (D.state device.old) }
+        requires off { self.old.mode ≡ Off }
+        requires quiet { IsQuiet (D.state device.old).panel }
+        ensures { Settles result self.old self.new (D.state device.old) (D.state device.new) }
+    {
+        device.restart(Choice::Lasts)?;
+        self.mode = Mode::Unsettled;
+        self.mount_anew(device)
+    }
+
+    // The device is mounted while the power is on. Nothing can stop that, where nothing is armed. A device that stands for a
+    // state is refused for nothing but memory: it has the host's sizes, and nothing is wrong with it.
+    fn mount_anew<D: LineDevice>(&mut self, device: &mut D) -> Result<(), AllocError>
+        requires serves { HostServes self.old (D.state device.old) }
+        requires unsettled { self.old.mode ≡ Unsettled }
+        requires quiet { IsQuiet (D.state device.old).panel }
+        ensures { MountsAnew result self.old self.new (D.state device.old) (D.state device.new) }
+    {
+        match recovery::mount(self.alloc, device) {
+            Ok(mounted) => {
+                if self.take(mounted) {
+                    Ok(())
+                } else {
+                    Err(AllocError)
+                }
+            }
+            Err(fault) => Err(wanted(fault)),
+        }
+    }
+}
+
+// What a mount that the device did not stop was refused for.
+fn wanted(fault: MountFault) -> AllocError
+    requires went { fault ≡ Device → ⊥ }
+    requires powered { fault ≡ PowerLost → ⊥ }
+{
+    match fault {
+        MountFault::Memory | MountFault::Meta(_) | MountFault::Layout(_) => AllocError,
+        MountFault::Device | MountFault::PowerLost => unreachable!(),
+    }
+}
