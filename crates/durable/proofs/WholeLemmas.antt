@@ -221,14 +221,19 @@ whole-run [] h later said whole run = subst IsComplete (sym run.1) whole
 whole-run (input ∷ inputs) h later said whole run =
     whole-run inputs run.2 later run.1 (whole-heard h input run.0 run.2 whole run.4) run.5
 
-whole-zeros : (geo : Geometry) (cut fail : Bool) → IsComplete (record (fresh geo) { cut_armed = cut; fail_armed = fail })
+whole-armed : (geo : Geometry) (image : Image) (cut fail : Bool) → IsComplete (record (reading geo image) { cut_armed = cut; fail_armed = fail })
 unfolding reading
-whole-zeros geo cut fail = record {
-  blocks = length-read geo (λ n. false) (λ p. 0);
-  pages = pages-read geo (zero_image (total_lines geo));
-  lines = lines-read (volume_line geo) (zero_image (total_lines geo)) (presence_read geo (λ p. 0));
+whole-armed geo image cut fail = record {
+  blocks = length-read geo image.is_bad image.word;
+  pages = pages-read geo image;
+  lines = lines-read (volume_line geo) image (presence_read geo image.word);
   settled = λ on. refl;
 }
 
+-- a machine that is read from an image
+pub whole-reading : (geo : Geometry) (image : Image) (h : Machine) → h ≡ record (reading geo image) { cut_armed = h.cut_armed; fail_armed = h.fail_armed } → IsComplete h
+whole-reading geo image h is = subst IsComplete {x = record (reading geo image) { cut_armed = h.cut_armed; fail_armed = h.fail_armed }} (sym is) (whole-armed geo image h.cut_armed h.fail_armed)
+
+-- and one over zeros
 pub whole-fresh : (geo : Geometry) (h : Machine) → h ≡ record (fresh geo) { cut_armed = h.cut_armed; fail_armed = h.fail_armed } → IsComplete h
-whole-fresh geo h is = subst IsComplete {x = record (fresh geo) { cut_armed = h.cut_armed; fail_armed = h.fail_armed }} (sym is) (whole-zeros geo h.cut_armed h.fail_armed)
+whole-fresh geo h is = whole-reading geo (zero_image (total_lines geo)) h is

@@ -15,7 +15,7 @@ ghost use Rattle.script_text.specs.Script.{Input, inputs};
 ghost use Rattle.script_text.specs.Script.Input.{Asked};
 ghost use Rattle.line_device.specs.declared.line.Choice.TheVariants.{Firsts};
 ghost use Rattle.machine_host.specs.Machine.{Machine};
-ghost use Rattle.machine_host.specs.Restarting.{fresh, reading};
+ghost use Rattle.machine_host.specs.Restarting.{reading};
 ghost use Rattle.machine_host.specs.Run.{Transcript, Run};
 ghost use Rattle.durable.specs.Place.{Place, byte_at_place};
 ghost use Rattle.durable.specs.Place.Place.{of_volume, of_blocks};
@@ -60,8 +60,9 @@ pub fn what_is_not_synced_may_go()
         → (said : Transcript) × Run stored (Asked Cut ∷ Asked (Restart Firsts) ∷ []) said (reading geo image) }
 {}
 
-/// A new machine is in such a state, whatever is armed, and no run leaves them.
+/// A machine that is read from an image is in such a state, whatever is armed, and no run leaves them.
 pub fn runs_come_to_whole_states()
-    ensures fresh { (geo : Geometry) (h : Machine) → h ≡ record (fresh geo) { cut_armed = h.cut_armed; fail_armed = h.fail_armed } → IsComplete h }
+    ensures read { (geo : Geometry) (image : Image) (h : Machine)
+        → h ≡ record (reading geo image) { cut_armed = h.cut_armed; fail_armed = h.fail_armed } → IsComplete h }
     ensures runs { (h later : Machine) (inputs : List Input) (said : Transcript) → IsComplete h → Run h inputs said later → IsComplete later }
 {}
