@@ -1,11 +1,11 @@
 -- Where bytes are wrong, the first wrong field begins.
-use Rattle.std.proofs.Common.{◌≡◌, ℕ, ◌+◌, ◌^◌, ◌<◌, ◌≤◌, Bool, true, false, nat_eq, List, [], ◌∷◌, ◌++◌, length, take, drop, Option, Some, None, refl, sym, ap, subst, ◌∙◌, arith, length-append, length-drop}
+use Rattle.std.proofs.Common.{◌≡◌, ℕ, ◌+◌, ◌^◌, ◌<◌, ◌≤◌, Bool, true, false, nat_eq, List, [], ◌∷◌, ◌++◌, length, take, drop, replicate, Option, Some, None, refl, sym, ap, subst, ◌∙◌, arith, length-append, length-drop}
 use Rattle.std.specs.List.{concat, flat_map, starts_with}
 use Rattle.std.proofs.lemmas.List.{take-append-drop, drop-drop}
 use Rattle.std.proofs.lemmas.Slice.Eq.{bytes_eq-Decides}
 use Rattle.byteorder.specs.Endian.{little_number}
 use Rattle.byteorder.specs.Numbers.{little_number-reads_back}
-use Rattle.line_device.specs.declared.line.LineState.TheVariants.{Bad}
+use Rattle.line_device.specs.declared.line.LineState.TheVariants.{Healthy}
 use Rattle.image_file.specs.Text.{FitImage, IsSnapshot, Snapshot, image_head, image_magic, image_text, number_text}
 use Rattle.image_file.specs.WrongField.{field_number, first_wrong_offset}
 use Rattle.image_file.specs.Fields.{IsFirstWrong, image_fields, line_fields}
@@ -14,12 +14,12 @@ use Rattle.image_file.proofs.FieldLemmas.{WrongLines, lines_first, lines_joined}
 use Rattle.image_file.proofs.HeaderLemmas.{field_is, unit_is, count_read, wrong_by}
 use Rattle.image_file.proofs.TextLemmas.{found}
 
--- an image of one bad line
-abbrev bad_image : Snapshot
-bad_image = record { unit = 8; lines = Bad ∷ [] }
+-- an image of one line of zeros
+abbrev zero_image : Snapshot
+zero_image = record { unit = 8; lines = Healthy (replicate 64 0) ∷ [] }
 
-bad_right : IsSnapshot bad_image
-bad_right = record { unit = refl; count = (omega arith, omega arith); whole = (tt, tt) }
+zero_right : IsSnapshot zero_image
+zero_right = record { unit = refl; count = (omega arith, omega arith); whole = (refl, tt) }
 
 -- the first fields of equal rows
 first_same : (a b : List ℕ) (r s : List (List ℕ)) → a ∷ r ≡ b ∷ s → a ≡ b
@@ -34,7 +34,7 @@ wrong_magic bytes magic = record {
   rest = bytes;
   parts = refl;
   here = refl;
-  begun = record { m = bad_image; right = bad_right; more = image_fields bad_image; is = refl };
+  begun = record { m = zero_image; right = zero_right; more = image_fields zero_image; is = refl };
   ended = λ field after e b.
       let same : image_magic ≡ field = first_same _ _ _ _ b.is in
       let is : bytes ≡ image_magic ++ after = e ∙ ap (λ f. f ++ after) (sym same) in
@@ -56,7 +56,7 @@ wrong_unit bytes magic none = record {
   rest = drop 8 bytes;
   parts = sym (take-append-drop 8 bytes) ∙ ap (λ t. t ++ drop 8 bytes) magic;
   here = refl;
-  begun = record { m = bad_image; right = bad_right; more = drop 1 (image_fields bad_image); is = refl };
+  begun = record { m = zero_image; right = zero_right; more = drop 1 (image_fields zero_image); is = refl };
   ended = λ field after e b.
       let same : number_text b.m.unit ≡ field = first_same _ _ _ _ (later_same _ _ _ _ b.is) in
       let is : drop 8 bytes ≡ number_text 8 ++ after = e ∙ ap (λ f. f ++ after) (sym same) ∙ ap (λ u. number_text u ++ after) b.right.unit in
@@ -74,7 +74,7 @@ wrong_count bytes unit fit magic e8 none = record {
   rest = drop 16 bytes;
   parts = front_is bytes unit fit magic e8;
   here = refl;
-  begun = record { m = bad_image; right = bad_right; more = drop 2 (image_fields bad_image); is = refl };
+  begun = record { m = zero_image; right = zero_right; more = drop 2 (image_fields zero_image); is = refl };
   ended = λ field after e b.
       let count : FitImage (length b.m.lines) = b.right.count in
       let same : number_text (length b.m.lines) ≡ field = first_same _ _ _ _ (later_same _ _ _ _ (later_same _ _ _ _ b.is)) in

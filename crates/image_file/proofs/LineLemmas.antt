@@ -8,7 +8,7 @@ use Rattle.std.proofs.lemmas.List.Concat.{flat_map-cons}
 use Rattle.std.proofs.lemmas.List.{take_at, drop_at, take-append-drop, length-take, length-drop}
 use Rattle.line_device.specs.declared.line.LineState.{LineState}
 use Rattle.line_device.specs.declared.line.LineState.TheVariants.{Healthy, Weak, Bad}
-use Rattle.image_file.specs.Text.{IsWholeLine, line_text}
+use Rattle.image_file.specs.Text.{IsImageLine, line_text}
 use Rattle.image_file.specs.WrongField.{wrong_in_lines}
 
 -- 64 bytes behind a tag are right
@@ -19,17 +19,14 @@ behind_tag lines offset bytes rest len =
     rw (long, drop_at bytes rest 64 len, next) refl
 
 -- a whole line is right
-pub line_right : (lines offset : ℕ) (line : LineState) (rest : List ℕ) → IsWholeLine line → wrong_in_lines (suc lines) offset (line_text line ++ rest) ≡ wrong_in_lines lines (offset + length (line_text line)) rest
+pub line_right : (lines offset : ℕ) (line : LineState) (rest : List ℕ) → IsImageLine line → wrong_in_lines (suc lines) offset (line_text line ++ rest) ≡ wrong_in_lines lines (offset + length (line_text line)) rest
 unfolding wrong_in_lines
 line_right lines offset (Healthy bytes) rest len = behind_tag lines offset bytes rest len
-line_right lines offset (Weak bytes) rest len = behind_tag lines offset bytes rest len
-line_right lines offset Bad rest len =
-    let long : nat_lt (length rest) 0 ≡ false = le-ltb _ _ (omega arith) in
-    let next : offset + 1 + 0 ≡ offset + 1 = omega arith in
-    rw (long, next) refl
+line_right lines offset (Weak bytes) rest never = absurd never
+line_right lines offset Bad rest never = absurd never
 
 -- whole lines and nothing else are right
-pub lines_right : (offset : ℕ) (lines : List LineState) → AllByRecursion IsWholeLine lines → wrong_in_lines (length lines) offset (flat_map line_text lines) ≡ None
+pub lines_right : (offset : ℕ) (lines : List LineState) → AllByRecursion IsImageLine lines → wrong_in_lines (length lines) offset (flat_map line_text lines) ≡ None
 unfolding wrong_in_lines
 lines_right offset [] whole = refl
 lines_right offset (line ∷ lines) whole =
@@ -44,23 +41,19 @@ tail_same : (x y : ℕ) (a b : List ℕ) → x ∷ a ≡ y ∷ b → a ≡ b
 tail_same x y a b e = cc
 
 -- a line ends by itself: no line's text begins another's
-line_parts : (x y : LineState) (r s : List ℕ) → IsWholeLine x → IsWholeLine y → line_text x ++ r ≡ line_text y ++ s → (x ≡ y) × (r ≡ s)
+line_parts : (x y : LineState) (r s : List ℕ) → IsImageLine x → IsImageLine y → line_text x ++ r ≡ line_text y ++ s → (x ≡ y) × (r ≡ s)
 line_parts (Healthy a) (Healthy b) r s p q e = let same = parted a b r s p q (tail_same 0 0 _ _ e) in (ap Healthy same.0, same.1)
-line_parts (Weak a) (Weak b) r s p q e = let same = parted a b r s p q (tail_same 1 1 _ _ e) in (ap Weak same.0, same.1)
-line_parts Bad Bad r s p q e = (refl, tail_same 2 2 _ _ e)
-line_parts (Healthy a) (Weak b) r s p q e = absurd (cc)
-line_parts (Healthy a) Bad r s p q e = absurd (cc)
-line_parts (Weak a) (Healthy b) r s p q e = absurd (cc)
-line_parts (Weak a) Bad r s p q e = absurd (cc)
-line_parts Bad (Healthy b) r s p q e = absurd (cc)
-line_parts Bad (Weak b) r s p q e = absurd (cc)
+line_parts (Healthy a) (Weak b) r s p q e = absurd q
+line_parts (Healthy a) Bad r s p q e = absurd q
+line_parts (Weak a) y r s p q e = absurd p
+line_parts Bad y r s p q e = absurd p
 
 line_some : (x : LineState) (r : List ℕ) → line_text x ++ r ≡ [] → ⊥
 line_some (Healthy a) r e = absurd (cc)
 line_some (Weak a) r e = absurd (cc)
 line_some Bad r e = absurd (cc)
 
-pub lines_same : (a b : List LineState) → AllByRecursion IsWholeLine a → AllByRecursion IsWholeLine b → flat_map line_text a ≡ flat_map line_text b → a ≡ b
+pub lines_same : (a b : List LineState) → AllByRecursion IsImageLine a → AllByRecursion IsImageLine b → flat_map line_text a ≡ flat_map line_text b → a ≡ b
 lines_same [] [] p q e = refl
 lines_same [] (y ∷ b) p q e = absurd (line_some y (flat_map line_text b) (sym (e ∙ flat_map-cons line_text y b)))
 lines_same (x ∷ a) [] p q e = absurd (line_some x (flat_map line_text a) (sym (flat_map-cons line_text x a) ∙ e))
@@ -72,11 +65,11 @@ lines_same (x ∷ a) (y ∷ b) p q e =
 -- bytes of which nothing is wrong are so many whole lines
 pub record Lined (lines : ℕ) (bytes : List ℕ) : Type 0 where
   pub all : List LineState
-  pub whole : AllByRecursion IsWholeLine all
+  pub whole : AllByRecursion IsImageLine all
   pub count : length all ≡ lines
   pub is : bytes ≡ flat_map line_text all
 
-lined_more : (line : LineState) (lines : ℕ) (bytes rest : List ℕ) → IsWholeLine line → bytes ≡ line_text line ++ rest → Lined lines rest → Lined (suc lines) bytes
+lined_more : (line : LineState) (lines : ℕ) (bytes rest : List ℕ) → IsImageLine line → bytes ≡ line_text line ++ rest → Lined lines rest → Lined (suc lines) bytes
 lined_more line lines bytes rest whole is l = record {
   all = line ∷ l.all;
   whole = (whole, l.whole);
@@ -85,29 +78,23 @@ lined_more line lines bytes rest whole is l = record {
 }
 
 -- the 64 bytes behind a tag, and the lines after them
-lined_behind : (make : List ℕ → LineState) (tag lines offset : ℕ) (bytes : List ℕ) → ((t : List ℕ) → length t ≡ 64 → IsWholeLine (make t)) → ((t : List ℕ) → line_text (make t) ≡ tag ∷ t)
-    → ((rest : List ℕ) (at : ℕ) → wrong_in_lines lines at rest ≡ None → Lined lines rest)
-    → (if nat_lt (length bytes) 64 then Some (offset + 1) else wrong_in_lines lines (offset + 1 + 64) (drop 64 bytes)) ≡ None → Lined (suc lines) (tag ∷ bytes)
-lined_behind make tag lines offset bytes whole text next e = go (nat_lt (length bytes) 64) refl e
+lined_behind : (lines offset : ℕ) (bytes : List ℕ) → ((rest : List ℕ) (at : ℕ) → wrong_in_lines lines at rest ≡ None → Lined lines rest)
+    → (if nat_lt (length bytes) 64 then Some (offset + 1) else wrong_in_lines lines (offset + 1 + 64) (drop 64 bytes)) ≡ None → Lined (suc lines) (0 ∷ bytes)
+lined_behind lines offset bytes next e = go (nat_lt (length bytes) 64) refl e
   where
-    go : (b : Bool) → nat_lt (length bytes) 64 ≡ b → (if b then Some (offset + 1) else wrong_in_lines lines (offset + 1 + 64) (drop 64 bytes)) ≡ None → Lined (suc lines) (tag ∷ bytes)
+    go : (b : Bool) → nat_lt (length bytes) 64 ≡ b → (if b then Some (offset + 1) else wrong_in_lines lines (offset + 1 + 64) (drop 64 bytes)) ≡ None → Lined (suc lines) (0 ∷ bytes)
     go true t e = absurd (cc)
     go false t e =
         let long : 64 ≤ length bytes = ltb-false _ _ t in
-        lined_more (make (take 64 bytes)) lines (tag ∷ bytes) (drop 64 bytes) (whole (take 64 bytes) (omega (arith, length-take 64 bytes)))
-        (ap (λ u. tag ∷ u) (sym (take-append-drop 64 bytes)) ∙ ap (λ u. u ++ drop 64 bytes) (sym (text (take 64 bytes)))) (next (drop 64 bytes) (offset + 1 + 64) e)
+        lined_more (Healthy (take 64 bytes)) lines (0 ∷ bytes) (drop 64 bytes) (omega (arith, length-take 64 bytes)) (ap (λ u. 0 ∷ u) (sym (take-append-drop 64 bytes))) (next (drop 64 bytes) (offset + 1 + 64) e)
 
 pub lines_lined : (lines offset : ℕ) (bytes : List ℕ) → wrong_in_lines lines offset bytes ≡ None → Lined lines bytes
 unfolding wrong_in_lines
 lines_lined zero offset [] e = record { all = []; whole = tt; count = refl; is = refl }
 lines_lined zero offset (byte ∷ bytes) e = absurd (cc)
 lines_lined (suc lines) offset [] e = absurd (cc)
-lines_lined (suc lines) offset (zero ∷ bytes) e = lined_behind Healthy 0 lines offset bytes (λ t h. h) (λ t. refl) (λ rest at h. lines_lined lines at rest h) e
-lines_lined (suc lines) offset (suc zero ∷ bytes) e = lined_behind Weak 1 lines offset bytes (λ t h. h) (λ t. refl) (λ rest at h. lines_lined lines at rest h) e
-lines_lined (suc lines) offset (suc (suc zero) ∷ bytes) e =
-    let long : nat_lt (length bytes) 0 ≡ false = le-ltb _ _ (omega arith) in
-    lined_more Bad lines (2 ∷ bytes) bytes tt refl (lines_lined lines (offset + 1 + 0) bytes (rw long at e))
-lines_lined (suc lines) offset (suc (suc (suc tag)) ∷ bytes) e = absurd (cc)
+lines_lined (suc lines) offset (zero ∷ bytes) e = lined_behind lines offset bytes (λ rest at h. lines_lined lines at rest h) e
+lines_lined (suc lines) offset (suc tag ∷ bytes) e = absurd (cc)
 
 -- the first 64 bytes
 pub front_taken : (bytes : List ℕ) (o : Option (Bor (List ℕ) × Bor (List ℕ))) → MatchOption o (length bytes < 64) (λ p. (p.0.now ≡ take 64 bytes) × (p.1.now ≡ drop 64 bytes) × (length p.1.now + 64 ≡ length bytes))

@@ -4,7 +4,7 @@ use Rattle.std.specs.List.{flat_map, AllByRecursion}
 use Rattle.std.proofs.lemmas.Grind.{flat_map-append}
 use Rattle.std.proofs.lemmas.List.Concat.{flat_map-cons}
 use Rattle.line_device.specs.declared.line.LineState.{LineState}
-use Rattle.image_file.specs.Text.{IsWholeLine, line_text}
+use Rattle.image_file.specs.Text.{IsImageLine, line_text}
 use Rattle.image_file.specs.WrongField.{wrong_in_lines}
 use Rattle.image_file.proofs.LineLemmas.{line_right}
 
@@ -13,7 +13,7 @@ pub record Reading (count done : ℕ) (file : List ℕ) (lines : List LineState)
   pub parts : drop 24 file ≡ flat_map line_text lines ++ rest
   pub within : length rest ≤ length file
   pub number : length lines ≡ done
-  pub whole : AllByRecursion IsWholeLine lines
+  pub whole : AllByRecursion IsImageLine lines
   pub wrong : wrong_in_lines count 24 (drop 24 file) ≡ wrong_in_lines (count - done) (length file - length rest) rest
 
 pub Reading-starts : (count : ℕ) (file : List ℕ) (lines : List LineState) (rest : List ℕ) → 24 ≤ length file → lines ≡ [] → rest ≡ drop 24 file → Reading count 0 file lines rest
@@ -22,7 +22,7 @@ Reading-starts count file lines rest long none is =
     let all : count - 0 ≡ count = omega arith in
     rw (none, is) (record { parts = refl; within = omega (arith, length-drop 24 file); number = refl; whole = tt; wrong = rw (at, all) refl })
 
-whole_more : (lines : List LineState) (line : LineState) → AllByRecursion IsWholeLine lines → IsWholeLine line → AllByRecursion IsWholeLine (lines ++ line ∷ [])
+whole_more : (lines : List LineState) (line : LineState) → AllByRecursion IsImageLine lines → IsImageLine line → AllByRecursion IsImageLine (lines ++ line ∷ [])
 whole_more [] line whole one = (one, tt)
 whole_more (x ∷ lines) line whole one = (whole.0, whole_more lines line whole.1 one)
 
@@ -30,7 +30,7 @@ texts_more : (lines : List LineState) (line : LineState) → flat_map line_text 
 texts_more lines line =
     flat_map-append line_text lines (line ∷ []) ∙ ap (λ t. flat_map line_text lines ++ t) (flat_map-cons line_text line [] ∙ append-nil (line_text line))
 
-pub Reading-more : (count done : ℕ) (file : List ℕ) (lines : List LineState) (line : LineState) (rest after : List ℕ) → done < count → rest ≡ line_text line ++ after → IsWholeLine line
+pub Reading-more : (count done : ℕ) (file : List ℕ) (lines : List LineState) (line : LineState) (rest after : List ℕ) → done < count → rest ≡ line_text line ++ after → IsImageLine line
     → Reading count done file lines rest → Reading count (done + 1) file (lines ++ line ∷ []) after
 Reading-more count done file lines line rest after some is one r =
     let len : length rest ≡ length (line_text line) + length after = ap length is ∙ length-append (line_text line) after in

@@ -38,8 +38,8 @@ pub record ImageRows : Type 0 where
   pub tag_of_3 : first_wrong_offset (with_byte 24 3 one_line) ≡ Some 24
   pub no_bytes : first_wrong_offset (take 25 one_line) ≡ Some 25
   pub last_byte_cut : first_wrong_offset (take 88 one_line) ≡ Some 25
-  pub weak : first_wrong_offset (with_byte 24 1 one_line) ≡ None
-  pub bad_with_bytes : first_wrong_offset (with_byte 24 2 one_line) ≡ Some 25
-  pub bad : first_wrong_offset (take 25 (with_byte 24 2 one_line)) ≡ None
+  pub weak : first_wrong_offset (with_byte 24 1 one_line) ≡ Some 24
+  pub bad_with_bytes : first_wrong_offset (with_byte 24 2 one_line) ≡ Some 24
+  pub bad : first_wrong_offset (take 25 (with_byte 24 2 one_line)) ≡ Some 24
   pub second_line_missing : first_wrong_offset (with_byte 16 2 one_line) ≡ Some 89
   pub byte_too_many : first_wrong_offset (one_line ++ 0 ∷ []) ≡ Some 89

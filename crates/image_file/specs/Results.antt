@@ -7,7 +7,7 @@ use Rattle.line_device.specs.declared.line.LineState.{LineState}
 use Rattle.image_file.specs.declared.Image.{Image}
 use Rattle.image_file.specs.declared.fault.ImageFault.{ImageFault}
 use Rattle.image_file.specs.declared.fault.ImageFault.TheVariants.{Bad, Memory}
-use Rattle.image_file.specs.Text.{IsSnapshot, IsWholeLine, FitImage, Snapshot, image_head, image_text, line_text, snapshot_of}
+use Rattle.image_file.specs.Text.{IsSnapshot, IsImageLine, FitImage, Snapshot, image_head, image_text, line_text, snapshot_of}
 use Rattle.image_file.specs.WrongField.{first_wrong_offset, wrong_in_lines}
 
 -- of a whole file: the image that it spells, or where it is none
@@ -30,11 +30,11 @@ ReadsCount bytes (Err offset) = first_wrong_offset bytes ≡ Some offset
 
 -- of the bytes behind them: so many lines, or where the file is wrong
 abbrev pub ReadsLines : ℕ → List ℕ → Result (Stock LineState) ImageFault → Type 0
-ReadsLines count bytes (Ok lines) = (drop 24 bytes ≡ flat_map line_text lines.items) × (length lines.items ≡ count) × AllByRecursion IsWholeLine lines.items
+ReadsLines count bytes (Ok lines) = (drop 24 bytes ≡ flat_map line_text lines.items) × (length lines.items ≡ count) × AllByRecursion IsImageLine lines.items
 ReadsLines count bytes (Err (Bad offset)) = wrong_in_lines count 24 (drop 24 bytes) ≡ Some offset
 ReadsLines count bytes (Err Memory) = Unit {0}
 
 -- of bytes: the line at their front and what follows it, or how far into them they are wrong
 abbrev pub ReadsLine : List ℕ → Result (LineState × Bor (List ℕ)) ℕ → Type 0
-ReadsLine bytes (Ok p) = (bytes ≡ line_text p.0 ++ p.1.now) × IsWholeLine p.0
+ReadsLine bytes (Ok p) = (bytes ≡ line_text p.0 ++ p.1.now) × IsImageLine p.0
 ReadsLine bytes (Err skip) = (skip ≤ 1) × ((lines offset : ℕ) → wrong_in_lines (suc lines) offset bytes ≡ Some (offset + skip))

@@ -38,11 +38,18 @@ image_head unit lines = image_magic ++ number_text unit ++ number_text lines
 unfoldable pub image_text : Snapshot → List ℕ
 image_text m = image_head m.unit (length m.lines) ++ flat_map line_text m.lines
 
--- a line that is not bad has 64 bytes
-abbrev pub IsWholeLine : LineState → Type 0
-IsWholeLine (Healthy bytes) = length bytes ≡ 64
-IsWholeLine (Weak bytes) = length bytes ≡ 64
-IsWholeLine Bad = Unit {0}
+-- a line that is neither weak nor bad
+abbrev pub IsHealthyLine : LineState → Type 0
+IsHealthyLine (Healthy bytes) = Unit {0}
+IsHealthyLine (Weak bytes) = ⊥
+IsHealthyLine Bad = ⊥
+
+-- A line that may stand in an image. For the time being that is a healthy one alone, of 64 bytes, although a line's text has
+-- three tags: weak and bad lines are let in by their cases here and in tag_len, and by their arms in read_line.
+abbrev pub IsImageLine : LineState → Type 0
+IsImageLine (Healthy bytes) = length bytes ≡ 64
+IsImageLine (Weak bytes) = ⊥
+IsImageLine Bad = ⊥
 
 -- so many lines may stand in an image
 abbrev pub FitImage : ℕ → Type 0
@@ -52,7 +59,7 @@ FitImage lines = (1 ≤ lines) × (lines ≤ 118016)
 pub record IsSnapshot (m : Snapshot) : Type 0 where
   pub unit : m.unit ≡ 8
   pub count : FitImage (length m.lines)
-  pub whole : AllByRecursion IsWholeLine m.lines
+  pub whole : AllByRecursion IsImageLine m.lines
 
 -- the bytes of the first line of a fresh device: the words of its superblock
 abbrev pub superblock_text : Geometry → List ℕ

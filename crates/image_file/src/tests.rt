@@ -40,7 +40,7 @@ fn a_fresh_image_has_its_superblock_and_zeros(rt: HostRuntime) -> Result<(), Fai
 
 #[test]
 fn a_changed_field_is_told_by_its_offset(rt: HostRuntime) -> Result<(), Fail> {
-    let cases: [(&[(usize, u8)], u64); 9] = [
+    let cases: [(&[(usize, u8)], u64); 11] = [
         (&[(0, 0)], 0),
         (&[(7, b'2')], 0),
         (&[(8, 9)], 8),
@@ -49,7 +49,9 @@ fn a_changed_field_is_told_by_its_offset(rt: HostRuntime) -> Result<(), Fail> {
         (&[(16, 0), (17, 0xcd), (18, 1)], 328664),
         (&[(16, 0xbf)], 328599),
         (&[(24, 3)], 24),
-        (&[(24, 2)], 25),
+        (&[(24, 1)], 24),
+        (&[(24, 2)], 24),
+        (&[(219, 1)], 219),
     ];
     for (changes, offset) in cases {
         let mut bytes = fresh_bytes(rt.alloc())?;
@@ -98,21 +100,26 @@ fn bytes_that_are_missing_or_too_many_are_told(rt: HostRuntime) -> Result<(), Fa
 }
 
 #[test]
-fn each_line_comes_back_with_its_mark(rt: HostRuntime) -> Result<(), Fail> {
-    let told = [
-        LineState::Bad,
-        LineState::Weak([7; 64]),
-        LineState::Healthy([9; 64]),
-        LineState::Weak([0; 64]),
+fn healthy_lines_come_back_and_others_are_refused(rt: HostRuntime) -> Result<(), Fail> {
+    let cases = [
+        (LineState::Healthy([9; 64]), 65, None),
+        (LineState::Weak([9; 64]), 65, Some(ImageFault::Bad(89))),
+        (LineState::Bad, 1, Some(ImageFault::Bad(89))),
     ];
-    let mut lines = LineList::new(rt.alloc());
-    lines.extend(&told)?;
-    let bytes = write(rt.alloc(), &Image { unit: 8, lines })?;
-    assert_eq!(rt; bytes.len(), 24 + 1 + 3 * 65);
-    let image = read(rt.alloc(), bytes.as_slice())
-        .ok()
-        .ok_or("the bytes are an image")?;
-    assert_eq!(rt; image.unit, 8);
-    assert_eq!(rt; image.lines.as_slice(), told.as_slice());
+    for (second, bytes_more, fault) in cases {
+        let told = [LineState::Healthy([7; 64]), second];
+        let mut lines = LineList::new(rt.alloc());
+        lines.extend(&told)?;
+        let bytes = write(rt.alloc(), &Image { unit: 8, lines })?;
+        assert_eq!(rt; bytes.len(), 24 + 65 + bytes_more);
+        match read(rt.alloc(), bytes.as_slice()) {
+            Ok(image) => {
+                assert_eq!(rt; image.unit, 8);
+                assert_eq!(rt; image.lines.as_slice(), told.as_slice());
+                assert_eq!(rt; fault, None);
+            }
+            Err(told) => assert_eq!(rt; Some(told), fault),
+        }
+    }
     Ok(())
 }
