@@ -4,3 +4,7 @@ mod HeaderLemmas
 mod LineLemmas
 mod ReadingLemmas
 mod TextLemmas
+mod SetUpLemmas
+mod InstallLemmas
+mod ExtractLemmas
+mod ShownLemmas

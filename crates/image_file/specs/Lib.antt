@@ -3,3 +3,4 @@ pub mod WrongField
 pub mod Fields
 pub mod Results
 pub mod Laws
+pub mod Devices

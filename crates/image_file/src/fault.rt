@@ -1,5 +1,6 @@
 ghost use Rattle.std.specs.Prelude.{◌≡◌};
 ghost use Rattle.image_file.specs.declared.fault.ImageFault.TheVariants.{Memory};
+ghost use Rattle.image_file.specs.declared.fault.ExtractFault.TheVariants as extracting;
 
 use std::alloc::AllocError;
 use thiserror::Error;
@@ -20,5 +21,26 @@ impl From<AllocError> for ImageFault {
 
     fn from(_e: AllocError) -> ImageFault {
         ImageFault::Memory
+    }
+}
+
+/// Why a device was not read out.
+#[derive(Clone, Copy, Debug, PartialEq, Eq, Error)]
+pub enum ExtractFault {
+    /// The device failed, and may be used on.
+    #[error("the device failed")]
+    Failed,
+    /// The power went.
+    #[error("the power went")]
+    PowerLost,
+    #[error("no memory for the image")]
+    Memory,
+}
+
+impl From<AllocError> for ExtractFault {
+    ghost from_gives = { λ _ e. e ≡ extracting.Memory };
+
+    fn from(_e: AllocError) -> ExtractFault {
+        ExtractFault::Memory
     }
 }

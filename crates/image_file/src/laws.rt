@@ -1,7 +1,11 @@
-ghost use Rattle.std.specs.Prelude.{◌≡◌, ℕ, List, Some, None};
-ghost use Rattle.std.specs.List.{concat};
+ghost use Rattle.std.specs.Prelude.{◌≡◌, ◌≤◌, ℕ, List, Some, None, length};
+ghost use Rattle.std.specs.List.{AllByRecursion, concat};
+ghost use Rattle.line_device.specs.Device.{Depicts};
+ghost use Rattle.line_device.specs.Medium.{IsSound, Medium};
+ghost use Rattle.line_device.specs.declared.line.LineState.{LineState};
+ghost use Rattle.image_file.specs.Devices.{AreLinesGood, DepictsLast, IsLastImage, image_of, medium_of};
 ghost use Rattle.image_file.specs.Fields.{IsFirstWrong, image_fields};
-ghost use Rattle.image_file.specs.Text.{IsSnapshot, Snapshot, image_text};
+ghost use Rattle.image_file.specs.Text.{FitImage, IsImageLine, IsSnapshot, Snapshot, image_text};
 ghost use Rattle.image_file.specs.WrongField.{first_wrong_offset};
 ghost use Rattle.image_file.specs.Laws.{AreFileBytes, ImageRows, IsSpelled};
 
@@ -22,4 +26,19 @@ pub fn first_wrong_fields_are_told()
 /// Where an image of one line is wrong once it is changed.
 pub fn worked_images()
     ensures { ImageRows }
+{}
+
+/// Laws: a device that has just the lines of an image is a sound one, shows that image, and is read out as these lines.
+pub fn installed_lines_are_shown()
+    ensures depicted { (lines : List LineState) → Depicts (medium_of lines) (image_of lines) }
+    ensures sound { (lines : List LineState) → length lines ≤ 118016 → IsSound (medium_of lines) }
+    ensures back { (lines : List LineState) → AllByRecursion IsImageLine lines → IsLastImage (medium_of lines) lines }
+{}
+
+/// Laws: lines that were read out have the marks of the device's lines and the last value of each healthy word, and where no
+/// line is bad or weak they may stand in an image.
+pub fn extracted_lines_are_the_last()
+    ensures words { (m : Medium) (lines : List LineState) → IsSound m → IsLastImage m lines → DepictsLast m (image_of lines) }
+    ensures image { (m : Medium) (lines : List LineState) → FitImage m.count → AreLinesGood m → IsLastImage m lines
+        → IsSnapshot (record { unit = 8; lines = lines }) }
 {}

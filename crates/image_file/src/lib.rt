@@ -4,17 +4,24 @@
 // For the time being an image is read only if all of its lines are healthy.
 #![tactic(auto)]
 
+mod extracting;
 mod fault;
 mod formatting;
+mod installing;
 mod laws;
 mod reading;
 #[cfg(test)]
 mod tests;
 mod writing;
 
-pub use fault::ImageFault;
+pub use extracting::extract;
+pub use fault::{ExtractFault, ImageFault};
 pub use formatting::fresh;
-pub use laws::{first_wrong_fields_are_told, images_have_one_text, worked_images};
+pub use installing::install;
+pub use laws::{
+    extracted_lines_are_the_last, first_wrong_fields_are_told, images_have_one_text,
+    installed_lines_are_shown, worked_images,
+};
 use line_device::LineList;
 pub use reading::read;
 pub use writing::write;

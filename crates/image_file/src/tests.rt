@@ -5,14 +5,17 @@ use std::alloc::{AllocError, Global};
 use std::test::*;
 use word_tables::Geometry;
 
-// The image of 8 blocks, 2 pages of the volume and 32 pages of files: 5,056 lines.
+mod devices;
+
+// 8 blocks, 2 pages of the volume and 32 pages of files: 5,056 lines.
+const SMALL: Geometry = Geometry {
+    blocks: 8,
+    vpages: 2,
+    fpages: 32,
+};
+
 fn fresh_bytes(alloc: Global) -> Result<Bytes, AllocError> {
-    let geo = Geometry {
-        blocks: 8,
-        vpages: 2,
-        fpages: 32,
-    };
-    write(alloc, &fresh(alloc, geo)?)
+    write(alloc, &fresh(alloc, SMALL)?)
 }
 
 fn fault_of(alloc: Global, bytes: &[u8]) -> Option<ImageFault> {

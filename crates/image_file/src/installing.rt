@@ -1,0 +1,25 @@
+// An image as the lines of a device.
+ghost use Rattle.std.specs.Prelude.{◌≡◌, length, IsTrue, OnOk};
+ghost use Rattle.line_device.specs.Panel.{SetsUp};
+ghost use Rattle.line_device.specs.Device.{setup_outcome};
+ghost use Rattle.image_file.specs.Text.{FitImage};
+ghost use Rattle.image_file.specs.Devices.{medium_of};
+
+use crate::{Image, UNIT};
+use line_device::{LineDevice, ResetFault};
+use nvm_base::LineNo;
+
+/// Makes a device one that has just the lines of an image, durably. After a refusal nothing is known of its lines.
+pub fn install<D: LineDevice>(device: &mut D, image: &Image) -> Result<(), ResetFault>
+    requires { FitImage (length image.now.lines.items) }
+    ensures lines { OnOk result ((D.state device.new).medium ≡ medium_of image.now.lines.items) }
+    ensures on { OnOk result (IsTrue (D.state device.new).panel.power) }
+    ensures stays_on { IsTrue (D.state device.old).panel.power → IsTrue (D.state device.new).panel.power }
+    ensures sets_up { SetsUp (setup_outcome result) (D.state device.old).panel (D.state device.new).panel }
+{
+    device.reset(image.lines.len(), UNIT)?;
+    for (n, line) in image.lines.as_slice().iter().enumerate() {
+        device.install(LineNo(n as u64), line)?;
+    }
+    Ok(())
+}

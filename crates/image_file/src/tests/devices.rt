@@ -1,0 +1,38 @@
+// An image that goes to a device and comes back.
+
+use super::SMALL;
+use crate::{extract, fresh, install};
+use line_device::{LineState, Lines, Plain};
+use nvm_base::LineNo;
+use std::test::*;
+
+#[test]
+fn lines_go_to_a_device_and_come_back_as_last_stored(rt: HostRuntime) -> Result<(), Fail> {
+    let image = fresh(rt.alloc(), SMALL)?;
+    let mut device = Plain::new(rt.alloc());
+    install(&mut device, &image)?;
+    if !device.power() || device.lines() <= 7 {
+        return Err("the device has 5,056 lines".into());
+    }
+    device.store(LineNo(7), 8, &[5; 8])?;
+    let after = extract(rt.alloc(), &mut device)?;
+    assert_eq!(rt; after.unit, 8);
+    assert_eq!(rt; after.lines.len(), 5056);
+    let mut stored = [0; 64];
+    stored[8..16].fill(5);
+    for (n, (is, was)) in after
+        .lines
+        .as_slice()
+        .iter()
+        .zip(image.lines.as_slice())
+        .enumerate()
+    {
+        let line = if n == 7 {
+            LineState::Healthy(stored)
+        } else {
+            *was
+        };
+        assert_eq!(rt; *is, line, "line {n}");
+    }
+    Ok(())
+}
