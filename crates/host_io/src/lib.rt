@@ -2,6 +2,7 @@
 #![tactic(auto)]
 
 mod failures;
+mod file_images;
 mod images;
 mod mem_images;
 mod mem_sink;
@@ -13,6 +14,7 @@ mod stdio;
 mod tests;
 mod writing;
 
+pub use file_images::FileImages;
 pub use images::{FetchFault, ImageCounts, Images};
 pub use mem_images::MemImages;
 pub use mem_sink::MemSink;

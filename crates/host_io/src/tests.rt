@@ -2,11 +2,13 @@
 ghost use Rattle.std.specs.Prelude.{◌≡◌, IfOk};
 
 use crate::{
-    FetchFault, Images, MemImages, MemSink, MemSource, ReadFailed, Sink, Source, StdinSource,
-    StdoutSink, WriteFault, write_all,
+    FetchFault, FileImages, Images, MemImages, MemSink, MemSource, ReadFailed, Sink, Source,
+    StdinSource, StdoutSink, WriteFault, write_all,
 };
 use nvm_base::{Bytes, Words};
 use std::alloc::{AllocError, Global};
+use std::test::Fail;
+use std::{env, fs, process};
 
 fn bytes(alloc: Global, text: &[u8]) -> Result<Bytes, AllocError>
     ensures { IfOk result (λ b. b.items ≡ text.now) }
@@ -71,6 +73,39 @@ fn images_are_held_by_name(rt: HostRuntime) -> Result<(), AllocError> {
     assert!(rt; fails(images.fetch("c", 4), FetchFault::Missing));
     let counts = images.counts();
     assert_eq!(rt; (counts.fetches, counts.fetch_faults), (4, 1));
+    assert_eq!(rt; (counts.replaces, counts.replace_faults), (3, 1));
+    Ok(())
+}
+
+#[test]
+fn images_are_kept_in_files(rt: HostRuntime) -> Result<(), Fail> {
+    let alloc = rt.alloc();
+    let folder = env::temp_dir(&rt)?;
+    let name = format!(in alloc;
+        "{}/nvm-image-{}",
+        folder.as_str(),
+        process::id(rt.process())
+    )?;
+    let name = name.as_str();
+    let new = format!(in alloc; "{name}.new")?;
+    let mut images = FileImages::new(&rt);
+    assert!(rt; fails(images.fetch(name, 5), FetchFault::Failed));
+    assert_eq!(rt; images.replace(name, b"one"), Ok(()));
+    assert_eq!(rt; images.replace(name, b"three"), Ok(()));
+    match images.fetch(name, 5) {
+        Ok(held) => assert_eq!(rt; held.as_slice(), b"three".as_slice()),
+        Err(_) => assert!(rt; false),
+    }
+    assert!(rt; fails(images.fetch(name, 4), FetchFault::TooLong));
+    fs::remove_file(&rt, name)?;
+    // A folder is neither read nor replaced.
+    fs::create_dir(&rt, name)?;
+    assert!(rt; fails(images.fetch(name, 5), FetchFault::Failed));
+    assert_eq!(rt; images.replace(name, b"lost"), Err(WriteFault::Failed));
+    assert!(rt; fs::metadata(&rt, new.as_str()).is_err());
+    fs::remove_dir(&rt, name)?;
+    let counts = images.counts();
+    assert_eq!(rt; (counts.fetches, counts.fetch_faults), (4, 2));
     assert_eq!(rt; (counts.replaces, counts.replace_faults), (3, 1));
     Ok(())
 }
