@@ -7,4 +7,4 @@ mod TextLemmas
 mod SetUpLemmas
 mod InstallLemmas
 mod ExtractLemmas
-mod ShownLemmas
+pub mod ShownLemmas
