@@ -40,6 +40,12 @@ LeavesUnmounted modes.Off h starts next =
     × (next ≡ record (restarted (disarmed h) start.image) { mode = modes.Unsettled })
 LeavesUnmounted modes.Unsettled h starts next = (starts ≡ []) × (next ≡ disarmed h)
 
+-- the host may go on, and stands with its device for some state
+pub record GoesOn (host : HostState) (d : Device) : Type 0 where
+  pub serves : HostServes host d
+  pub state : Machine
+  pub stands : Stands host d state
+
 -- nothing is armed
 pub record IsQuiet (p : Panel) : Type 0 where
   pub cut : p.cut_armed ≡ false

@@ -1,8 +1,7 @@
 // Stories of a host of eight blocks and two volume pages over a device of memory.
 ghost use Rattle.std.specs.Prelude.{IfOk, OnOk};
 ghost use Rattle.line_device.specs.Plain.{device_of};
-ghost use Rattle.machine_host.specs.Machine.{Machine};
-ghost use Rattle.machine_host.specs.Stands.{HostServes, Stands};
+ghost use Rattle.machine_host.specs.Settling.{GoesOn};
 
 use crate::{Host, Mode};
 use line_device::{LineDevice, Order, Plain};
@@ -14,7 +13,7 @@ use word_tables::Geometry;
 
 // A fresh device, and its host.
 fn set_up(alloc: Global) -> Result<(Host, Plain), Fail>
-    ensures { IfOk result (λ both. HostServes both.0 (device_of both.1) × ((h : Machine) × Stands both.0 (device_of both.1) h)) }
+    ensures { IfOk result (λ both. GoesOn both.0 (device_of both.1)) }
 {
     let geometry = Geometry {
         blocks: 8,
@@ -35,8 +34,8 @@ fn tell(
     line: &str,
     out: &mut Bytes,
 ) -> Result<(), AllocError>
-    requires { HostServes host.old (device_of device.old) × ((h : Machine) × Stands host.old (device_of device.old) h) }
-    ensures { OnOk result (HostServes host.new (device_of device.new) × ((h : Machine) × Stands host.new (device_of device.new) h)) }
+    requires { GoesOn host.old (device_of device.old) }
+    ensures { OnOk result (GoesOn host.new (device_of device.new)) }
 {
     match parse(alloc, line.as_bytes()) {
         Ok(Some(command)) => host.step(device, &command, out),
@@ -46,8 +45,8 @@ fn tell(
 
 // Arms a cut or a failure at so many counted calls from now on.
 fn arm(host: &Host, device: &mut Plain, order: Order)
-    requires { HostServes host.now (device_of device.old) × ((h : Machine) × Stands host.now (device_of device.old) h) }
-    ensures { HostServes host.now (device_of device.new) × ((h : Machine) × Stands host.now (device_of device.new) h) }
+    requires { GoesOn host.now (device_of device.old) }
+    ensures { GoesOn host.now (device_of device.new) }
 {
     match order {
         Order::Cut(calls) => device.arm_cut(calls.max(1)),
@@ -58,8 +57,8 @@ fn arm(host: &Host, device: &mut Plain, order: Order)
 
 // Settles the host.
 fn rest(host: &mut Host, device: &mut Plain) -> Result<(), AllocError>
-    requires { HostServes host.old (device_of device.old) × ((h : Machine) × Stands host.old (device_of device.old) h) }
-    ensures { OnOk result (HostServes host.new (device_of device.new) × ((h : Machine) × Stands host.new (device_of device.new) h)) }
+    requires { GoesOn host.old (device_of device.old) }
+    ensures { OnOk result (GoesOn host.new (device_of device.new)) }
 {
     host.settle(device)
 }

@@ -46,5 +46,8 @@ depicted m fresh = record {
 pub returns : goal.returns
 returns c =
     let fresh = c.in_ok-format.ensures.ok in
-    let good = λ n behind there. (fresh.good n, fresh.strong n) in
-    (c.in_ok-host.ensures.serves good, (_, c.in_ok-host.ensures.stands (now _) (depicted _ fresh) good))
+    record {
+      serves = c.in_ok-host.ensures.serves (λ n behind there. (fresh.good n, fresh.strong n));
+      state = _;
+      stands = c.in_ok-host.ensures.stands (now _) (depicted _ fresh) (λ n behind there. (fresh.good n, fresh.strong n));
+    }
