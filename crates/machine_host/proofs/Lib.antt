@@ -21,6 +21,7 @@ pub mod MountLemmas
 pub mod MountedLemmas
 pub mod RestartLemmas
 pub mod RestartAnswerLemmas
+pub mod RemountLemmas
 pub mod SettlingLemmas
 pub mod VolumeFateLemmas
 pub mod LoadLemmas

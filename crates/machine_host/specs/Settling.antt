@@ -65,6 +65,7 @@ pub record Asks (starts : List Start) (old new : Panel) : Type 0 where
   pub arms : new.counts.arms ≡ old.counts.arms
   pub evicts : new.counts.evicts ≡ old.counts.evicts
   pub disarms : new.counts.disarms ≡ old.counts.disarms
+  pub setups : new.counts.setups ≡ old.counts.setups
   pub last_order : new.last_order ≡ old.last_order
 
 -- The state h was settled, once the device was disarmed: host and device stand for the state that it came to.

@@ -3,7 +3,7 @@ use Rattle.line_device.specs.Panel.{Runs}
 use Rattle.machine_host.specs.Settling.{StaysUnmounted}
 use Rattle.machine_host.specs.Costs.{mount_calls, mount_persists}
 use Rattle.machine_host.proofs.MountLemmas.{line_zero, mount_within}
-use Rattle.machine_host.proofs.SettlingLemmas.{left_unmounted, never_failed, never_lost, never_stopped, settled_taken}
+use Rattle.machine_host.proofs.RemountLemmas.{left_unmounted, never_failed, never_lost, never_stopped, settled_taken}
 use Rattle.machine_host.proofs.host.Host.mount_anew.Goals as goal
 
 pub mount-requires-clause-some : goal.mount-requires-clause-some
