@@ -118,7 +118,7 @@ fn words_that_are_no_form_get_the_usage_line(rt: HostRuntime) -> Result<(), Fail
         "run 8 2",
         "run 8 2 32 1",
         "run 9 2 32",
-        "run 8 17 32",
+        "run 8 257 32",
     ] {
         let mut source = MemSource::new(Bytes::new(alloc), 7, Words::new(alloc));
         let mut sink = MemSink::new(alloc, Words::new(alloc));

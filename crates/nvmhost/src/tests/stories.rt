@@ -48,8 +48,8 @@ pub const STORIES: [(&str, &str); 22] = [
         "ok\nok\nok\nok\npower lost\nrefused off\nok bad 0\ndata bb*4,aa*4\n",
     ),
     (
-        "cut in 2\nvstore 60 aa*8\nbexists 0\nrestart all\nvload 60 8\n",
-        "ok\npower lost\nrefused off\nok bad 0\ndata aa*4,00*4\n",
+        "vstore 0 07*8\ncut in 2\nvstore 60 aa*8\nbexists 0\nrestart all\nvload 60 8\n",
+        "ok\nok\npower lost\nrefused off\nok bad 0\ndata aa*4,00*4\n",
     ),
     (
         "cut in 2\nvstore 60 aa*8\ncut\nrestart none\nvload 60 8\n",
