@@ -11,9 +11,18 @@ opens-none p = record {
   cuts = omega arith;
   calls = omega arith;
   persists = omega arith;
+  setups = omega arith;
   armed = arms_nothing-refl p;
   orders = record { offs = refl; arms = refl; evicts = refl; restarts = refl; disarms = refl; starts = refl; last_order = refl; loans = refl };
 }
 
 pub opens-runs : (end : Outcome) (p q : Panel) → Runs mount_calls mount_persists end p q → Opens p q
-opens-runs end p q runs = record { faults = runs.faults; cuts = runs.cuts; calls = runs.few_calls; persists = runs.few_persists; armed = runs.armed; orders = runs.orders }
+opens-runs end p q runs = record {
+  faults = runs.faults;
+  cuts = runs.cuts;
+  calls = runs.few_calls;
+  persists = runs.few_persists;
+  setups = omega (arith, runs.setups);
+  armed = runs.armed;
+  orders = runs.orders;
+}

@@ -107,6 +107,7 @@ tells_back spent start old mid new panel answer = subst (λ p. Tells (worked spe
   calls = t.calls;
   persists = t.persists;
   evicts = t.evicts;
+  setups = t.setups;
   disarms = t.disarms;
 })
 

@@ -182,6 +182,7 @@ tells_silence p = record {
   calls = omega arith;
   persists = omega arith;
   evicts = refl;
+  setups = omega arith;
   disarms = refl;
 }
 
@@ -197,5 +198,6 @@ tells_then s t p q r a b = record {
   calls = omega (arith, a.calls, b.calls);
   persists = omega (arith, a.persists, b.persists);
   evicts = b.evicts ∙ a.evicts;
+  setups = omega (arith, a.setups, b.setups);
   disarms = b.disarms ∙ a.disarms;
 }

@@ -207,6 +207,7 @@ comes_of_cut host old new h stands serves write_back panel =
         calls = omega arith;
         persists = omega arith;
         evicts = refl;
+        setups = omega arith;
         disarms = refl;
       });
       stands = written_back host old new h next stands serves write_back refl (ap (λ p. p.power) panel) (ap (λ p. p.cut_armed) panel) (ap (λ p. p.fail_armed) panel) (λ on. cc);
@@ -233,6 +234,7 @@ comes_of_cut_in host old new h calls stands serves write_back panel =
         calls = omega arith;
         persists = omega arith;
         evicts = refl;
+        setups = omega arith;
         disarms = refl;
       });
       stands = subst (λ (s : HostState). Stands s new next) (ap (λ m. record host { mode = m }) (sym stands.mode))

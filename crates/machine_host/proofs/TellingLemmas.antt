@@ -66,6 +66,7 @@ module _ (spent : Spending) (a b : ℕ) (few : a ≤ spent.calls) (few_persists 
     calls = omega (arith, runs.few_calls, few);
     persists = omega (arith, runs.few_persists, few_persists);
     evicts = runs.orders.evicts;
+    setups = omega (arith, runs.setups);
     disarms = runs.orders.disarms;
   }
 
@@ -81,6 +82,7 @@ module _ (spent : Spending) (a b : ℕ) (few : a ≤ spent.calls) (few_persists 
     calls = omega (arith, runs.few_calls, few);
     persists = omega (arith, runs.few_persists, few_persists);
     evicts = runs.orders.evicts;
+    setups = omega (arith, runs.setups);
     disarms = runs.orders.disarms;
   }
 
@@ -96,5 +98,6 @@ tells_nothing answer quiet p = record {
   calls = omega arith;
   persists = omega arith;
   evicts = refl;
+  setups = omega arith;
   disarms = refl;
 }

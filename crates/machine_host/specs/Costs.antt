@@ -32,5 +32,6 @@ pub record Opens (old new : Panel) : Type 0 where
   pub cuts : old.counts.cuts ≤ new.counts.cuts
   pub calls : new.counts.calls ≤ old.counts.calls + mount_calls
   pub persists : new.counts.persists ≤ old.counts.persists + mount_persists
+  pub setups : old.counts.setups ≤ new.counts.setups
   pub armed : ArmsNothing old new
   pub orders : SameOrders old new

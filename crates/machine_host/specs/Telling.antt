@@ -49,3 +49,4 @@ pub record Tells (said : Transcript) (old new : Panel) : Type 0 where
   pub persists : new.counts.persists ≤ old.counts.persists + said.spent.persists
   pub evicts : new.counts.evicts ≡ old.counts.evicts
   pub disarms : new.counts.disarms ≡ old.counts.disarms
+  pub setups : old.counts.setups ≤ new.counts.setups

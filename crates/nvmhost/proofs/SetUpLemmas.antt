@@ -83,6 +83,7 @@ opens-mounted end p q r sets runs = record {
   cuts = omega (arith, sets.cuts, runs.cuts);
   calls = omega (arith, sets.calls, runs.few_calls);
   persists = omega (arith, sets.persists, runs.few_persists);
+  setups = omega (arith, sets.setups, runs.setups);
   armed = arms_nothing-trans p q r sets.armed runs.armed;
   orders = record {
     offs = runs.orders.offs ∙ sets.orders.offs;

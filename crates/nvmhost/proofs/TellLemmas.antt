@@ -22,6 +22,7 @@ opens-set_up end p q sets = record {
   cuts = sets.cuts;
   calls = omega (arith, sets.calls);
   persists = omega (arith, sets.persists);
+  setups = sets.setups;
   armed = sets.armed;
   orders = sets.orders;
 }
@@ -37,6 +38,7 @@ tells_opening p q opens = record {
   cuts = opens.cuts;
   calls = opens.calls;
   persists = opens.persists;
+  setups = opens.setups;
   evicts = opens.orders.evicts;
   disarms = opens.orders.disarms;
 }
