@@ -105,7 +105,7 @@ going-flush script rest before host out out' written_old written written' old no
 
 -- the script's end, with nothing waiting
 pub going-end : (script : List ℕ) (before host : HostState) (written_old written : Option (List ℕ)) (old now : Device)
-    → Going script [] before host [] written_old written old now → Performs before script (Ok tt) written_old written old now
+    → Going script [] before host [] written_old written old now → Performs before host script (Ok tt) written_old written old now
 unfolding lines_of
 going-end script before host written_old written old now going = record {
   says = λ first stands.
@@ -121,15 +121,15 @@ going-end script before host written_old written old now going = record {
         run = was.run;
         front = record { rest = []; joined = append-nil was.part ∙ all };
         wrote = was.wrote;
-        outcome = record { all = all; none_left = refl; tells = was.tells; stands = was.stands.device };
+        outcome = record { all = all; none_left = refl; tells = was.tells; stands = was.stands };
       };
 }
 
 -- an end before the end: some of the replies that wait may be written, and a command may be left without its answer
 pub going-broken : (script rest : List ℕ) (before host : HostState) (out : List ℕ) (written_old written written' : Option (List ℕ)) (old now next : Device)
-    (ending : Ending) → Going script rest before host out written_old written old now → GoesUnanswered now.panel next.panel → AppendsSome out written written'
-    → Performs before script (Err ending) written_old written' old next
-going-broken script rest before host out written_old written written' old now next ending going left some = record {
+    (ending : Ending) (after : HostState) → Going script rest before host out written_old written old now → GoesUnanswered now.panel next.panel → AppendsSome out written written'
+    → Performs before after script (Err ending) written_old written' old next
+going-broken script rest before host out written_old written written' old now next ending after going left some = record {
   says = λ first stands.
       let was = going.says first stands in
       record {

@@ -1,7 +1,10 @@
-pub mod BytesLemmas
-pub mod ReadLemmas
-pub mod LineLemmas
-pub mod TellLemmas
-pub mod GoingLemmas
-pub mod SetUpLemmas
-pub mod TopLemmas
+mod BytesLemmas
+mod GoingLemmas
+mod LineLemmas
+mod ReadLemmas
+mod TellLemmas
+mod OpenLemmas
+mod StoreLemmas
+mod AgainLemmas
+mod RestLemmas
+mod RunLemmas

@@ -3,7 +3,7 @@ use Rattle.std.proofs.Common.{◌≡◌, ℕ, ◌+◌, ◌<◌, List, ◌++◌, 
 use Rattle.std.specs.Io.KnownBytes.{Consumes}
 use Rattle.nvm_base.specs.Stock.{Stock}
 use Rattle.nvmhost.specs.declared.ending.Ending.{Ending}
-use Rattle.nvmhost.specs.declared.ending.Ending.TheVariants.{Usage, Read, Write, Memory, Script}
+use Rattle.nvmhost.specs.declared.ending.Ending.TheVariants.{Usage, Image, Layout, Meta, Read, Write, Memory, Script}
 use Rattle.nvmhost.specs.declared.ending.Ending.TheVariants as endings
 use Rattle.nvmhost.specs.Reading.{ReadsScript, TakesPiece}
 use Rattle.nvmhost.proofs.BytesLemmas.{consumes_then}
@@ -13,6 +13,9 @@ pub reads-broken : (a b c : Option (List ℕ)) (so_far new : List ℕ) (e : Endi
 reads-broken a b c so_far new Read before takes = record { script = so_far ++ takes.taken; read = consumes_then a b c so_far takes.taken before takes.read; outcome = tt }
 reads-broken a b c so_far new Memory before takes = record { script = so_far ++ takes.taken; read = consumes_then a b c so_far takes.taken before takes.read; outcome = tt }
 reads-broken a b c so_far new Usage before takes = absurd takes.outcome
+reads-broken a b c so_far new (Image offset) before takes = absurd takes.outcome
+reads-broken a b c so_far new (Layout place) before takes = absurd takes.outcome
+reads-broken a b c so_far new (Meta line) before takes = absurd takes.outcome
 reads-broken a b c so_far new Write before takes = absurd takes.outcome
 reads-broken a b c so_far new Script before takes = absurd takes.outcome
 reads-broken a b c so_far new endings.Device before takes = absurd takes.outcome

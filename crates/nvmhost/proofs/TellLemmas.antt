@@ -1,5 +1,5 @@
 -- What a device told as it was set up, and of a run that ended early.
-use Rattle.std.proofs.Common.{◌≡◌, [], ◌∷◌, inl, inr, refl, sym, ap, subst, ◌∙◌, arith}
+use Rattle.std.proofs.Common.{◌≡◌, ℕ, [], ◌∷◌, inl, inr, refl, sym, ap, subst, ◌∙◌, arith}
 use Rattle.line_device.specs.Panel.{Panel, ArmsNothing, SetsUp, Outcome, after_restart}
 use Rattle.line_device.proofs.PanelLemmas.{arms_nothing-refl}
 use Rattle.line_device.specs.Device.{Device}
@@ -13,7 +13,8 @@ use Rattle.machine_host.specs.Stands.{HostState}
 use Rattle.machine_host.specs.Costs.{Opens}
 use Rattle.machine_host.specs.Faults.{Leaves, LeftUnmounted}
 use Rattle.machine_host.proofs.RunLemmas.{tells_then}
-use Rattle.nvmhost.specs.Whole.{TellsFirst, GoesUnanswered, opening}
+use Rattle.nvmhost.specs.Whole.{TellsFirst, GoesUnanswered}
+use Rattle.nvmhost.specs.Opening.{opening}
 
 -- setting up and mounting
 pub opens-set_up : (end : Outcome) (p q : Panel) → SetsUp end p q → Opens p q
@@ -62,13 +63,10 @@ unanswered-none p = record {
   disarms = refl;
 }
 
--- set up, and no line performed
-pub tells_first-opened : (h : Machine) (p q : Panel) → Opens p q → q.cut_armed ≡ h.cut_armed → q.fail_armed ≡ h.fail_armed → TellsFirst (followed_by opening silence) h p q
-tells_first-opened h p q opens cut fail = record { between = q; tells = tells_opening p q opens; cut_armed = cut; fail_armed = fail; left = unanswered-none q }
-
--- set up, and then a run
-pub tells_first-after : (s : Transcript) (h : Machine) (p q r : Panel) → Tells opening p q → TellsFirst s h q r → TellsFirst (followed_by opening s) h p r
-tells_first-after s h p q r opened first = record {
+-- opened, and then a run
+pub tells_first-after : (disarmed : ℕ → ℕ) (s : Transcript) (h : Machine) (p q r : Panel) → Tells opening p q → TellsFirst disarmed s h q r
+    → TellsFirst disarmed (followed_by opening s) h p r
+tells_first-after disarmed s h p q r opened first = record {
   between = first.between;
   tells = tells_then opening s p q first.between opened first.tells;
   cut_armed = first.cut_armed;

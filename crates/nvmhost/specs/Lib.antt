@@ -1,5 +1,9 @@
-pub mod Words
 pub mod Ending
+pub mod World
+pub mod Begins
+pub mod Opening
 pub mod Whole
+pub mod Storing
+pub mod Forms
 pub mod Reading
 pub mod Running

@@ -3,7 +3,7 @@ use Rattle.std.specs.Prelude.{◌≡◌, ◌≤◌, ◌<◌, ℕ, List, ◌++◌
 use Rattle.std.specs.Io.KnownBytes.{Consumes, IsAtEnd}
 use Rattle.nvm_base.specs.Stock.{Stock}
 use Rattle.nvmhost.specs.declared.ending.Ending.{Ending}
-use Rattle.nvmhost.specs.declared.ending.Ending.TheVariants.{Usage, Read, Write, Memory, Script}
+use Rattle.nvmhost.specs.declared.ending.Ending.TheVariants.{Usage, Image, Layout, Meta, Read, Write, Memory, Script}
 use Rattle.nvmhost.specs.declared.ending.Ending.TheVariants as endings
 
 -- Reading all of a script: it is what the source told, unless it is too long or the source fails.
@@ -13,6 +13,9 @@ ReadsTo script left (Err Script) = 1073741824 ≤ length script
 ReadsTo script left (Err Read) = Unit {0}
 ReadsTo script left (Err Memory) = Unit {0}
 ReadsTo script left (Err Usage) = ⊥
+ReadsTo script left (Err (Image offset)) = ⊥
+ReadsTo script left (Err (Layout place)) = ⊥
+ReadsTo script left (Err (Meta line)) = ⊥
 ReadsTo script left (Err Write) = ⊥
 ReadsTo script left (Err endings.Device) = ⊥
 
@@ -27,6 +30,9 @@ TakesTo taken left old new (Ok count) = (new ≡ old ++ taken) × (length taken 
 TakesTo taken left old new (Err Read) = Unit {0}
 TakesTo taken left old new (Err Memory) = Unit {0}
 TakesTo taken left old new (Err Usage) = ⊥
+TakesTo taken left old new (Err (Image offset)) = ⊥
+TakesTo taken left old new (Err (Layout place)) = ⊥
+TakesTo taken left old new (Err (Meta line)) = ⊥
 TakesTo taken left old new (Err Write) = ⊥
 TakesTo taken left old new (Err Script) = ⊥
 TakesTo taken left old new (Err endings.Device) = ⊥

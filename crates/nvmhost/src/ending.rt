@@ -1,26 +1,33 @@
 // Why a call ends early.
-ghost use Rattle.std.specs.Prelude.{◌≡◌};
-ghost use Rattle.nvmhost.specs.Ending.{status, ending_text, of_mount, of_reset, of_write};
-ghost use Rattle.nvmhost.specs.declared.ending.Ending.TheVariants.{Memory, Read};
+ghost use Rattle.std.specs.Prelude.{◌≡◌, ◌≤◌, IfErr, IfOk};
+ghost use Rattle.nvm_base.specs.Counts.{Rose};
+ghost use Rattle.host_io.specs.Writing.{WritesAll};
+ghost use Rattle.nvmhost.specs.Ending.{status, ending_text};
 
-use host_io::{ReadFailed, WriteFault};
-use line_device::ResetFault;
-use recovery::MountFault;
-use std::alloc::AllocError;
+use crate::telling::{numbered, plain_line, tell};
+use host_io::{Sink, WriteFault};
+use nvm_base::Bytes;
+use std::alloc::{AllocError, Global};
 
 /// Why a call ends before its end.
 #[derive(Clone, Copy, Debug, PartialEq, Eq)]
 pub enum Ending {
     /// The words are in none of the forms.
     Usage,
-    /// The script could not be read.
+    /// The bytes are no image, from this offset on.
+    Image(u64),
+    /// The word at this place is wrong.
+    Layout(u64),
+    /// This line of metadata is bad.
+    Meta(u64),
+    /// The image or the script could not be read.
     Read,
-    /// A reply could not be written.
+    /// A line or the image could not be written.
     Write,
     Memory,
     /// The script is too long.
     Script,
-    /// The device could not be set up.
+    /// The device could not be set up or read out.
     Device,
 }
 
@@ -31,6 +38,7 @@ impl Ending {
     {
         match self {
             Ending::Usage => 2,
+            Ending::Image(_) | Ending::Layout(_) | Ending::Meta(_) => 3,
             Ending::Read => 4,
             Ending::Write => 5,
             Ending::Memory => 6,
@@ -39,66 +47,30 @@ impl Ending {
         }
     }
 
-    /// The line that is written, empty where there is none.
-    pub fn line(self) -> &'static [u8]
-        ensures { result.now ≡ ending_text self }
+    /// Writes the status's line, where it has one.
+    pub fn tell<K: Sink>(self, alloc: Global, replies: &mut K) -> Result<(), WriteFault>
+        ensures bytes { WritesAll (ending_text self) result (K.written replies.old) (K.written replies.new) }
+        ensures later { K.count replies.old ≤ K.count replies.new }
+        ensures cause { IfErr result (λ e. e ≡ WriteFault.Failed → Rose (K.count replies.old) (K.count replies.new)) }
+    {
+        tell(self.line(alloc), replies)
+    }
+
+    fn line(self, alloc: Global) -> Result<Bytes, AllocError>
+        ensures { IfOk result (λ line. line.items ≡ ending_text self) }
     {
         match self {
-            Ending::Usage =>
-                b"usage: new IMAGE BLOCKS VPAGES FPAGES, run IN OUT, check IN, bench SEED N\n",
-            Ending::Read => b"error read\n",
-            Ending::Script => b"error script\n",
-            Ending::Device => b"error device\n",
-            Ending::Write | Ending::Memory => b"",
-        }
-    }
-}
-
-impl From<AllocError> for Ending {
-    ghost from_gives = { λ _ e. e ≡ Memory };
-
-    fn from(_: AllocError) -> Self {
-        Ending::Memory
-    }
-}
-
-impl From<ReadFailed> for Ending {
-    ghost from_gives = { λ _ e. e ≡ Read };
-
-    fn from(_: ReadFailed) -> Self {
-        Ending::Read
-    }
-}
-
-impl From<WriteFault> for Ending {
-    ghost from_gives = { λ fault e. e ≡ of_write fault };
-
-    fn from(fault: WriteFault) -> Self {
-        match fault {
-            WriteFault::Failed => Ending::Write,
-            WriteFault::Memory => Ending::Memory,
-        }
-    }
-}
-
-impl From<ResetFault> for Ending {
-    ghost from_gives = { λ fault e. e ≡ of_reset fault };
-
-    fn from(fault: ResetFault) -> Self {
-        match fault {
-            ResetFault::Failed => Ending::Device,
-            ResetFault::Memory => Ending::Memory,
-        }
-    }
-}
-
-impl From<MountFault> for Ending {
-    ghost from_gives = { λ fault e. e ≡ of_mount fault };
-
-    fn from(fault: MountFault) -> Self {
-        match fault {
-            MountFault::Memory => Ending::Memory,
-            _ => Ending::Device,
+            Ending::Usage => plain_line(
+                alloc,
+                b"usage: new IMAGE BLOCKS VPAGES FPAGES, run IN OUT, check IN, bench SEED N",
+            ),
+            Ending::Image(offset) => numbered(alloc, b"error image ", offset),
+            Ending::Layout(place) => numbered(alloc, b"error layout ", place),
+            Ending::Meta(line) => numbered(alloc, b"error meta ", line),
+            Ending::Read => plain_line(alloc, b"error read"),
+            Ending::Script => plain_line(alloc, b"error script"),
+            Ending::Device => plain_line(alloc, b"error device"),
+            Ending::Write | Ending::Memory => Ok(Bytes::new(alloc)),
         }
     }
 }

@@ -2,16 +2,18 @@
 #![tactic(auto)]
 
 mod ending;
+mod faults;
+mod opening;
 mod reading;
 mod running;
+mod storing;
+mod telling;
 #[cfg(test)]
 mod tests;
 mod top;
-mod words;
 
-use host_io::{MemImages, StdinSource, StdoutSink};
+use host_io::{FileImages, StdinSource, StdoutSink};
 use line_device::Plain;
-use nvm_base::Words;
 use std::env;
 use std::process::ExitCode;
 use top::nvmhost;
@@ -27,7 +29,7 @@ fn main(rt: HostRuntime) -> ExitCode {
         return ExitCode::from(6);
     };
     let mut device = Plain::new(alloc);
-    let mut images = MemImages::new(alloc, Words::new(alloc));
+    let mut images = FileImages::new(&rt);
     let mut script = StdinSource::new(&rt);
     let mut replies = StdoutSink::new(&rt);
     ExitCode::from(nvmhost(

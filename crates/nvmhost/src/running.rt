@@ -30,8 +30,9 @@ pub fn run_script<D: LineDevice, K: Sink>(
     replies: &mut K,
 ) -> Result<(), Ending>
     requires { HostServes host.old (D.state device.old) }
-    ensures performs { Performs host.old script.now result (K.written replies.old) (K.written replies.new)
+    ensures performs { Performs host.old host.new script.now result (K.written replies.old) (K.written replies.new)
         (D.state device.old) (D.state device.new) }
+    ensures serves { HostServes host.new (D.state device.new) }
     ensures later { K.count replies.old ≤ K.count replies.new }
     ensures cause { IfErr result (λ e. e ≡ Ending.Write → Rose (K.count replies.old) (K.count replies.new)) }
     ensures others { IfErr result (λ e. (e ≡ Ending.Write) ⊎ (e ≡ Ending.Memory)) }

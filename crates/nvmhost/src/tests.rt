@@ -1,4 +1,4 @@
-// Whole calls over devices, sources and sinks of memory.
+// Whole calls over devices, images, sources and sinks of memory.
 
 use crate::top::nvmhost;
 use host_io::{MemImages, MemSink, MemSource};
@@ -6,11 +6,11 @@ use line_device::{Choice, LineDevice, LineState, Order, Plain};
 use nvm_base::{Bytes, Words};
 use std::alloc::{AllocError, Global};
 use std::test::Fail;
-use test_devices::{Fuse, Recorder};
+use test_devices::Recorder;
 
+mod early_ends;
+mod hostile;
 mod stories;
-
-const WORDS: &str = "run 8 2 32";
 
 // So many times the text, and then the last one.
 fn repeated(alloc: Global, text: &str, count: u64, last: &str) -> Result<Bytes, AllocError> {
@@ -29,20 +29,48 @@ fn only(alloc: Global, number: u64) -> Result<Words, AllocError> {
     Ok(numbers)
 }
 
-// The status of a call with these words.
+// The status of a call with these words, which stand apart by single blanks.
 fn call<D: LineDevice>(
     alloc: Global,
     words: &str,
     device: &mut D,
+    images: &mut MemImages,
     script: &mut MemSource,
     replies: &mut MemSink,
 ) -> Result<u8, AllocError> {
     let mut list = Vec::new(alloc);
-    for word in words.split_whitespace() {
+    for word in words.split(' ') {
         list.push(String::from_str(alloc, word)?)?;
     }
+    Ok(nvmhost(alloc, &list, device, images, script, replies))
+}
+
+// The status of a call over a plain device, and what it wrote.
+fn outcome(
+    alloc: Global,
+    words: &str,
+    images: &mut MemImages,
+    script: &str,
+) -> Result<(u8, MemSink), AllocError> {
+    let bytes = repeated(alloc, script, 1, "")?;
+    let mut source = MemSource::new(bytes, 65536, Words::new(alloc));
+    let mut sink = MemSink::new(alloc, Words::new(alloc));
+    let status = call(
+        alloc,
+        words,
+        &mut Plain::new(alloc),
+        images,
+        &mut source,
+        &mut sink,
+    )?;
+    Ok((status, sink))
+}
+
+// A fresh image of 8 blocks, 2 pages of the volume and 32 pages of files, under the name img.
+fn fresh(alloc: Global) -> Result<MemImages, AllocError> {
     let mut images = MemImages::new(alloc, Words::new(alloc));
-    Ok(nvmhost(alloc, &list, device, &mut images, script, replies))
+    outcome(alloc, "new img 8 2 32", &mut images, "")?;
+    Ok(images)
 }
 
 // The replies to a script that comes in pieces of so many bytes.
@@ -52,37 +80,33 @@ fn replies_of<D: LineDevice>(
     script: &str,
     piece: usize,
 ) -> Result<MemSink, Fail> {
+    let mut images = fresh(alloc)?;
     let bytes = repeated(alloc, script, 1, "")?;
     let mut source = MemSource::new(bytes, piece.max(1), Words::new(alloc));
     let mut sink = MemSink::new(alloc, Words::new(alloc));
-    match call(alloc, WORDS, device, &mut source, &mut sink)? {
+    let status = call(
+        alloc,
+        "run img out",
+        device,
+        &mut images,
+        &mut source,
+        &mut sink,
+    )?;
+    match status {
         0 => Ok(sink),
         _ => Err(Fail::from("the status")),
     }
 }
 
-// Whether the script gets these replies over this device, in pieces of so many bytes.
-fn gets<D: LineDevice>(
-    alloc: Global,
-    device: &mut D,
-    story: (&str, &str),
-    piece: usize,
-) -> Result<bool, Fail> {
-    let sink = replies_of(alloc, device, story.0, piece)?;
-    Ok(sink.written() == story.1.as_bytes())
-}
-
 #[test]
 fn a_script_gets_its_replies_whatever_pieces_it_comes_in(rt: HostRuntime) -> Result<(), Fail> {
     let alloc = rt.alloc();
-    for story in stories::STORIES {
-        for piece in [1, 7, 65536] {
-            let done = gets(alloc, &mut Plain::new(alloc), story, piece)?;
-            assert!(rt; done, "{}", story.0);
-        }
+    for (script, replies) in stories::STORIES {
+        let sink = replies_of(alloc, &mut Plain::new(alloc), script, 1)?;
+        assert!(rt; sink.written() == replies.as_bytes(), "{script}");
         let mut recorder = Recorder::new(alloc, Plain::new(alloc));
-        let done = gets(alloc, &mut recorder, story, 65536)?;
-        assert!(rt; done, "{}", story.0);
+        let sink = replies_of(alloc, &mut recorder, script, 65536)?;
+        assert!(rt; sink.written() == replies.as_bytes(), "{script}");
     }
     Ok(())
 }
@@ -110,80 +134,101 @@ fn a_recorder_tells_what_the_script_asked_for(rt: HostRuntime) -> Result<(), Fai
 }
 
 #[test]
+fn a_run_that_ends_without_power_keeps_the_last_values(rt: HostRuntime) -> Result<(), Fail> {
+    let alloc = rt.alloc();
+    let mut images = fresh(alloc)?;
+    let (status, _) = outcome(
+        alloc,
+        "run img img",
+        &mut images,
+        "bwrite 1 07*512\nvstore 0 01\nvstore 0 02\ncut\n",
+    )?;
+    assert_eq!(rt; status, 0);
+    let (status, sink) = outcome(
+        alloc,
+        "run img out",
+        &mut images,
+        "vload 0 2\nbread 1 1\nbread 0 1\n",
+    )?;
+    assert_eq!(rt; status, 0);
+    assert_eq!(rt; sink.written(), b"data 02,00\ndata 07*512\ndata 00*512\n".as_slice());
+    let (status, sink) = outcome(alloc, "check out", &mut images, "")?;
+    assert_eq!(rt; status, 0);
+    assert_eq!(rt; sink.written(), b"ok 5056 bad 0\n".as_slice());
+    Ok(())
+}
+
+#[test]
+fn an_empty_script_leaves_the_image_as_it_was(rt: HostRuntime) -> Result<(), Fail> {
+    let alloc = rt.alloc();
+    let mut images = fresh(alloc)?;
+    let (status, sink) = outcome(alloc, "run img out", &mut images, "")?;
+    assert_eq!(rt; (status, sink.written().len()), (0, 0));
+    let same = images.get("out") == images.get("img");
+    assert!(rt; same);
+    Ok(())
+}
+
+#[test]
+fn three_runs_over_one_image_leave_what_one_run_leaves(rt: HostRuntime) -> Result<(), Fail> {
+    let alloc = rt.alloc();
+    let part = "vstore 4090 01*9\nbwrite 3 05*1024\nvdiscard 1 1\nvsync 0 64\nbdiscard 4 1\n";
+    let mut images = fresh(alloc)?;
+    for words in ["run img a", "run a b", "run b three"] {
+        let mut source = MemSource::new(
+            repeated(alloc, part, 200, "")?,
+            65536,
+            Words::new(alloc),
+        );
+        let mut sink = MemSink::new(alloc, Words::new(alloc));
+        let mut device = Plain::new(alloc);
+        let status = call(alloc, words, &mut device, &mut images, &mut source, &mut sink)?;
+        assert_eq!(rt; status, 0, "{words}");
+        assert_eq!(rt; sink.written().len(), 3000);
+    }
+    let mut source = MemSource::new(
+        repeated(alloc, part, 600, "")?,
+        65536,
+        Words::new(alloc),
+    );
+    let mut sink = MemSink::new(alloc, Words::new(alloc));
+    let mut device = Plain::new(alloc);
+    let status = call(
+        alloc,
+        "run img once",
+        &mut device,
+        &mut images,
+        &mut source,
+        &mut sink,
+    )?;
+    assert_eq!(rt; status, 0);
+    let same = images.get("once") == images.get("three");
+    assert!(rt; same);
+    Ok(())
+}
+
+#[test]
 fn words_that_are_no_form_get_the_usage_line(rt: HostRuntime) -> Result<(), Fail> {
     let alloc = rt.alloc();
     for words in [
         "",
         "new img 12 2 32",
-        "run 8 2",
-        "run 8 2 32 1",
-        "run 9 2 32",
-        "run 8 257 32",
+        "new img 8 2",
+        "new img 8 257 32",
+        "run 8 2 32",
+        "run img",
+        "run img out more",
+        "check",
+        "check -img",
+        "bench 1 1",
     ] {
-        let mut source = MemSource::new(Bytes::new(alloc), 7, Words::new(alloc));
-        let mut sink = MemSink::new(alloc, Words::new(alloc));
-        let status = call(alloc, words, &mut Plain::new(alloc), &mut source, &mut sink)?;
+        let (status, sink) = outcome(alloc, words, &mut fresh(alloc)?, "vload 0 1\n")?;
         assert_eq!(rt; status, 2, "{words}");
         assert_eq!(rt;
             sink.written(),
             b"usage: new IMAGE BLOCKS VPAGES FPAGES, run IN OUT, check IN, bench SEED N\n".as_slice(),
             "{words}"
         );
-    }
-    Ok(())
-}
-
-// A call that is to end early: so many lines that are no commands, and the read, the write and the device's call that fail, 0
-// for none.
-#[derive(Clone, Copy)]
-struct Trial {
-    lines: u64,
-    read: u64,
-    write: u64,
-    cut: u64,
-}
-
-// The trial's status and what was written.
-fn outcome(alloc: Global, trial: &Trial) -> Result<(u8, MemSink), AllocError> {
-    let mut device = Fuse::new(Plain::new(alloc), trial.cut.wrapping_sub(1));
-    let script = repeated(alloc, "x\n", trial.lines, "")?;
-    let mut source = MemSource::new(script, 7, only(alloc, trial.read)?);
-    let mut sink = MemSink::new(alloc, only(alloc, trial.write)?);
-    let status = call(alloc, WORDS, &mut device, &mut source, &mut sink)?;
-    Ok((status, sink))
-}
-
-const fn trying(lines: u64, read: u64, write: u64, cut: u64) -> Trial {
-    Trial {
-        lines,
-        read,
-        write,
-        cut,
-    }
-}
-
-#[test]
-fn a_call_that_ends_early_says_why(rt: HostRuntime) -> Result<(), Fail> {
-    let alloc = rt.alloc();
-    // Each with its status, how many replies there are, and the status's line. A write is made once 65,536 bytes wait, which are
-    // 4,370 replies of 15 bytes.
-    for (trial, status, replies, line) in [
-        (trying(8, 1, 0, 0), 4, 0, "error read\n"),
-        // The first piece ends inside the fourth line.
-        (trying(8, 2, 0, 0), 4, 0, "error read\n"),
-        (trying(8, 0, 1, 0), 5, 0, ""),
-        (trying(5 * 4370, 0, 1, 0), 5, 0, ""),
-        (trying(5 * 4370, 0, 5, 0), 5, 4 * 4370, ""),
-        (trying(8, 0, 0, 1), 8, 0, "error device\n"),
-        (trying(8, 0, 0, 20), 8, 0, "error device\n"),
-        // Where the status's line can't be written either, the status stays.
-        (trying(8, 1, 1, 0), 4, 0, ""),
-        (trying(8, 0, 1, 1), 8, 0, ""),
-    ] {
-        let (ended, sink) = outcome(alloc, &trial)?;
-        assert_eq!(rt; ended, status);
-        let written = repeated(alloc, "refused syntax\n", replies, line)?;
-        assert_eq!(rt; sink.written(), written.as_slice());
     }
     Ok(())
 }

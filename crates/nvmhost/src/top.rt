@@ -1,22 +1,25 @@
-// The top call: the words, the device, the script, the replies, the status.
-ghost use Rattle.std.specs.Prelude.{◌≡◌, ◌≢◌, ◌≤◌, ◌↔◌, ◌++◌, ◌⊎◌, ℕ, IfErr, IfOk, IfSome, MatchResult, Contains, map, [], ◌∷◌, Err};
+// The top call: the words, the device, the images, the script, the replies, the status.
+ghost use Rattle.std.specs.Prelude.{◌≡◌, ◌≢◌, ◌⊎◌, ℕ, List, IfErr, IsErrAnd, map, Option};
 ghost use Rattle.std.specs.String.{string_bytes};
-ghost use Rattle.word_tables.specs.declared.geometry.Geometry.{Geometry as Sizes};
+ghost use Rattle.line_device.specs.Device.{Device as DeviceState};
 ghost use Rattle.word_tables.specs.Bounds.{IsValid};
-ghost use Rattle.machine_host.specs.Costs.{Opens};
+ghost use Rattle.command_line.specs.Words.{Form as FormOfWords, IsForm};
+ghost use Rattle.command_line.specs.Words.Form.{of_check, of_new, of_run};
 ghost use Rattle.nvmhost.specs.declared.ending.Ending.{Ending as Early};
-ghost use Rattle.nvmhost.specs.declared.ending.Ending.TheVariants.{Usage};
-ghost use Rattle.nvmhost.specs.Words.{IsForm};
+ghost use Rattle.nvmhost.specs.declared.ending.Ending.TheVariants.{Usage, Memory};
 ghost use Rattle.nvmhost.specs.Ending.{status};
-ghost use Rattle.nvmhost.specs.Whole.{Completes, Halts, BreaksOff, WritesLine, SetUpFailed, IsReady, IsCaused};
+ghost use Rattle.nvmhost.specs.Forms.{Does, EndsEarly, IsNoForm, Outcome};
+ghost use Rattle.nvmhost.specs.World.{world};
 
 use crate::ending::Ending;
+use crate::opening::open;
 use crate::reading::read_all;
 use crate::running::run_script;
-use crate::words::read_words;
-use host_io::{Images, Sink, Source, write_all};
+use crate::storing::{fresh_text, store};
+use crate::telling::{checked, numbered, tell};
+use command_line::{Form, read_words};
+use host_io::{Images, Sink, Source};
 use line_device::LineDevice;
-use machine_host::Host;
 use std::alloc::Global;
 use word_tables::Geometry;
 
@@ -29,77 +32,111 @@ pub fn nvmhost<D: LineDevice, F: Images, T: Source, K: Sink>(
     script: &mut T,
     replies: &mut K,
 ) -> u8
-    // The replies are the machine's and nothing else, wherever what is armed falls, and the device stands for its last state.
-    ensures run { result ≡ 0 → (geo : Sizes) → IsForm (map (λ word. string_bytes word) words.now) geo
-        → Completes geo (T.left script.old) (T.left script.new) (K.written replies.old) (K.written replies.new)
-        (D.state device.old) (D.state device.new) }
+    // What the words ask for is done: every reply is the machine's, wherever what is armed falls, and all that the device holds
+    // then is stored.
+    ensures done { result ≡ 0 → (form : FormOfWords) → IsForm (map (λ word. string_bytes word) words.now) form
+        → Does form
+        (world (D.state device.old) (F.held images.old) (F.count images.old) (T.left script.old) (T.count script.old) (K.written replies.old) (K.count replies.old))
+        (world (D.state device.new) (F.held images.new) (F.count images.new) (T.left script.new) (T.count script.new) (K.written replies.new) (K.count replies.new)) }
 
-    // What was written begins as such a run of the device over whole lines of the script, and then comes the status's line.
-    ensures early_end { result ≢ 0 → (geo : Sizes) → IsForm (map (λ word. string_bytes word) words.now) geo
-        → (ending : Early) × (result ≡ status ending) × BreaksOff geo ending (K.count replies.old) (K.count replies.new)
-        (T.left script.old) (T.left script.new) (K.written replies.old) (K.written replies.new)
-        (D.state device.old) (D.state device.new) }
-    ensures usage_line { result ≡ 2 → WritesLine Usage (K.count replies.old) (K.count replies.new)
-        (K.written replies.old) (K.written replies.new) }
+    // Or it came to no end, by a cause that its status tells, and then comes the status's line. Want of memory alone is free.
+    ensures early_end { result ≢ 0 → (form : FormOfWords) → IsForm (map (λ word. string_bytes word) words.now) form
+        → EndsEarly form result
+        (world (D.state device.old) (F.held images.old) (F.count images.old) (T.left script.old) (T.count script.old) (K.written replies.old) (K.count replies.old))
+        (world (D.state device.new) (F.held images.new) (F.count images.new) (T.left script.new) (T.count script.new) (K.written replies.new) (K.count replies.new)) }
 
-    // Each status has its cause; want of memory alone is free.
-    ensures usage { (result ≡ 2) ↔ ((geo : Sizes) → IsForm (map (λ word. string_bytes word) words.now) geo → ⊥) }
-    ensures causes { (ending : Early) → result ≡ status ending → IsCaused ending (T.count script.old) (T.count script.new)
-        (K.count replies.old) (K.count replies.new) (D.state device.old).panel (D.state device.new).panel
-        (T.left script.old) (T.left script.new) }
+    // Words of no form leave all but the replies alone.
+    ensures usage { result ≡ 2 → (form : FormOfWords) → IsForm (map (λ word. string_bytes word) words.now) form → ⊥ }
+    ensures no_form { ((form : FormOfWords) → IsForm (map (λ word. string_bytes word) words.now) form → ⊥)
+        → IsNoForm result
+        (world (D.state device.old) (F.held images.old) (F.count images.old) (T.left script.old) (T.count script.old) (K.written replies.old) (K.count replies.old))
+        (world (D.state device.new) (F.held images.new) (F.count images.new) (T.left script.new) (T.count script.new) (K.written replies.new) (K.count replies.new)) }
     ensures statuses { (result ≡ 0) ⊎ ((ending : Early) × (result ≡ status ending)) }
-
-    // Words of no form leave the device and the script alone.
-    ensures untouched { result ≡ 2 → (device.new ≡ device.old) × (script.new ≡ script.old) }
-    ensures images { images.new ≡ images.old }
 {
-    match perform(alloc, words, device, script, replies) {
+    match perform(alloc, words, device, images, script, replies) {
         Ok(()) => 0,
         Err(ending) => {
             // Where the line can't be written either, the status stays.
-            let _ = write_all(replies, ending.line());
+            let _ = ending.tell(alloc, replies);
             ending.status()
         }
     }
 }
 
-fn perform<D: LineDevice, T: Source, K: Sink>(
+fn perform<D: LineDevice, F: Images, T: Source, K: Sink>(
     alloc: Global,
     words: &[String],
     device: &mut D,
+    images: &mut F,
     script: &mut T,
     replies: &mut K,
 ) -> Result<(), Ending>
-    ensures run { (geo : Sizes) → IsForm (map (λ word. string_bytes word) words.now) geo
-        → MatchResult result
-        (λ _. Completes geo (T.left script.old) (T.left script.new) (K.written replies.old) (K.written replies.new)
-        (D.state device.old) (D.state device.new))
-        (λ _. Halts geo (T.left script.old) (T.left script.new) (K.written replies.old) (K.written replies.new)
-        (D.state device.old) (D.state device.new)) }
-    ensures usage { (result ≡ Err Usage) ↔ ((geo : Sizes) → IsForm (map (λ word. string_bytes word) words.now) geo → ⊥) }
-    ensures untouched { result ≡ Err Usage → (device.new ≡ device.old) × (script.new ≡ script.old)
-        × (K.written replies.new ≡ K.written replies.old) }
-    ensures later { K.count replies.old ≤ K.count replies.new }
-    ensures causes { IfErr result (λ ending. IsCaused ending (T.count script.old) (T.count script.new)
-        (K.count replies.old) (K.count replies.new) (D.state device.old).panel (D.state device.new).panel
-        (T.left script.old) (T.left script.new)) }
+    ensures outcome { (form : FormOfWords) → IsForm (map (λ word. string_bytes word) words.now) form
+        → Outcome form result
+        (world (D.state device.old) (F.held images.old) (F.count images.old) (T.left script.old) (T.count script.old) (K.written replies.old) (K.count replies.old))
+        (world (D.state device.new) (F.held images.new) (F.count images.new) (T.left script.new) (T.count script.new) (K.written replies.new) (K.count replies.new)) }
+    ensures usage { result ≡ Err Usage → (form : FormOfWords) → IsForm (map (λ word. string_bytes word) words.now) form → ⊥ }
+    ensures no_form { ((form : FormOfWords) → IsForm (map (λ word. string_bytes word) words.now) form → ⊥)
+        → IsErrAnd result (λ ending. (ending ≡ Usage) ⊎ (ending ≡ Memory)) × (device.new ≡ device.old) × (images.new ≡ images.old)
+        × (script.new ≡ script.old) × (replies.new ≡ replies.old) }
 {
-    let Some(geometry) = read_words(words) else {
-        return Err(Ending::Usage);
-    };
-    let mut host = set_up(alloc, device, geometry)?;
-    let text = read_all(alloc, script)?;
-    run_script(alloc, &mut host, device, text.as_slice(), replies)
+    match read_words(alloc, words)? {
+        Form::New { image, geometry } => create(alloc, image, geometry, images, replies),
+        Form::Run { from, to } => run(alloc, from, to, device, images, script, replies),
+        Form::Check { image } => check(alloc, image, device, images, replies),
+    }
 }
 
-// Makes the device a fresh one of these sizes, and mounts it.
-fn set_up<D: LineDevice>(alloc: Global, device: &mut D, geometry: Geometry) -> Result<Host, Ending>
+// The line is written before anything is replaced.
+fn create<F: Images, K: Sink>(
+    alloc: Global,
+    name: &str,
+    geometry: Geometry,
+    images: &mut F,
+    replies: &mut K,
+) -> Result<(), Ending>
     requires { IsValid geometry }
-    ensures ready { IfOk result (λ host. IsReady geometry host (D.state device.old) (D.state device.new)) }
-    ensures cause { IfErr result (λ e. (e ≡ Ending.Memory) ⊎ ((e ≡ Ending.Device)
-        × SetUpFailed (D.state device.old).panel (D.state device.new).panel)) }
-    ensures opens { Opens (D.state device.old).panel (D.state device.new).panel }
+    ensures { (device : DeviceState) (left : Option (List ℕ)) (reads : ℕ) → Outcome (of_new name.now geometry) result
+        (world device (F.held images.old) (F.count images.old) left reads (K.written replies.old) (K.count replies.old))
+        (world device (F.held images.new) (F.count images.new) left reads (K.written replies.new) (K.count replies.new)) }
 {
-    recovery::format(device, geometry)?;
-    Ok(Host::mount(alloc, device)?)
+    let text = fresh_text(alloc, geometry)?;
+    tell(numbered(alloc, b"ok ", geometry.total_lines()), replies)?;
+    Ok(images.replace(name, text.as_slice())?)
+}
+
+fn run<D: LineDevice, F: Images, T: Source, K: Sink>(
+    alloc: Global,
+    from: &str,
+    to: &str,
+    device: &mut D,
+    images: &mut F,
+    script: &mut T,
+    replies: &mut K,
+) -> Result<(), Ending>
+    ensures { Outcome (of_run from.now to.now) result
+        (world (D.state device.old) (F.held images.old) (F.count images.old) (T.left script.old) (T.count script.old) (K.written replies.old) (K.count replies.old))
+        (world (D.state device.new) (F.held images.new) (F.count images.new) (T.left script.new) (T.count script.new) (K.written replies.new) (K.count replies.new)) }
+{
+    let mut host = open(alloc, from, device, images)?;
+    let text = read_all(alloc, script)?;
+    run_script(alloc, &mut host, device, text.as_slice(), replies)?;
+    host.settle(device)?;
+    store(alloc, to, device, images)
+}
+
+fn check<D: LineDevice, F: Images, K: Sink>(
+    alloc: Global,
+    name: &str,
+    device: &mut D,
+    images: &mut F,
+    replies: &mut K,
+) -> Result<(), Ending>
+    ensures { (left : Option (List ℕ)) (reads : ℕ) → Outcome (of_check name.now) result
+        (world (D.state device.old) (F.held images.old) (F.count images.old) left reads (K.written replies.old) (K.count replies.old))
+        (world (D.state device.new) (F.held images.new) (F.count images.new) left reads (K.written replies.new) (K.count replies.new)) }
+{
+    open(alloc, name, device, images)?;
+    // No image that is opened has a bad line.
+    Ok(tell(checked(alloc, device.lines(), 0), replies)?)
 }

@@ -21,7 +21,7 @@ loop-rest-init g c =
 pub returns-in_err-perform_line-clause-performs : goal.returns-in_err-perform_line-clause-performs
 returns-in_err-perform_line-clause-performs g c =
     let p = err_from_is_err_and c.from_residual.result c.from_residual.ensures.1 in
-    rw p.1 (going-broken c.args.script.now _ c.args.host.now _ _ _ _ _ _ _ _ p.0 c.loop-rest.invariant.going c.in_err-perform_line.ensures.unanswered (appends_some-none _ _))
+    rw p.1 (going-broken c.args.script.now _ c.args.host.now _ _ _ _ _ _ _ _ p.0 _ c.loop-rest.invariant.going c.in_err-perform_line.ensures.unanswered (appends_some-none _ _))
 
 pub loop-rest-preserved : goal.loop-rest-preserved
 loop-rest-preserved g c =
@@ -36,12 +36,12 @@ pub returns-in_err-flush_long-clause-performs : goal.returns-in_err-flush_long-c
 returns-in_err-flush_long-clause-performs g c =
     let p = err_from_is_err_and c.from_residual-in_err-flush_long.result c.from_residual-in_err-flush_long.ensures.1 in
     let next = going-line c.args.script.now _ c.split_line.result.0.now c.split_line.result.1.now c.args.host.now _ _ _ _ _ _ _ _ _ c.loop-rest.invariant.going c.split_line.ensures.lines c.in_ok-perform_line.ensures.goes in
-    rw p.1 (going-broken c.args.script.now _ c.args.host.now _ _ _ _ _ _ _ _ p.0 next (unanswered-none _) c.in_err-flush_long.ensures.bytes)
+    rw p.1 (going-broken c.args.script.now _ c.args.host.now _ _ _ _ _ _ _ _ p.0 _ next (unanswered-none _) c.in_err-flush_long.ensures.bytes)
 
 pub returns-in_err-flush-clause-performs : goal.returns-in_err-flush-clause-performs
 returns-in_err-flush-clause-performs g c =
     let p = err_from_is_err_and c.from_residual-in_err-flush.result c.from_residual-in_err-flush.ensures.1 in
-    rw p.1 (going-broken c.args.script.now _ c.args.host.now _ _ _ _ _ _ _ _ p.0 c.loop-rest.invariant.going (unanswered-none _) c.in_err-flush.ensures.bytes)
+    rw p.1 (going-broken c.args.script.now _ c.args.host.now _ _ _ _ _ _ _ _ p.0 _ c.loop-rest.invariant.going (unanswered-none _) c.in_err-flush.ensures.bytes)
 
 pub returns-clause-performs : goal.returns-clause-performs
 returns-clause-performs g c =

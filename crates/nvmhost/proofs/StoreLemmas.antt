@@ -1,0 +1,60 @@
+-- Lines that are read out, and an image that is stored.
+use Rattle.std.proofs.Common.{◌≡◌, ◌⊎◌, inl, inr, ℕ, ◌+◌, ◌*◌, ◌<◌, ◌≤◌, List, length, Option, Some, None, Result, Ok, Err, refl, sym, ap, subst, ◌∙◌, arith}
+use Rattle.std.specs.Prelude.{⊤, IfSome, IfErr, OnOk}
+use Rattle.nvm_base.specs.Counts.{Rose, raised}
+use Rattle.host_io.specs.Images.{CountsReplace, Held, KeepsHeld}
+use Rattle.host_io.specs.declared.images.ImageCounts.{ImageCounts}
+use Rattle.host_io.specs.declared.sink.WriteFault.{WriteFault}
+use Rattle.host_io.specs.declared.sink.WriteFault.TheVariants as write
+use Rattle.image_file.specs.declared.Image.{Image}
+use Rattle.image_file.specs.declared.fault.ExtractFault.{ExtractFault}
+use Rattle.image_file.specs.declared.fault.ExtractFault.TheVariants as extract
+use Rattle.image_file.specs.Devices.{AreLinesGood, IsLastImage, extract_fault_outcome}
+use Rattle.image_file.specs.Text.{FitImage, IsSnapshot, image_text, snapshot_of}
+use Rattle.image_file.proofs.ShownLemmas.{snapshot_last}
+use Rattle.line_device.specs.Medium.{IsLine, Medium, Shows, WritesBack}
+use Rattle.line_device.specs.Panel.{Panel, SetsUp}
+use Rattle.line_device.specs.Panel.Outcome.{went}
+use Rattle.line_device.specs.declared.line.LineState.{LineState}
+use Rattle.line_device.specs.declared.line.LineState.TheVariants.{Healthy, Weak, Bad}
+use Rattle.line_device.proofs.WriteBackLemmas.{newest-write_back}
+use Rattle.nvmhost.specs.Ending.{of_extract, of_write}
+use Rattle.nvmhost.specs.Opening.{snapshot}
+use Rattle.nvmhost.specs.Storing.{AreLast, HoldsOn, NotReadOut}
+use Rattle.nvmhost.specs.declared.ending.Ending.{Ending}
+use Rattle.nvmhost.specs.declared.ending.Ending.TheVariants.{Write}
+
+-- a device that was not read out
+pub not_read_out : (fault : ExtractFault) (old new : Panel) → SetsUp (extract_fault_outcome fault) old new → NotReadOut (of_extract fault) old new
+not_read_out extract.Failed old new sets = inr (refl, sets.cause.2)
+not_read_out extract.PowerLost old new sets = inr (refl, sets.cause.2)
+not_read_out extract.Memory old new sets = inl refl
+
+-- the text of the lines that were read out
+pub are_last : (m : Medium) (image : Image) (text : List ℕ) → FitImage m.count → AreLinesGood m → image.unit ≡ 8 → IsLastImage m image.lines.items → text ≡ image_text (snapshot_of image) → AreLast m text
+are_last m image text fit good unit last is = record {
+  lines = image.lines.items;
+  last = last;
+  right = snapshot_last m image.lines.items fit good last;
+  is = is ∙ ap (λ u. image_text (record { unit = u; lines = image.lines.items })) unit;
+}
+
+-- what was not replaced
+pub not_replaced : (name : List ℕ) (fault : WriteFault) (old new : Option Held) (counted counts : ImageCounts)
+    → (Err {A = Unit {0}} fault ≡ Err write.Failed → Rose counted.replace_faults counts.replace_faults)
+    → (fault ≡ write.Memory → KeepsHeld (λ _. ⊤) old new) → KeepsHeld (λ other. other ≡ name → ⊥) old new
+    → HoldsOn name old new counted counts
+not_replaced name write.Failed old new counted counts cause memory others = inr (cause refl, others)
+not_replaced name write.Memory old new counted counts cause memory others = inl (memory refl)
+
+-- what a line shows it shows after it was written back
+shows-write_back : (a b : Medium) (n : ℕ) (line : LineState) → WritesBack a b → Shows a n line → Shows b n line
+shows-write_back a b n (Healthy bytes) w s = (w.bad n ∙ s.0, w.weak n ∙ s.1, record { length = s.2.length; words = λ k below. newest-write_back a b w (8 * n + k) ∙ s.2.words k below })
+shows-write_back a b n (Weak bytes) w s = (w.bad n ∙ s.0, w.weak n ∙ s.1, record { length = s.2.length; words = λ k below. newest-write_back a b w (8 * n + k) ∙ s.2.words k below })
+shows-write_back a b n Bad w s = w.bad n ∙ s
+
+pub last-write_back : (a b : Medium) (lines : List LineState) → WritesBack a b → IsLastImage a lines → IsLastImage b lines
+last-write_back a b lines w last = record {
+  count = last.count ∙ sym w.count;
+  shows = λ n line is. shows-write_back a b n line w (last.shows n line is);
+}

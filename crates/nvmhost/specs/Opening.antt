@@ -1,0 +1,81 @@
+-- Opening an image: what is read of it, and why it is not opened.
+use Rattle.std.specs.Prelude.{◌≡◌, ◌⊎◌, ◌+◌, ◌<◌, ◌≤◌, ℕ, List, length, Option, Some, None, IfSome, IsSomeAnd}
+use Rattle.nvm_base.specs.Counts.{Rose, raised}
+use Rattle.host_io.specs.Images.{Held}
+use Rattle.host_io.specs.declared.images.ImageCounts.{ImageCounts}
+use Rattle.image_file.specs.Devices.{image_of, medium_of}
+use Rattle.image_file.specs.Text.{IsSnapshot, Snapshot, image_text}
+use Rattle.image_file.specs.WrongField.{first_wrong_offset}
+use Rattle.line_device.specs.Device.{Device}
+use Rattle.line_device.specs.Panel.{Panel}
+use Rattle.line_device.specs.declared.line.LineState.{LineState}
+use Rattle.machine_host.specs.Machine.{Machine}
+use Rattle.machine_host.specs.Restarting.{reading}
+use Rattle.machine_host.specs.Costs.{mount_calls, mount_persists}
+use Rattle.machine_host.specs.Run.{Transcript, silence}
+use Rattle.machine_host.specs.Stands.{HostState, HostServes, Stands}
+use Rattle.machine_host.specs.Telling.{Tells}
+use Rattle.recovery.specs.Findings.{first_finding, geometry_told}
+use Rattle.word_log.specs.Mount.Finding.{bad_line, wrong_word}
+use Rattle.nvmhost.specs.Ending.{most_bytes}
+use Rattle.nvmhost.specs.Begins.{Begins}
+use Rattle.nvmhost.specs.declared.ending.Ending.{Ending}
+use Rattle.nvmhost.specs.declared.ending.Ending.TheVariants.{Usage, Image, Layout, Meta, Read, Write, Memory, Script}
+use Rattle.nvmhost.specs.declared.ending.Ending.TheVariants as endings
+
+-- what an image says: words of eight bytes, and these lines
+abbrev pub snapshot : List LineState → Snapshot
+snapshot lines = record { unit = 8; lines = lines }
+
+-- the state that is read in an image
+abbrev pub opened : List LineState → Machine
+opened lines = reading (geometry_told (medium_of lines)) (image_of lines)
+
+-- this is the image that is held under the name, where that is told
+pub record IsHeld (name : List ℕ) (held : Option Held) (lines : List LineState) : Type 0 where
+  pub right : IsSnapshot (snapshot lines)
+  pub text : IfSome held (λ look. look name ≡ Some (image_text (snapshot lines)))
+
+-- what is held under the name is no image from this offset on, or more bytes than one may have
+abbrev pub IsNoImage : List ℕ → Option Held → ℕ → Type 0
+IsNoImage name held offset = IfSome held (λ look. IsSomeAnd (look name) (λ bytes.
+    (first_wrong_offset bytes ≡ Some offset) ⊎ ((most_bytes < length bytes) × (offset ≡ most_bytes))))
+
+-- what setting up says: nothing, but it asks of the device what a mount may
+abbrev pub opening : Transcript
+opening = record silence { spent = record { calls = mount_calls; persists = mount_persists } }
+
+-- The device was made that of the image under the name, and a host mounted it: they stand for what is read there.
+pub record IsReady (name : List ℕ) (held : Option Held) (host : HostState) (old new : Device) : Type 0 where
+  pub lines : List LineState
+  pub held_there : IsHeld name held lines
+  pub right : first_finding (medium_of lines) ≡ None
+  pub count : new.medium.count ≡ length lines
+  pub serves : HostServes host new
+  pub tells : Tells opening old.panel new.panel
+  pub begin : Machine
+  pub begins : Begins (opened lines) old.panel begin
+  pub stands : Stands host new begin
+
+-- the device could not be set up or read out, or failed or lost power
+abbrev pub DeviceFailed : Panel → Panel → Type 0
+DeviceFailed old new = Rose old.counts.setups new.counts.setups ⊎ Rose old.counts.faults new.counts.faults ⊎ Rose old.counts.cuts new.counts.cuts
+
+-- Why an image was not opened.
+abbrev pub StaysClosed : List ℕ → Option Held → Ending → ImageCounts → ImageCounts → Panel → Panel → Type 0
+StaysClosed name held (Image offset) counted counts old new = IsNoImage name held offset
+StaysClosed name held (Layout place) counted counts old new = (lines : List LineState) × IsHeld name held lines × (first_finding (medium_of lines) ≡ Some (wrong_word place))
+StaysClosed name held (Meta line) counted counts old new = (lines : List LineState) × IsHeld name held lines × (first_finding (medium_of lines) ≡ Some (bad_line line))
+StaysClosed name held Read counted counts old new = Rose counted.fetch_faults counts.fetch_faults ⊎ IsSomeAnd held (λ look. look name ≡ None)
+StaysClosed name held Memory counted counts old new = Unit {0}
+StaysClosed name held endings.Device counted counts old new = DeviceFailed old new
+StaysClosed name held Usage counted counts old new = ⊥
+StaysClosed name held Write counted counts old new = ⊥
+StaysClosed name held Script counted counts old new = ⊥
+
+-- an image was fetched, and none replaced
+pub record CountsOpening (old new : ImageCounts) : Type 0 where
+  pub fetches : new.fetches ≡ raised old.fetches
+  pub fetch_faults : old.fetch_faults ≤ new.fetch_faults
+  pub replaces : new.replaces ≡ old.replaces
+  pub replace_faults : new.replace_faults ≡ old.replace_faults

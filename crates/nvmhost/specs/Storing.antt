@@ -1,0 +1,79 @@
+-- What is held once an image was stored.
+use Rattle.std.specs.Prelude.{◌≡◌, ◌≢◌, ◌⊎◌, ℕ, List, Option, Some, None, IfSome, Result, MatchResult, ⊤}
+use Rattle.nvm_base.specs.Counts.{Rose, raised}
+use Rattle.nvm_base.specs.Stock.{Stock}
+use Rattle.host_io.specs.Images.{Held, KeepsHeld}
+use Rattle.image_file.specs.Devices.{IsLastImage, image_of, medium_of}
+use Rattle.image_file.specs.Text.{IsSnapshot, Snapshot, image_text}
+use Rattle.host_io.specs.declared.images.ImageCounts.{ImageCounts}
+use Rattle.line_device.specs.Device.{Device}
+use Rattle.line_device.specs.Medium.{Medium, WritesBack}
+use Rattle.line_device.specs.Panel.{KeepsPower, Outcome, Panel, SetsUp}
+use Rattle.line_device.specs.Panel.Outcome.{went}
+use Rattle.line_device.specs.declared.line.Choice.TheVariants.{Lasts}
+use Rattle.line_device.specs.declared.line.LineState.{LineState}
+use Rattle.machine_host.specs.Machine.{Machine}
+use Rattle.machine_host.specs.Restarting.{RestartMayLeave}
+use Rattle.recovery.specs.Findings.{first_finding, geometry_told}
+use Rattle.nvmhost.specs.Opening.{snapshot}
+use Rattle.nvmhost.specs.declared.ending.Ending.{Ending}
+use Rattle.nvmhost.specs.declared.ending.Ending.TheVariants.{Memory, Write}
+use Rattle.nvmhost.specs.declared.ending.Ending.TheVariants as endings
+
+-- the image is held under the name, and what is held under other names stays
+pub record Holds (name : List ℕ) (image : Snapshot) (old new : Option Held) : Type 0 where
+  pub text : IfSome new (λ look. look name ≡ Some (image_text image))
+  pub others : KeepsHeld (λ other. other ≢ name) old new
+
+-- The image is a right one of these sizes, and what is read in it again is what a restart leaves of the state that loses nothing.
+pub record IsReadAgain (lines : List LineState) (h : Machine) : Type 0 where
+  pub right : first_finding (medium_of lines) ≡ None
+  pub sizes : geometry_told (medium_of lines) ≡ h.geometry
+  pub left : RestartMayLeave Lasts (image_of lines) h
+
+-- All lines of the device are held under the name, as they were last stored, and are read again as the state that it stands for.
+pub record IsStored (name : List ℕ) (old new : Option Held) (m : Medium) (h : Machine) : Type 0 where
+  pub lines : List LineState
+  pub last : IsLastImage m lines
+  pub right : IsSnapshot (snapshot lines)
+  pub holds : Holds name (snapshot lines) old new
+  pub again : IsReadAgain lines h
+
+-- No name has changed; but after a failed replace nothing is known of this one.
+abbrev pub HoldsOn : List ℕ → Option Held → Option Held → ImageCounts → ImageCounts → Type 0
+HoldsOn name old new counted counts =
+    KeepsHeld (λ _. ⊤) old new ⊎ (Rose counted.replace_faults counts.replace_faults × KeepsHeld (λ other. other ≢ name) old new)
+
+-- the lines as they were last stored, as an image
+pub record AreLast (m : Medium) (text : List ℕ) : Type 0 where
+  pub lines : List LineState
+  pub last : IsLastImage m lines
+  pub right : IsSnapshot (snapshot lines)
+  pub is : text ≡ image_text (snapshot lines)
+
+-- there was no memory, or the device could not be read out
+abbrev pub NotReadOut : Ending → Panel → Panel → Type 0
+NotReadOut ending old new = (ending ≡ Memory) ⊎ ((ending ≡ endings.Device) × Rose old.counts.setups new.counts.setups)
+
+-- The lines of a device were read out, and only written back.
+pub record ReadsOut (result : Result (Stock ℕ) Ending) (old new : Device) : Type 0 where
+  pub end : Outcome
+  pub sets_up : SetsUp end old.panel new.panel
+  pub power : KeepsPower end old.panel new.panel
+  pub wrote : WritesBack old.medium new.medium
+  pub outcome : MatchResult result (λ text. (end ≡ went) × AreLast old.medium text.items) (λ ending. NotReadOut ending old.panel new.panel)
+
+-- They were stored, or what is held is as it was but for a failed replace.
+pub record Stores (name : List ℕ) (result : Result (Unit {0}) Ending) (held_old held_new : Option Held) (counted counts : ImageCounts) (old new : Device) : Type 0 where
+  pub end : Outcome
+  pub sets_up : SetsUp end old.panel new.panel
+  pub power : KeepsPower end old.panel new.panel
+  pub wrote : WritesBack old.medium new.medium
+  pub fetches : counts.fetches ≡ counted.fetches
+  pub fetch_faults : counts.fetch_faults ≡ counted.fetch_faults
+  pub outcome : MatchResult result
+      (λ _. (end ≡ went) × (counts.replaces ≡ raised counted.replaces)
+      × (text : List ℕ) × AreLast old.medium text × IfSome held_new (λ look. look name ≡ Some text) × KeepsHeld (λ other. other ≢ name) held_old held_new)
+      (λ ending. (NotReadOut ending old.panel new.panel ⊎ ((ending ≡ Write) × Rose counted.replace_faults counts.replace_faults))
+      × HoldsOn name held_old held_new counted counts
+      × ((counts.replaces ≡ counted.replaces) ⊎ (counts.replaces ≡ raised counted.replaces)))
