@@ -1,5 +1,5 @@
 -- The image of a device that stands for a state is read again as what that state keeps.
-use Rattle.std.proofs.Common.{◌≡◌, ℕ, ◌+◌, ◌*◌, ◌/◌, ◌<◌, ◌≤◌, true, false, Option, Some, None, List, [], ◌∷◌, length, inl, inr, refl, sym, ap, subst, ◌∙◌, arith}
+use Rattle.std.proofs.Common.{◌≡◌, ℕ, ◌+◌, ◌*◌, ◌/◌, ◌<◌, ◌≤◌, true, false, Option, Some, None, List, [], ◌∷◌, length, take, inl, inr, refl, sym, ap, subst, ◌∙◌, arith}
 use Rattle.std.specs.Prelude.{filter}
 use Rattle.std.specs.List.{AllByRecursion, range_with_len}
 use Rattle.std.proofs.lemmas.List.{length-map}
@@ -7,7 +7,7 @@ use Rattle.image_file.specs.Devices.{AreLinesGood, IsLastImage, image_of, medium
 use Rattle.image_file.specs.Text.{FitImage, IsImageLine}
 use Rattle.image_file.proofs.ShownLemmas.{depicted, depicted_last, snapshot_last, sound as sound_image}
 use Rattle.line_device.specs.History.{IsIn, latest, newest, WordWritesBack}
-use Rattle.line_device.specs.Medium.{Medium, IsHealthy, IsSound, last_image}
+use Rattle.line_device.specs.Medium.{Medium, IsHealthy, IsSound, Survivors, last_image}
 use Rattle.line_device.specs.Panel.{Image}
 use Rattle.line_device.specs.declared.line.Choice.TheVariants.{Lasts}
 use Rattle.line_device.specs.declared.line.LineState.{LineState}
@@ -40,7 +40,7 @@ use Rattle.machine_host.specs.Commands.{MayLeaveBlocks, MayLeaveVolume}
 use Rattle.machine_host.specs.Machine.{Machine}
 use Rattle.machine_host.specs.Restarting.{RestartMayLeave}
 use Rattle.machine_host.specs.Stands.{MetadataStands}
-use Rattle.machine_host.proofs.DepictedLemmas.{blocks_depicted, presence_depicted, survives}
+use Rattle.machine_host.proofs.DepictedLemmas.{blocks_depicted, presence_depicted}
 use Rattle.machine_host.proofs.ElsewhereLemmas.{area_of_volume, volume_within}
 use Rattle.machine_host.proofs.MetadataLemmas.{none_bad}
 use Rattle.machine_host.proofs.MountLemmas.{IsTold, is_told, volume_image-last}
@@ -64,7 +64,7 @@ module _ (geo : Geometry) (m : Medium) (lines : List LineState) (valid : IsValid
   -- a word of the image has the last value alone
   alone : (p : ℕ) → p / 8 < m.count → (medium_of lines).history p ≡ last_image m p ∷ []
   alone p there =
-      let line = (subst (λ c. p / 8 < c) (sym last.count) there, (good_of_image lines all (p / 8)).0) in
+      let line : IsHealthy (medium_of lines) (p / 8) = (subst (λ c. p / 8 < c) (sym last.count) there, (good_of_image lines all (p / 8)).0) in
       (depicted lines).words p line ∙ ap (λ v. v ∷ []) ((depicted_last m lines sound last).words p (healthy p there))
 
   kept : (line : ℕ) → line < m.count → LineKept m (medium_of lines) line
@@ -123,6 +123,25 @@ module _ (geo : Geometry) (m : Medium) (lines : List LineState) (valid : IsValid
         is ∙ stands.superblock p below (last_image m p) (sound.last p (healthy p there));
   }
 
+-- the power could have come back to the lines of an image
+survives : (lines : List LineState) → Survivors Lasts (medium_of lines) (medium_of lines)
+survives lines = record {
+  count = refl;
+  bad = λ n. refl;
+  weak = λ n. refl;
+  lost = λ p none. none;
+  words = λ p healthy.
+      let one = (depicted lines).words p healthy in (
+        (image_of lines).word p,
+        record {
+          one = one;
+          was = subst (IsIn ((image_of lines).word p)) (sym one) (inl refl);
+          last = λ _. sym (ap newest one);
+          first = λ _ _. ap (take 1) one;
+        },
+      );
+}
+
 -- the device's last values, once more
 pub is_read_again : (h : Machine) (m : Medium) (lines : List LineState) → IsValid h.geometry → IsSound m → AreLinesGood m → AllByRecursion IsImageLine lines → IsLastImage m lines
     → MetadataStands h.geometry m h.bad_meta → EachReads h.geometry m (λ bs. bs ≡ h.blocks) → EachReadsPages h.geometry m (λ ps. ps ≡ h.volume) → h.interrupted ≡ None → IsReadAgain lines h
@@ -141,7 +160,7 @@ is_read_again h m lines valid sound good all last stands each_block each_page wh
         ∙ presence_read-replays geo (last_image n) (presence_of pages.pages) (length-map pages.pages is_present ∙ pages.all) pages.replays));
     volume = subst (λ ps. KeepsPages Lasts (volume_line geo) image ps) pages.is
         (stand-restarted Lasts n n image (volume_line geo) pages.pages pages.stand
-        (λ k cell is. line_there geo n k layout.lines (line_of_volume geo pages.pages k cell pages.all is)) (survives geo n image layout (depicted lines)) (depicted lines)).0;
+        (λ k cell is. line_there geo n k layout.lines (line_of_volume geo pages.pages k cell pages.all is)) (survives lines) (depicted lines)).0;
   };
 }
   where

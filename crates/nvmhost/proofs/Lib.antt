@@ -8,3 +8,4 @@ mod StoreLemmas
 mod AgainLemmas
 mod RestLemmas
 mod RunLemmas
+mod FormLemmas

@@ -41,35 +41,6 @@ use Rattle.nvmhost.specs.Ending.{most_bytes, of_fetch, of_image, of_mount, of_re
 use Rattle.nvmhost.specs.Opening.{IsHeld, IsReady, StaysClosed, opened, snapshot}
 use Rattle.nvmhost.proofs.TellLemmas.{tells_opening}
 
--- what was not fetched
-pub not_fetched : (name : List ℕ) (held : Option Held) (fault : FetchFault) (counted counts : ImageCounts) (p : Panel) → Fetches held name most_bytes (Err fault)
-    → (Err {A = Stock ℕ} fault ≡ Err fetch.Failed → Rose counted.fetch_faults counts.fetch_faults) → StaysClosed name held (of_fetch fault) counted counts p p
-not_fetched name held fetch.Missing counted counts p told cause = inr told
-not_fetched name held fetch.Failed counted counts p told cause = inl (cause refl)
-not_fetched name None fetch.TooLong counted counts p told cause = tt
-not_fetched name (Some look) fetch.TooLong counted counts p told cause = elim (look name) as (λ found. IsSomeAnd found (λ bytes. most_bytes < length bytes) → IsSomeAnd found (λ bytes. (first_wrong_offset bytes ≡ Some most_bytes) ⊎ ((most_bytes < length bytes) × (most_bytes ≡ most_bytes)))) [
-  | None ↦ λ none. none
-  | Some bytes ↦ λ long. inr (long, refl)
-] told
-not_fetched name held fetch.Memory counted counts p told cause = tt
-
--- bytes that were fetched and are no image
-pub no_image : (name : List ℕ) (held : Option Held) (bytes : List ℕ) (fault : ImageFault) (counted counts : ImageCounts) (p : Panel) → IfSome held (λ look. look name ≡ Some bytes)
-    → ReadsImage bytes (Err fault) → StaysClosed name held (of_image fault) counted counts p p
-no_image name None bytes (image_fault.Bad offset) counted counts p told wrong = tt
-no_image name (Some look) bytes (image_fault.Bad offset) counted counts p told wrong =
-    subst (λ found. IsSomeAnd found (λ bytes. (first_wrong_offset bytes ≡ Some offset) ⊎ ((most_bytes < length bytes) × (offset ≡ most_bytes)))) (sym told) (inl wrong)
-no_image name held bytes image_fault.Memory counted counts p told wrong = tt
-
--- bytes that were fetched and are one
-pub is_held : (name : List ℕ) (held : Option Held) (bytes : List ℕ) (image : Image) → IfSome held (λ look. look name ≡ Some bytes) → ReadsImage bytes (Ok image) → IsHeld name held image.lines.items
-is_held name held bytes image told reads =
-    let same : record { unit = image.unit; lines = image.lines.items } ≡ snapshot image.lines.items = ap (λ u. record { unit = u; lines = image.lines.items }) reads.0.unit in
-    record {
-      right = subst IsSnapshot same reads.0;
-      text = subst (λ xs. IfSome held (λ look. look name ≡ Some xs)) (reads.1 ∙ ap image_text same) told;
-    }
-
 -- the lines of an image are healthy, and each word has one value
 pub good_of_image : (lines : List LineState) → AllByRecursion IsImageLine lines → (n : ℕ) → ((medium_of lines).is_bad n ≡ false) × ((medium_of lines).is_weak n ≡ false)
 good_of_image [] all n = (refl, refl)
@@ -83,21 +54,6 @@ flushed_of_image lines all p there v at =
     let is = (depicted lines).words p (there, (good_of_image lines all (p / 8)).0) in
     let here = is_in-one v _ (subst (IsIn v) is at) in
     here ∙ sym (ap newest is)
-
--- what was not installed, and what was not mounted
-pub not_installed : (name : List ℕ) (held : Option Held) (fault : ResetFault) (counted counts : ImageCounts) (old new : Panel) → SetsUp (setup_outcome {T = Unit {0}} (Err fault)) old new
-    → StaysClosed name held (of_reset fault) counted counts old new
-not_installed name held reset.Failed counted counts old new sets = inl sets.cause.2
-not_installed name held reset.Memory counted counts old new sets = tt
-
-pub not_mounted : (T : Type 0) (name : List ℕ) (held : Option Held) (lines : List LineState) (fault : MountFault) (counted counts : ImageCounts) (old new : Panel) (mid : Device) → IsHeld name held lines
-    → mid.medium ≡ medium_of lines → SetsUp went old mid.panel → Finds {T = T} (first_finding mid.medium) (Err fault) → Runs mount_calls mount_persists (mount_outcome {T = T} (Err fault)) mid.panel new
-    → StaysClosed name held (of_mount fault) counted counts old new
-not_mounted T name held lines (mount.Meta line) counted counts old new mid there is sets finds runs = (lines, there, sym (ap first_finding is) ∙ finds)
-not_mounted T name held lines (mount.Layout place) counted counts old new mid there is sets finds runs = (lines, there, sym (ap first_finding is) ∙ finds)
-not_mounted T name held lines mount.Device counted counts old new mid there is sets finds runs = inr (inl (omega (arith, runs.cause.3, sets.faults)))
-not_mounted T name held lines mount.PowerLost counted counts old new mid there is sets finds runs = inr (inr (omega (arith, runs.cause.2, sets.cuts)))
-not_mounted T name held lines mount.Memory counted counts old new mid there is sets finds runs = tt
 
 -- set up and mounted
 pub opens-mounted : (end : Outcome) (p q r : Panel) → SetsUp went p q → Runs mount_calls mount_persists end q r → Opens p r

@@ -24,12 +24,6 @@ use Rattle.nvmhost.specs.Storing.{AreLast, HoldsOn, NotReadOut}
 use Rattle.nvmhost.specs.declared.ending.Ending.{Ending}
 use Rattle.nvmhost.specs.declared.ending.Ending.TheVariants.{Write}
 
--- a device that was not read out
-pub not_read_out : (fault : ExtractFault) (old new : Panel) → SetsUp (extract_fault_outcome fault) old new → NotReadOut (of_extract fault) old new
-not_read_out extract.Failed old new sets = inr (refl, sets.cause.2)
-not_read_out extract.PowerLost old new sets = inr (refl, sets.cause.2)
-not_read_out extract.Memory old new sets = inl refl
-
 -- the text of the lines that were read out
 pub are_last : (m : Medium) (image : Image) (text : List ℕ) → FitImage m.count → AreLinesGood m → image.unit ≡ 8 → IsLastImage m image.lines.items → text ≡ image_text (snapshot_of image) → AreLast m text
 are_last m image text fit good unit last is = record {
@@ -38,14 +32,6 @@ are_last m image text fit good unit last is = record {
   right = snapshot_last m image.lines.items fit good last;
   is = is ∙ ap (λ u. image_text (record { unit = u; lines = image.lines.items })) unit;
 }
-
--- what was not replaced
-pub not_replaced : (name : List ℕ) (fault : WriteFault) (old new : Option Held) (counted counts : ImageCounts)
-    → (Err {A = Unit {0}} fault ≡ Err write.Failed → Rose counted.replace_faults counts.replace_faults)
-    → (fault ≡ write.Memory → KeepsHeld (λ _. ⊤) old new) → KeepsHeld (λ other. other ≡ name → ⊥) old new
-    → HoldsOn name old new counted counts
-not_replaced name write.Failed old new counted counts cause memory others = inr (cause refl, others)
-not_replaced name write.Memory old new counted counts cause memory others = inl (memory refl)
 
 -- what a line shows it shows after it was written back
 shows-write_back : (a b : Medium) (n : ℕ) (line : LineState) → WritesBack a b → Shows a n line → Shows b n line

@@ -1,5 +1,5 @@
 // The lines that are written beside the replies.
-ghost use Rattle.std.specs.Prelude.{◌≡◌, ◌≤◌, ◌++◌, IfErr, IfOk, MatchResult, decimal, codes};
+ghost use Rattle.std.specs.Prelude.{◌≡◌, ◌≤◌, ◌++◌, IfErr, IfOk, MatchResult, Err, decimal, codes};
 ghost use Rattle.nvm_base.specs.Counts.{Rose};
 ghost use Rattle.host_io.specs.Writing.{WritesAll};
 ghost use Rattle.nvmhost.specs.Ending.{line as terminated, numbered_line};
@@ -11,7 +11,7 @@ use std::alloc::{AllocError, Global};
 /// Writes a line, if there was memory for it.
 pub fn tell<K: Sink>(line: Result<Bytes, AllocError>, replies: &mut K) -> Result<(), WriteFault>
     ensures bytes { MatchResult line (λ text. WritesAll text.items result (K.written replies.old) (K.written replies.new))
-        (λ _. (result ≡ Err WriteFault.Memory) × (replies.new ≡ replies.old)) }
+        (λ _. (result ≡ Err WriteFault.Memory) × (K.written replies.new ≡ K.written replies.old)) }
     ensures later { K.count replies.old ≤ K.count replies.new }
     ensures cause { IfErr result (λ e. e ≡ WriteFault.Failed → Rose (K.count replies.old) (K.count replies.new)) }
 {

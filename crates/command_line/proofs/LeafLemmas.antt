@@ -1,0 +1,186 @@
+-- Which values each command takes.
+use Rattle.std.proofs.Common.{◌≡◌, ◌∙◌, ℕ, List, [], ◌∷◌, refl, ap}
+use Rattle.std.specs.Prelude.{Option, Some, codes, option_map}
+use Rattle.clap.specs.Walk.{Held, nothing_held}
+use Rattle.clap.specs.Simple.{Shape, built, built_leaf, inherited}
+use Rattle.clap.specs.Words.{Row, Text}
+use Rattle.clap.specs.Kinds.{Kinds}
+use Rattle.clap.specs.declared.error.kind.ErrorKind.TheVariants.{UnknownArgument, MissingRequiredArgument}
+use Rattle.clap.proofs.OnLiterals.{clap_on_literals}
+use Rattle.nvm_base.specs.Numbers.{number_of}
+use Rattle.command_line.specs.Words.{Form, of_check, of_new, of_run, sizes_named}
+use Rattle.command_line.specs.Commands.{check_command, check_of, new_command, new_of, program, run_command, run_of}
+use Rattle.command_line.proofs.WordLemmas.{IsValue, before, filled, leaf_refusals, leaf_rows, refused_already, refused_first, refused_from, refused_next, rows_first, rows_from, rows_next}
+
+-- a command as the program holds it
+abbrev pub ready : Shape → Shape
+ready s = built_leaf (inherited (built program).top s)
+
+abbrev pub check : Shape
+check = ready check_command.top
+
+abbrev pub run : Shape
+run = ready run_command.top
+
+abbrev pub new : Shape
+new = ready new_command.top
+
+-- what is held after one value more
+abbrev then : Shape → ℕ → Held → Text → Held
+then s place h w = (filled s place h w).held
+
+-- ---- check
+
+check_past_1 : (a : Text) → IsValue a → (rest : List Text)
+    → leaf_refusals check (a ∷ rest) ≡ refused_from check [] (before 2 (then check 1 nothing_held a)) rest
+check_past_1 a pa rest = refused_first check (a ∷ rest) ∙ refused_next check 1 nothing_held a pa rest
+
+check_ends_0 : refused_from check [] (before 1 nothing_held) [] ≡ MissingRequiredArgument ∷ []
+unfolding refused_from clap_on_literals
+check_ends_0 = refl
+
+pub check_none : leaf_refusals check [] ≡ MissingRequiredArgument ∷ []
+check_none = refused_first check [] ∙ check_ends_0
+
+check_ends_1 : (a : Text) → refused_from check [] (before 2 (then check 1 nothing_held a)) [] ≡ []
+unfolding refused_from clap_on_literals
+check_ends_1 a = refl
+
+pub check_one : (a : Text) → IsValue a → leaf_refusals check (a ∷ []) ≡ []
+check_one a pa = check_past_1 a pa [] ∙ check_ends_1 a
+
+pub check_many : (a b : Text) → IsValue a → IsValue b → (rest : List Text)
+    → leaf_refusals check (a ∷ b ∷ rest) ≡ UnknownArgument ∷ []
+check_many a b pa pb rest = check_past_1 a pa (b ∷ rest)
+    ∙ refused_next check 2 (then check 1 nothing_held a) b pb rest
+    ∙ refused_already check UnknownArgument [] (filled check 2 (then check 1 nothing_held a) b) rest
+
+check_reads : (a : Text) → check_of (rows_from check (before 2 (then check 1 nothing_held a)) []) ≡ Some (of_check a)
+unfolding rows_from clap_on_literals
+check_reads a = refl
+
+pub check_read : (a : Text) → IsValue a
+    → check_of (leaf_rows check (a ∷ [])) ≡ Some (of_check a)
+check_read a pa = ap check_of (rows_first check (a ∷ [])
+    ∙ rows_next check 1 nothing_held a pa [])
+    ∙ check_reads a
+
+-- ---- run
+
+run_past_1 : (a : Text) → IsValue a → (rest : List Text)
+    → leaf_refusals run (a ∷ rest) ≡ refused_from run [] (before 2 (then run 1 nothing_held a)) rest
+run_past_1 a pa rest = refused_first run (a ∷ rest) ∙ refused_next run 1 nothing_held a pa rest
+
+run_past_2 : (a b : Text) → IsValue a → IsValue b → (rest : List Text)
+    → leaf_refusals run (a ∷ b ∷ rest) ≡ refused_from run [] (before 3 (then run 2 (then run 1 nothing_held a) b)) rest
+run_past_2 a b pa pb rest = run_past_1 a pa (b ∷ rest) ∙ refused_next run 2 (then run 1 nothing_held a) b pb rest
+
+run_ends_0 : refused_from run [] (before 1 nothing_held) [] ≡ MissingRequiredArgument ∷ []
+unfolding refused_from clap_on_literals
+run_ends_0 = refl
+
+pub run_none : leaf_refusals run [] ≡ MissingRequiredArgument ∷ []
+run_none = refused_first run [] ∙ run_ends_0
+
+run_ends_1 : (a : Text) → refused_from run [] (before 2 (then run 1 nothing_held a)) [] ≡ MissingRequiredArgument ∷ []
+unfolding refused_from clap_on_literals
+run_ends_1 a = refl
+
+pub run_one : (a : Text) → IsValue a → leaf_refusals run (a ∷ []) ≡ MissingRequiredArgument ∷ []
+run_one a pa = run_past_1 a pa [] ∙ run_ends_1 a
+
+run_ends_2 : (a b : Text) → refused_from run [] (before 3 (then run 2 (then run 1 nothing_held a) b)) [] ≡ []
+unfolding refused_from clap_on_literals
+run_ends_2 a b = refl
+
+pub run_two : (a b : Text) → IsValue a → IsValue b → leaf_refusals run (a ∷ b ∷ []) ≡ []
+run_two a b pa pb = run_past_2 a b pa pb [] ∙ run_ends_2 a b
+
+pub run_many : (a b c : Text) → IsValue a → IsValue b → IsValue c → (rest : List Text)
+    → leaf_refusals run (a ∷ b ∷ c ∷ rest) ≡ UnknownArgument ∷ []
+run_many a b c pa pb pc rest = run_past_2 a b pa pb (c ∷ rest)
+    ∙ refused_next run 3 (then run 2 (then run 1 nothing_held a) b) c pc rest
+    ∙ refused_already run UnknownArgument [] (filled run 3 (then run 2 (then run 1 nothing_held a) b) c) rest
+
+run_reads : (a b : Text) → run_of (rows_from run (before 3 (then run 2 (then run 1 nothing_held a) b)) []) ≡ Some (of_run a b)
+unfolding rows_from clap_on_literals
+run_reads a b = refl
+
+pub run_read : (a b : Text) → IsValue a → IsValue b
+    → run_of (leaf_rows run (a ∷ b ∷ [])) ≡ Some (of_run a b)
+run_read a b pa pb = ap run_of (rows_first run (a ∷ b ∷ [])
+    ∙ rows_next run 1 nothing_held a pa (b ∷ [])
+    ∙ rows_next run 2 (then run 1 nothing_held a) b pb [])
+    ∙ run_reads a b
+
+-- ---- new
+
+new_past_1 : (a : Text) → IsValue a → (rest : List Text)
+    → leaf_refusals new (a ∷ rest) ≡ refused_from new [] (before 2 (then new 1 nothing_held a)) rest
+new_past_1 a pa rest = refused_first new (a ∷ rest) ∙ refused_next new 1 nothing_held a pa rest
+
+new_past_2 : (a b : Text) → IsValue a → IsValue b → (rest : List Text)
+    → leaf_refusals new (a ∷ b ∷ rest) ≡ refused_from new [] (before 3 (then new 2 (then new 1 nothing_held a) b)) rest
+new_past_2 a b pa pb rest = new_past_1 a pa (b ∷ rest) ∙ refused_next new 2 (then new 1 nothing_held a) b pb rest
+
+new_past_3 : (a b c : Text) → IsValue a → IsValue b → IsValue c → (rest : List Text)
+    → leaf_refusals new (a ∷ b ∷ c ∷ rest) ≡ refused_from new [] (before 4 (then new 3 (then new 2 (then new 1 nothing_held a) b) c)) rest
+new_past_3 a b c pa pb pc rest = new_past_2 a b pa pb (c ∷ rest) ∙ refused_next new 3 (then new 2 (then new 1 nothing_held a) b) c pc rest
+
+new_past_4 : (a b c d : Text) → IsValue a → IsValue b → IsValue c → IsValue d → (rest : List Text)
+    → leaf_refusals new (a ∷ b ∷ c ∷ d ∷ rest) ≡ refused_from new [] (before 5 (then new 4 (then new 3 (then new 2 (then new 1 nothing_held a) b) c) d)) rest
+new_past_4 a b c d pa pb pc pd rest = new_past_3 a b c pa pb pc (d ∷ rest) ∙ refused_next new 4 (then new 3 (then new 2 (then new 1 nothing_held a) b) c) d pd rest
+
+new_ends_0 : refused_from new [] (before 1 nothing_held) [] ≡ MissingRequiredArgument ∷ []
+unfolding refused_from clap_on_literals
+new_ends_0 = refl
+
+pub new_none : leaf_refusals new [] ≡ MissingRequiredArgument ∷ []
+new_none = refused_first new [] ∙ new_ends_0
+
+new_ends_1 : (a : Text) → refused_from new [] (before 2 (then new 1 nothing_held a)) [] ≡ MissingRequiredArgument ∷ []
+unfolding refused_from clap_on_literals
+new_ends_1 a = refl
+
+pub new_one : (a : Text) → IsValue a → leaf_refusals new (a ∷ []) ≡ MissingRequiredArgument ∷ []
+new_one a pa = new_past_1 a pa [] ∙ new_ends_1 a
+
+new_ends_2 : (a b : Text) → refused_from new [] (before 3 (then new 2 (then new 1 nothing_held a) b)) [] ≡ MissingRequiredArgument ∷ []
+unfolding refused_from clap_on_literals
+new_ends_2 a b = refl
+
+pub new_two : (a b : Text) → IsValue a → IsValue b → leaf_refusals new (a ∷ b ∷ []) ≡ MissingRequiredArgument ∷ []
+new_two a b pa pb = new_past_2 a b pa pb [] ∙ new_ends_2 a b
+
+new_ends_3 : (a b c : Text) → refused_from new [] (before 4 (then new 3 (then new 2 (then new 1 nothing_held a) b) c)) [] ≡ MissingRequiredArgument ∷ []
+unfolding refused_from clap_on_literals
+new_ends_3 a b c = refl
+
+pub new_three : (a b c : Text) → IsValue a → IsValue b → IsValue c → leaf_refusals new (a ∷ b ∷ c ∷ []) ≡ MissingRequiredArgument ∷ []
+new_three a b c pa pb pc = new_past_3 a b c pa pb pc [] ∙ new_ends_3 a b c
+
+new_ends_4 : (a b c d : Text) → refused_from new [] (before 5 (then new 4 (then new 3 (then new 2 (then new 1 nothing_held a) b) c) d)) [] ≡ []
+unfolding refused_from clap_on_literals
+new_ends_4 a b c d = refl
+
+pub new_four : (a b c d : Text) → IsValue a → IsValue b → IsValue c → IsValue d → leaf_refusals new (a ∷ b ∷ c ∷ d ∷ []) ≡ []
+new_four a b c d pa pb pc pd = new_past_4 a b c d pa pb pc pd [] ∙ new_ends_4 a b c d
+
+pub new_many : (a b c d e : Text) → IsValue a → IsValue b → IsValue c → IsValue d → IsValue e → (rest : List Text)
+    → leaf_refusals new (a ∷ b ∷ c ∷ d ∷ e ∷ rest) ≡ UnknownArgument ∷ []
+new_many a b c d e pa pb pc pd pe rest = new_past_4 a b c d pa pb pc pd (e ∷ rest)
+    ∙ refused_next new 5 (then new 4 (then new 3 (then new 2 (then new 1 nothing_held a) b) c) d) e pe rest
+    ∙ refused_already new UnknownArgument [] (filled new 5 (then new 4 (then new 3 (then new 2 (then new 1 nothing_held a) b) c) d) e) rest
+
+new_reads : (a b c d : Text) → new_of (rows_from new (before 5 (then new 4 (then new 3 (then new 2 (then new 1 nothing_held a) b) c) d)) []) ≡ option_map (of_new a) (sizes_named (number_of b) (number_of c) (number_of d))
+unfolding rows_from clap_on_literals
+new_reads a b c d = refl
+
+pub new_read : (a b c d : Text) → IsValue a → IsValue b → IsValue c → IsValue d
+    → new_of (leaf_rows new (a ∷ b ∷ c ∷ d ∷ [])) ≡ option_map (of_new a) (sizes_named (number_of b) (number_of c) (number_of d))
+new_read a b c d pa pb pc pd = ap new_of (rows_first new (a ∷ b ∷ c ∷ d ∷ [])
+    ∙ rows_next new 1 nothing_held a pa (b ∷ c ∷ d ∷ [])
+    ∙ rows_next new 2 (then new 1 nothing_held a) b pb (c ∷ d ∷ [])
+    ∙ rows_next new 3 (then new 2 (then new 1 nothing_held a) b) c pc (d ∷ [])
+    ∙ rows_next new 4 (then new 3 (then new 2 (then new 1 nothing_held a) b) c) d pd [])
+    ∙ new_reads a b c d

@@ -1,0 +1,4 @@
+pub mod WordLemmas
+pub mod LeafLemmas
+pub mod ProgramLemmas
+pub mod FormLemmas

@@ -1,0 +1,53 @@
+-- The forms of the command line.
+use Rattle.std.specs.Prelude.{◌≡◌, ◌≢◌, ℕ, List, [], ◌∷◌, Option, Some, None, if◌then◌else◌, codes, option_map, All}
+use Rattle.std.specs.Str.{bytes_eq}
+use Rattle.nvm_base.specs.Numbers.{number_of}
+use Rattle.word_tables.specs.declared.geometry.Geometry.{Geometry}
+use Rattle.word_tables.specs.Bounds.{IsValid}
+use Rattle.command_line.specs.declared.form.Form.{Form as Read}
+use Rattle.command_line.specs.declared.form.Form.TheVariants.{New, Run, Check}
+
+-- a form of the command line, with the texts of its names
+pub data Form : Type 0 where
+  of_new : List ℕ → Geometry → Form
+  of_run : List ℕ → List ℕ → Form
+  of_check : List ℕ → Form
+
+-- the form that was read
+abbrev pub form_of : Read → Form
+form_of (New image geometry) = of_new image.now geometry
+form_of (Run from to) = of_run from.now to.now
+form_of (Check image) = of_check image.now
+
+-- the three sizes, where each is a number
+abbrev pub sizes_named : Option ℕ → Option ℕ → Option ℕ → Option Geometry
+sizes_named (Some blocks) (Some vpages) (Some fpages) = Some (record { blocks = blocks; vpages = vpages; fpages = fpages })
+sizes_named (Some blocks) (Some vpages) None = None
+sizes_named (Some blocks) None fpages = None
+sizes_named None vpages fpages = None
+
+-- the form that the words name, by how many they are and the first of them
+unfoldable pub named : List (List ℕ) → Option Form
+named (verb ∷ image ∷ []) = if bytes_eq verb (codes "check") then Some (of_check image) else None
+named (verb ∷ from ∷ to ∷ []) = if bytes_eq verb (codes "run") then Some (of_run from to) else None
+named (verb ∷ image ∷ blocks ∷ vpages ∷ fpages ∷ []) =
+    if bytes_eq verb (codes "new")
+    then option_map (of_new image) (sizes_named (number_of blocks) (number_of vpages) (number_of fpages)) else None
+named _ = None
+
+-- not empty, and not begun by a hyphen
+abbrev pub IsPlain : List ℕ → Type 0
+IsPlain [] = ⊥
+IsPlain (first ∷ rest) = first ≢ 45
+
+-- sizes are within their limits
+abbrev pub HasSizes : Form → Type 0
+HasSizes (of_new image geometry) = IsValid geometry
+HasSizes (of_run from to) = Unit {0}
+HasSizes (of_check image) = Unit {0}
+
+-- The words are this form of the command line.
+pub record IsForm (words : List (List ℕ)) (form : Form) : Type 0 where
+  pub named : named words ≡ Some form
+  pub plain : All IsPlain words
+  pub sizes : HasSizes form

@@ -1,0 +1,267 @@
+-- What a form does or fails at, as a whole.
+use Rattle.std.proofs.Common.{◌≡◌, ◌⊎◌, inl, inr, ℕ, ◌≤◌, ◌≢◌, ◌/◌, ◌%◌, false, List, [], ◌++◌, length, take, drop, Option, Some, None, Result, Ok, Err, refl, sym, ap, ap₂, subst, ◌∙◌, append-nil, arith}
+use Rattle.std.proofs.lemmas.List.{take-append-drop}
+use Rattle.std.specs.Prelude.{⊤, codes, decimal, IfOk, IfSome, MatchResult}
+use Rattle.std.specs.List.{AllByRecursion, slice_get}
+use Rattle.std.specs.Io.KnownBytes.{Appends}
+use Rattle.nvm_base.specs.Counts.{Rose, raised}
+use Rattle.nvm_base.specs.Stock.{Stock}
+use Rattle.command_line.specs.Words.{Form}
+use Rattle.command_line.specs.Words.Form.{of_check, of_new, of_run}
+use Rattle.host_io.specs.Images.{CountsReplace, Held, KeepsHeld}
+use Rattle.host_io.specs.Writing.{WritesAll}
+use Rattle.host_io.specs.declared.images.ImageCounts.{ImageCounts}
+use Rattle.host_io.specs.declared.sink.WriteFault.{WriteFault}
+use Rattle.host_io.specs.declared.sink.WriteFault.TheVariants as write
+use Rattle.image_file.specs.Devices.{image_of, medium_of, told_values, told_word}
+use Rattle.image_file.specs.Text.{IsImageLine, image_text}
+use Rattle.line_device.specs.Device.{Device}
+use Rattle.line_device.specs.History.{newest}
+use Rattle.line_device.specs.Medium.{IsSound, Medium, last_image}
+use Rattle.line_device.specs.Panel.{KeepsPower, Panel, SetsUp, after_disarm}
+use Rattle.line_device.specs.declared.line.LineState.{LineState}
+use Rattle.line_device.specs.declared.line.LineState.TheVariants.{Healthy, Weak, Bad}
+use Rattle.word_tables.specs.declared.geometry.Geometry.{Geometry}
+use Rattle.word_tables.specs.Bounds.{IsValid}
+use Rattle.word_tables.specs.Layout.{volume_line}
+use Rattle.block_device.specs.Images.{EachReads}
+use Rattle.block_device.specs.Reading.{states_read}
+use Rattle.block_device.proofs.GoodLemmas.{no_bad_block_lines}
+use Rattle.block_map.specs.States.{IsMap}
+use Rattle.nvm_model.proofs.PageLemmas.{bad_lines-none}
+use Rattle.pm_volume.specs.Images.{EachReadsPages}
+use Rattle.pm_volume.specs.Presence.{presence_read}
+use Rattle.recovery.specs.Findings.{first_finding, geometry_told}
+use Rattle.reply_text.specs.Answer.{reply_text}
+use Rattle.script_text.specs.Script.{inputs_of, lines_of}
+use Rattle.machine_host.specs.declared.mode.Mode.TheVariants as modes
+use Rattle.machine_host.specs.Commands.{MayLeaveBlocks, MayLeaveVolume}
+use Rattle.machine_host.specs.Machine.{Machine}
+use Rattle.machine_host.specs.Restarting.{reading}
+use Rattle.machine_host.specs.Run.{Run}
+use Rattle.machine_host.specs.Settling.{Settled}
+use Rattle.machine_host.specs.Stands.{HostServes, HostState, Stands}
+use Rattle.machine_host.proofs.MountLemmas.{found_map}
+use Rattle.machine_host.proofs.MountedLemmas.{layout_found}
+use Rattle.machine_host.proofs.RunLemmas.{tells_then}
+use Rattle.nvmhost.specs.Ending.{numbered_line, of_write}
+use Rattle.nvmhost.specs.Forms.{FailsToCreate, IsCaused, IsUnwritten, Outcome, bad_of, checked_text, created_text}
+use Rattle.nvmhost.specs.Opening.{CountsOpening, IsReady, StaysClosed, opened, opening}
+use Rattle.nvmhost.specs.Reading.{ReadsScript}
+use Rattle.nvmhost.specs.Running.{Performs}
+use Rattle.nvmhost.specs.Storing.{HoldsOn, NotReadOut, Stores}
+use Rattle.nvmhost.specs.Whole.{IsRun, WritesFront}
+use Rattle.nvmhost.specs.World.{World}
+use Rattle.nvmhost.specs.declared.ending.Ending.{Ending}
+use Rattle.nvmhost.specs.declared.ending.Ending.TheVariants.{Usage, Memory, Write}
+use Rattle.nvmhost.specs.declared.ending.Ending.TheVariants as endings
+use Rattle.nvmhost.proofs.AgainLemmas.{is_read_again}
+use Rattle.nvmhost.proofs.BytesLemmas.{appends-none}
+use Rattle.nvmhost.proofs.OpenLemmas.{good_of_image}
+use Rattle.nvmhost.proofs.RestLemmas.{good_served, rests-settled, stands-read_out}
+use Rattle.nvmhost.proofs.RunLemmas.{all_lines, halts-unstored, is_run}
+use Rattle.nvmhost.proofs.StoreLemmas.{last-write_back}
+
+-- a line that was to be written, as far as it was
+front_written : (r : Result (Unit {0}) WriteFault) (text : List ℕ) (old new : Option (List ℕ)) → WritesAll text r old new → WritesFront text old new
+front_written (Ok x) text old new wrote = record { part = text; front = record { rest = []; joined = append-nil text }; wrote = wrote }
+front_written (Err fault) text old new wrote = record {
+  part = take wrote.count text;
+  front = record { rest = drop wrote.count text; joined = take-append-drop wrote.count text };
+  wrote = wrote.part;
+}
+
+pub told_front : {E : Type 0} (line : Result (Stock ℕ) E) (r : Result (Unit {0}) WriteFault) (text : List ℕ) (old new : Option (List ℕ)) → IfOk line (λ l. l.items ≡ text)
+    → MatchResult line (λ l. WritesAll l.items r old new) (λ _. (r ≡ Err write.Memory) × (new ≡ old)) → WritesFront text old new
+told_front (Ok l) r text old new is told = front_written r text old new (subst (λ t. WritesAll t r old new) is told)
+told_front (Err e) r text old new is told = record {
+  part = [];
+  front = record { rest = text; joined = refl };
+  wrote = subst (λ w. Appends old w []) (sym told.1) (appends-none old);
+}
+
+-- and one that was
+pub told_all : {E : Type 0} (line : Result (Stock ℕ) E) (r : Result (Unit {0}) WriteFault) (text : List ℕ) (old new : Option (List ℕ)) (x : Unit {0}) → IfOk line (λ l. l.items ≡ text)
+    → MatchResult line (λ l. WritesAll l.items r old new) (λ _. (r ≡ Err write.Memory) × (new ≡ old)) → r ≡ Ok x → Appends old new text
+told_all (Ok l) (Ok y) text old new x is told ok = subst (Appends old new) is told
+told_all (Err e) (Ok y) text old new x is told ok = cc told.0
+told_all line (Err e) text old new x is told ok = cc ok
+
+keeps-same : (held : Option Held) → KeepsHeld (λ _. ⊤) held held
+keeps-same None = tt
+keeps-same (Some look) = λ name _. refl
+
+-- why a line or an image was not written
+pub unwritten : (fault : WriteFault) (old new : World) → (fault ≡ write.Failed → Rose old.writes new.writes ⊎ Rose old.images.replace_faults new.images.replace_faults)
+    → IsUnwritten (of_write fault) old new
+unwritten write.Failed old new cause = cause refl
+unwritten write.Memory old new cause = tt
+
+-- `new` that came to no end: its line was not written, or the image was not replaced
+pub untold : (name : List ℕ) (geo : Geometry) (fault : WriteFault) (old new : World) → WritesFront (created_text geo) old.written new.written → (fault ≡ write.Failed → Rose old.writes new.writes)
+    → new.held ≡ old.held → new.images ≡ old.images → new.device ≡ old.device → new.left ≡ old.left → new.reads ≡ old.reads → FailsToCreate name geo (of_write fault) old new
+untold name geo fault old new wrote cause held images device left reads = record {
+  cause = unwritten fault old new (λ is. inl (cause is));
+  wrote = wrote;
+  replaced = inl (ap (λ c. c.replaces) images);
+  holds = inl (subst (KeepsHeld (λ _. ⊤) old.held) (sym held) (keeps-same old.held));
+  counts = record {
+    fetches = ap (λ c. c.fetches) images;
+    fetch_faults = ap (λ c. c.fetch_faults) images;
+    replaces = inl (ap (λ c. c.replaces) images);
+    replace_faults = omega (arith, ap (λ c. c.replace_faults) images);
+  };
+  device = device;
+  script = record { left = left; reads = reads };
+}
+
+pub unreplaced : (name : List ℕ) (geo : Geometry) (fault : WriteFault) (old new : World) → Appends old.written new.written (created_text geo)
+    → (fault ≡ write.Memory → KeepsHeld (λ _. ⊤) old.held new.held) → KeepsHeld (λ other. other ≢ name) old.held new.held
+    → (failed : Type 0) → (fault ≡ write.Failed → failed) → CountsReplace failed old.images new.images
+    → new.device ≡ old.device → new.left ≡ old.left → new.reads ≡ old.reads → FailsToCreate name geo (of_write fault) old new
+unreplaced name geo fault old new wrote memory others failed is_failed counts device left reads = record {
+  cause = unwritten fault old new (λ is. inr (counts.cause (is_failed is)));
+  wrote = record { part = created_text geo; front = record { rest = []; joined = append-nil (created_text geo) }; wrote = wrote };
+  replaced = inr wrote;
+  holds = by_fault fault memory (λ is. counts.cause (is_failed is));
+  counts = record { fetches = counts.fetches; fetch_faults = counts.fetch_faults; replaces = inr counts.replaces; replace_faults = counts.later };
+  device = device;
+  script = record { left = left; reads = reads };
+}
+  where
+    by_fault : (f : WriteFault) → (f ≡ write.Memory → KeepsHeld (λ _. ⊤) old.held new.held) → (f ≡ write.Failed → Rose old.images.replace_faults new.images.replace_faults) → HoldsOn name old.held new.held old.images new.images
+    by_fault write.Failed memory rose = inr (rose refl, others)
+    by_fault write.Memory memory rose = inl (memory refl)
+
+-- no line of an image that is opened is bad
+pub none_bad : (lines : List LineState) → AllByRecursion IsImageLine lines → first_finding (medium_of lines) ≡ None → bad_of (opened lines) ≡ 0
+unfolding reading
+none_bad lines all right =
+    let m = medium_of lines in
+    let geo = geometry_told m in
+    let layout = layout_found m right (λ n _ _. good_of_image lines all n) in
+    let is_map = subst (λ word. IsMap (states_read geo word)) words (found_map m right) in
+    let blocks = no_bad_block_lines geo (image_of lines).is_bad (image_of lines).word layout.valid is_map (λ n _. (good_of_image lines all n).0) in
+    let pages = bad_lines-none (volume_line geo) (image_of lines) (presence_read geo (image_of lines).word) (λ n _. (good_of_image lines all (volume_line geo n)).0) in
+    omega (arith, blocks, pages)
+  where
+    by_line : (line : Option LineState) (w : ℕ) → newest (told_values line w) ≡ told_word line w
+    by_line None w = refl
+    by_line (Some (Healthy bytes)) w = refl
+    by_line (Some (Weak bytes)) w = refl
+    by_line (Some Bad) w = refl
+
+    words : last_image (medium_of lines) ≡ (image_of lines).word
+    words = λ i p. by_line (slice_get lines (p / 8)) (p % 8) i
+
+-- what `check` is answered then
+pub checked_none : (lines : List LineState) (count : ℕ) → AllByRecursion IsImageLine lines → first_finding (medium_of lines) ≡ None → count ≡ length lines
+    → codes "ok " ++ decimal count ++ numbered_line (codes " bad ") 0 ≡ checked_text lines
+checked_none lines count all right is = ap₂ (λ n bad. codes "ok " ++ decimal n ++ numbered_line (codes " bad ") bad) is (sym (none_bad lines all right))
+
+-- what is held, held on for a while
+keeps-then : (which : List ℕ → Type 0) (a b c : Option Held) → KeepsHeld (λ _. ⊤) a b → KeepsHeld which b c → KeepsHeld which a c
+keeps-then which None b c x y = tt
+keeps-then which (Some f) None c x y = absurd x
+keeps-then which (Some f) (Some g) None x y = y
+keeps-then which (Some f) (Some g) (Some h) x y = λ name of. y name of ∙ x name tt
+
+holds-then : (name : List ℕ) (a b c : Option Held) (before counted counts : ImageCounts) → KeepsHeld (λ _. ⊤) a b → counted.replace_faults ≡ before.replace_faults → HoldsOn name b c counted counts
+    → HoldsOn name a c before counts
+holds-then name a b c before counted counts x same (inl y) = inl (keeps-then (λ _. ⊤) a b c x y)
+holds-then name a b c before counted counts x same (inr y) = inr (subst (λ n. Rose n counts.replace_faults) same y.0, keeps-then (λ other. other ≢ name) a b c x y.1)
+
+-- why an image was not stored
+unstored : (e : Ending) (old new : World) (counted : ImageCounts) (rest : Panel) → old.device.panel.counts.setups ≤ rest.counts.setups → counted.replace_faults ≡ old.images.replace_faults
+    → NotReadOut e rest new.device.panel ⊎ ((e ≡ Write) × Rose counted.replace_faults new.images.replace_faults) → IsCaused e old new
+unstored e old new counted rest later same (inl (inl is)) = subst (λ e. IsCaused e old new) (sym is) tt
+unstored e old new counted rest later same (inl (inr read)) =
+    subst (λ e. IsCaused e old new) (sym read.0) (let rose = read.1 in omega (arith, rose, later))
+unstored e old new counted rest later same (inr stored) = subst (λ e. IsCaused e old new) (sym stored.0) (inr (subst (λ n. Rose n new.images.replace_faults) same stored.1))
+
+-- host and device that were brought to rest go on
+pub served_settled : (name : List ℕ) (held : Option Held) (host after settled : HostState) (script : List ℕ) (written answered : Option (List ℕ)) (old opened_as ran rest : Device) → IsReady name held host old opened_as
+    → Performs host after script (Ok tt) written answered opened_as ran → ((h : Machine) → Stands after ran h → Settled h settled (after_disarm ran.panel) rest) → HostServes settled rest
+served_settled name held host after settled script written answered old opened_as ran rest ready performs settles =
+    let says = performs.says ready.begin ready.stands in (settles says.end says.outcome.stands).serves
+
+-- A script that was performed to its end: host and device were brought to rest, and the image was stored or not.
+pub run_over : (from to : List ℕ) (host after settled : HostState) (script : Stock ℕ) (opened_as ran rest : Device) (held : Option Held) (counted : ImageCounts) (r : Result (Unit {0}) Ending) (old new : World)
+    → IsReady from old.held host old.device opened_as → ReadsScript old.left new.left (Ok script) → Performs host after script.items (Ok tt) old.written new.written opened_as ran
+    → ((h : Machine) → Stands after ran h → Settled h settled (after_disarm ran.panel) rest) → settled.mode ≡ modes.On → IsSound rest.medium
+    → KeepsHeld (λ _. ⊤) old.held held → CountsOpening old.images counted → Stores to r held new.held counted new.images rest new.device → Outcome (of_run from to) r old new
+run_over from to host after settled script opened_as ran rest held counted (Ok x) old new ready reads performs settles on sound kept counts stores =
+    let says = performs.says ready.begin ready.stands in
+    let comes = settles says.end says.outcome.stands in
+    let good = good_served settled rest on comes.serves in
+    let done = stores.outcome in
+    let image = done.3 in
+    let still = comes.stands.mode in
+    let stands = comes.stands.device in
+    let whole = stands.whole (sym still ∙ on) in
+    record {
+      lines = ready.lines;
+      there = ready.held_there;
+      right = ready.right;
+      script = reads.script;
+      said = says.said;
+      last = comes.next;
+      read = reads.read;
+      ended = reads.outcome.1;
+      short = reads.outcome.2;
+      ran = record {
+        end = says.end;
+        run = subst (λ ls. IsRun (opened ready.lines) old.device.panel ls says.said says.end) (sym (all_lines reads.script script says.lines says.others reads.outcome.0 says.split says.outcome.none_left))
+            (is_run ready.lines old.device.panel says.lines says.said ready.begin says.end ready.begins says.run);
+        starts = comes.starts;
+        comes = comes.comes;
+        settled = record {
+          ran = ran.panel;
+          tells = tells_then opening says.said old.device.panel opened_as.panel ran.panel ready.tells says.outcome.tells;
+          rest = rest.panel;
+          asks = comes.asks;
+          restarts = comes.restarts;
+          read_out = subst (λ end. SetsUp end rest.panel new.device.panel) done.0 stores.sets_up;
+        };
+        stands = stands-read_out comes.next rest new.device stands stores.wrote (subst (λ end. SetsUp end rest.panel new.device.panel) done.0 stores.sets_up)
+            (subst (λ end. KeepsPower end rest.panel new.device.panel) done.0 stores.power) (sym stands.cut_armed ∙ comes.asks.cut_armed) (sym stands.fail_armed ∙ comes.asks.fail_armed);
+      };
+      wrote = subst (Appends old.written new.written) says.outcome.all says.wrote;
+      stored = record {
+        lines = image.lines;
+        last = last-write_back rest.medium new.device.medium image.lines stores.wrote image.last;
+        right = image.right;
+        holds = record {
+          text = subst (λ t. IfSome new.held (λ look. look to ≡ Some t)) image.is done.4;
+          others = keeps-then (λ other. other ≢ to) old.held held new.held kept done.5;
+        };
+        again = is_read_again comes.next rest.medium image.lines (subst IsValid comes.stands.geometry comes.serves.layout.valid) sound good image.right.whole image.last stands.metadata
+            (subst (λ i. EachReads comes.next.geometry rest.medium (MayLeaveBlocks i comes.next.blocks)) whole stands.blocks)
+            (subst (λ i. EachReadsPages comes.next.geometry rest.medium (MayLeaveVolume comes.next.geometry i comes.next.volume)) whole stands.volume) whole;
+      };
+      fetches = stores.fetches ∙ counts.fetches;
+      replaces = done.1 ∙ ap raised counts.replaces;
+    }
+run_over from to host after settled script opened_as ran rest held counted (Err e) old new ready reads performs settles on sound kept counts stores =
+    let says = performs.says ready.begin ready.stands in
+    let comes = settles says.end says.outcome.stands in
+    let left = stores.outcome in
+    inr (halts-unstored from to e host after script opened_as ran old new ready reads performs
+    (rests-settled says.end.mode says.end comes.next comes.starts stores.end ran.panel rest.panel new.device.panel comes.comes comes.asks comes.restarts stores.sets_up)
+    (unstored e old new counted rest.panel (omega (arith, ready.tells.setups, says.outcome.tells.setups, comes.asks.setups)) counts.replace_faults left.0)
+    (replaced left.2) (stores.fetches ∙ counts.fetches) (holds-then to old.held held new.held old.images counted new.images kept counts.replace_faults left.1))
+  where
+    replaced : (new.images.replaces ≡ counted.replaces) ⊎ (new.images.replaces ≡ raised counted.replaces) → (new.images.replaces ≡ old.images.replaces) ⊎ (new.images.replaces ≡ raised old.images.replaces)
+    replaced (inl none) = inl (none ∙ counts.replaces)
+    replaced (inr one) = inr (one ∙ ap raised counts.replaces)
+
+-- a form that was read is not taken for none
+pub never_new : (name : List ℕ) (geo : Geometry) (r : Result (Unit {0}) Ending) (old new : World) → Outcome (of_new name geo) r old new → r ≡ Err Usage → ⊥
+never_new name geo (Ok x) old new outcome is = cc is
+never_new name geo (Err e) old new outcome is = let same : e ≡ Usage = cc is in subst (λ e. IsUnwritten e old new) same outcome.cause
+
+pub never_check : (name : List ℕ) (r : Result (Unit {0}) Ending) (old new : World) → Outcome (of_check name) r old new → r ≡ Err Usage → ⊥
+never_check name (Ok x) old new outcome is = cc is
+never_check name (Err e) old new (inl closed) is =
+    let same : e ≡ Usage = cc is in subst (λ e. StaysClosed name old.held e old.images new.images old.device.panel new.device.panel) same closed.cause
+never_check name (Err e) old new (inr untold) is = let same : e ≡ Usage = cc is in subst (λ e. IsUnwritten e old new) same untold.cause

@@ -1,0 +1,10 @@
+use Rattle.nvmhost.proofs.FormLemmas.{never_check, never_new}
+use Rattle.nvmhost.proofs.top.perform.Goals as goal
+
+pub returns-in-New-clause-usage : goal.returns-in-New-clause-usage
+returns-in-New-clause-usage g c is =
+    absurd (never_new c.in-New.image.now c.in-New.geometry c.create.result _ _ (c.create.ensures (g.D.Lines.state c.args.device.now) (g.T.Source.left c.args.script.now) (g.T.Source.count c.args.script.now)) is)
+
+pub returns-in-Check-clause-usage : goal.returns-in-Check-clause-usage
+returns-in-Check-clause-usage g c is =
+    absurd (never_check c.in-Check.image.now c.check.result _ _ (c.check.ensures (g.T.Source.left c.args.script.now) (g.T.Source.count c.args.script.now)) is)
