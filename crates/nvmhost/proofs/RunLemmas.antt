@@ -154,13 +154,16 @@ halts-unstored from to e host after script opened ran old new ready reads perfor
       run = is_run ready.lines old.device.panel says.lines says.said ready.begin says.end ready.begins says.run;
       front = says.front;
       wrote = says.wrote;
-      tells = inr (tells_first-after raised says.said says.end old.device.panel opened.panel new.device.panel ready.tells (record {
-        between = ran.panel;
-        tells = says.outcome.tells;
-        cut_armed = says.outcome.stands.device.cut_armed;
-        fail_armed = says.outcome.stands.device.fail_armed;
-        left = rests;
-      }), through);
+      tells = inr (
+        tells_first-after raised says.said says.end old.device.panel opened.panel new.device.panel ready.tells (record {
+          between = ran.panel;
+          tells = says.outcome.tells;
+          cut_armed = says.outcome.stands.device.cut_armed;
+          fail_armed = says.outcome.stands.device.fail_armed;
+          left = rests;
+        }),
+        through,
+      );
       replaced = elim replaces as (λ _. (new.images.replaces ≡ old.images.replaces) ⊎ ((new.images.replaces ≡ raised old.images.replaces) × IsThrough says.said says.part says.others new.left)) [
         | inl none ↦ inl none
         | inr one ↦ inr (one, through)

@@ -151,7 +151,10 @@ fn a_run_that_ends_without_power_keeps_the_last_values(rt: HostRuntime) -> Resul
         "vload 0 2\nbread 1 1\nbread 0 1\n",
     )?;
     assert_eq!(rt; status, 0);
-    assert_eq!(rt; sink.written(), b"data 02,00\ndata 07*512\ndata 00*512\n".as_slice());
+    assert_eq!(rt;
+        sink.written(),
+        b"data 02,00\ndata 07*512\ndata 00*512\n".as_slice()
+    );
     let (status, sink) = outcome(alloc, "check out", &mut images, "")?;
     assert_eq!(rt; status, 0);
     assert_eq!(rt; sink.written(), b"ok 5056 bad 0\n".as_slice());
@@ -175,22 +178,21 @@ fn three_runs_over_one_image_leave_what_one_run_leaves(rt: HostRuntime) -> Resul
     let part = "vstore 4090 01*9\nbwrite 3 05*1024\nvdiscard 1 1\nvsync 0 64\nbdiscard 4 1\n";
     let mut images = fresh(alloc)?;
     for words in ["run img a", "run a b", "run b three"] {
-        let mut source = MemSource::new(
-            repeated(alloc, part, 200, "")?,
-            65536,
-            Words::new(alloc),
-        );
+        let mut source = MemSource::new(repeated(alloc, part, 200, "")?, 65536, Words::new(alloc));
         let mut sink = MemSink::new(alloc, Words::new(alloc));
         let mut device = Plain::new(alloc);
-        let status = call(alloc, words, &mut device, &mut images, &mut source, &mut sink)?;
+        let status = call(
+            alloc,
+            words,
+            &mut device,
+            &mut images,
+            &mut source,
+            &mut sink,
+        )?;
         assert_eq!(rt; status, 0, "{words}");
         assert_eq!(rt; sink.written().len(), 3000);
     }
-    let mut source = MemSource::new(
-        repeated(alloc, part, 600, "")?,
-        65536,
-        Words::new(alloc),
-    );
+    let mut source = MemSource::new(repeated(alloc, part, 600, "")?, 65536, Words::new(alloc));
     let mut sink = MemSink::new(alloc, Words::new(alloc));
     let mut device = Plain::new(alloc);
     let status = call(

@@ -42,7 +42,14 @@ fn outcome(alloc: Global, trial: &Trial) -> Result<(u8, MemSink, bool), AllocErr
     let script = repeated(alloc, "x\n", trial.lines, "")?;
     let mut source = MemSource::new(script, 7, only(alloc, trial.read)?);
     let mut sink = MemSink::new(alloc, only(alloc, trial.write)?);
-    let status = call(alloc, trial.words, &mut device, &mut images, &mut source, &mut sink)?;
+    let status = call(
+        alloc,
+        trial.words,
+        &mut device,
+        &mut images,
+        &mut source,
+        &mut sink,
+    )?;
     let kept = images.get("img") == Some(before) && (status == 0 || images.get("out").is_none());
     Ok((status, sink, kept))
 }
@@ -70,8 +77,26 @@ fn a_call_that_ends_early_says_why(rt: HostRuntime) -> Result<(), Fail> {
         (Trial { image: 2, ..run }, 5, 8, ""),
         (trying("run none out", 8), 4, 0, "error read\n"),
         // Where the status's line can't be written either, the status stays.
-        (Trial { read: 1, write: 1, ..run }, 4, 0, ""),
-        (Trial { write: 1, cut: 1, ..run }, 8, 0, ""),
+        (
+            Trial {
+                read: 1,
+                write: 1,
+                ..run
+            },
+            4,
+            0,
+            "",
+        ),
+        (
+            Trial {
+                write: 1,
+                cut: 1,
+                ..run
+            },
+            8,
+            0,
+            "",
+        ),
         (check, 0, 0, "ok 5056 bad 0\n"),
         (trying("check none", 0), 4, 0, "error read\n"),
         (Trial { image: 1, ..check }, 4, 0, "error read\n"),

@@ -16,7 +16,7 @@ returns-clause-ready g c =
     let is = c.in_ok-install.ensures.lines in
     let done = c.in_ok-mount.ensures in
     let good : HasGoodData (geometry_told mid.medium) mid.medium =
-        subst (λ (m : Medium). HasGoodData (geometry_told m) m) (sym is) (λ n _ _. good_of_image lines there.right.whole n) in
+    subst (λ (m : Medium). HasGoodData (geometry_told m) m) (sym is) (λ n _ _. good_of_image lines there.right.whole n) in
     let shows : Depicts mid.medium (image_of lines) = subst (λ (m : Medium). Depicts m (image_of lines)) (sym is) (depicted lines) in
     is_ready c.args.name.now (g.F.Images.held c.args.images.now) lines c.in_ok-mount.field-0 (g.D.Lines.state c.args.device.now) mid (g.D.Lines.state c.mount.new.device)
     there is c.in_ok-install.ensures.sets_up done.finds done.lines.count (done.serves good) (done.stands (image_of lines) shows good) done.runs
