@@ -1,0 +1,5 @@
+pub mod ClaimLemmas
+pub mod FirstLemmas
+pub mod SetLemmas
+pub mod TableLemmas
+pub mod WrongLemmas

@@ -1,0 +1,4 @@
+pub mod Cause
+pub mod Claims
+pub mod Pages
+pub mod Wrong
