@@ -6,7 +6,7 @@ mod table;
 mod word;
 
 pub use judging::TableFault;
-pub use table::{INODE_PAGES, INODES, PageTable, SPARE_UNITS};
+pub use table::{INODE_PAGES, INODES, PageTable, SPARE_UNITS, tables_are_right};
 
 #[cfg(test)]
 mod tests;

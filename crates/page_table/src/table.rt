@@ -1,4 +1,4 @@
-ghost use Rattle.std.specs.Prelude.{◌≡◌, ◌<◌, ◌≤◌, ◌+◌, ◌*◌, ◌-◌, IfErr, IfOk, None, OnOk, Some, length, map, slice_get, slice_set};
+ghost use Rattle.std.specs.Prelude.{◌≡◌, ◌<◌, ◌≤◌, ◌+◌, ◌*◌, ◌-◌, IfErr, IfOk, List, ℕ, None, OnOk, Some, length, map, slice_get, slice_set};
 ghost use Rattle.word_tables.specs.Bounds.{IsValid};
 ghost use Rattle.page_table.specs.Cause.{IsCause};
 ghost use Rattle.page_table.specs.Pages.{IsBelow, IsTable, IsWithinCounts, MayTake, TableState, unit_of, used_by, used_pages, word_of};
@@ -105,6 +105,12 @@ impl PageTable {
         word::word_of(unit)
     }
 }
+
+/// A law: the words of a table that leaves units free, where each inode has its pages, are right. So what is set is read again.
+pub fn tables_are_right()
+    ensures { (table : TableState) (counts : List ℕ) → IsTable table → IsWithinCounts counts table.pages
+        → used_pages table.pages + 16 ≤ table.units → first_wrong_entry table.units counts (map word_of table.pages) ≡ None }
+{}
 
 fn entry_of(inode: u64, page: u64) -> usize
     requires inode { inode < 64 }

@@ -1,6 +1,6 @@
 ghost use Rattle.std.specs.Prelude.{◌≡◌};
 
-use crate::{PageTable, TableFault};
+use crate::{PageTable, SPARE_UNITS, TableFault};
 use std::alloc::Global;
 use std::process::Abort;
 use std::test::Fail;
@@ -18,15 +18,14 @@ fn sizes(fpages: u64) -> Geometry
     }
 }
 
-// The table of these words, each at its index, and of holes.
+// The table of these words, each at its index, and else of holes.
 fn table(
     rt: &impl Abort,
     alloc: Global,
-    fpages: u64,
     counts: &[u64; 64],
     named: &[(usize, u64)],
 ) -> Result<PageTable, TableFault> {
-    let geo = sizes(fpages);
+    let geo = sizes(32);
     assert!(rt; geo.valid());
     let mut words = vec![in alloc; 0; WORDS]?;
     for (index, word) in named {
@@ -43,20 +42,75 @@ fn pages_are_read_set_and_counted(rt: HostRuntime) -> Result<(), Fail> {
     counts[0] = 3;
     counts[63] = 256;
     let words = [(0, 1), (2, 32), (16383, 2)];
-    let mut table = table(&rt, rt.alloc(), 32, &counts, &words)?;
+    let mut table = table(&rt, rt.alloc(), &counts, &words)?;
     assert_eq!(rt; table.used(), 3);
     assert_eq!(rt; table.get(0, 0), Some(0));
     assert_eq!(rt; table.get(0, 1), None);
-    assert_eq!(rt; table.get(0, 2), Some(31));
     assert_eq!(rt; table.get(63, 255), Some(1));
+    assert_eq!(rt; table.get(0, 2), Some(31));
 
     table.set(0, 2, None);
     assert_eq!(rt; table.used(), 2);
     assert_eq!(rt; table.get(0, 2), None);
+    table.set(0, 1, Some(31));
+    assert_eq!(rt; table.used(), 3);
+    assert_eq!(rt; table.get(0, 1), Some(31));
     assert_eq!(rt; table.get(0, 0), Some(0));
-    table.set(0, 0, Some(0));
-    assert_eq!(rt; table.used(), 2);
-    assert_eq!(rt; PageTable::word(Some(31)), 32);
+    Ok(())
+}
+
+#[test]
+fn words_stand_for_units(rt: HostRuntime) {
     assert_eq!(rt; PageTable::word(None), 0);
+    assert_eq!(rt; PageTable::word(Some(0)), 1);
+    assert_eq!(rt; PageTable::word(Some(1023)), 1024);
+}
+
+#[test]
+fn the_first_wrong_word_is_named(rt: HostRuntime) -> Result<(), Fail> {
+    let mut counts = [0; 64];
+    counts[0] = 2;
+    counts[63] = 256;
+    for (words, index) in [
+        ([(0, 33), (1, 33)], 0),
+        ([(0, 32), (1, 32)], 1),
+        ([(1, 7), (16383, 7)], 16383),
+        ([(1, 1), (2, 2)], 2),
+        ([(256, 1), (257, 40)], 256),
+        ([(1, u64::MAX), (2, 1)], 1),
+    ] {
+        let answer = table(&rt, rt.alloc(), &counts, &words).err();
+        assert_eq!(rt; answer, Some(TableFault::Bad(index)), "at {words:?}");
+    }
+    Ok(())
+}
+
+// The table whose first pages are on the first units.
+fn filled(
+    rt: &impl Abort,
+    alloc: Global,
+    fpages: u64,
+    pages: usize,
+) -> Result<PageTable, TableFault> {
+    let geo = sizes(fpages);
+    assert!(rt; geo.valid());
+    let mut words = vec![in alloc; 0; WORDS]?;
+    for index in 0..pages {
+        assert!(rt; index < words.len());
+        words[index] = index as u64 + 1;
+    }
+    assert!(rt; words.len() == WORDS);
+    PageTable::read(alloc, geo, &[256; 64], &words)
+}
+
+#[test]
+fn sixteen_units_stay_free(rt: HostRuntime) -> Result<(), Fail> {
+    for fpages in [32, 1024] {
+        let most = fpages - SPARE_UNITS;
+        let full = filled(&rt, rt.alloc(), fpages, most as usize)?;
+        assert_eq!(rt; full.used(), most);
+        let answer = filled(&rt, rt.alloc(), fpages, most as usize + 1).err();
+        assert_eq!(rt; answer, Some(TableFault::Bad(most)), "of {fpages}");
+    }
     Ok(())
 }
