@@ -3,7 +3,7 @@ use Rattle.std.proofs.Common.{◌≡◌, ◌≢◌, ◌⊎◌, ◌<◌, ◌≤�
 use Rattle.std.proofs.lemmas.Bool.{cases_eq}
 use Rattle.std.proofs.lemmas.List.{map-set}
 use Rattle.std.proofs.lemmas.List.Sums.{get_or-le-sum_by, sum_by-set}
-use Rattle.std.proofs.lemmas.Option.{get_or_from_slice_get, same_Some, slice_get-get_or, slice_get_within}
+use Rattle.std.proofs.lemmas.Option.{get_or_from_slice_get, none-some, same_Some, slice_get-get_or, slice_get_within}
 use Rattle.page_table.specs.Pages.{IsOn, IsTable, MayTake, TableState, unit_of, used_by, used_pages}
 
 module _ (pages : List (Option ℕ)) (entry : ℕ) (page : Option ℕ) where
@@ -35,10 +35,7 @@ module _ (pages : List (Option ℕ)) (entry : ℕ) (page : Option ℕ) where
 module _ (units : ℕ) (pages : List (Option ℕ)) (entry : ℕ) (is : IsTable (record { units = units; pages = pages })) where
   -- where the page takes no unit of another
   taken : (page : Option ℕ) → MayTake (record { units = units; pages = pages }) entry page → (unit : ℕ) → page ≡ Some unit → (unit < units) × ((other : ℕ) → IsOn pages other unit → other ≡ entry)
-  taken None may unit same = absurd (none_some same)
-    where
-      none_some : {n : ℕ} → None ≡ Some n → ⊥
-      none_some e = cc
+  taken None may unit same = absurd (none-some unit same)
   taken (Some u) may unit same =
       let e : u ≡ unit = same_Some u unit same in
       subst (λ (n : ℕ). (n < units) × ((other : ℕ) → IsOn pages other n → other ≡ entry)) e may
@@ -62,6 +59,18 @@ module _ (units : ℕ) (pages : List (Option ℕ)) (entry : ℕ) (is : IsTable (
       ]
     ];
   }
+
+-- once a page is a hole, another may be where it was
+module _ (table : TableState) (is : IsTable table) (from to : ℕ) where
+  pub may_move : (page : Option ℕ) → slice_get table.pages from ≡ Some page → MayTake (record table { pages = set table.pages from None }) to page
+  may_move None was = tt
+  may_move (Some unit) was = (
+    is.within from unit was,
+    λ other on. elim (on_after table.pages from None other unit on) [
+      | inl here ↦ absurd (none-some unit here.1)
+      | inr there ↦ absurd (there.0 (is.apart other from unit there.1 was))
+    ],
+  )
 
 -- the word of an entry becomes that of a page
 pub units_set : (words : List ℕ) (entry at word : ℕ) (page : Option ℕ) → entry ≡ at → unit_of word ≡ page → map unit_of (set words entry word) ≡ set (map unit_of words) at page

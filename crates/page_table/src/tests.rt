@@ -1,4 +1,4 @@
-ghost use Rattle.std.specs.Prelude.{◌≡◌};
+ghost use Rattle.std.specs.Prelude.{◌≡◌, ◌<◌};
 
 use crate::{PageTable, SPARE_UNITS, TableFault};
 use std::alloc::Global;
@@ -36,6 +36,16 @@ fn table(
     PageTable::read(alloc, geo, counts, &words)
 }
 
+// Puts one page of the first inode where another was.
+fn move_page(table: &mut PageTable, from: u64, to: u64)
+    requires from { from < 256 }
+    requires to { to < 256 }
+{
+    let unit = table.get(0, from);
+    table.set(0, from, None);
+    table.set(0, to, unit);
+}
+
 #[test]
 fn pages_are_read_set_and_counted(rt: HostRuntime) -> Result<(), Fail> {
     let mut counts = [0; 64];
@@ -49,12 +59,13 @@ fn pages_are_read_set_and_counted(rt: HostRuntime) -> Result<(), Fail> {
     assert_eq!(rt; table.get(63, 255), Some(1));
     assert_eq!(rt; table.get(0, 2), Some(31));
 
-    table.set(0, 2, None);
-    assert_eq!(rt; table.used(), 2);
-    assert_eq!(rt; table.get(0, 2), None);
-    table.set(0, 1, Some(31));
+    move_page(&mut table, 2, 1);
     assert_eq!(rt; table.used(), 3);
     assert_eq!(rt; table.get(0, 1), Some(31));
+    assert_eq!(rt; table.get(0, 2), None);
+    table.set(63, 255, None);
+    assert_eq!(rt; table.used(), 2);
+    assert_eq!(rt; table.get(63, 255), None);
     assert_eq!(rt; table.get(0, 0), Some(0));
     Ok(())
 }
