@@ -1,7 +1,8 @@
 -- The first number below a limit that passes a test.
 use Rattle.std.proofs.Common.{◌≡◌, ◌<◌, ℕ, Bool, true, false, Some, None, length, get_or, position, cond, ltb, sym, ap, ◌∙◌, inl, inr, arith}
 use Rattle.std.specs.List.{range_with_len, position_or_len}
-use Rattle.std.proofs.lemmas.Bool.{lt-ltb, le-ltb, cases_lt}
+use Rattle.std.proofs.lemmas.Bool.{lt-ltb, le-ltb, ltb-true, cases_lt}
+use Rattle.std.proofs.lemmas.Option.{cond_some, none-some}
 use Rattle.std.proofs.lemmas.List.FromFn.{length-range_with_len, get_or-range_with_len}
 use Rattle.std.proofs.lemmas.List.Sums.{position_or_len_is, fails_before_first}
 
@@ -27,12 +28,14 @@ module _ (p : ℕ → Bool) (len : ℕ) where
       (λ k below. ap p (number k below) ∙ none k below) (λ past. absurd (omega (arith, size))) in
       by_place ∙ ap (λ i. cond (ltb i len) (Some i) None) place ∙ ap (λ b. cond b (Some len) None) (le-ltb len len (omega arith))
 
-  some_none : {n : ℕ} → Some n ≡ None → ⊥
-  some_none same = cc
+  pub first_within : (n : ℕ) → position p (range_with_len 0 len) ≡ Some n → n < len
+  first_within n found =
+      let parts = cond_some (ltb (position_or_len p (range_with_len 0 len)) len) (position_or_len p (range_with_len 0 len)) n (sym by_place ∙ found) in
+      omega (arith, ltb-true _ _ parts.0, parts.1)
 
   pub fails_where_none : position p (range_with_len 0 len) ≡ None → (k : ℕ) → k < len → p k ≡ false
   fails_where_none none k within =
       elim (cases_lt (position_or_len p (range_with_len 0 len)) len) [
-        | inl some ↦ absurd (some_none (sym (by_place ∙ ap (λ b. cond b (Some (position_or_len p (range_with_len 0 len))) None) (lt-ltb _ _ some)) ∙ none))
+        | inl some ↦ absurd (none-some _ (sym none ∙ by_place ∙ ap (λ b. cond b (Some (position_or_len p (range_with_len 0 len))) None) (lt-ltb _ _ some)))
         | inr past ↦ ap p (sym (number k within)) ∙ fails_before_first p (range_with_len 0 len) k 0 (omega arith)
       ]

@@ -5,7 +5,7 @@ use Rattle.std.proofs.lemmas.Bool.{le-leb, lt-leb, leb-false, not-false, not_fro
 use Rattle.std.proofs.lemmas.List.{length-map}
 use Rattle.page_table.specs.Pages.{unit_of, used_pages}
 use Rattle.page_table.specs.Wrong.{first_wrong_entry, has_page, is_on, is_wrong, is_wrong_after}
-use Rattle.page_table.proofs.FirstLemmas.{first_is, first_is_none, fails_where_none}
+use Rattle.page_table.proofs.FirstLemmas.{first_is, first_is_none, first_within, fails_where_none}
 
 module _ (units : ℕ) (before : List (Option ℕ)) (there : Bool) (unit : ℕ) where
   pub wrong_no_page : there ≡ false → is_wrong_after units before there (Some unit) ≡ true
@@ -48,6 +48,10 @@ module _ (units : ℕ) (counts words : List ℕ) where
       → first_wrong_entry units counts words ≡ Some n
   unfolding first_wrong_entry
   wrong_first = first_is (is_wrong units counts (map unit_of words)) (length words)
+
+  pub wrong_within : (n : ℕ) → first_wrong_entry units counts words ≡ Some n → n < length words
+  unfolding first_wrong_entry
+  wrong_within = first_within (is_wrong units counts (map unit_of words)) (length words)
 
   pub none_wrong : ((k : ℕ) → k < length words → is_wrong units counts (map unit_of words) k ≡ false) → first_wrong_entry units counts words ≡ None
   unfolding first_wrong_entry
