@@ -1,18 +1,20 @@
 -- Which units are free once the first pages have taken theirs.
-use Rattle.std.proofs.Common.{◌≡◌, ◌≢◌, ◌<◌, ◌≤◌, ◌+◌, ◌&&◌, ◌||◌, ◌==◌, ℕ, Bool, true, false, List, Option, Some, None, length, get_or, set, slice_get, replicate, map, take, cond, is_some, leb, ltb, not, refl, sym, ap, ◌∙◌, inl, inr, arith, below_more, length-set, get_or-set_same, get_or-set_other}
+use Rattle.std.proofs.Common.{◌≡◌, ◌≢◌, ◌<◌, ◌≤◌, ◌+◌, ◌&&◌, ◌||◌, ◌==◌, ℕ, Bool, true, false, List, Option, Some, None, length, get_or, set, slice_get, replicate, map, take, cond, is_some, leb, ltb, not, refl, sym, ap, subst, ◌∙◌, inl, inr, arith, below_more, length-set, get_or-set_same, get_or-set_other}
 use Rattle.std.specs.List.{list_any}
 use Rattle.std.proofs.Math.Bool.{or-true}
 use Rattle.std.proofs.lemmas.Bool.{and_cases, and_parts, cases_Bool, cases_eq, cases_lt, eq-eqb, false_from_ne_true, ltb-true, ltb-false, ne_eqb, not-false, not-true, not_from_true, or_from, true≢false}
-use Rattle.std.proofs.lemmas.List.{get_or_past}
-use Rattle.std.proofs.lemmas.List.Folds.{list_any_more}
+use Rattle.std.proofs.lemmas.List.{get_or_past, take_all}
+use Rattle.std.proofs.lemmas.List.Elements.{All-from_get_or}
+use Rattle.std.proofs.lemmas.List.Folds.{list_any_at, list_any_more, list_any_none}
 use Rattle.std.proofs.lemmas.List.Sums.{count_by_more_yes, count_by_more_no}
-use Rattle.std.proofs.lemmas.Option.{slice_get-get_or}
-use Rattle.free_pool.specs.Units.{IsFree, free_count}
+use Rattle.std.proofs.lemmas.Option.{get_or_from_slice_get, slice_get-get_or, slice_get_within}
+use Rattle.free_pool.specs.Units.{IsFree, IsTaken, free_count}
 use Rattle.free_pool.proofs.CountLemmas.{free_count-taken}
 use Rattle.page_table.specs.Claims.{after_claim, may_claim}
-use Rattle.page_table.specs.Pages.{used_pages}
+use Rattle.page_table.specs.Pages.{IsOn, used_pages}
+use Rattle.page_table.specs.Reading.{HasFree}
 use Rattle.page_table.specs.Wrong.{has_page, is_on, is_wrong, is_wrong_after}
-use Rattle.page_table.proofs.WrongLemmas.{IsRight, not_wrong, wrong_no_page, wrong_no_room, wrong_no_unit, wrong_twice}
+use Rattle.page_table.proofs.WrongLemmas.{IsRight, not_wrong, right_parts, wrong_no_page, wrong_no_room, wrong_no_unit, wrong_twice}
 
 -- the first n pages are right, and the units that none of them is on are free
 pub record HasClaimed (units : ℕ) (counts : List ℕ) (pages : List (Option ℕ)) (n : ℕ) (free : List Bool) : Type 0 where
@@ -120,3 +122,37 @@ module _ (units : ℕ) (counts : List ℕ) (pages : List (Option ℕ)) (n : ℕ)
   pub wrong_unclaimed : (page : Option ℕ) → get_or pages n None ≡ page → may_claim free (has_page counts n) page ≡ false → is_wrong units counts pages n ≡ true
   wrong_unclaimed None hole denied = absurd (true≢false denied)
   wrong_unclaimed (Some unit) here denied = ap (is_wrong_after units (take n pages) (has_page counts n)) here ∙ refused (has_page counts n) unit denied
+
+-- all pages have taken theirs
+module _ (units : ℕ) (counts : List ℕ) (pages : List (Option ℕ)) (n : ℕ) (free : List Bool) (done : HasClaimed units counts pages n free) (all : n ≡ length pages) where
+  all_pages : take n pages ≡ pages
+  all_pages = take_all n pages (omega arith)
+
+  mark_is : (unit : ℕ) → unit < units → get_or free unit false ≡ not (list_any (is_on unit) pages)
+  mark_is unit below = done.marks unit below ∙ ap (λ (ps : List (Option ℕ)). not (list_any (is_on unit) ps)) all_pages
+
+  taken : (entry unit : ℕ) → IsOn pages entry unit → IsTaken free unit
+  taken entry unit on =
+      let within = slice_get_within pages entry (Some unit) on in
+      let here = get_or_from_slice_get pages entry (Some unit) None on in
+      let below = (right_parts units (take entry pages) (has_page counts entry) unit (sym (ap (is_wrong_after units (take entry pages) (has_page counts entry)) here) ∙ done.right entry (omega arith))).within in
+      let named = list_any_at (is_on unit) pages entry None within (ap (is_on unit) here ∙ eq-eqb unit unit refl) in
+      slice_get-get_or free unit false (omega (arith, done.size)) ∙ ap (λ (b : Bool). Some b) (mark_is unit below ∙ ap not named)
+
+  not_named : (unit : ℕ) → ((entry : ℕ) → ¬ IsOn pages entry unit) → (entry : ℕ) (page : Option ℕ) → entry < length pages → get_or pages entry None ≡ page → is_on unit page ≡ false
+  not_named unit none entry None within here = refl
+  not_named unit none entry (Some other) within here =
+      ne_eqb other unit (λ same. none entry (slice_get-get_or pages entry None within ∙ ap (λ (page : Option ℕ). Some page) (here ∙ ap (λ (u : ℕ). Some u) same)))
+
+  left : (unit : ℕ) → unit < units → ((entry : ℕ) → ¬ IsOn pages entry unit) → IsFree free unit
+  left unit below none =
+      let unnamed = list_any_none (is_on unit) pages (All-from_get_or (λ page. is_on unit page ≡ false) pages None (λ entry within. not_named unit none entry (get_or pages entry None) within refl)) in
+      slice_get-get_or free unit false (omega (arith, done.size)) ∙ ap (λ (b : Bool). Some b) (mark_is unit below ∙ ap not unnamed)
+
+  pub claimed_all : HasFree (record { units = units; pages = pages }) free
+  claimed_all = record {
+    all = done.size;
+    taken = taken;
+    left = left;
+    count = subst (λ (ps : List (Option ℕ)). free_count free + used_pages ps ≡ units) all_pages done.count;
+  }

@@ -1,8 +1,8 @@
-ghost use Rattle.std.specs.Prelude.{◌≡◌, ◌<◌, ◌+◌, ◌*◌, ◌/◌, IfErr, IfOk, IsTrue, None, OnOk, Some, length, map, true};
-ghost use Rattle.free_pool.specs.Units.{free_count};
+ghost use Rattle.std.specs.Prelude.{◌≡◌, ◌<◌, ◌*◌, ◌/◌, IfErr, IfOk, IsTrue, None, OnOk, Some, length, map, true};
 ghost use Rattle.page_table.specs.Cause.{IsCause};
 ghost use Rattle.page_table.specs.Claims.{after_claim, may_claim};
-ghost use Rattle.page_table.specs.Pages.{unit_of, used_pages};
+ghost use Rattle.page_table.specs.Pages.{unit_of};
+ghost use Rattle.page_table.specs.Reading.{HasFree};
 ghost use Rattle.page_table.specs.Wrong.{first_wrong_entry, has_page};
 
 use crate::table::{INODE_PAGES, SPARE_UNITS};
@@ -37,7 +37,7 @@ pub(crate) fn check(
 ) -> Result<Pool, TableFault>
     requires { length words.now ≡ 256 * length counts.now }
     ensures ok { OnOk result (first_wrong_entry units counts.now words.now ≡ None) }
-    ensures free { IfOk result (λ free. free_count free + used_pages (map unit_of words.now) ≡ units) }
+    ensures free { IfOk result (HasFree (record { units = units; pages = map unit_of words.now })) }
     ensures err { IfErr result (IsCause units counts.now words.now) }
 {
     let mut free = Pool::new(alloc, units)?;

@@ -1,10 +1,12 @@
-ghost use Rattle.std.specs.Prelude.{◌≡◌, ◌<◌, ◌≤◌, ◌+◌, ◌*◌, ◌-◌, IfErr, IfOk, List, ℕ, None, OnOk, Some, length, map, slice_get, slice_set};
+ghost use Rattle.std.specs.Prelude.{◌≡◌, ◌<◌, ◌≤◌, ◌+◌, ◌*◌, ◌-◌, IfErr, IfOk, List, ℕ, None, Some, length, map, slice_get, slice_set};
 ghost use Rattle.word_tables.specs.Bounds.{IsValid};
 ghost use Rattle.page_table.specs.Cause.{IsCause};
 ghost use Rattle.page_table.specs.Pages.{IsBelow, IsTable, IsWithinCounts, MayTake, TableState, unit_of, used_by, used_pages, word_of};
+ghost use Rattle.page_table.specs.Reading.{HasFree, Reads};
 ghost use Rattle.page_table.specs.Wrong.{first_wrong_entry};
 
 use crate::{TableFault, judging, word};
+use free_pool::Pool;
 use std::alloc::Global;
 use std::marker::Model;
 use word_tables::Geometry;
@@ -49,21 +51,35 @@ impl PageTable {
         requires valid { IsValid geo }
         requires counts { length counts.now ≡ 64 }
         requires words { length words.now ≡ 16384 }
-        ensures ok { IfOk result (λ table. table ≡ record { units = geo.fpages; pages = map unit_of words.now }) }
-        ensures words { IfOk result (λ table. map word_of table.pages ≡ words.now) }
-        ensures right { OnOk result (first_wrong_entry geo.fpages counts.now words.now ≡ None) }
-        ensures table { IfOk result IsTable }
-        ensures counted { IfOk result (λ table. IsWithinCounts counts.now table.pages) }
-        ensures room { IfOk result (λ table. used_pages table.pages + 16 ≤ table.units) }
+        ensures ok { IfOk result (Reads geo.fpages counts.now words.now) }
+        ensures err { IfErr result (IsCause geo.fpages counts.now words.now) }
+    {
+        let (table, _free) = Self::read_with_pool(alloc, geo, counts, words)?;
+        Ok(table)
+    }
+
+    /// The same, with a pool in which the units of its pages are taken.
+    pub fn read_with_pool(
+        alloc: Global,
+        geo: Geometry,
+        counts: &[u64],
+        words: &[u64],
+    ) -> Result<(Self, Pool), TableFault>
+        requires valid { IsValid geo }
+        requires counts { length counts.now ≡ 64 }
+        requires words { length words.now ≡ 16384 }
+        ensures ok { IfOk result (λ both. Reads geo.fpages counts.now words.now both.0) }
+        ensures free { IfOk result (λ both. HasFree both.0 both.1) }
         ensures err { IfErr result (IsCause geo.fpages counts.now words.now) }
     {
         let free = judging::check(alloc, geo.fpages, counts, words)?;
         let kept = Vec::from_slice(alloc, words)?;
-        Ok(PageTable {
+        let table = PageTable {
             words: kept,
             units: geo.fpages,
             used: geo.fpages - free.free(),
-        })
+        };
+        Ok((table, free))
     }
 
     /// The unit of a page; None is a hole.

@@ -1,7 +1,7 @@
 use Rattle.std.proofs.Common.{◌+◌, List, Bool, length, map, subst, sym, ◌∙◌, arith}
 use Rattle.std.proofs.lemmas.List.{length-map}
 use Rattle.page_table.specs.Pages.{unit_of}
-use Rattle.page_table.proofs.ClaimLemmas.{HasClaimed, claimed_more, wrong_unclaimed}
+use Rattle.page_table.proofs.ClaimLemmas.{HasClaimed, claimed_all, claimed_more, wrong_unclaimed}
 use Rattle.page_table.proofs.TableLemmas.{get_or-units}
 use Rattle.page_table.proofs.WrongLemmas.{none_wrong, wrong_first}
 use Rattle.page_table.proofs.judging.check.Goals as goal
@@ -23,3 +23,9 @@ loop-i-preserved c =
 
 pub returns-clause-ok : goal.returns-clause-ok
 returns-clause-ok c = none_wrong c.args.units c.args.counts.now c.args.words.now (λ k below. c.loop-i.invariant.right k (omega (arith, c.loop-i-test.false)))
+
+pub returns-clause-free : goal.returns-clause-free
+returns-clause-free c =
+    let words = c.args.words.now in
+    let pages = map unit_of words in
+    claimed_all c.args.units c.args.counts.now pages c.loop-i.i c.loop-i.free c.loop-i.invariant (omega (arith, length-map words unit_of, c.loop-i-test.false, c.loop-i.auto.i-end))
