@@ -1,6 +1,7 @@
 ghost use Rattle.std.specs.Prelude.{◌≡◌, ◌<◌};
 
 use crate::{PageTable, SPARE_UNITS, TableFault};
+use free_pool::Pool;
 use std::alloc::Global;
 use std::process::Abort;
 use std::test::Fail;
@@ -18,13 +19,13 @@ fn sizes(fpages: u64) -> Geometry
     }
 }
 
-// The table of these words, each at its index, and else of holes.
+// The table of these words, each at its index, and else of holes; and the pool of its units.
 fn table(
     rt: &impl Abort,
     alloc: Global,
     counts: &[u64; 64],
     named: &[(usize, u64)],
-) -> Result<PageTable, TableFault> {
+) -> Result<(PageTable, Pool), TableFault> {
     let geo = sizes(32);
     assert!(rt; geo.valid());
     let mut words = vec![in alloc; 0; WORDS]?;
@@ -33,7 +34,7 @@ fn table(
         words[*index] = *word;
     }
     assert!(rt; words.len() == WORDS);
-    PageTable::read(alloc, geo, counts, &words)
+    PageTable::read_with_pool(alloc, geo, counts, &words)
 }
 
 // Puts one page of the first inode where another was.
@@ -52,8 +53,11 @@ fn pages_are_read_set_and_counted(rt: HostRuntime) -> Result<(), Fail> {
     counts[0] = 3;
     counts[63] = 256;
     let words = [(0, 1), (2, 32), (16383, 2)];
-    let mut table = table(&rt, rt.alloc(), &counts, &words)?;
+    let (mut table, free) = table(&rt, rt.alloc(), &counts, &words)?;
     assert_eq!(rt; table.used(), 3);
+    assert_eq!(rt; free.free(), 29);
+    assert!(rt; !free.is_free(31));
+    assert!(rt; free.is_free(30));
     assert_eq!(rt; table.get(0, 0), Some(0));
     assert_eq!(rt; table.get(0, 1), None);
     assert_eq!(rt; table.get(63, 255), Some(1));
