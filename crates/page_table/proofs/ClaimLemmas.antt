@@ -1,8 +1,8 @@
 -- Which units are free once the first pages have taken theirs.
-use Rattle.std.proofs.Common.{◌≡◌, ◌≢◌, ◌<◌, ◌≤◌, ◌+◌, ◌&&◌, ◌||◌, ◌==◌, ℕ, Bool, true, false, List, Option, Some, None, length, get_or, set, slice_get, replicate, map, take, cond, is_some, leb, ltb, not, refl, sym, ap, subst, ◌∙◌, inl, inr, arith, below_more, length-set, get_or-set_same, get_or-set_other}
+use Rattle.std.proofs.Common.{◌≡◌, ◌<◌, ◌+◌, ◌||◌, ◌==◌, ℕ, Bool, true, false, List, Option, Some, None, length, get_or, set, take, is_some, ltb, not, refl, sym, ap, subst, ◌∙◌, inl, inr, arith, below_more, length-set, get_or-set_same, get_or-set_other}
 use Rattle.std.specs.List.{list_any}
 use Rattle.std.proofs.Math.Bool.{or-true}
-use Rattle.std.proofs.lemmas.Bool.{and_cases, and_parts, cases_Bool, cases_eq, cases_lt, eq-eqb, false_from_ne_true, ltb-true, ltb-false, ne_eqb, not-false, not-true, not_from_true, or_from, true≢false}
+use Rattle.std.proofs.lemmas.Bool.{and_cases, and_parts, cases_eq, cases_lt, eq-eqb, false_from_ne_true, ltb-true, ltb-false, ne_eqb, not-false, not-true, true≢false}
 use Rattle.std.proofs.lemmas.List.{get_or_past, take_all}
 use Rattle.std.proofs.lemmas.List.Elements.{All-from_get_or}
 use Rattle.std.proofs.lemmas.List.Folds.{list_any_at, list_any_more, list_any_none}
@@ -14,7 +14,7 @@ use Rattle.page_table.specs.Claims.{after_claim, may_claim}
 use Rattle.page_table.specs.Pages.{IsOn, used_pages}
 use Rattle.page_table.specs.Reading.{HasFree}
 use Rattle.page_table.specs.Wrong.{has_page, is_on, is_wrong, is_wrong_after}
-use Rattle.page_table.proofs.WrongLemmas.{IsRight, not_wrong, right_parts, wrong_no_page, wrong_no_room, wrong_no_unit, wrong_twice}
+use Rattle.page_table.proofs.WrongLemmas.{not_wrong, right_parts, wrong_no_page, wrong_no_room, wrong_no_unit, wrong_twice}
 
 -- the first n pages are right, and the units that none of them is on are free
 pub record HasClaimed (units : ℕ) (counts : List ℕ) (pages : List (Option ℕ)) (n : ℕ) (free : List Bool) : Type 0 where

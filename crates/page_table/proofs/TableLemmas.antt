@@ -1,15 +1,13 @@
 -- Words with none that is wrong stand for a table.
-use Rattle.std.proofs.Common.{◌≡◌, ◌<◌, ◌≤◌, ◌+◌, ◌%◌, ◌/◌, ◌||◌, ℕ, zero, suc, Bool, true, false, List, [], ◌∷◌, Option, Some, None, is_some, length, get_or, map, take, slice_get, refl, sym, ap, ap₂, subst, ◌∙◌, inl, inr, arith}
-use Rattle.std.specs.List.{list_any}
-use Rattle.std.proofs.lemmas.Bool.{cases_lt, cases_order, eq-eqb, false≢true, ltb-true, lt-ltb, ne_eqb}
+use Rattle.std.proofs.Common.{◌≡◌, ◌<◌, ◌≤◌, ◌+◌, ℕ, zero, suc, false, List, [], ◌∷◌, Option, Some, None, is_some, length, get_or, map, take, refl, sym, ap, ap₂, subst, ◌∙◌, inl, inr, arith}
+use Rattle.std.proofs.lemmas.Bool.{cases_order, eq-eqb, false≢true, ltb-true}
 use Rattle.std.proofs.lemmas.List.{get_or-take, length-take, take_all}
-use Rattle.std.proofs.lemmas.List.Elements.{All-from_get_or}
-use Rattle.std.proofs.lemmas.List.Folds.{list_any_at, list_any_none}
-use Rattle.std.proofs.lemmas.List.Sums.{count_by_more_yes, count_by_more_no, sum_by_more_le}
+use Rattle.std.proofs.lemmas.List.Folds.{list_any_at}
+use Rattle.std.proofs.lemmas.List.Sums.{count_by_more_yes, count_by_more_no}
 use Rattle.std.proofs.lemmas.Option.{get_or_from_slice_get, slice_get-get_or, slice_get_within}
-use Rattle.page_table.specs.Pages.{IsOn, IsTable, IsWithinCounts, TableState, unit_of, used_by, used_pages, word_of}
-use Rattle.page_table.specs.Wrong.{first_wrong_entry, has_page, is_on, is_wrong, is_wrong_after}
-use Rattle.page_table.proofs.WrongLemmas.{IsRight, all_right, none_wrong, not_wrong, right_parts}
+use Rattle.page_table.specs.Pages.{IsOn, IsTable, IsWithinCounts, unit_of, used_pages, word_of}
+use Rattle.page_table.specs.Wrong.{has_page, is_on, is_wrong, is_wrong_after}
+use Rattle.page_table.proofs.WrongLemmas.{IsRight, right_parts}
 
 pub word_of-unit_of : (word : ℕ) → word_of (unit_of word) ≡ word
 word_of-unit_of zero = refl

@@ -1,10 +1,9 @@
 -- When a page is wrong after those before it.
-use Rattle.std.proofs.Common.{◌≡◌, ◌<◌, ◌≤◌, ◌+◌, ℕ, Bool, true, false, List, Option, Some, None, length, get_or, map, leb, sym, ap, ◌∙◌}
+use Rattle.std.proofs.Common.{◌≡◌, ◌<◌, ◌≤◌, ◌+◌, ℕ, Bool, true, false, List, Option, Some, None, length, map}
 use Rattle.std.specs.List.{list_any}
 use Rattle.std.proofs.lemmas.Bool.{le-leb, lt-leb, leb-false, not-false, not_from_false, not_from_true, or_from, or_left, or_parts, or_right}
-use Rattle.std.proofs.lemmas.List.{length-map}
 use Rattle.page_table.specs.Pages.{unit_of, used_pages}
-use Rattle.page_table.specs.Wrong.{first_wrong_entry, has_page, is_on, is_wrong, is_wrong_after}
+use Rattle.page_table.specs.Wrong.{first_wrong_entry, is_on, is_wrong, is_wrong_after}
 use Rattle.page_table.proofs.FirstLemmas.{first_is, first_is_none, first_within, fails_where_none}
 
 module _ (units : ℕ) (before : List (Option ℕ)) (there : Bool) (unit : ℕ) where

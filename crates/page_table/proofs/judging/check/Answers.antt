@@ -1,4 +1,4 @@
-use Rattle.std.proofs.Common.{◌+◌, List, Bool, length, map, subst, sym, ◌∙◌, arith}
+use Rattle.std.proofs.Common.{◌+◌, List, Bool, map, subst, sym, ◌∙◌, arith}
 use Rattle.std.proofs.lemmas.List.{length-map}
 use Rattle.page_table.specs.Pages.{unit_of}
 use Rattle.page_table.proofs.ClaimLemmas.{HasClaimed, claimed_all, claimed_more, wrong_unclaimed}

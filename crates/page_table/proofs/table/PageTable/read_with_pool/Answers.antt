@@ -1,6 +1,6 @@
-use Rattle.std.proofs.Common.{◌≡◌, ◌<◌, ◌+◌, ◌≤◌, ℕ, false, None, List, Bool, map, length, refl, subst, sym, ap, ◌∙◌, arith}
+use Rattle.std.proofs.Common.{◌≡◌, ◌<◌, ◌≤◌, ℕ, false, None, List, map, length, refl, subst, sym, ◌∙◌, arith}
 use Rattle.std.proofs.lemmas.List.{length-map}
-use Rattle.page_table.specs.Pages.{IsTable, TableState, unit_of, word_of}
+use Rattle.page_table.specs.Pages.{unit_of}
 use Rattle.page_table.specs.Reading.{HasFree, Reads}
 use Rattle.page_table.specs.Wrong.{first_wrong_entry, is_wrong}
 use Rattle.page_table.proofs.TableLemmas.{is_table, room_left, within_counts, words_of_units}
