@@ -6,7 +6,6 @@ ghost use Rattle.page_table.specs.Reading.{HasFree};
 ghost use Rattle.page_table.specs.Wrong.{first_wrong_entry, has_page};
 
 use crate::table::{INODE_PAGES, SPARE_UNITS};
-use crate::word;
 use free_pool::Pool;
 use std::alloc::{AllocError, Global};
 
@@ -49,17 +48,18 @@ pub(crate) fn check(
     Ok(free)
 }
 
-// Takes the unit that a word names, where it may name that one. Most words name none.
+// Takes the unit that a word names, where it may name that one.
 #[inline]
 fn claim(free: &mut Pool, counts: &[u64], entry: usize, word: u64) -> bool
     requires { entry / 256 < length counts.now }
     ensures right { result ≡ may_claim free.old (has_page counts.now entry) (unit_of word) }
     ensures free { IsTrue result → free.new ≡ after_claim free.old (unit_of word) }
 {
-    match word::unit_of(word) {
-        None => true,
-        Some(unit) => has_page(counts, entry) && take(free, unit),
+    // Most words name none, and a restart reads them all.
+    if word == 0 {
+        return true;
     }
+    has_page(counts, entry) && take(free, word - 1)
 }
 
 fn has_page(counts: &[u64], entry: usize) -> bool
