@@ -1,0 +1,6 @@
+pub mod ClaimLemmas
+pub mod FirstLemmas
+pub mod RightLemmas
+pub mod SetLemmas
+pub mod TableLemmas
+pub mod WrongLemmas

@@ -1,0 +1,5 @@
+pub mod Cause
+pub mod Claims
+pub mod Pages
+pub mod Reading
+pub mod Wrong

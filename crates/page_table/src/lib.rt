@@ -1,0 +1,12 @@
+//! The page table of files: on which physical page each page of each inode is.
+#![tactic(auto)]
+
+mod judging;
+mod table;
+mod word;
+
+pub use judging::TableFault;
+pub use table::{INODE_PAGES, INODES, PageTable, SPARE_UNITS, tables_are_right};
+
+#[cfg(test)]
+mod tests;
