@@ -1,7 +1,7 @@
 // Values from outside, and each call once where memory is ample.
 use crate::{
-    Buffer, Bytes, FileEntry, FileList, Name, Span, TextFault, Words, blocks_of, lines_of, overlaps,
-    pages_of, print_bytes, print_number, raise, read_bytes, read_number, spellings,
+    Buffer, Bytes, FileEntry, FileList, Name, Span, TextFault, Words, blocks_of, lines_of,
+    overlaps, pages_of, print_bytes, print_number, raise, read_bytes, read_number, spellings,
 };
 use std::alloc::AllocError;
 use std::test::Fail;
@@ -163,7 +163,9 @@ fn names_have_1_to_32_letters_digits_and_marks(rt: HostRuntime) {
 #[test]
 fn names_are_in_the_order_of_their_bytes(rt: HostRuntime) -> Result<(), Fail> {
     let mut before: Option<Name> = None;
-    for text in ["-", ".", "0", "00", "1", "_", "a", "a-", "a0", "aa", "ab", "b"] {
+    for text in [
+        "-", ".", "0", "00", "1", "_", "a", "a-", "a0", "aa", "ab", "b",
+    ] {
         let name = Name::read(text.as_bytes()).ok_or("no name")?;
         assert!(rt; before < Some(name), "{text}");
         before = Some(name);

@@ -1,0 +1,4 @@
+pub mod Cause
+pub mod Slots
+pub mod Words
+pub mod Wrong

@@ -1,0 +1,15 @@
+//! The inodes: 64 slots, each free or a file's name and how many pages it has.
+#![tactic(auto)]
+
+mod fault;
+mod inodes;
+mod reading;
+mod slots;
+mod words;
+
+pub use fault::TableFault;
+pub use inodes::Inodes;
+
+
+#[cfg(test)]
+mod tests;
