@@ -1,5 +1,5 @@
 -- Inodes read one after the other.
-use Rattle.std.proofs.Common.{◌≡◌, ◌<◌, ◌≤◌, ◌+◌, ◌-◌, ◌*◌, ℕ, zero, suc, true, false, List, [], ◌∷◌, ◌++◌, Option, Some, None, length, get_or, take, drop, position, nat_lt, refl, sym, ap, ap₂, ◌∙◌, inl, inr, arith}
+use Rattle.std.proofs.Common.{◌≡◌, ◌<◌, ◌+◌, ◌-◌, ◌*◌, ℕ, zero, suc, false, List, [], ◌∷◌, ◌++◌, Option, Some, None, length, get_or, take, drop, position, nat_lt, refl, sym, ap, ap₂, ◌∙◌, inl, inr, arith}
 use Rattle.std.proofs.lemmas.Bool.{cases_lt, le-ltb}
 use Rattle.std.proofs.lemmas.List.{get_or-drop, length-drop, take_all, take_more}
 use Rattle.std.proofs.lemmas.List.Quantifiers.{position-Some}
@@ -48,7 +48,7 @@ module _ (words : List ℕ) (n : ℕ) (slots : List (Option FileEntry)) (so_far 
 pub all_read : (words : List ℕ) (slots : List (Option FileEntry)) → HasRead words 64 slots → (slots ≡ slots_of words) × (first_wrong_word words ≡ None)
 all_read words slots done = (
   done.are ∙ take_all 64 (slots_of words) (omega (arith, length-slots_of words)),
-  first_is_none (is_wrong words) 512 (λ i below. done.right i below)
+  first_is_none (is_wrong words) 512 (λ i below. done.right i below),
 )
 
 pub none_read : (words : List ℕ) → HasRead words 0 []

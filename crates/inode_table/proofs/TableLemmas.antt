@@ -1,20 +1,20 @@
 -- Words with none that is wrong are a table.
-use Rattle.std.proofs.Common.{◌≡◌, ◌<◌, ◌≤◌, ◌+◌, ◌-◌, ◌*◌, ◌/◌, ◌%◌, ◌==◌, ◌&&◌, ℕ, zero, suc, Bool, true, false, List, Option, Some, None, length, get_or, map, take, drop, slice_get, cond, ltb, if◌then◌else◌, refl, sym, ap, ◌∙◌, inl, inr, arith}
-use Rattle.std.specs.List.{list_any, range_with_len}
+use Rattle.std.proofs.Common.{◌≡◌, ◌<◌, ◌≤◌, ◌+◌, ◌-◌, ◌*◌, ◌/◌, ◌%◌, ℕ, zero, suc, true, List, Option, Some, None, length, get_or, take, drop, if◌then◌else◌, sym, ap, ◌∙◌, inl, inr, arith}
+use Rattle.std.specs.List.{range_with_len}
 use Rattle.std.specs.Option.{option_map}
 use Rattle.std.proofs.Math.Dec.{eqb-suc-zero}
-use Rattle.std.proofs.lemmas.Bool.{cases_lt, cases_order, false≢true, and_from, lt-ltb, ltb-false}
+use Rattle.std.proofs.lemmas.Bool.{cases_order, false≢true, and_from, lt-ltb, ltb-false}
 use Rattle.std.proofs.lemmas.List.{get_or-take, length-map, length-take}
 use Rattle.std.proofs.lemmas.List.Folds.{list_any_at}
 use Rattle.std.proofs.lemmas.List.FromFn.{length-range_with_len, get_or-map-range_with_len}
-use Rattle.std.proofs.lemmas.Option.{none-some, same_Some, slice_get-get_or, slice_get_within, get_or_from_slice_get}
+use Rattle.std.proofs.lemmas.Option.{none-some, same_Some, slice_get_within, get_or_from_slice_get}
 use Rattle.std.proofs.lemmas.Slice.Eq.{bytes_eq-Decides}
 use Rattle.nvm_base.specs.Names.{is_name}
 use Rattle.nvm_base.specs.declared.files.FileEntry.{FileEntry}
 use Rattle.nvm_base.proofs.NameLemmas.{padded-name_in}
 use Rattle.inode_table.specs.Slots.{IsFile, IsTable, has_name}
 use Rattle.inode_table.specs.Words.{bytes_in, inode_words, slot_from, slot_of, slots_of, spelled_name}
-use Rattle.inode_table.specs.Wrong.{AreRight, first_wrong_word, is_misnamed, is_no_new_name, is_wrong, is_wrong_in}
+use Rattle.inode_table.specs.Wrong.{AreRight, first_wrong_word, is_no_new_name, is_wrong, is_wrong_in}
 use Rattle.inode_table.proofs.FirstLemmas.{right_from_none}
 
 -- what is said of the word at an index is said by inode and word
@@ -77,8 +77,8 @@ module _ (words : List ℕ) where
         let parts = slot_from-file b _ _ there.1 in
         let earlier = get_or-take j (slots_of words) i None before ∙ get_or_from_slice_get (slots_of words) i (Some a) None first in
         let taken =
-            list_any_at (has_name b.name) (take j (slots_of words)) i None (omega (arith, length-take j (slots_of words), length-slots_of))
-            (ap (has_name b.name) earlier ∙ (bytes_eq-Decides a.name b.name).1 same) in
+        list_any_at (has_name b.name) (take j (slots_of words)) i None (omega (arith, length-take j (slots_of words), length-slots_of))
+        (ap (has_name b.name) earlier ∙ (bytes_eq-Decides a.name b.name).1 same) in
         let used = lt-ltb 0 (get_or (inode_words words j) 0 0) (omega (arith, parts.0)) in
         let wrong = and_from _ _ used (ap (is_no_new_name (take j (slots_of words))) parts.1 ∙ taken) in
         false≢true (sym (right_words j there.0 1 (omega arith)) ∙ wrong)

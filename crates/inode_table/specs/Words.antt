@@ -1,5 +1,5 @@
 -- Inodes as words. An inode has eight: 0 where it is free, else its pages and one; four of its name; three that are 0.
-use Rattle.std.specs.Prelude.{◌≡◌, ◌≤◌, ◌<◌, ◌+◌, ◌-◌, ◌*◌, ◌==◌, ℕ, List, [], ◌∷◌, Option, Some, None, drop, take, map, flat_map, option_map, slice_index, if◌then◌else◌}
+use Rattle.std.specs.Prelude.{◌+◌, ◌-◌, ◌*◌, ◌==◌, ℕ, List, [], ◌∷◌, Option, None, drop, take, map, flat_map, option_map, slice_index, if◌then◌else◌}
 use Rattle.std.specs.List.{range_with_len}
 use Rattle.byteorder.specs.Endian.{little_bytes, little_number}
 use Rattle.nvm_base.specs.Names.{name_in, padded}

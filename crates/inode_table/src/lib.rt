@@ -10,6 +10,5 @@ mod words;
 pub use fault::TableFault;
 pub use inodes::Inodes;
 
-
 #[cfg(test)]
 mod tests;

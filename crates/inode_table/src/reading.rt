@@ -19,10 +19,7 @@ const MOST_PAGES: u64 = 256;
 const FIRST_SPARE: usize = 5;
 
 /// The slots that 64 inodes' words are.
-pub(crate) fn read_slots(
-    alloc: Global,
-    words: &[u64],
-) -> Result<Vec<Option<FileEntry>>, TableFault>
+pub(crate) fn read_slots(alloc: Global, words: &[u64]) -> Result<Vec<Option<FileEntry>>, TableFault>
     requires { length words.now ≡ 512 }
     ensures ok { IfOk result (λ slots. slots.items ≡ slots_of words.now) }
     ensures right { OnOk result (first_wrong_word words.now ≡ None) }

@@ -52,7 +52,10 @@ fn names_that_differ_in_their_last_byte_are_two(rt: HostRuntime) -> Result<(), F
     words[12] = Z - (1 << 56);
     let inodes = Inodes::read(rt.alloc(), &words)?;
     assert_eq!(rt; inodes.count(), 2);
-    assert_eq!(rt; inodes.find(&named("zzzzzzzzzzzzzzzzzzzzzzzzzzzzzzzy")?), Some(1));
+    assert_eq!(rt;
+        inodes.find(&named("zzzzzzzzzzzzzzzzzzzzzzzzzzzzzzzy")?),
+        Some(1)
+    );
     Ok(())
 }
 

@@ -16,6 +16,7 @@ returns-clause-free c =
 
 pub returns-clause-full : goal.returns-clause-full
 returns-clause-full c =
-    let found : free_inode c.self.inside.slots.items ≡ Some c.in_ok-inode.inode = ap free_inode (sym c.as_slice.ensures.value) ∙ sym c.in_ok-inode.ensures in
-    (λ no. absurd (false≢true (sym no)),
-     λ full. absurd (none-some c.in_ok-inode.inode (sym (none_from_full c.self.inside.slots.items (ap file_count c.self.view_is ∙ full ∙ sym c.self.invariant.all)) ∙ found)))
+    let found : free_inode c.self.inside.slots.items ≡ Some c.in_ok-inode.inode = ap free_inode (sym c.as_slice.ensures.value) ∙ sym c.in_ok-inode.ensures in (
+      λ no. absurd (false≢true (sym no)),
+      λ full. absurd (none-some c.in_ok-inode.inode (sym (none_from_full c.self.inside.slots.items (ap file_count c.self.view_is ∙ full ∙ sym c.self.invariant.all)) ∙ found)),
+    )
