@@ -1,4 +1,5 @@
 pub mod FirstLemmas
+pub mod HeldLemmas
 pub mod NameWordLemmas
 pub mod ReadLemmas
 pub mod SlotLemmas

@@ -10,7 +10,7 @@ use Rattle.inode_table.specs.Slots.{IsNamed, has_name, inode_of, free_inode, fil
 use Rattle.inode_table.proofs.FirstLemmas.{position_is_none, fails-position_none}
 
 module _ (name : List ℕ) (slots : List (Option FileEntry)) where
-  is_named : (i : ℕ) (slot : Option FileEntry) → slice_get slots i ≡ Some slot → has_name name slot ≡ true → IsNamed slots i name
+  pub is_named : (i : ℕ) (slot : Option FileEntry) → slice_get slots i ≡ Some slot → has_name name slot ≡ true → IsNamed slots i name
   is_named i None is test = absurd (false≢true test)
   is_named i (Some file) is test = record { file = file; is = is; named = (bytes_eq-Decides file.name name).0 test }
 

@@ -35,8 +35,9 @@ module _ (file : FileEntry) where
   pub slot_from-file : (first : ℕ) (name : List ℕ) → slot_from first name ≡ Some file → (first ≡ file.pages + 1) × (spelled_name name ≡ Some file.name)
   slot_from-file zero name is = absurd (none-some file is)
   slot_from-file (suc pages) name is =
-      let used = ap (λ b. if b then None else option_map (λ text. record { name = text; pages = suc pages - 1 }) (spelled_name name)) (eqb-suc-zero pages) in
-      let parts = some_name (suc pages - 1) (spelled_name name) (sym used ∙ is) in
+      let used : slot_from (suc pages) name ≡ option_map (λ text. record { name = text; pages = suc pages - 1 }) (spelled_name name) =
+      ap (λ b. if b then None else option_map (λ text. record { name = text; pages = suc pages - 1 }) (spelled_name name)) (eqb-suc-zero pages) in
+      let parts : (suc pages - 1 ≡ file.pages) × (spelled_name name ≡ Some file.name) = some_name (suc pages - 1) (spelled_name name) (sym used ∙ is) in
       (omega (arith, parts.0), parts.1)
 
 module _ (words : List ℕ) where

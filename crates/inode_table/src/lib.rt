@@ -3,12 +3,14 @@
 
 mod fault;
 mod inodes;
+mod laws;
 mod reading;
 mod slots;
 mod words;
 
 pub use fault::TableFault;
 pub use inodes::Inodes;
+pub use laws::words_hold_their_slots;
 
 #[cfg(test)]
 mod tests;

@@ -1,4 +1,4 @@
-use crate::{Inodes, TableFault};
+use crate::{Inodes, TableFault, words_hold_their_slots};
 use nvm_base::Name;
 use std::test::Fail;
 
@@ -13,6 +13,7 @@ fn named(text: &str) -> Result<Name, Fail> {
 
 #[test]
 fn words_are_read_and_set_as_files(rt: HostRuntime) -> Result<(), Fail> {
+    words_hold_their_slots();
     let mut words = [0; 512];
     words[8] = 4;
     words[9] = AB;
