@@ -1,4 +1,5 @@
 pub mod AppendLemmas
+pub mod NameLemmas
 pub mod NumberLemmas
 pub mod ReadingLemmas
 pub mod RunLemmas

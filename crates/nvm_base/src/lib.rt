@@ -3,6 +3,8 @@
 
 mod buffer;
 mod counts;
+mod files;
+mod names;
 mod numbers;
 mod printing;
 mod reading;
@@ -13,6 +15,8 @@ mod units;
 
 pub use buffer::{Buffer, Bytes, Spans, Words};
 pub use counts::raise;
+pub use files::{FileEntry, FileList, Kind};
+pub use names::{NAME, Name};
 pub use numbers::{print_number, read_number};
 pub use printing::print_bytes;
 pub use reading::{TextFault, read_bytes};

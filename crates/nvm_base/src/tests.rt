@@ -1,9 +1,10 @@
 // Values from outside, and each call once where memory is ample.
 use crate::{
-    Buffer, Bytes, Span, TextFault, Words, blocks_of, lines_of, overlaps, pages_of, print_bytes,
-    print_number, raise, read_bytes, read_number, spellings,
+    Buffer, Bytes, FileEntry, FileList, Name, Span, TextFault, Words, blocks_of, lines_of,
+    overlaps, pages_of, print_bytes, print_number, raise, read_bytes, read_number, spellings,
 };
 use std::alloc::AllocError;
+use std::test::Fail;
 
 #[test]
 fn a_span_touches_the_units_of_its_first_and_last_byte(rt: HostRuntime) {
@@ -131,5 +132,68 @@ fn a_list_of_spans_is_a_list(rt: HostRuntime) -> Result<(), AllocError> {
     let mut spans: Buffer<Span> = Buffer::new(rt.alloc());
     spans.push(Span { start: 1, len: 2 })?;
     assert_eq!(rt; spans.as_slice(), [Span { start: 1, len: 2 }].as_slice());
+    Ok(())
+}
+
+#[test]
+fn names_have_1_to_32_letters_digits_and_marks(rt: HostRuntime) {
+    for (text, is_name) in [
+        ("a", true),
+        ("._-", true),
+        ("settings.v2-old_1", true),
+        ("0123456789abcdefghijklmnopqrstuv", true),
+        ("0123456789abcdefghijklmnopqrstuvw", false),
+        ("", false),
+        ("A", false),
+        ("a b", false),
+        ("a/b", false),
+        ("a\0", false),
+        ("{", false),
+        ("\u{e9}", false),
+    ] {
+        let name = Name::read(text.as_bytes());
+        assert_eq!(rt; name.is_some(), is_name, "{text}");
+        if let Some(name) = name {
+            assert_eq!(rt; name.bytes(), text.as_bytes(), "{text}");
+            assert_eq!(rt; Name::from_padded(name.padded()), Some(name), "{text}");
+        }
+    }
+}
+
+#[test]
+fn names_are_in_the_order_of_their_bytes(rt: HostRuntime) -> Result<(), Fail> {
+    let mut before: Option<Name> = None;
+    for text in [
+        "-", ".", "0", "00", "1", "_", "a", "a-", "a0", "aa", "ab", "b",
+    ] {
+        let name = Name::read(text.as_bytes()).ok_or("no name")?;
+        assert!(rt; before < Some(name), "{text}");
+        before = Some(name);
+    }
+    Ok(())
+}
+
+#[test]
+fn padding_is_zeros_to_the_end(rt: HostRuntime) {
+    let mut bytes = [0; 32];
+    assert_eq!(rt; Name::from_padded(bytes), None);
+    bytes[0] = b'a';
+    assert_eq!(rt; Name::from_padded(bytes), Name::read(b"a"));
+    bytes[31] = b'b';
+    assert_eq!(rt; Name::from_padded(bytes), None);
+    bytes[1] = b'B';
+    assert_eq!(rt; Name::from_padded(bytes), None);
+    assert_eq!(rt; Name::from_padded([b'z'; 32]).is_some(), true);
+}
+
+#[test]
+fn a_list_of_files_is_a_list(rt: HostRuntime) -> Result<(), Fail> {
+    let file = FileEntry {
+        name: Name::read(b"log.0").ok_or("no name")?,
+        pages: 256,
+    };
+    let mut files = FileList::new(rt.alloc());
+    files.push(file)?;
+    assert_eq!(rt; files.as_slice(), [file].as_slice());
     Ok(())
 }

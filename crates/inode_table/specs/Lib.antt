@@ -1,0 +1,5 @@
+pub mod Cause
+pub mod Holds
+pub mod Slots
+pub mod Words
+pub mod Wrong
