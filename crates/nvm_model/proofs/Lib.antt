@@ -6,3 +6,5 @@ pub mod FillLemmas
 pub mod RestartLemmas
 pub mod LineLemmas
 pub mod InterruptedLemmas
+pub mod MediaLemmas
+pub mod LostLemmas

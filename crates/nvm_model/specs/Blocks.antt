@@ -1,5 +1,5 @@
 -- Blocks of 512 bytes, numbered from 0, and what actions make of them. Bytes are counted from the first block on.
-use Rattle.std.specs.Prelude.{◌≡◌, ◌⊎◌, ◌-◌, ◌*◌, ◌/◌, ◌%◌, ℕ, zero, suc, Bool, List, [], ◌∷◌, take, drop, length, Option, Some, None, option_map, position, slice_index, slice_index_or, count_by, is_none, if◌then◌else◌, true, false, sum_by}
+use Rattle.std.specs.Prelude.{◌≡◌, ◌⊎◌, ◌-◌, ◌*◌, ◌/◌, ◌%◌, ◌==◌, ℕ, zero, suc, Bool, List, [], ◌∷◌, take, drop, length, Option, Some, None, option_map, position, slice_index, slice_index_or, count_by, is_none, if◌then◌else◌, true, false, sum_by}
 use Rattle.std.specs.List.{list_any}
 use Rattle.nvm_base.specs.declared.units.Span.{Span}
 use Rattle.nvm_model.specs.Numbered.{map_from, list_from, is_among}
@@ -32,6 +32,22 @@ change_block spans to i old = if list_any (λ (span : Span). is_among span.start
 
 unfoldable pub change : List Span → Block → List Block → List Block
 change spans to blocks = map_from (change_block spans to) 0 blocks
+
+-- a media error takes one of these lines, or one of a block that has lines
+abbrev pub lose_at : ℕ → List (Option (List ℕ)) → List (Option (List ℕ))
+lose_at line lines = map_from (λ k bytes. if k == line then None else bytes) 0 lines
+
+abbrev pub lose_line : ℕ → Block → Block
+lose_line line Absent = Absent
+lose_line line Scarred = Scarred
+lose_line line (Data lines) = Data (lose_at line lines)
+
+-- the same of the block of a number; the other blocks stay
+abbrev pub lose_line_of : ℕ → ℕ → ℕ → Block → Block
+lose_line_of block line i old = if i == block then lose_line line old else old
+
+unfoldable pub lose : ℕ → ℕ → List Block → List Block
+lose block line blocks = map_from (lose_line_of block line) 0 blocks
 
 -- byte i of a line, of a block, and of all blocks, as last written; what is absent reads as zeros
 abbrev pub line_byte : Option (List ℕ) → ℕ → ℕ

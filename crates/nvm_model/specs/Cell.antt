@@ -50,6 +50,20 @@ flush_cell Bad = Bad
 flush_cell (Kept true words) = Bad
 flush_cell (Kept false words) = Kept false (map latest words)
 
+-- a line that a media error took
+abbrev pub lose_cell : Cell → Cell
+lose_cell cell = Bad
+
+-- a line that is weak from now on; a bad one stays bad
+abbrev pub weaken_cell : Cell → Cell
+weaken_cell Bad = Bad
+weaken_cell (Kept weak words) = Kept true words
+
+-- a bad line made one of zeros; any other stays
+abbrev pub clear_cell : Cell → Cell
+clear_cell Bad = zero_cell
+clear_cell (Kept weak words) = Kept weak words
+
 -- line n once the span is made durable
 abbrev pub persist_cell : ℕ → ℕ → ℕ → Cell → Cell
 persist_cell start len n cell = if touches start len n then flush_cell cell else cell

@@ -1,5 +1,5 @@
 -- Pages of 64 lines, of the volume and of files. Lines and bytes are counted from the first page on.
-use Rattle.std.specs.Prelude.{◌≡◌, ◌+◌, ◌*◌, ◌/◌, ◌%◌, ◌&&◌, ℕ, suc, Bool, true, false, not, List, [], ◌∷◌, length, map, nat_lt, Option, Some, None, option_and_then, slice_get, replicate, if◌then◌else◌}
+use Rattle.std.specs.Prelude.{◌≡◌, ◌+◌, ◌*◌, ◌/◌, ◌%◌, ◌==◌, ◌&&◌, ℕ, suc, Bool, true, false, not, List, [], ◌∷◌, length, map, nat_lt, Option, Some, None, option_and_then, slice_get, replicate, if◌then◌else◌}
 use Rattle.std.specs.List.{list_any}
 use Rattle.line_device.specs.Medium.{Medium}
 use Rattle.line_device.specs.Panel.{Image}
@@ -57,6 +57,14 @@ put at bytes pages = map_from (map_lines (put_cell at bytes)) 0 pages
 -- the lines that the span touches made durable
 unfoldable pub persist : ℕ → ℕ → List Page → List Page
 persist start len pages = map_from (map_lines (persist_cell start len)) 0 pages
+
+-- the cell of line n changed by f, that of any other line as it was
+abbrev pub at_line : (Cell → Cell) → ℕ → ℕ → Cell → Cell
+at_line f n i cell = if i == n then f cell else cell
+
+-- one line changed by f, where its page is there
+unfoldable pub change_line : (Cell → Cell) → ℕ → List Page → List Page
+change_line f n pages = map_from (map_lines (at_line f n)) 0 pages
 
 -- so many pages from one on made absent
 abbrev pub discard_page : ℕ → ℕ → ℕ → Page → Page

@@ -12,12 +12,12 @@ use Rattle.nvm_model.specs.Cell.{Cell, CellStands, put_cell, touches, covers}
 use Rattle.nvm_model.specs.Cell.Cell.{Bad, Kept}
 use Rattle.nvm_model.specs.Interrupted.{MayPut}
 use Rattle.nvm_model.specs.Numbered.{AreMixed}
+use Rattle.nvm_model.proofs.MediaLemmas.{cell_stands-zeros}
 use Rattle.nvm_model.proofs.NumberedLemmas.{slice_get-map_from, length-map_from}
 use Rattle.nvm_model.proofs.StandLemmas.{word_write_back-strong, word_write_back-word_stored}
 use Rattle.page_lines.specs.Turns.{Turns, MayTurn, WritesBackOthers, healed}
 use Rattle.page_lines.proofs.OthersLemmas.{others-wider, others-write_back, others-beside}
 use Rattle.page_lines.proofs.TurnLemmas.{stands-write_back}
-use Rattle.page_lines.proofs.ClearLemmas.{stands-cleared}
 use Rattle.page_lines.proofs.PieceLemmas.{word_stored-out, word_stored-part}
 
 -- an item that was changed, from the one that it was
@@ -147,7 +147,7 @@ pub turns-cleared : (m new : Medium) (line : ℕ) → m.is_bad line ≡ true →
 turns-cleared m new line bad x = record { stands = by_cell }
   where
     by_cell : (cell : Cell) → CellStands m line cell → CellStands new line (healed cell)
-    by_cell Bad stands = stands-cleared m new line x
+    by_cell Bad stands = cell_stands-zeros m new line x
     by_cell (Kept weak words) stands = absurd (false≢true (sym stands.0 ∙ bad))
 
 pub turns-unhealed : (m : Medium) (line : ℕ) → m.is_bad line ≡ false → Turns healed line m m

@@ -22,3 +22,4 @@ pub mod MountedLemmas
 pub mod StandingLemmas
 pub mod DeviceLemmas
 pub mod AddressLemmas
+pub mod FirstLineLemmas

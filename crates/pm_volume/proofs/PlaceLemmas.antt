@@ -81,6 +81,15 @@ module _ (geo : Geometry) (valid : IsValid geo) where
         ]
       ]
 
+  -- the 64 lines of a page follow each other
+  pub lines_follow : (page k : ℕ) → k < 64 → volume_line geo (64 * page + k) ≡ volume_line geo (64 * page) + k
+  unfolding size
+  lines_follow page k below =
+      elim (cases_lt (64 * page) (size geo first_range)) as (λ _. volume_line geo (64 * page + k) ≡ volume_line geo (64 * page) + k) [
+        | inl here ↦ let a = line_first (64 * page) here in let b = line_first (64 * page + k) (omega arith) in omega arith
+        | inr past ↦ let a = line_second (64 * page) past in let b = line_second (64 * page + k) (omega arith) in omega arith
+      ]
+
   pub in_volume : (there : List Bool) (n : ℕ) (wanted : Bool) → length there ≡ geo.vpages → slice_get there (n / 64) ≡ Some wanted → n < 64 * geo.vpages
   in_volume there n wanted all is = let below = slice_get_within there (n / 64) wanted is in omega arith
 

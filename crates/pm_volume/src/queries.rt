@@ -1,9 +1,12 @@
 // What is known of the volume without the device.
-ghost use Rattle.std.specs.Prelude.{◌≡◌, ◌≤◌, ◌<◌, IfOk, IsErr, Err, Some, slice_get};
+ghost use Rattle.std.specs.Prelude.{◌≡◌, ◌+◌, ◌*◌, ◌≤◌, ◌<◌, ◌↔◌, ℕ, true, false, IfOk, IsErr, IsNone, Err, Some, option_map, slice_get};
+ghost use Rattle.word_tables.specs.Bounds.{IsValid};
 ghost use Rattle.pm_volume.specs.Area.{volume_ranges};
+ghost use Rattle.pm_volume.specs.Object.{volume_place};
 ghost use Rattle.pm_volume.specs.declared.fault.VolumeFault.TheVariants.{Range};
 
 use crate::{Volume, VolumeFault};
+use nvm_base::{LINE, LineNo, PAGE};
 use range_sets::RangeSet;
 
 impl Volume {
@@ -12,6 +15,28 @@ impl Volume {
         ensures { result ≡ self.now.settled }
     {
         self.settled
+    }
+
+    /// How many pages there are, absent ones among them.
+    pub fn count(&self) -> u64
+        ensures count { result ≡ self.now.geo.vpages }
+        ensures valid { IsValid self.now.geo }
+    {
+        self.geo.vpages
+    }
+
+    /// The first of the 64 lines of a page, None where it is absent.
+    pub fn line_of(&self, page: u64) -> Option<LineNo>
+        requires { page < self.now.geo.vpages }
+        ensures lines { (k : ℕ) → k < 64
+            → volume_place self.now.geo self.now.present true (64 * page + k) ≡ option_map (λ line. line.0 + k) result }
+        ensures none { IsNone result ↔ (slice_get self.now.present page ≡ Some false) }
+    {
+        if self.present[page as usize] {
+            Some(LineNo(self.geo.volume_line(PAGE / LINE * page)))
+        } else {
+            None
+        }
     }
 
     /// The volume's ranges of physical addresses, in bytes: byte `offset` of the volume is the set's byte `offset`.
