@@ -1,0 +1,119 @@
+-- Bad lines, counted.
+use Rattle.std.proofs.Common.{◌≡◌, ℕ, zero, suc, ◌+◌, ◌*◌, ◌/◌, ◌%◌, ◌<◌, Bool, true, false, cond, is_none, count_by, sum_by, Option, Some, None, option_map, option_and_then, List, [], ◌∷◌, length, slice_get, slice_index_or, refl, sym, ap, ap₂, subst, ◌∙◌, arith}
+use Rattle.std.specs.List.{range_with_len}
+use Rattle.std.proofs.lemmas.List.Sums.{sum_by-cons}
+use Rattle.std.proofs.lemmas.Option.{get_or_from_slice_get, none-some, slice_get-get_or, slice_get_within}
+use Rattle.line_device.specs.Medium.{Medium}
+use Rattle.nvm_model.specs.Cell.{Cell, CellStands}
+use Rattle.nvm_model.specs.Cell.Cell.{Bad, Kept}
+use Rattle.nvm_model.specs.Page.{Page, bad_cells, bad_lines, cell_in, cell_of, is_present}
+use Rattle.nvm_model.specs.Page.Page.{Absent, Present}
+use Rattle.pm_volume.specs.Object.{VolumeHolds, VolumeState, volume_place}
+use Rattle.pm_volume.proofs.BadLemmas.{page_there}
+use Rattle.pm_volume.proofs.PlaceLemmas.{placed}
+use Rattle.scrub.specs.Counting.{bad_in_page, nth_page}
+
+add_on : (c x y w : ℕ) → x ≡ y + w → c + x ≡ c + y + w
+add_on c x y w is = omega arith
+
+swap : (n : ℕ) → n + 0 ≡ 0 + n
+swap n = omega arith
+
+count-cons : {A : Type 0} (p : A → Bool) (x : A) (xs : List A) → count_by p (x ∷ xs) ≡ cond (p x) 1 0 + count_by p xs
+count-cons p x xs = sum_by-cons (λ y. cond (p y) 1 0) x xs
+
+count-suc : (p : ℕ → Bool) (a n : ℕ) → count_by p (range_with_len a (suc n)) ≡ count_by p (range_with_len a n) + cond (p (a + n)) 1 0
+count-suc p a zero =
+    let e : a + 0 ≡ a = omega arith in
+    count-cons p a [] ∙ subst (λ x. cond (p a) 1 0 + 0 ≡ 0 + cond (p x) 1 0) (sym e) (swap (cond (p a) 1 0))
+count-suc p a (suc n) =
+    let e : a + 1 + n ≡ a + suc n = omega arith in
+    count-cons p a (range_with_len (a + 1) (suc n))
+    ∙ add_on (cond (p a) 1 0) (count_by p (range_with_len (a + 1) (suc n))) (count_by p (range_with_len (a + 1) n)) (cond (p (a + suc n)) 1 0)
+    (subst (λ x. count_by p (range_with_len (a + 1) (suc n)) ≡ count_by p (range_with_len (a + 1) n) + cond (p x) 1 0) e (count-suc p (a + 1) n))
+    ∙ ap (λ k. k + cond (p (a + suc n)) 1 0) (sym (count-cons p a (range_with_len (a + 1) n)))
+
+-- one line more
+pub count-next : (p : ℕ → Bool) (a n : ℕ) (b : Bool) → p (a + n) ≡ b → count_by p (range_with_len a (n + 1)) ≡ count_by p (range_with_len a n) + cond b 1 0
+count-next p a n b is =
+    let e : suc n ≡ n + 1 = omega arith in
+    subst (λ k. count_by p (range_with_len a k) ≡ count_by p (range_with_len a n) + cond b 1 0) e
+    (count-suc p a n ∙ ap (λ t. count_by p (range_with_len a n) + cond t 1 0) is)
+
+one_more : (x y : ℕ) → x ≡ y → suc x ≡ 1 + y
+one_more x y is = omega arith
+
+no_more : (x y : ℕ) → x ≡ y → x ≡ 0 + y
+no_more x y is = omega arith
+
+-- lines that stand for cells
+pub cells_bad : (m : Medium) (first : ℕ) (cells : List Cell) → ((k : ℕ) (cell : Cell) → slice_get cells k ≡ Some cell → CellStands m (first + k) cell)
+    → bad_cells cells ≡ count_by m.is_bad (range_with_len first (length cells))
+cells_bad m first [] stands = refl
+cells_bad m first (x ∷ cells) stands =
+    by_cell x (stands 0 x refl) (cells_bad m (first + 1) cells next) ∙ sym (count-cons m.is_bad first (range_with_len (first + 1) (length cells)))
+  where
+    e : first + 0 ≡ first
+    e = omega arith
+
+    next : (k : ℕ) (cell : Cell) → slice_get cells k ≡ Some cell → CellStands m (first + 1 + k) cell
+    next k cell is = let more : first + suc k ≡ first + 1 + k = omega arith in subst (λ n. CellStands m n cell) more (stands (suc k) cell is)
+
+    by_cell : (x : Cell) → CellStands m (first + 0) x → bad_cells cells ≡ count_by m.is_bad (range_with_len (first + 1) (length cells))
+        → bad_cells (x ∷ cells) ≡ cond (m.is_bad first) 1 0 + count_by m.is_bad (range_with_len (first + 1) (length cells))
+    by_cell Bad bad rest =
+        subst (λ b. suc (bad_cells cells) ≡ cond b 1 0 + count_by m.is_bad (range_with_len (first + 1) (length cells))) (sym bad ∙ ap m.is_bad e)
+        (one_more _ _ rest)
+    by_cell (Kept weak words) kept rest =
+        subst (λ b. bad_cells cells ≡ cond b 1 0 + count_by m.is_bad (range_with_len (first + 1) (length cells))) (sym kept.0 ∙ ap m.is_bad e)
+        (no_more _ _ rest)
+
+-- a page whose lines lie from a line on
+pub page_bad : (s : VolumeState) (m : Medium) (pages : List Page) (page line : ℕ) → VolumeHolds s m pages
+    → ((k : ℕ) → k < 64 → volume_place s.geo s.present true (64 * page + k) ≡ Some (line + k))
+    → bad_in_page (nth_page pages page) ≡ count_by m.is_bad (range_with_len line 64)
+page_bad s m pages page line holds places = by_page (slice_get pages page) refl
+  where
+    here : (64 * page + 0) / 64 ≡ page
+    here = omega arith
+
+    present : option_map is_present (slice_get pages page) ≡ Some true
+    present = sym (page_there s m pages holds page) ∙ ap (slice_get s.present) (sym here) ∙ (placed s.geo s.present true (64 * page + 0) (line + 0) (places 0 (omega arith))).0
+
+    by_page : (o : Option Page) → slice_get pages page ≡ o → bad_in_page (nth_page pages page) ≡ count_by m.is_bad (range_with_len line 64)
+    by_page None was = absurd (none-some true (sym (ap (option_map is_present) was) ∙ present))
+    by_page (Some Absent) was = let wrong : Some false ≡ Some true = sym (ap (option_map is_present) was) ∙ present in cc
+    by_page (Some (Present cells)) was =
+        ap bad_in_page (get_or_from_slice_get pages page (Present cells) Absent was)
+        ∙ cells_bad m line cells each
+        ∙ ap (λ n. count_by m.is_bad (range_with_len line n)) (holds.stand.whole page cells was)
+      where
+        each : (k : ℕ) (cell : Cell) → slice_get cells k ≡ Some cell → CellStands m (line + k) cell
+        each k cell found =
+            let small : k < 64 = omega (arith, slice_get_within cells k cell found, holds.stand.whole page cells was) in
+            let at : (64 * page + k) / 64 ≡ page = omega arith in
+            let inside : (64 * page + k) % 64 ≡ k = omega arith in
+            let is : cell_of pages (64 * page + k) ≡ Some cell =
+            ap (λ i. option_and_then (λ p. cell_in p ((64 * page + k) % 64)) (slice_get pages i)) at
+            ∙ ap (option_and_then (λ p. cell_in p ((64 * page + k) % 64))) was
+            ∙ ap (slice_get cells) inside ∙ found in
+            subst (λ n. CellStands m n cell) (placed s.geo s.present true (64 * page + k) (line + k) (places k small)).1
+            (holds.stand.lines (64 * page + k) cell is)
+
+pub page_bad-none : (s : VolumeState) (m : Medium) (pages : List Page) (page : ℕ) → VolumeHolds s m pages → slice_get s.present page ≡ Some false
+    → bad_in_page (nth_page pages page) ≡ 0
+page_bad-none s m pages page holds absent = by_page (slice_get pages page) refl
+  where
+    lacks : option_map is_present (slice_get pages page) ≡ Some false
+    lacks = sym (page_there s m pages holds page) ∙ absent
+
+    by_page : (o : Option Page) → slice_get pages page ≡ o → bad_in_page (nth_page pages page) ≡ 0
+    by_page None was = absurd (none-some false (sym (ap (option_map is_present) was) ∙ lacks))
+    by_page (Some Absent) was = ap bad_in_page (get_or_from_slice_get pages page Absent Absent was)
+    by_page (Some (Present cells)) was = let wrong : Some true ≡ Some false = sym (ap (option_map is_present) was) ∙ lacks in cc
+
+-- all pages
+pub bad_lines-sum : (pages : List Page) → bad_lines pages ≡ sum_by bad_in_page pages
+bad_lines-sum [] = refl
+bad_lines-sum (Absent ∷ pages) = no_more _ _ (bad_lines-sum pages) ∙ sym (sum_by-cons bad_in_page Absent pages)
+bad_lines-sum (Present cells ∷ pages) = ap (λ n. bad_cells cells + n) (bad_lines-sum pages) ∙ sym (sum_by-cons bad_in_page (Present cells) pages)
