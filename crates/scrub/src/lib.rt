@@ -5,6 +5,8 @@
 mod clearing;
 mod counting;
 mod fault;
+#[cfg(test)]
+mod tests;
 
 pub use clearing::clear_volume;
 pub use counting::bad_in_volume;
