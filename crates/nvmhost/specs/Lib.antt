@@ -5,5 +5,6 @@ pub mod Opening
 pub mod Whole
 pub mod Storing
 pub mod Forms
+pub mod Unfailing
 pub mod Reading
 pub mod Running

@@ -9,6 +9,7 @@ ghost use Rattle.nvmhost.specs.declared.ending.Ending.{Ending as Early};
 ghost use Rattle.nvmhost.specs.declared.ending.Ending.TheVariants.{Usage, Memory};
 ghost use Rattle.nvmhost.specs.Ending.{status};
 ghost use Rattle.nvmhost.specs.Forms.{Does, EndsEarly, IsNoForm, Outcome};
+ghost use Rattle.nvmhost.specs.Unfailing.{CanBegin, EndsWell, NothingFailed};
 ghost use Rattle.nvmhost.specs.World.{world};
 
 use crate::ending::Ending;
@@ -44,6 +45,14 @@ pub fn nvmhost<D: LineDevice, F: Images, T: Source, K: Sink>(
         → EndsEarly form result
         (world (D.state device.old) (F.held images.old) (F.count images.old) (T.left script.old) (T.count script.old) (K.written replies.old) (K.count replies.old))
         (world (D.state device.new) (F.held images.new) (F.count images.new) (T.left script.new) (T.count script.new) (K.written replies.new) (K.count replies.new)) }
+
+    // Where nothing failed, and a right image is held where one is asked for, it ends well or for want of memory, or its script is
+    // too long.
+    ensures completeness { (form : FormOfWords) → IsForm (map (λ word. string_bytes word) words.now) form → CanBegin form (F.held images.old)
+        → NothingFailed
+        (world (D.state device.old) (F.held images.old) (F.count images.old) (T.left script.old) (T.count script.old) (K.written replies.old) (K.count replies.old))
+        (world (D.state device.new) (F.held images.new) (F.count images.new) (T.left script.new) (T.count script.new) (K.written replies.new) (K.count replies.new))
+        → EndsWell form result }
 
     // Words of no form leave all but the replies alone.
     ensures usage { result ≡ 2 → (form : FormOfWords) → IsForm (map (λ word. string_bytes word) words.now) form → ⊥ }

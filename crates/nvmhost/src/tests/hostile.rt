@@ -9,8 +9,8 @@ use std::test::Fail;
 enum Change {
     Byte(usize, u8),
     // The word at this place of the device.
-    Word(usize, u64),
-    TwoWords(usize, u64, u64),
+    Word(u16, u64),
+    TwoWords(u16, u64, u64),
     // So many bytes are left.
     Cut(u64),
     // One byte too many.
@@ -19,13 +19,10 @@ enum Change {
     LineLess,
 }
 
-// Where a word stands: behind the 24 bytes of the head, the tags and the lines before it.
-const fn offset_of(place: usize) -> usize {
-    24 + 65 * (place / 8) + 1 + 8 * (place % 8)
-}
-
-fn set_word(bytes: &mut [u8], place: usize, word: u64) {
-    let from = offset_of(place.min(40_000));
+// A word stands behind the 24 bytes of the head, the tags and the lines before it.
+fn set_word(bytes: &mut [u8], place: u16, word: u64) {
+    let place = usize::from(place);
+    let from = 24 + 65 * (place / 8) + 1 + 8 * (place % 8);
     if let Some(field) = bytes.get_mut(from..from + 8) {
         field.copy_from_slice(&word.to_le_bytes());
     }
@@ -43,10 +40,10 @@ fn apply(change: Change, bytes: &mut Bytes) -> Result<(), Fail> {
             set_word(bytes.as_mut_slice(), place, one);
             set_word(bytes.as_mut_slice(), place.saturating_add(1), two);
         }
-        Change::Cut(len) => bytes.truncate(len),
+        Change::Cut(len) => bytes.truncate(len.min(bytes.len())),
         Change::More => bytes.push(0)?,
         Change::LineLess => {
-            bytes.truncate(24 + 65 * 5055);
+            bytes.truncate(bytes.len().saturating_sub(65));
             set_count(bytes.as_mut_slice());
         }
     }
