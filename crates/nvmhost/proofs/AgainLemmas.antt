@@ -1,27 +1,23 @@
 -- The image of a device that stands for a state is read again as what that state keeps.
-use Rattle.std.proofs.Common.{◌≡◌, ℕ, ◌+◌, ◌*◌, ◌/◌, ◌<◌, ◌≤◌, true, false, Option, Some, None, List, [], ◌∷◌, length, take, inl, inr, refl, sym, ap, subst, ◌∙◌, arith}
-use Rattle.std.specs.Prelude.{filter}
-use Rattle.std.specs.List.{AllByRecursion, range_with_len}
+use Rattle.std.proofs.Common.{◌≡◌, ℕ, ◌/◌, ◌<◌, None, List, [], ◌∷◌, take, inl, inr, refl, sym, ap, subst, ◌∙◌, arith}
+use Rattle.std.specs.List.{AllByRecursion}
 use Rattle.std.proofs.lemmas.List.{length-map}
 use Rattle.image_file.specs.Devices.{AreLinesGood, IsLastImage, image_of, medium_of}
 use Rattle.image_file.specs.Text.{FitImage, IsImageLine}
-use Rattle.image_file.proofs.ShownLemmas.{depicted, depicted_last, snapshot_last, sound as sound_image}
+use Rattle.image_file.proofs.ShownLemmas.{depicted, depicted_last, sound as sound_image}
 use Rattle.line_device.specs.History.{IsIn, latest, newest, WordWritesBack}
 use Rattle.line_device.specs.Medium.{Medium, IsHealthy, IsSound, Survivors, last_image}
 use Rattle.line_device.specs.Panel.{Image}
 use Rattle.line_device.specs.declared.line.Choice.TheVariants.{Lasts}
 use Rattle.line_device.specs.declared.line.LineState.{LineState}
 use Rattle.line_device.proofs.HistoryLemmas.{is_in-one, latest-cons, word_write_back-latest}
-use Rattle.line_words.specs.Words.{IsOnly}
 use Rattle.word_tables.specs.declared.geometry.Geometry.{Geometry}
 use Rattle.word_tables.specs.Bounds.{IsValid}
-use Rattle.word_tables.specs.Layout.{meta_lines, total_lines, volume_line}
-use Rattle.word_log.specs.Area.{IsOf}
+use Rattle.word_tables.specs.Layout.{total_lines, volume_line}
 use Rattle.word_log.specs.Replay.{first_wrong}
-use Rattle.nvm_model.specs.Page.{KeepsPages, Page, cell_of, is_present, presence_of}
+use Rattle.nvm_model.specs.Page.{KeepsPages, Page, is_present, presence_of}
 use Rattle.nvm_model.specs.Storage.{Block}
 use Rattle.nvm_model.proofs.RestartLemmas.{stand-restarted}
-use Rattle.block_device.specs.Area.{IsBlockLine, IsBlockPlace}
 use Rattle.block_device.specs.Images.{EachReads, IsBlockImage, ReadsAs}
 use Rattle.block_device.specs.Mounting.{wrong_place}
 use Rattle.block_device.specs.Reading.{blocks_read}
@@ -32,13 +28,11 @@ use Rattle.pm_volume.specs.Area.{volume_area}
 use Rattle.pm_volume.specs.Images.{EachReadsPages, ReadsPages}
 use Rattle.pm_volume.specs.Presence.{presence_read, wrong_volume_place}
 use Rattle.pm_volume.proofs.StandingLemmas.{LineKept, each_pages-kept, images-kept, line_of_volume, nothing_wrong, presence_read-replays}
-use Rattle.recovery.specs.Findings.{first_finding, geometry_told}
 use Rattle.recovery.proofs.FindingLemmas.{all_right}
 use Rattle.recovery.proofs.SuperblockLemmas.{some_lines}
 use Rattle.machine_host.specs.Lines.{HasLayout}
 use Rattle.machine_host.specs.Commands.{MayLeaveBlocks, MayLeaveVolume}
 use Rattle.machine_host.specs.Machine.{Machine}
-use Rattle.machine_host.specs.Restarting.{RestartMayLeave}
 use Rattle.machine_host.specs.Stands.{MetadataStands}
 use Rattle.machine_host.proofs.DepictedLemmas.{blocks_depicted, presence_depicted}
 use Rattle.machine_host.proofs.ElsewhereLemmas.{area_of_volume, volume_within}

@@ -1,12 +1,11 @@
 -- What a form does or fails at, as a whole.
-use Rattle.std.proofs.Common.{◌≡◌, ◌⊎◌, inl, inr, ℕ, ◌≤◌, ◌≢◌, ◌/◌, ◌%◌, false, List, [], ◌++◌, length, take, drop, Option, Some, None, Result, Ok, Err, refl, sym, ap, ap₂, subst, ◌∙◌, append-nil, arith}
+use Rattle.std.proofs.Common.{◌≡◌, ◌⊎◌, inl, inr, ℕ, ◌≤◌, ◌≢◌, ◌/◌, ◌%◌, List, [], ◌++◌, length, take, drop, Option, Some, None, Result, Ok, Err, refl, sym, ap, ap₂, subst, ◌∙◌, append-nil, arith}
 use Rattle.std.proofs.lemmas.List.{take-append-drop}
 use Rattle.std.specs.Prelude.{⊤, codes, decimal, IfOk, IfSome, MatchResult}
 use Rattle.std.specs.List.{AllByRecursion, slice_get}
 use Rattle.std.specs.Io.KnownBytes.{Appends}
 use Rattle.nvm_base.specs.Counts.{Rose, raised}
 use Rattle.nvm_base.specs.Stock.{Stock}
-use Rattle.command_line.specs.Words.{Form}
 use Rattle.command_line.specs.Words.Form.{of_check, of_new, of_run}
 use Rattle.host_io.specs.Images.{CountsReplace, Held, KeepsHeld}
 use Rattle.host_io.specs.Writing.{WritesAll}
@@ -14,10 +13,10 @@ use Rattle.host_io.specs.declared.images.ImageCounts.{ImageCounts}
 use Rattle.host_io.specs.declared.sink.WriteFault.{WriteFault}
 use Rattle.host_io.specs.declared.sink.WriteFault.TheVariants as write
 use Rattle.image_file.specs.Devices.{image_of, medium_of, told_values, told_word}
-use Rattle.image_file.specs.Text.{IsImageLine, image_text}
+use Rattle.image_file.specs.Text.{IsImageLine}
 use Rattle.line_device.specs.Device.{Device}
 use Rattle.line_device.specs.History.{newest}
-use Rattle.line_device.specs.Medium.{IsSound, Medium, last_image}
+use Rattle.line_device.specs.Medium.{IsSound, last_image}
 use Rattle.line_device.specs.Panel.{KeepsPower, Panel, SetsUp, after_disarm}
 use Rattle.line_device.specs.declared.line.LineState.{LineState}
 use Rattle.line_device.specs.declared.line.LineState.TheVariants.{Healthy, Weak, Bad}
@@ -32,13 +31,10 @@ use Rattle.nvm_model.proofs.PageLemmas.{bad_lines-none}
 use Rattle.pm_volume.specs.Images.{EachReadsPages}
 use Rattle.pm_volume.specs.Presence.{presence_read}
 use Rattle.recovery.specs.Findings.{first_finding, geometry_told}
-use Rattle.reply_text.specs.Answer.{reply_text}
-use Rattle.script_text.specs.Script.{inputs_of, lines_of}
 use Rattle.machine_host.specs.declared.mode.Mode.TheVariants as modes
 use Rattle.machine_host.specs.Commands.{MayLeaveBlocks, MayLeaveVolume}
 use Rattle.machine_host.specs.Machine.{Machine}
 use Rattle.machine_host.specs.Restarting.{reading}
-use Rattle.machine_host.specs.Run.{Run}
 use Rattle.machine_host.specs.Settling.{Settled}
 use Rattle.machine_host.specs.Stands.{HostServes, HostState, Stands}
 use Rattle.machine_host.proofs.MountLemmas.{found_map}
@@ -53,8 +49,7 @@ use Rattle.nvmhost.specs.Storing.{HoldsOn, NotReadOut, Stores}
 use Rattle.nvmhost.specs.Whole.{IsRun, WritesFront}
 use Rattle.nvmhost.specs.World.{World}
 use Rattle.nvmhost.specs.declared.ending.Ending.{Ending}
-use Rattle.nvmhost.specs.declared.ending.Ending.TheVariants.{Usage, Memory, Write}
-use Rattle.nvmhost.specs.declared.ending.Ending.TheVariants as endings
+use Rattle.nvmhost.specs.declared.ending.Ending.TheVariants.{Usage, Write}
 use Rattle.nvmhost.proofs.AgainLemmas.{is_read_again}
 use Rattle.nvmhost.proofs.BytesLemmas.{appends-none}
 use Rattle.nvmhost.proofs.OpenLemmas.{good_of_image}

@@ -1,44 +1,24 @@
 -- An image that is opened, and one that is not.
-use Rattle.std.proofs.Common.{◌≡◌, ◌⊎◌, inl, inr, ℕ, zero, suc, ◌<◌, ◌≤◌, ◌/◌, ◌%◌, true, false, IsTrue, List, [], ◌∷◌, length, Option, Some, None, Result, Ok, Err, refl, sym, ap, subst, ◌∙◌, arith}
-use Rattle.std.specs.Prelude.{IfSome, IsSomeAnd}
-use Rattle.std.specs.List.{AllByRecursion, slice_get}
-use Rattle.nvm_base.specs.Counts.{Rose}
-use Rattle.host_io.specs.Images.{CountsFetch, Fetches, Held}
-use Rattle.host_io.specs.declared.images.FetchFault.{FetchFault}
-use Rattle.host_io.specs.declared.images.FetchFault.TheVariants as fetch
-use Rattle.host_io.specs.declared.images.ImageCounts.{ImageCounts}
-use Rattle.image_file.specs.declared.Image.{Image}
-use Rattle.image_file.specs.declared.fault.ImageFault.{ImageFault}
-use Rattle.image_file.specs.declared.fault.ImageFault.TheVariants as image_fault
+use Rattle.std.proofs.Common.{◌≡◌, ℕ, zero, suc, ◌/◌, false, List, [], ◌∷◌, Option, None, refl, sym, ap, subst, ◌∙◌, arith}
+use Rattle.std.specs.List.{AllByRecursion}
+use Rattle.host_io.specs.Images.{Held}
 use Rattle.image_file.specs.Devices.{image_of, medium_of}
-use Rattle.image_file.specs.Results.{ReadsImage}
-use Rattle.image_file.specs.Text.{IsImageLine, IsSnapshot, image_text}
-use Rattle.image_file.specs.WrongField.{first_wrong_offset}
+use Rattle.image_file.specs.Text.{IsImageLine}
 use Rattle.image_file.proofs.ShownLemmas.{depicted}
 use Rattle.line_device.specs.History.{IsIn, newest}
 use Rattle.line_device.proofs.HistoryLemmas.{is_in-one}
 use Rattle.line_device.specs.Device.{Device}
-use Rattle.line_device.specs.Medium.{Medium, last_image}
-use Rattle.line_device.specs.Panel.{ArmsNothing, Outcome, Panel, Runs, SetsUp}
+use Rattle.line_device.specs.Medium.{Medium}
+use Rattle.line_device.specs.Panel.{Outcome, Panel, Runs, SetsUp}
 use Rattle.line_device.specs.Panel.Outcome.{went}
-use Rattle.line_device.specs.declared.fault.ResetFault.{ResetFault}
-use Rattle.line_device.specs.declared.fault.ResetFault.TheVariants as reset
-use Rattle.line_device.specs.Device.{setup_outcome}
 use Rattle.line_device.specs.declared.line.LineState.{LineState}
 use Rattle.line_device.specs.declared.line.LineState.TheVariants.{Healthy, Weak, Bad}
 use Rattle.line_device.proofs.PanelLemmas.{arms_nothing-trans, same_orders-trans}
 use Rattle.machine_host.specs.Costs.{Opens, mount_calls, mount_persists}
-use Rattle.machine_host.specs.Lines.{HasGoodData}
 use Rattle.machine_host.specs.Restarting.{reading}
 use Rattle.machine_host.specs.Stands.{HostState, HostServes, IsFlushed, Stands}
-use Rattle.nvm_base.specs.Stock.{Stock}
 use Rattle.recovery.specs.Findings.{first_finding, geometry_told}
-use Rattle.recovery.specs.Mounting.{Finds, mount_outcome}
-use Rattle.recovery.specs.declared.fault.MountFault.{MountFault}
-use Rattle.recovery.specs.declared.fault.MountFault.TheVariants as mount
-use Rattle.nvmhost.specs.declared.ending.Ending.{Ending}
-use Rattle.nvmhost.specs.Ending.{most_bytes, of_fetch, of_image, of_mount, of_reset}
-use Rattle.nvmhost.specs.Opening.{IsHeld, IsReady, StaysClosed, opened, snapshot}
+use Rattle.nvmhost.specs.Opening.{IsHeld, IsReady}
 use Rattle.nvmhost.proofs.TellLemmas.{tells_opening}
 
 -- the lines of an image are healthy, and each word has one value

@@ -1,8 +1,7 @@
 -- A run that is over: host and device are brought to rest, and the device is read out.
-use Rattle.std.proofs.Common.{◌≡◌, ◌⊎◌, inl, inr, ℕ, ◌+◌, ◌/◌, ◌<◌, ◌≤◌, true, false, IsTrue, Option, Some, None, List, [], ◌∷◌, length, Result, refl, sym, ap, subst, ◌∙◌, arith}
+use Rattle.std.proofs.Common.{◌≡◌, ℕ, ◌+◌, ◌/◌, ◌<◌, ◌≤◌, false, List, [], ◌∷◌, length, sym, ap, subst, ◌∙◌, arith}
 use Rattle.std.proofs.lemmas.Bool.{false≢true}
-use Rattle.nvm_base.specs.Counts.{raised}
-use Rattle.line_device.specs.Medium.{Medium, WritesBack}
+use Rattle.line_device.specs.Medium.{WritesBack}
 use Rattle.line_device.specs.Panel.{ArmsNothing, Panel, SetsUp, Outcome, Start, after_disarm}
 use Rattle.line_device.specs.Panel.Outcome.{went}
 use Rattle.line_device.specs.Device.{Device}

@@ -1,6 +1,6 @@
 -- A run of a script over an image that was opened, as far as it came.
-use Rattle.std.proofs.Common.{◌≡◌, ◌⊎◌, inl, inr, ℕ, ◌≤◌, List, [], ◌++◌, length, Option, Some, None, Result, Ok, Err, refl, sym, ap, subst, ◌∙◌, append-nil, length-append, arith}
-use Rattle.std.specs.Prelude.{IfErr, IfSome, ⊤}
+use Rattle.std.proofs.Common.{◌≡◌, ◌⊎◌, inl, inr, ℕ, ◌≤◌, List, [], ◌++◌, length, Option, Some, None, Ok, Err, refl, sym, ap, subst, ◌∙◌, append-nil, length-append, arith}
+use Rattle.std.specs.Prelude.{IfSome, ⊤}
 use Rattle.std.specs.Io.KnownBytes.{Appends, Consumes}
 use Rattle.nvm_base.specs.Counts.{Rose, raised}
 use Rattle.nvm_base.specs.Stock.{Stock}
@@ -9,12 +9,10 @@ use Rattle.image_file.specs.Devices.{image_of, medium_of}
 use Rattle.line_device.specs.Device.{Device}
 use Rattle.line_device.specs.Panel.{Panel}
 use Rattle.line_device.specs.declared.line.LineState.{LineState}
-use Rattle.reply_text.specs.Answer.{reply_text}
 use Rattle.script_text.specs.Script.{inputs_of, lines_of}
 use Rattle.recovery.specs.Findings.{geometry_told}
 use Rattle.machine_host.specs.Machine.{Machine}
-use Rattle.machine_host.specs.Restarting.{reading}
-use Rattle.machine_host.specs.Run.{Run, Transcript, followed_by, silence}
+use Rattle.machine_host.specs.Run.{Run, Transcript, silence}
 use Rattle.machine_host.specs.Stands.{HostState}
 use Rattle.durable.specs.Durable.{BringBytes}
 use Rattle.durable.proofs.PassLemmas.{keeps_through}
@@ -22,11 +20,11 @@ use Rattle.durable.proofs.ScriptLemmas.{bring-lines, bring-rest}
 use Rattle.durable.proofs.WholeLemmas.{whole-reading}
 use Rattle.nvmhost.specs.Begins.{Begins}
 use Rattle.nvmhost.specs.Forms.{Halts, IsCaused, IsThrough}
-use Rattle.nvmhost.specs.Opening.{CountsOpening, IsReady, opened, opening}
+use Rattle.nvmhost.specs.Opening.{CountsOpening, IsReady, opened}
 use Rattle.nvmhost.specs.Reading.{ReadsScript}
-use Rattle.nvmhost.specs.Running.{Performs, Says}
+use Rattle.nvmhost.specs.Running.{Performs}
 use Rattle.nvmhost.specs.Storing.{HoldsOn}
-use Rattle.nvmhost.specs.Whole.{GoesToRest, IsRun, TellsFirst}
+use Rattle.nvmhost.specs.Whole.{GoesToRest, IsRun}
 use Rattle.nvmhost.specs.World.{World}
 use Rattle.nvmhost.specs.declared.ending.Ending.{Ending}
 use Rattle.nvmhost.specs.declared.ending.Ending.TheVariants.{Usage, Image, Layout, Meta, Read, Write, Memory, Script}

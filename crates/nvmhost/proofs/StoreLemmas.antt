@@ -1,28 +1,14 @@
 -- Lines that are read out, and an image that is stored.
-use Rattle.std.proofs.Common.{◌≡◌, ◌⊎◌, inl, inr, ℕ, ◌+◌, ◌*◌, ◌<◌, ◌≤◌, List, length, Option, Some, None, Result, Ok, Err, refl, sym, ap, subst, ◌∙◌, arith}
-use Rattle.std.specs.Prelude.{⊤, IfSome, IfErr, OnOk}
-use Rattle.nvm_base.specs.Counts.{Rose, raised}
-use Rattle.host_io.specs.Images.{CountsReplace, Held, KeepsHeld}
-use Rattle.host_io.specs.declared.images.ImageCounts.{ImageCounts}
-use Rattle.host_io.specs.declared.sink.WriteFault.{WriteFault}
-use Rattle.host_io.specs.declared.sink.WriteFault.TheVariants as write
+use Rattle.std.proofs.Common.{◌≡◌, ℕ, ◌+◌, ◌*◌, List, sym, ap, ◌∙◌}
 use Rattle.image_file.specs.declared.Image.{Image}
-use Rattle.image_file.specs.declared.fault.ExtractFault.{ExtractFault}
-use Rattle.image_file.specs.declared.fault.ExtractFault.TheVariants as extract
-use Rattle.image_file.specs.Devices.{AreLinesGood, IsLastImage, extract_fault_outcome}
-use Rattle.image_file.specs.Text.{FitImage, IsSnapshot, image_text, snapshot_of}
+use Rattle.image_file.specs.Devices.{AreLinesGood, IsLastImage}
+use Rattle.image_file.specs.Text.{FitImage, image_text, snapshot_of}
 use Rattle.image_file.proofs.ShownLemmas.{snapshot_last}
-use Rattle.line_device.specs.Medium.{IsLine, Medium, Shows, WritesBack}
-use Rattle.line_device.specs.Panel.{Panel, SetsUp}
-use Rattle.line_device.specs.Panel.Outcome.{went}
+use Rattle.line_device.specs.Medium.{Medium, Shows, WritesBack}
 use Rattle.line_device.specs.declared.line.LineState.{LineState}
 use Rattle.line_device.specs.declared.line.LineState.TheVariants.{Healthy, Weak, Bad}
 use Rattle.line_device.proofs.WriteBackLemmas.{newest-write_back}
-use Rattle.nvmhost.specs.Ending.{of_extract, of_write}
-use Rattle.nvmhost.specs.Opening.{snapshot}
-use Rattle.nvmhost.specs.Storing.{AreLast, HoldsOn, NotReadOut}
-use Rattle.nvmhost.specs.declared.ending.Ending.{Ending}
-use Rattle.nvmhost.specs.declared.ending.Ending.TheVariants.{Write}
+use Rattle.nvmhost.specs.Storing.{AreLast}
 
 -- the text of the lines that were read out
 pub are_last : (m : Medium) (image : Image) (text : List ℕ) → FitImage m.count → AreLinesGood m → image.unit ≡ 8 → IsLastImage m image.lines.items → text ≡ image_text (snapshot_of image) → AreLast m text

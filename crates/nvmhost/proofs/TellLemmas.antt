@@ -1,13 +1,13 @@
 -- What a device told as it was set up, and of a run that ended early.
-use Rattle.std.proofs.Common.{◌≡◌, ℕ, [], ◌∷◌, inl, inr, refl, sym, ap, subst, ◌∙◌, arith}
+use Rattle.std.proofs.Common.{ℕ, [], ◌∷◌, inl, inr, refl, sym, ap, subst, ◌∙◌, arith}
 use Rattle.line_device.specs.Panel.{Panel, ArmsNothing, SetsUp, Outcome, after_restart}
 use Rattle.line_device.proofs.PanelLemmas.{arms_nothing-refl}
 use Rattle.line_device.specs.Device.{Device}
 use Rattle.line_device.specs.declared.line.Choice.{Choice}
 use Rattle.script_text.specs.Action.{Action}
-use Rattle.script_text.specs.Action.Action.{BRead, BWrite, BAtomic, BMulti, BDiscard, BDiscardIf, BExists, BScar, VLoad, VStore, VSync, Cut, CutIn, Restart}
+use Rattle.script_text.specs.Action.Action.{Restart}
 use Rattle.machine_host.specs.Machine.{Machine}
-use Rattle.machine_host.specs.Run.{Transcript, followed_by, silence}
+use Rattle.machine_host.specs.Run.{Transcript, followed_by}
 use Rattle.machine_host.specs.Telling.{Tells}
 use Rattle.machine_host.specs.Stands.{HostState}
 use Rattle.machine_host.specs.Costs.{Opens}

@@ -1,5 +1,5 @@
 -- Opening an image: what is read of it, and why it is not opened.
-use Rattle.std.specs.Prelude.{◌≡◌, ◌⊎◌, ◌+◌, ◌<◌, ◌≤◌, ℕ, List, length, Option, Some, None, IfSome, IsSomeAnd}
+use Rattle.std.specs.Prelude.{◌≡◌, ◌⊎◌, ◌<◌, ◌≤◌, ℕ, List, length, Option, Some, None, IfSome, IsSomeAnd}
 use Rattle.nvm_base.specs.Counts.{Rose, raised}
 use Rattle.host_io.specs.Images.{Held}
 use Rattle.host_io.specs.declared.images.ImageCounts.{ImageCounts}

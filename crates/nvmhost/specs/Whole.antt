@@ -1,5 +1,5 @@
 -- A run of a script over an image: over which lines, with which answers, and what the device is left as.
-use Rattle.std.specs.Prelude.{◌≡◌, ◌⊎◌, ◌≤◌, ◌<◌, ◌+◌, ℕ, List, [], ◌∷◌, ◌++◌, length, IsTrue, Option, IfSome, Result, Err}
+use Rattle.std.specs.Prelude.{◌≡◌, ◌≤◌, ◌+◌, ℕ, List, [], ◌∷◌, ◌++◌, length, Option, Result, Err}
 use Rattle.std.specs.Io.KnownBytes.{Appends}
 use Rattle.nvm_base.specs.Counts.{Rose, raised}
 use Rattle.line_device.specs.Panel.{Panel, ArmsNothing, SetsUp, Start, after_disarm, told}
@@ -8,7 +8,6 @@ use Rattle.line_device.specs.Device.{Device}
 use Rattle.host_io.specs.Writing.{WritesAll}
 use Rattle.host_io.specs.declared.sink.WriteFault.{WriteFault}
 use Rattle.host_io.specs.declared.sink.WriteFault.TheVariants.{Failed}
-use Rattle.reply_text.specs.Answer.{reply_text}
 use Rattle.script_text.specs.Action.{Action}
 use Rattle.script_text.specs.Script.{Input, inputs_of}
 use Rattle.script_text.specs.Script.Input.{Asked}

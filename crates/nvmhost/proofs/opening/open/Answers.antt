@@ -1,5 +1,5 @@
-use Rattle.std.proofs.Common.{subst, sym, ap}
-use Rattle.image_file.specs.Devices.{image_of, medium_of}
+use Rattle.std.proofs.Common.{subst, sym}
+use Rattle.image_file.specs.Devices.{image_of}
 use Rattle.image_file.proofs.ShownLemmas.{depicted}
 use Rattle.line_device.specs.Device.{Depicts}
 use Rattle.line_device.specs.Medium.{Medium}
