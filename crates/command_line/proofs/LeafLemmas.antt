@@ -1,14 +1,13 @@
 -- Which values each command takes.
 use Rattle.std.proofs.Common.{◌≡◌, ◌∙◌, ℕ, List, [], ◌∷◌, refl, ap}
-use Rattle.std.specs.Prelude.{Option, Some, codes, option_map}
+use Rattle.std.specs.Prelude.{Some, option_map}
 use Rattle.clap.specs.Walk.{Held, nothing_held}
 use Rattle.clap.specs.Simple.{Shape, built, built_leaf, inherited}
-use Rattle.clap.specs.Words.{Row, Text}
-use Rattle.clap.specs.Kinds.{Kinds}
+use Rattle.clap.specs.Words.{Text}
 use Rattle.clap.specs.declared.error.kind.ErrorKind.TheVariants.{UnknownArgument, MissingRequiredArgument}
 use Rattle.clap.proofs.OnLiterals.{clap_on_literals}
 use Rattle.nvm_base.specs.Numbers.{number_of}
-use Rattle.command_line.specs.Words.{Form, of_check, of_new, of_run, sizes_named}
+use Rattle.command_line.specs.Words.{of_check, of_new, of_run, sizes_named}
 use Rattle.command_line.specs.Commands.{check_command, check_of, new_command, new_of, program, run_command, run_of}
 use Rattle.command_line.proofs.WordLemmas.{IsValue, before, filled, leaf_refusals, leaf_rows, refused_already, refused_first, refused_from, refused_next, rows_first, rows_from, rows_next}
 

@@ -1,5 +1,5 @@
 -- The commands of the program, and what their values name.
-use Rattle.std.specs.Prelude.{ℕ, true, List, Option, Some, None, if◌then◌else◌, codes, option_map, option_and_then}
+use Rattle.std.specs.Prelude.{ℕ, true, List, Option, None, if◌then◌else◌, codes, option_map, option_and_then}
 use Rattle.std.specs.Str.{bytes_eq}
 use Rattle.clap.specs.Words.{App, Row, Rule, Shape, Text, first_of, new_app, new_rule, with_rule, with_subcommand}
 use Rattle.nvm_base.specs.Numbers.{number_of}

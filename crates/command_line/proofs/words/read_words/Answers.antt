@@ -1,13 +1,13 @@
 use Rattle.std.proofs.Common.{◌≡◌, ◌∙◌, Bool, List, [], ◌∷◌, All, Result, Ok, Err, IsErrAnd, rules, map, string_bytes, true, false, ap, subst, sym, true≢false}
 use Rattle.std.proofs.lemmas.List.Elements.{All-cons, All-head, All-map, All-nil, All-tail}
-use Rattle.clap.specs.Words.{App, HasKind, HasMatchesOf, Text, fault_of, is_simple_and_free, kind_of, subcommand_of, subcommand_rows_of}
+use Rattle.clap.specs.Words.{App, HasKind, HasMatchesOf, Text, fault_of, is_simple_and_free, kind_of, subcommand_rows_of}
 use Rattle.clap.specs.declared.error.kind.ErrorKind.{ErrorKind}
 use Rattle.clap.specs.declared.error.kind.ErrorKind.TheVariants.{OutOfMemory}
 use Rattle.command_line.specs.declared.fault.WordsFault.{WordsFault}
 use Rattle.command_line.specs.declared.fault.WordsFault.TheVariants.{Usage, Memory}
 use Rattle.command_line.specs.Faults.{words_fault}
 use Rattle.command_line.specs.Words.{IsPlain, named}
-use Rattle.command_line.specs.Commands.{met_form, program}
+use Rattle.command_line.specs.Commands.{met_form}
 use Rattle.command_line.proofs.ProgramLemmas.{form_met, program_is_free, program_is_simple, refused_for_memory}
 use Rattle.command_line.proofs.words.read_words.Goals as goal
 
