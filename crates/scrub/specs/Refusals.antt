@@ -1,5 +1,5 @@
 -- When calls are refused, and why.
-use Rattle.std.specs.Prelude.{◌*◌, ◌/◌, ◌||◌, ℕ, Bool, List, nat_le, nat_lt, Option, Some, None, if◌then◌else◌}
+use Rattle.std.specs.Prelude.{◌*◌, ◌/◌, ◌||◌, ℕ, List, nat_le, nat_lt, Option, Some, None, if◌then◌else◌}
 use Rattle.line_words.specs.declared.interruption.Interruption.TheVariants as stop
 use Rattle.line_words.specs.Told.{Told}
 use Rattle.line_words.specs.Told.Told.{Refuses, Starves, Stops}

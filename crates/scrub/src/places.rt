@@ -1,5 +1,5 @@
 // Where lines of the volume and of blocks lie on the device.
-ghost use Rattle.std.specs.Prelude.{◌≡◌, ◌/◌, IfOk, List, Some, length, true};
+ghost use Rattle.std.specs.Prelude.{◌≡◌, ◌/◌, ◌<◌, IfOk, List, Some, length, true};
 ghost use Rattle.line_device.specs.Medium.{Medium};
 ghost use Rattle.line_words.specs.Told.{Checks};
 ghost use Rattle.block_map.specs.States.{IsMap};
@@ -35,7 +35,7 @@ pub fn line_of_block(blocks: &Blocks, block: u64, line: u64) -> Result<LineNo, P
     requires all { length blocks.now.map ≡ blocks.now.geo.blocks }
     requires is_map { IsMap blocks.now.map }
     ensures refused { (m : Medium) → Checks place_says (block_refusal blocks.now.geo.blocks (blocks_of blocks.now m) block line) result }
-    ensures place { IfOk result (λ found. IsLineOf blocks.now block line found.0) }
+    ensures place { IfOk result (λ found. (line < 8) × IsLineOf blocks.now block line found.0) }
 {
     if block >= blocks.count() || line >= BLOCK / LINE {
         return Err(PlaceFault::Range);
