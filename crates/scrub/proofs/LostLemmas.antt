@@ -2,28 +2,21 @@
 use Rattle.std.proofs.Common.{◌≡◌, ◌+◌, ◌*◌, ◌/◌, ◌<◌, ◌≤◌, ◌==◌, ℕ, zero, suc, true, false, if◌then◌else◌, Some, None, List, [], ◌∷◌, map, slice_get, inl, inr, refl, sym, ap, ap₂, subst, ◌∙◌, arith}
 use Rattle.std.proofs.lemmas.Bool.{cases_eq, eq-eqb, ne_eqb}
 use Rattle.std.proofs.lemmas.Option.{same_Some}
-use Rattle.line_device.specs.History.{IsIn}
 use Rattle.line_device.specs.Medium.{Medium, WritesBack, poisoned, last_image}
-use Rattle.line_device.proofs.HistoryLemmas.{is_in-word_write_back}
-use Rattle.line_device.proofs.WriteBackLemmas.{on_line-in}
-use Rattle.line_words.specs.Words.{IsOnly}
-use Rattle.word_tables.specs.Layout.{block_line, blocks, meta_lines, HasLine}
-use Rattle.word_log.specs.Area.{IsOf}
+use Rattle.word_tables.specs.Layout.{block_line}
 use Rattle.block_map.specs.declared.state.BlockState.{BlockState}
 use Rattle.block_map.specs.declared.state.BlockState.TheVariants as state
 use Rattle.nvm_model.specs.Numbered.{list_from, map_from}
 use Rattle.nvm_model.specs.Storage.Block.{Data}
 use Rattle.nvm_model.specs.Blocks.{lose, lose_line_of, lose_line}
 use Rattle.nvm_model.proofs.MediaLemmas.{cell_stands-poisoned}
-use Rattle.block_device.specs.Area.{block_area}
 use Rattle.block_device.specs.Reading.{block_read, byte_of, line_read}
-use Rattle.block_device.specs.Object.{BlocksServe, BlocksState, blocks_of, map_words, AreDurable}
-use Rattle.block_device.proofs.PlaceLemmas.{area_in_metadata, data_behind_metadata, data_on_device}
-use Rattle.block_device.proofs.ReadLemmas.{Stays, block_read-same, is_only-stays, line_read-same, newest-stays}
-use Rattle.block_device.proofs.ServesLemmas.{rest-stays}
+use Rattle.block_device.specs.Object.{BlocksServe, BlocksState, blocks_of}
+use Rattle.block_device.proofs.PlaceLemmas.{data_on_device}
+use Rattle.block_device.proofs.ReadLemmas.{Stays, block_read-same, line_read-same, newest-stays}
 use Rattle.scrub.specs.Lines.{IsLineOf}
 use Rattle.scrub.specs.Others.{WritesBackBut}
-use Rattle.scrub.proofs.OthersLemmas.{but-renewed, but-wider, stays-but, strong-but}
+use Rattle.scrub.proofs.OthersLemmas.{but-renewed, but-wider, stays-but}
 use Rattle.scrub.proofs.UnitLemmas.{unit_line, unit_of}
 
 -- lists whose items are changed by number
@@ -52,50 +45,11 @@ lost-on_device s m block line n serves small of =
     omega (arith, data_on_device s.geo serves.valid n has, serves.count)
 
 module _ (s : BlocksState) (old new : Medium) (block line n : ℕ) (serves : BlocksServe s old) (small : line < 8) (of : IsLineOf s block line n) (x : WritesBack (poisoned old n) new) where
-  below : of.unit < s.geo.blocks + 64
-  below = unit_of s block of.unit serves.all serves.is_map of.at
-
-  has : HasLine s.geo blocks n
-  has = (unit_line s.geo of.unit line n serves.valid below small of.is).0
-
   others : WritesBackBut (λ k. k ≡ n) old new
   others = but-renewed old new n true false (λ _. []) x
 
   pub lost-outside : WritesBackBut (IsLineOf s block line) old new
   lost-outside = but-wider (λ k. k ≡ n) (IsLineOf s block line) old new (λ k same. subst (IsLineOf s block line) (sym same) of) others
-
-  behind : (k : ℕ) → k ≡ n → meta_lines s.geo ≤ k
-  behind k same = omega (arith, same, data_behind_metadata s.geo serves.valid n has)
-
-  area_stays : (p : ℕ) → IsOf (block_area s.geo) p → Stays old new (p / 8)
-  area_stays p is = stays-but (λ k. k ≡ n) old new (p / 8) others (λ same. omega (arith, behind (p / 8) same, area_in_metadata s.geo serves.valid p is))
-
-  -- a word of the lost line has no value
-  none_left : (p v : ℕ) → p / 8 ≡ n → IsOnly v (new.history p)
-  none_left p v on w at =
-      absurd (subst (IsIn w) (on_line-in n (λ _ _. []) old.history p on)
-      (is_in-word_write_back ((poisoned old n).is_weak (p / 8)) w ((poisoned old n).history p) (new.history p) (x.word_write_back p) at))
-
-  durable : AreDurable s.geo new s.map
-  durable b unit at p from to =
-      elim (cases_eq (p / 8) n) as (λ _. IsOnly (last_image new p) (new.history p)) [
-        | inl on ↦ none_left p (last_image new p) on
-        | inr out ↦
-            let stays = stays-but (λ k. k ≡ n) old new (p / 8) others out in
-            subst (λ v. IsOnly v (new.history p)) (sym (newest-stays old new p stays))
-            (is_only-stays old new p (last_image old p) stays (serves.durable b unit at p from to))
-      ]
-
-  pub lost-serves : BlocksServe s new
-  lost-serves = record {
-    valid = serves.valid;
-    all = serves.all;
-    is_map = serves.is_map;
-    count = x.count ∙ serves.count;
-    strong = strong-but (λ k. k ≡ n) old new (meta_lines s.geo) behind others serves.strong;
-    rest = rest-stays s.geo (map_words s.geo s.map) old new serves.valid serves.count area_stays serves.rest;
-    durable = durable;
-  }
 
   -- the lines of the block, and of the others
   a_line : (k : ℕ) → line_read new.is_bad (last_image new) (block_line s.geo of.unit + k) ≡ (if (0 + k) == line then None else line_read old.is_bad (last_image old) (block_line s.geo of.unit + k))

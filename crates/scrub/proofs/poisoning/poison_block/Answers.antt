@@ -4,8 +4,9 @@ use Rattle.nvm_base.specs.declared.units.LineNo.{LineNo}
 use Rattle.line_words.specs.Told.{Answers}
 use Rattle.line_words.proofs.ToldLemmas.{answers_on, checks_answers, checks_passed}
 use Rattle.block_device.specs.Object.{blocks_of}
+use Rattle.block_device.proofs.PoisonLemmas.{serves-poisoned}
 use Rattle.scrub.specs.Refusals.{ScrubRefusal, block_refusal, place_says}
-use Rattle.scrub.proofs.LostLemmas.{lost-blocks, lost-on_device, lost-outside, lost-serves}
+use Rattle.scrub.proofs.LostLemmas.{lost-blocks, lost-on_device, lost-outside}
 use Rattle.scrub.proofs.OthersLemmas.{but-refl}
 use Rattle.scrub.proofs.poisoning.poison_block.Goals as goal
 
@@ -36,4 +37,4 @@ pub returns-clause-outside : goal.returns-clause-outside
 returns-clause-outside g c = lost-outside c.args.blocks.now (g.L.Lines.state c.args.dev.now).medium (g.L.Lines.state c.poison.new.self).medium c.args.block c.args.line c.in_ok-found.found.0 c.requires.serves c.in_ok-found.ensures.place.0 c.in_ok-found.ensures.place.1 c.poison.ensures.lines
 
 pub returns-clause-serves : goal.returns-clause-serves
-returns-clause-serves g c = lost-serves c.args.blocks.now (g.L.Lines.state c.args.dev.now).medium (g.L.Lines.state c.poison.new.self).medium c.args.block c.args.line c.in_ok-found.found.0 c.requires.serves c.in_ok-found.ensures.place.0 c.in_ok-found.ensures.place.1 c.poison.ensures.lines
+returns-clause-serves g c = serves-poisoned c.args.blocks.now (g.L.Lines.state c.args.dev.now).medium (g.L.Lines.state c.poison.new.self).medium c.in_ok-found.found.0 c.poison.ensures.lines c.requires.serves
