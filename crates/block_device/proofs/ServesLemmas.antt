@@ -1,5 +1,5 @@
 -- Blocks are served while others work elsewhere.
-use Rattle.std.proofs.Common.{◌≡◌, inr, ℕ, Bool, ◌/◌, List, length, ◌∙◌}
+use Rattle.std.proofs.Common.{◌≡◌, inr, ℕ, Bool, ◌/◌, length, ◌∙◌}
 use Rattle.line_device.specs.Medium.{Medium, WritesBack}
 use Rattle.line_words.specs.Words.{WritesBackOutside, WritesBackBeside}
 use Rattle.word_tables.specs.declared.geometry.Geometry.{Geometry}
