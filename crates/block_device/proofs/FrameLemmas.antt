@@ -51,7 +51,8 @@ each_reads-kept geo old new P valid keeps each image is =
       blocks = subst P (sym (blocks_read-marks geo old.is_bad new.is_bad image valid was.map (λ n has. keeps.bad n (inr (inr has))))) was.blocks;
     }
 
-keeps-stays : (geo : Geometry) (old new : Medium) → ((n : ℕ) → IsBlockLine geo n → Stays old new n) → Keeps geo old new
+-- where all of these lines stay
+pub keeps-stays : (geo : Geometry) (old new : Medium) → ((n : ℕ) → IsBlockLine geo n → Stays old new n) → Keeps geo old new
 keeps-stays geo old new stays = record {
   bad = λ n of. (stays n of).bad;
   was = λ p v of _ at. is_in-word_write_back (old.is_weak (p / 8)) v (old.history p) (new.history p) ((stays (p / 8) of).word_write_back p refl) at;
@@ -59,6 +60,9 @@ keeps-stays geo old new stays = record {
       let x = stays (p / 8) (inr (inr has)) in
       subst (λ v. IsOnly v (new.history p)) (sym (newest-stays old new p x)) (is_only-stays old new p (last_image old p) x only);
 }
+
+pub each_reads-stays : (geo : Geometry) (old new : Medium) (P : List Block → Type 0) → IsValid geo → ((n : ℕ) → IsBlockLine geo n → Stays old new n) → EachReads geo old P → EachReads geo new P
+each_reads-stays geo old new P valid stays reads = each_reads-kept geo old new P valid (keeps-stays geo old new stays) reads
 
 -- work on other words
 pub each_reads-outside : (geo : Geometry) (inside : ℕ → Type 0) (old new : Medium) (P : List Block → Type 0) → IsValid geo → ((p : ℕ) → IsBlockPlace geo p → inside p → ⊥) → WritesBackOutside inside old new → EachReads geo old P → EachReads geo new P

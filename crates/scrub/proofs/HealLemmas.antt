@@ -1,55 +1,38 @@
 -- What a clear leaves of the volume.
-use Rattle.std.proofs.Common.{◌≡◌, ◌⊎◌, inl, inr, ℕ, ◌/◌, true, false, Option, Some, Result, Ok, Err, MatchResult, OnErr, OnOk, List, [], ◌∷◌, refl, sym, subst, ◌∙◌}
+use Rattle.std.proofs.Common.{◌≡◌, ◌⊎◌, inl, inr, ℕ, true, false, Some, Result, Ok, Err, MatchResult, OnErr, List, [], ◌∷◌, refl, sym, ◌∙◌}
 use Rattle.line_device.specs.Medium.{Medium, WritesBack, cleared}
 use Rattle.line_words.specs.Told.{OnWorked}
-use Rattle.word_tables.specs.Layout.{volume_line, IsVolumeLine}
-use Rattle.nvm_model.specs.Cell.{Cell, clear_cell, CellStands}
-use Rattle.nvm_model.specs.Page.{Page, cell_of, change_line}
-use Rattle.nvm_model.proofs.MediaLemmas.{cell_stands-cleared, cell_stands-renewed, pages_stand-change, presence_of-change}
-use Rattle.nvm_model.proofs.StandLemmas.{pages_stand-write_back}
+use Rattle.word_tables.specs.Layout.{volume_line}
+use Rattle.nvm_model.specs.Cell.{clear_cell}
+use Rattle.nvm_model.specs.Page.{Page, change_line}
+use Rattle.nvm_model.proofs.MediaLemmas.{cell_stands-cleared, cell_stands-renewed}
 use Rattle.page_lines.specs.Turns.{WritesBackOthers}
 use Rattle.page_lines.proofs.OthersLemmas.{others-wider}
 use Rattle.page_lines.proofs.ClearLemmas.{others-clear}
 use Rattle.pm_volume.specs.Images.{EachReadsPages}
 use Rattle.pm_volume.specs.Object.{VolumeHolds, VolumeServes, VolumeState, volume_place}
-use Rattle.pm_volume.proofs.PlaceLemmas.{lines_differ, placed, placed_line}
 use Rattle.pm_volume.proofs.ServesLemmas.{reads_rest, serves-others}
 use Rattle.pm_volume.proofs.TurnLemmas.{length-pages}
 use Rattle.scrub.specs.declared.fault.ScrubFault.{ScrubFault}
 use Rattle.scrub.specs.Refusals.{scrub_says}
+use Rattle.scrub.proofs.ChangedLemmas.{holds-changed, holds-written, is_volumes, on}
 
 module _ (s : VolumeState) (old new : Medium) (n line : ℕ) (serves : VolumeServes s old) (at : volume_place s.geo s.present true n ≡ Some line) where
-  on : volume_line s.geo n ≡ line
-  on = (placed s.geo s.present true n line at).1
-
-  pub holds-written : WritesBack old new → (pages : List Page) → VolumeHolds s old pages → VolumeHolds s new pages
-  holds-written x pages holds = record { there = holds.there; stand = pages_stand-write_back (volume_line s.geo) old new pages holds.stand x }
-
   pub holds-cleared : old.is_bad line ≡ true → WritesBack (cleared old line) new → (pages : List Page) → VolumeHolds s old pages
       → VolumeHolds s new (change_line clear_cell n pages)
-  holds-cleared bad x pages holds = record {
-    there = presence_of-change clear_cell n pages ∙ holds.there;
-    stand = pages_stand-change clear_cell n (volume_line s.geo) old new pages holds.stand here beside;
-  }
-    where
-      here : (cell : Cell) → CellStands old (volume_line s.geo n) cell → CellStands new (volume_line s.geo n) (clear_cell cell)
-      here cell stands =
-          subst (λ l. CellStands new l (clear_cell cell)) (sym on)
-          (cell_stands-cleared old new line cell bad x (subst (λ l. CellStands old l cell) on stands))
-
-      beside : (i : ℕ) (cell : Cell) → cell_of pages i ≡ Some cell → (i ≡ n → ⊥) → CellStands old (volume_line s.geo i) cell → CellStands new (volume_line s.geo i) cell
-      beside i cell is out stands =
-          cell_stands-renewed old new line (volume_line s.geo i) false false (λ _. 0 ∷ []) cell
-          (λ same. out (lines_differ s.geo serves.valid i n (same ∙ sym on))) x stands
+  holds-cleared bad x pages holds =
+      holds-changed s old new n line serves at clear_cell
+      (λ cell stands. cell_stands-cleared old new line cell bad x stands)
+      (λ i cell out stands. cell_stands-renewed old new line i false false (λ _. 0 ∷ []) cell out x stands) pages holds
 
   pub clear-outside : {A F : Type 0} (r : Result A F) → MatchResult r (λ _. WritesBack (cleared old line) new) (λ _. WritesBack old new)
       → WritesBackOthers (λ l. l ≡ volume_line s.geo n) old new
-  clear-outside r h = others-wider (λ l. l ≡ line) (λ l. l ≡ volume_line s.geo n) old new (λ l same. same ∙ sym on) (others-clear r old new line h)
+  clear-outside r h = others-wider (λ l. l ≡ line) (λ l. l ≡ volume_line s.geo n) old new (λ l same. same ∙ sym (on s old new n line serves at)) (others-clear r old new line h)
 
   pub clear-serves : {A F : Type 0} (r : Result A F) → MatchResult r (λ _. WritesBack (cleared old line) new) (λ _. WritesBack old new) → VolumeServes s new
   clear-serves r h =
       serves-others s old new (λ l. l ≡ line)
-      (λ l same. subst (IsVolumeLine s.geo) (sym same) (placed_line s.geo serves.valid s.present true n line serves.all at))
+      (is_volumes s old new n line serves at)
       (others-clear r old new line h) serves
 
   -- each image is one of pages that volume and device hold
@@ -67,7 +50,7 @@ module _ (s : VolumeState) (old new : Medium) (n line : ℕ) (serves : VolumeSer
       → EachReadsPages s.geo new (λ left. (left ≡ pages) ⊎ (left ≡ change_line clear_cell n pages))
   images-written x pages holds =
       reads-held (λ left. (left ≡ pages) ⊎ (left ≡ change_line clear_cell n pages)) pages (clear-serves {A = ℕ} {F = ℕ} (Err 0) x)
-      (holds-written x pages holds) (inl refl)
+      (holds-written s old new x pages holds) (inl refl)
 
 -- what holds at an exit, whatever the answer is
 pub on_err : {T E : Type 0} (P : Type 0) (r : Result T E) → P → OnErr r P

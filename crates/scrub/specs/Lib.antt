@@ -1,2 +1,4 @@
 pub mod Refusals
 pub mod Counting
+pub mod Others
+pub mod Lines

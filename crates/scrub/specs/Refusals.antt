@@ -1,14 +1,21 @@
--- When a clear is refused, and why.
-use Rattle.std.specs.Prelude.{◌*◌, ◌/◌, ℕ, Bool, List, nat_le, Option, Some, None, if◌then◌else◌}
+-- When calls are refused, and why.
+use Rattle.std.specs.Prelude.{◌*◌, ◌/◌, ◌||◌, ℕ, List, nat_le, nat_lt, Option, Some, None, if◌then◌else◌}
 use Rattle.line_words.specs.declared.interruption.Interruption.TheVariants as stop
 use Rattle.line_words.specs.Told.{Told}
-use Rattle.line_words.specs.Told.Told.{Refuses, Stops}
+use Rattle.line_words.specs.Told.Told.{Refuses, Starves, Stops}
+use Rattle.nvm_model.specs.Blocks.{nth}
 use Rattle.nvm_model.specs.Cell.{Cell}
 use Rattle.nvm_model.specs.Cell.Cell.{Bad, Kept}
 use Rattle.nvm_model.specs.Page.{Page, cell_of}
+use Rattle.nvm_model.specs.Storage.{Block}
+use Rattle.nvm_model.specs.Storage.Block.{Absent, Data, Scarred}
 use Rattle.pm_volume.specs.Object.{VolumeState}
+use Rattle.scrub.specs.declared.fault.PlaceFault.{PlaceFault}
+use Rattle.scrub.specs.declared.fault.PlaceFault.TheVariants as place
 use Rattle.scrub.specs.declared.fault.ScrubFault.{ScrubFault}
 use Rattle.scrub.specs.declared.fault.ScrubFault.TheVariants as fault
+use Rattle.scrub.specs.declared.fault.WeakenFault.{WeakenFault}
+use Rattle.scrub.specs.declared.fault.WeakenFault.TheVariants as weaken
 
 -- why a call is refused
 pub data ScrubRefusal : Type 0 where
@@ -16,13 +23,40 @@ pub data ScrubRefusal : Type 0 where
   Nothing : ScrubRefusal
   NotPoisoned : ScrubRefusal
 
--- what a fault tells
+-- what faults tell: of a place, of a weakening, of a clear
+abbrev pub place_says : PlaceFault → Told ScrubRefusal
+place_says place.Range = Refuses Range
+place_says place.Nothing = Refuses Nothing
+
+abbrev pub weaken_says : WeakenFault → Told ScrubRefusal
+weaken_says weaken.Range = Refuses Range
+weaken_says weaken.Nothing = Refuses Nothing
+weaken_says weaken.Memory = Starves
+
 abbrev pub scrub_says : ScrubFault → Told ScrubRefusal
 scrub_says fault.Range = Refuses Range
 scrub_says fault.Nothing = Refuses Nothing
 scrub_says fault.NotPoisoned = Refuses NotPoisoned
 scrub_says fault.Device = Stops stop.Failed
 scrub_says fault.PowerLost = Stops stop.PowerLost
+
+-- a cell, or a block of lines, has a place where it is there
+abbrev pub cell_refusal : Option Cell → Option ScrubRefusal
+cell_refusal None = Some Nothing
+cell_refusal (Some cell) = None
+
+abbrev pub unit_refusal : Block → Option ScrubRefusal
+unit_refusal Absent = Some Nothing
+unit_refusal Scarred = Some Nothing
+unit_refusal (Data lines) = None
+
+-- the place of a byte of the volume
+abbrev pub place_refusal : VolumeState → List Page → ℕ → Option ScrubRefusal
+place_refusal s pages offset = if nat_le (4096 * s.geo.vpages) offset then Some Range else cell_refusal (cell_of pages (offset / 64))
+
+-- the place of a line, 0 to 7, of one of so many blocks
+abbrev pub block_refusal : ℕ → List Block → ℕ → ℕ → Option ScrubRefusal
+block_refusal count blocks block line = if nat_le count block || nat_lt 7 line then Some Range else unit_refusal (nth blocks block)
 
 -- a line is cleared where it is there and bad
 abbrev pub line_refusal : Option Cell → Option ScrubRefusal

@@ -13,9 +13,10 @@ ghost use Rattle.pm_volume.specs.Object.{VolumeHolds, VolumeServes, volume_place
 ghost use Rattle.scrub.specs.Refusals.{clear_refusal, scrub_says};
 
 use crate::ScrubFault;
+use crate::places::line_of_byte;
 use line_device::Lines;
 use line_words::clear_line;
-use nvm_base::{LINE, LineNo, PAGE};
+use nvm_base::LineNo;
 use pm_volume::Volume;
 
 /// Makes the bad line of a byte of the volume one of zeros: healthy, not weak and durable, by one call of the device.
@@ -50,15 +51,9 @@ fn bad_line_at<L: Lines>(dev: &L, volume: &Volume, offset: u64) -> Result<LineNo
     ensures place { IfOk result (λ line. volume_place volume.now.geo volume.now.present true (offset / 64) ≡ Some line.0) }
     ensures bad { IfOk result (λ line. (L.state dev.now).medium.is_bad line.0 ≡ true) }
 {
-    if offset >= PAGE * volume.count() {
-        return Err(ScrubFault::Range);
-    }
-    let Some(first) = volume.line_of(offset / PAGE) else {
-        return Err(ScrubFault::Nothing);
-    };
-    let line = first.0 + offset % PAGE / LINE;
-    if !dev.is_bad(LineNo(line)) {
+    let line = line_of_byte(volume, offset)?;
+    if !dev.is_bad(line) {
         return Err(ScrubFault::NotPoisoned);
     }
-    Ok(LineNo(line))
+    Ok(line)
 }

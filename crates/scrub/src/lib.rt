@@ -1,13 +1,19 @@
-//! Media errors of the volume: bad lines, counted and cleared.
-// A clear is one step, and works on a line that is bad alone: what a healthy line holds is never given up.
+//! Media errors of blocks and volume: made, counted and cleared.
+// A media error takes the line of a place, wherever the place's storage lies. A clear is one step, and works on a line that is
+// bad alone: what a healthy line holds is never given up.
 #![tactic(auto)]
 
 mod clearing;
 mod counting;
 mod fault;
+mod places;
+mod poisoning;
 #[cfg(test)]
 mod tests;
+mod weakening;
 
 pub use clearing::clear_volume;
-pub use counting::bad_in_volume;
-pub use fault::ScrubFault;
+pub use counting::{bad_count, bad_in_blocks, bad_in_volume};
+pub use fault::{PlaceFault, ScrubFault, WeakenFault};
+pub use poisoning::{poison_block, poison_volume};
+pub use weakening::weaken_volume;

@@ -1,27 +1,24 @@
-use Rattle.std.proofs.Common.{◌≡◌, ◌/◌, ◌%◌, ◌+◌, ◌*◌, ◌<◌, sym, ◌∙◌, arith}
-use Rattle.scrub.proofs.PlacedLemmas.{at_offset, nowhere_at, on_device, told_nothing, told_healthy, told_bad}
+use Rattle.std.proofs.Common.{◌/◌, sym, ◌∙◌}
+use Rattle.std.proofs.lemmas.Result.{err_from_is_err_and}
+use Rattle.scrub.proofs.PlacedLemmas.{clear_nowhere, on_device, told_healthy, told_bad}
 use Rattle.scrub.proofs.clearing.bad_line_at.Goals as goal
 
-pub returns-in_default-clause-refused : goal.returns-in_default-clause-refused
-returns-in_default-clause-refused g c pages holds =
-    told_nothing c.args.volume.now (g.L.Lines.state c.args.dev.now).medium c.args.offset pages holds (omega (arith, c.count.ensures.count))
-    (nowhere_at c.args.volume.now c.args.offset c.in_default.ensures.lines)
-
-pub overflow_add-line : goal.overflow_add-line
-overflow_add-line g c =
-    let on = on_device c.args.volume.now (g.L.Lines.state c.args.dev.now).medium (c.args.offset / 64) _ c.requires.serves (at_offset c.args.volume.now c.args.offset c.in-Some.first.0 c.in-Some.ensures.lines) in
-    omega (arith, on.0, on.1)
+pub returns-in_err-line-clause-refused : goal.returns-in_err-line-clause-refused
+returns-in_err-line-clause-refused g c pages holds =
+    let p = err_from_is_err_and c.from_residual.result c.from_residual.ensures.1 in
+    rw p.1
+    (clear_nowhere c.args.volume.now pages c.args.offset c.in_err-line.field-0.0 p.0
+    (c.in_err-line.ensures.refused (g.L.Lines.state c.args.dev.now).medium pages holds) p.2)
 
 pub is_bad-requires : goal.is_bad-requires
-is_bad-requires g c =
-    (on_device c.args.volume.now (g.L.Lines.state c.args.dev.now).medium (c.args.offset / 64) _ c.requires.serves (at_offset c.args.volume.now c.args.offset c.in-Some.first.0 c.in-Some.ensures.lines)).0
+is_bad-requires g c = on_device c.args.volume.now (g.L.Lines.state c.args.dev.now).medium (c.args.offset / 64) _ c.requires.serves c.in_ok-line.ensures.place
 
 pub returns-then-not-is_bad-clause-refused : goal.returns-then-not-is_bad-clause-refused
 returns-then-not-is_bad-clause-refused g c pages holds =
-    told_healthy c.args.volume.now (g.L.Lines.state c.args.dev.now).medium c.args.offset pages (c.in-Some.first.0 + c.args.offset % 4096 / 64) holds (omega (arith, c.count.ensures.count))
-    (at_offset c.args.volume.now c.args.offset c.in-Some.first.0 c.in-Some.ensures.lines) (sym c.is_bad.ensures ∙ c.if-not-is_bad.true)
+    told_healthy c.args.volume.now (g.L.Lines.state c.args.dev.now).medium c.args.offset c.in_ok-line.line.0 pages c.requires.serves holds c.in_ok-line.ensures.place
+    (sym c.is_bad.ensures ∙ c.if-not-is_bad.true)
 
 pub returns-clause-refused : goal.returns-clause-refused
 returns-clause-refused g c pages holds =
-    told_bad c.args.volume.now (g.L.Lines.state c.args.dev.now).medium c.args.offset pages (c.in-Some.first.0 + c.args.offset % 4096 / 64) _ holds (omega (arith, c.count.ensures.count))
-    (at_offset c.args.volume.now c.args.offset c.in-Some.first.0 c.in-Some.ensures.lines) (sym c.is_bad.ensures ∙ c.if-not-is_bad.false)
+    told_bad c.args.volume.now (g.L.Lines.state c.args.dev.now).medium c.args.offset c.in_ok-line.line.0 pages c.requires.serves holds c.in_ok-line.ensures.place _
+    (sym c.is_bad.ensures ∙ c.if-not-is_bad.false)

@@ -1,4 +1,4 @@
-use Rattle.std.proofs.Common.{◌≡◌, ◌⊎◌, ◌/◌, inl, refl}
+use Rattle.std.proofs.Common.{◌/◌}
 use Rattle.line_device.specs.Medium.{WritesBack}
 use Rattle.line_device.proofs.WriteBackLemmas.{write_back-refl}
 use Rattle.page_lines.proofs.OthersLemmas.{others-refl}
@@ -8,7 +8,7 @@ use Rattle.scrub.proofs.clearing.clear_volume.Goals as goal
 
 pub clear_line-requires-clause-there : goal.clear_line-requires-clause-there
 clear_line-requires-clause-there g c =
-    (on_device c.args.volume.now (g.L.Lines.state c.args.dev.now).medium (c.args.offset / 64) c.in_ok-line.line.0 c.requires.serves c.in_ok-line.ensures.place).0
+    on_device c.args.volume.now (g.L.Lines.state c.args.dev.now).medium (c.args.offset / 64) c.in_ok-line.line.0 c.requires.serves c.in_ok-line.ensures.place
 
 pub returns-in_err-line-clause-err : goal.returns-in_err-line-clause-err
 returns-in_err-line-clause-err g c =

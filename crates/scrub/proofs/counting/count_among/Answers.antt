@@ -1,4 +1,4 @@
-use Rattle.std.proofs.Common.{◌+◌, true, false, sym, ◌∙◌, arith}
+use Rattle.std.proofs.Common.{true, false, sym, arith}
 use Rattle.scrub.proofs.CountLemmas.{count-next}
 use Rattle.scrub.proofs.counting.count_among.Goals as goal
 use Rattle.scrub.proofs.counting.count_among.Goals.{then-is_bad, else-is_bad}

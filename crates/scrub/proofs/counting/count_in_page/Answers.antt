@@ -6,7 +6,7 @@ use Rattle.scrub.proofs.counting.count_in_page.Goals as goal
 pub count_among-requires : goal.count_among-requires
 count_among-requires g c =
     let last = on_device c.args.volume.now (g.L.Lines.state c.args.dev.now).medium (64 * c.args.page + 63) (c.in-Some.line.0 + 63) c.requires.serves (c.in-Some.ensures.lines 63 (omega arith)) in
-    omega (arith, last.0)
+    omega (arith, last)
 
 pub returns-clause-count : goal.returns-clause-count
 returns-clause-count g c pages holds =

@@ -1,0 +1,26 @@
+use Rattle.std.proofs.Common.{◌/◌}
+use Rattle.scrub.proofs.ChangedLemmas.{holds-weakened, weaken-outside, weaken-serves, written-serves}
+use Rattle.scrub.proofs.OthersLemmas.{but-refl, but-write_back}
+use Rattle.scrub.proofs.PlacedLemmas.{on_device}
+use Rattle.scrub.proofs.weakening.weaken_volume.Goals as goal
+
+pub returns-in_err-line-clause-outside : goal.returns-in_err-line-clause-outside
+returns-in_err-line-clause-outside g c = but-refl _ _
+
+pub weaken-requires : goal.weaken-requires
+weaken-requires g c = on_device c.args.volume.now (g.L.Lines.state c.args.dev.now).medium (c.args.offset / 64) c.in_ok-line.line.0 c.requires.serves c.in_ok-line.ensures.place
+
+pub returns-in_err-weaken-clause-serves : goal.returns-in_err-weaken-clause-serves
+returns-in_err-weaken-clause-serves g c = written-serves c.args.volume.now (g.L.Lines.state c.args.dev.now).medium (g.L.Lines.state c.weaken.new.self).medium (c.args.offset / 64) c.in_ok-line.line.0 c.requires.serves c.in_ok-line.ensures.place c.in_err-weaken.ensures.lines
+
+pub returns-in_err-weaken-clause-outside : goal.returns-in_err-weaken-clause-outside
+returns-in_err-weaken-clause-outside g c = but-write_back _ _ _ c.in_err-weaken.ensures.lines
+
+pub returns-clause-ok : goal.returns-clause-ok
+returns-clause-ok g c pages holds = holds-weakened c.args.volume.now (g.L.Lines.state c.args.dev.now).medium (g.L.Lines.state c.weaken.new.self).medium (c.args.offset / 64) c.in_ok-line.line.0 c.requires.serves c.in_ok-line.ensures.place c.in_ok-weaken.ensures.lines pages holds
+
+pub returns-clause-outside : goal.returns-clause-outside
+returns-clause-outside g c = weaken-outside c.args.volume.now (g.L.Lines.state c.args.dev.now).medium (g.L.Lines.state c.weaken.new.self).medium (c.args.offset / 64) c.in_ok-line.line.0 c.requires.serves c.in_ok-line.ensures.place c.in_ok-weaken.ensures.lines
+
+pub returns-clause-serves : goal.returns-clause-serves
+returns-clause-serves g c = weaken-serves c.args.volume.now (g.L.Lines.state c.args.dev.now).medium (g.L.Lines.state c.weaken.new.self).medium (c.args.offset / 64) c.in_ok-line.line.0 c.requires.serves c.in_ok-line.ensures.place c.in_ok-weaken.ensures.lines
