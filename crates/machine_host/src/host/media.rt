@@ -19,12 +19,7 @@ use scrub::{PlaceFault, ScrubFault, WeakenFault, bad_count};
 use std::alloc::AllocError;
 
 impl Host {
-    pub(super) fn poison_block<D: LineDevice>(
-        &self,
-        device: &mut D,
-        block: u64,
-        line: u64,
-    ) -> Reply
+    pub(super) fn poison_block<D: LineDevice>(&self, device: &mut D, block: u64, line: u64) -> Reply
         requires serves { HostServes self.now (D.state device.old) }
         requires on { self.now.mode ≡ On }
         ensures { Answered (PoisonBlock block line) (answer_of result) self.now self.now (D.state device.old) (D.state device.new) }

@@ -187,6 +187,19 @@ const SETTLED: [Step; 9] = [
     ),
 ];
 
+// A weak line goes bad by its sync, and stays bad over a clear that is cut.
+const WORN_AND_CLEARED: [Step; 9] = [
+    (Act::Line("vstore 0 05"), "ok\n", Mode::On),
+    (Act::Line("weaken volume 0"), "ok\n", Mode::On),
+    (Act::Line("vsync 0 1"), "ok\n", Mode::On),
+    (Act::Line("vload 0 1"), "poison volume 0 64\n", Mode::On),
+    (Act::Line("cut in 1"), "ok\n", Mode::On),
+    (Act::Line("clear volume 0"), "power lost\n", Mode::Off),
+    (Act::Line("restart all"), "ok bad 1\n", Mode::On),
+    (Act::Line("clear volume 0"), "ok\n", Mode::On),
+    (Act::Line("vload 0 1"), "data 00\n", Mode::On),
+];
+
 #[test]
 fn each_step_of_a_story_has_its_reply(rt: HostRuntime) -> Result<(), Fail> {
     follow(&rt, rt.alloc(), &SYNCED)?;
@@ -195,5 +208,6 @@ fn each_step_of_a_story_has_its_reply(rt: HostRuntime) -> Result<(), Fail> {
     follow(&rt, rt.alloc(), &CUT_RESTART)?;
     follow(&rt, rt.alloc(), &FAILED_CALL)?;
     follow(&rt, rt.alloc(), &SETTLED)?;
+    follow(&rt, rt.alloc(), &WORN_AND_CLEARED)?;
     Ok(())
 }
