@@ -1,5 +1,5 @@
--- Which bytes a command makes durable, and which it changes.
-use Rattle.std.specs.Prelude.{◌/◌, ℕ, Bool, true, false, List, Option, Some, None, length}
+-- Which bytes a command makes durable, which it changes, and of which it harms the line.
+use Rattle.std.specs.Prelude.{◌+◌, ◌*◌, ◌/◌, ◌==◌, ℕ, Bool, true, false, List, Option, Some, None, length}
 use Rattle.std.specs.List.{list_any}
 use Rattle.nvm_base.specs.declared.units.Span.{Span}
 use Rattle.nvm_model.specs.Cell.{touches}
@@ -9,24 +9,24 @@ use Rattle.pm_volume.specs.Refusals.{physical_offset}
 use Rattle.reply_text.specs.Answer.{Answer}
 use Rattle.reply_text.specs.Answer.Answer.{Done, DoneBad, Bytes, Ranges, Yes, No, Scarred, PoisonBlock, PoisonVolume, DeviceFailed, PowerLost, Refused, RefusedMeta}
 use Rattle.script_text.specs.Action.{Action}
-use Rattle.script_text.specs.Action.Action.{BRead, BWrite, BAtomic, BMulti, BDiscard, BDiscardIf, BExists, BScar, VLoad, VStore, VSync, VRanges, VPSync, VDiscard, VDiscardIf, VExists, Cut, CutIn, Restart}
+use Rattle.script_text.specs.Action.Action.{BRead, BWrite, BAtomic, BMulti, BDiscard, BDiscardIf, BExists, BScar, VLoad, VStore, VSync, VRanges, VPSync, VDiscard, VDiscardIf, VExists, PoisonBlock as LoseBlock, PoisonVolume as LoseVolume, WeakenVolume, ClearVolume, Cut, CutIn, Restart}
 use Rattle.machine_host.specs.OnBlocks.{blocks_from}
 use Rattle.machine_host.specs.Machine.{Machine}
 use Rattle.word_tables.specs.declared.geometry.Geometry.{Geometry}
 use Rattle.durable.specs.Place.{Place}
 use Rattle.durable.specs.Place.Place.{of_volume, of_blocks}
 
--- a part of storage: which bytes of the volume, and which blocks
+-- a part of storage: which bytes of the volume, and which of the blocks
 pub record Region : Type 0 where
   pub volume : ℕ → Bool
   pub blocks : ℕ → Bool
 
 abbrev pub nothing : Region
-nothing = record { volume = λ i. false; blocks = λ block. false }
+nothing = record { volume = λ i. false; blocks = λ i. false }
 
--- blocks of some spans
+-- the bytes of blocks of some spans
 abbrev pub spanned : List Span → Region
-spanned spans = record nothing { blocks = λ block. list_any (λ (span : Span). is_among span.start span.len block) spans }
+spanned spans = record nothing { blocks = λ i. list_any (λ (span : Span). is_among span.start span.len (i / 512)) spans }
 
 -- bytes of the volume, and those of pages
 abbrev pub stored_bytes : ℕ → ℕ → Region
@@ -34,6 +34,13 @@ stored_bytes offset len = record nothing { volume = is_among offset len }
 
 abbrev pub discarded_pages : ℕ → ℕ → Region
 discarded_pages page count = record nothing { volume = λ i. is_among page count (i / 4096) }
+
+-- all bytes of a line of the volume, or of the blocks
+abbrev pub line_of_volume : ℕ → Region
+line_of_volume n = record nothing { volume = λ i. i / 64 == n }
+
+abbrev pub line_of_blocks : ℕ → Region
+line_of_blocks n = record nothing { blocks = λ i. i / 64 == n }
 
 -- all bytes of the lines that a span of the volume touches
 abbrev pub touched_lines : ℕ → ℕ → Region
@@ -46,9 +53,9 @@ touched_lines_at (Some offset) len = touched_lines offset len
 
 abbrev pub holds : Region → Place → Bool
 holds region (of_volume i) = region.volume i
-holds region (of_blocks i) = region.blocks (i / 512)
+holds region (of_blocks i) = region.blocks i
 
--- what is durable once a command is done on storage of these sizes: the blocks that it writes, and the lines that it syncs
+-- what is durable once a command is done on storage of these sizes: the blocks that it writes, the lines that it syncs, and one that it clears
 abbrev pub made_durable : Geometry → Action → Region
 made_durable geo (BRead block count) = nothing
 made_durable geo (BWrite block bytes) = spanned (blocks_from block (length bytes / 512))
@@ -66,11 +73,15 @@ made_durable geo (VPSync address len) = touched_lines_at (physical_offset geo ad
 made_durable geo (VDiscard page count) = nothing
 made_durable geo (VDiscardIf page count) = nothing
 made_durable geo (VExists page) = nothing
+made_durable geo (LoseBlock block line) = nothing
+made_durable geo (LoseVolume offset) = nothing
+made_durable geo (WeakenVolume offset) = nothing
+made_durable geo (ClearVolume offset) = line_of_volume (offset / 64)
 made_durable geo Cut = nothing
 made_durable geo (CutIn calls) = nothing
 made_durable geo (Restart choice) = nothing
 
--- what a command writes, discards, scars or stores
+-- what a command writes, discards, scars, stores or clears
 abbrev pub region_changed : Action → Region
 region_changed (BRead block count) = nothing
 region_changed (BWrite block bytes) = spanned (blocks_from block (length bytes / 512))
@@ -88,9 +99,39 @@ region_changed (VPSync address len) = nothing
 region_changed (VDiscard page count) = discarded_pages page count
 region_changed (VDiscardIf page count) = discarded_pages page count
 region_changed (VExists page) = nothing
+region_changed (LoseBlock block line) = nothing
+region_changed (LoseVolume offset) = nothing
+region_changed (WeakenVolume offset) = nothing
+region_changed (ClearVolume offset) = line_of_volume (offset / 64)
 region_changed Cut = nothing
 region_changed (CutIn calls) = nothing
 region_changed (Restart choice) = nothing
+
+-- the line that a command loses, or makes weak, so that a sync loses it
+abbrev pub region_harmed : Action → Region
+region_harmed (BRead block count) = nothing
+region_harmed (BWrite block bytes) = nothing
+region_harmed (BAtomic block bytes) = nothing
+region_harmed (BMulti ranges bytes) = nothing
+region_harmed (BDiscard block count) = nothing
+region_harmed (BDiscardIf block count) = nothing
+region_harmed (BExists block) = nothing
+region_harmed (BScar ranges) = nothing
+region_harmed (VLoad offset len) = nothing
+region_harmed (VStore offset bytes) = nothing
+region_harmed (VSync offset len) = nothing
+region_harmed VRanges = nothing
+region_harmed (VPSync address len) = nothing
+region_harmed (VDiscard page count) = nothing
+region_harmed (VDiscardIf page count) = nothing
+region_harmed (VExists page) = nothing
+region_harmed (LoseBlock block line) = line_of_blocks (8 * block + line)
+region_harmed (LoseVolume offset) = line_of_volume (offset / 64)
+region_harmed (WeakenVolume offset) = line_of_volume (offset / 64)
+region_harmed (ClearVolume offset) = nothing
+region_harmed Cut = nothing
+region_harmed (CutIn calls) = nothing
+region_harmed (Restart choice) = nothing
 
 abbrev pub is_made_durable : Machine → Action → Place → Bool
 is_made_durable h action x = holds (made_durable h.geometry action) x
@@ -98,7 +139,10 @@ is_made_durable h action x = holds (made_durable h.geometry action) x
 abbrev pub changes : Action → Place → Bool
 changes action x = holds (region_changed action) x
 
--- a change that was answered so was begun: it was done, or stopped on the way
+abbrev pub harms : Action → Place → Bool
+harms action x = holds (region_harmed action) x
+
+-- a command that was answered so was begun: it was done, or stopped on the way
 abbrev pub is_begun : Answer → Bool
 is_begun Done = true
 is_begun (DoneBad n) = false
