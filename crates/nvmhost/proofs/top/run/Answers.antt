@@ -47,7 +47,7 @@ store-requires g c =
     let performs = subst (λ script. Performs c.in_ok-host.host c.run_script.new.host script (Ok tt) written done opened ran) c.as_slice.ensures c.in_ok-run_script.ensures.performs in
     let serves = served_settled c.args.from.now (g.F.Images.held c.args.images.now) c.in_ok-host.host c.run_script.new.host c.settle.new.self c.in_ok-text.text.items written done (g.D.Lines.state c.args.device.now) opened ran
     (g.D.Lines.state c.settle.new.device) c.in_ok-host.ensures.ready performs c.in_ok-settle.ensures.settled in
-    fit_served c.settle.new.self (g.D.Lines.state c.settle.new.device) serves
+    record { fit = fit_served c.settle.new.self (g.D.Lines.state c.settle.new.device) serves }
 
 pub returns : goal.returns
 returns g c =
