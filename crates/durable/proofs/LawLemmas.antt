@@ -16,6 +16,7 @@ use Rattle.script_text.specs.Action.Action.{VSync, VPSync, ClearVolume, Cut, Cut
 use Rattle.script_text.specs.Script.{Input}
 use Rattle.script_text.specs.Script.Input.{Skipped, Malformed, Asked}
 use Rattle.machine_host.specs.Machine.{Machine}
+use Rattle.word_tables.specs.declared.geometry.Geometry.{Geometry}
 use Rattle.machine_host.specs.Commands.{meaning, refusal}
 use Rattle.machine_host.specs.Interrupted.{interrupted_answer}
 use Rattle.machine_host.specs.Meaning.Needs.{Usable}
@@ -25,12 +26,13 @@ use Rattle.machine_host.specs.Run.{Hears, Run, Transcript}
 use Rattle.durable.specs.Place.{Place, byte_at_place, line_has}
 use Rattle.durable.specs.Place.{is_line_present}
 use Rattle.durable.specs.Place.Place.{of_volume, of_blocks}
-use Rattle.durable.specs.Touching.{changes, harms, is_begun, is_made_durable, touched_lines_at}
-use Rattle.durable.specs.Durable.{BringBytes, Does, HaveLines, IsComplete, IsDurable, IsLineThere, Lasts, Spares}
-use Rattle.durable.proofs.StepLemmas.{Alters, Step, step_of}
+use Rattle.durable.specs.Touching.{changes, holds, is_begun, is_made_durable, made_durable, poisons, touched_lines_at, weakens}
+use Rattle.durable.specs.Durable.{BringBytes, BringsBytes, Does, HaveLines, IsComplete, IsDurable, IsLineThere, Lasts, Spares}
+use Rattle.durable.proofs.StepLemmas.{Alters, Step, geometry_run, geometry_step, step_of}
 use Rattle.durable.proofs.StepLemmas.Step.{idles, alters, stops, returns}
-use Rattle.durable.proofs.LineLemmas.{HasOrLost, LineKeeps, VolumeKeeps, absent-kept, line_keeps-flushed}
-use Rattle.durable.proofs.KeepLemmas.{Keeps, PlaceKeeps, SparedBy, keeps-step, keeps_byte}
+use Rattle.durable.proofs.LineLemmas.{HasOrLost, LineKeeps, MayBe, line_keeps-flushed}
+use Rattle.durable.proofs.VolumeLemmas.{VolumeKeeps, absent-kept}
+use Rattle.durable.proofs.KeepLemmas.{Keeps, PlaceKeeps, SparedBy, SparesPlace, keeps-step, keeps_byte}
 use Rattle.durable.proofs.ReadLemmas.{has}
 use Rattle.durable.proofs.RefusalLemmas.{is_on, is_refused, line_none, places_none, refused_told, within_none}
 use Rattle.durable.proofs.WholeLemmas.{whole-heard, whole-run}
@@ -81,117 +83,169 @@ was_bad h offset none = by_line (cell_of h.volume (offset / 64)) (within_none _ 
     by_line (Some Bad) is = refl
     by_line (Some (Kept weak words)) is = cc is
 
--- no command harms the place, or it may be harmed
-abbrev Unharmed : Bool → Place → List Input → List Answer → Type 0
-Unharmed harmed x inputs answers = Spares harms x inputs answers ⊎ (harmed ≡ true)
+-- no command does so to the place, or it may
+abbrev pub SparesOr : (Action → Place → Bool) → Type 0 → Place → List Input → List Answer → Type 0
+SparesOr does may x inputs answers = Spares does x inputs answers ⊎ may
 
-module _ (harmed : Bool) where
-  unharmed-asked : (action : Action) (inputs : List Input) (first : Transcript) (answer : Answer) (answers : List Answer) (x : Place)
-      → first.answers ≡ answer ∷ [] → Unharmed harmed x (Asked action ∷ inputs) (first.answers ++ answers)
-      → (harms action x ≡ true → (is_begun answer ≡ false) ⊎ (harmed ≡ true)) × Unharmed harmed x inputs answers
-  unharmed-asked action inputs first answer answers x is (inl spares) =
-      let each = spares-asked harms action inputs first answer answers x is spares in (λ does. inl (each.0 does), inl each.1)
-  unharmed-asked action inputs first answer answers x is (inr hurt) = (λ does. inr hurt, inr hurt)
+may-asked : (does : Action → Place → Bool) (may : Type 0) (action : Action) (inputs : List Input) (first : Transcript) (answer : Answer) (answers : List Answer) (x : Place)
+    → first.answers ≡ answer ∷ [] → SparesOr does may x (Asked action ∷ inputs) (first.answers ++ answers)
+    → (is_begun answer ≡ true → does action x ≡ true → may) × SparesOr does may x inputs answers
+may-asked does may action inputs first answer answers x is (inl spares) =
+    let each = spares-asked does action inputs first answer answers x is spares in
+    (λ begun did. absurd (both_ways (is_begun answer) (each.0 did) begun), inl each.1)
+may-asked does may action inputs first answer answers x is (inr so) = (λ begun did. so, inr so)
+
+not_done : (does : Bool) (answer : Answer) → (does ≡ true → is_begun answer ≡ false) → is_begun answer ≡ true → does ≡ false
+not_done true answer only begun = absurd (both_ways (is_begun answer) (only refl) begun)
+not_done false answer only begun = refl
+
+-- no command changes the place, and its line becomes weak or lost only where it may
+abbrev pub Allowed : MayBe → Geometry → Place → List Input → List Answer → Type 0
+Allowed since geo x inputs answers =
+    Spares changes x inputs answers × SparesOr poisons (since.lost ≡ true) x inputs answers × SparesOr weakens (since.weak ≡ true) x inputs answers
+    × SparesOr (λ action y. holds (made_durable geo action) y) (since.weak ≡ true → since.lost ≡ true) x inputs answers
+
+module _ (since : MayBe) where
+  -- of a first command, and of the rest
+  allowed-asked : (geo : Geometry) (action : Action) (inputs : List Input) (first : Transcript) (answer : Answer) (answers : List Answer) (x : Place) → BringsBytes action
+      → first.answers ≡ answer ∷ [] → Allowed since geo x (Asked action ∷ inputs) (first.answers ++ answers)
+      → (is_begun answer ≡ true → SparesPlace since geo action x) × Allowed since geo x inputs answers
+  allowed-asked geo action inputs first answer answers x small is all =
+      let change = spares-asked changes action inputs first answer answers x is all.0 in
+      let poison = may-asked poisons (since.lost ≡ true) action inputs first answer answers x is all.1 in
+      let weaken = may-asked weakens (since.weak ≡ true) action inputs first answer answers x is all.2 in
+      let cover =
+      may-asked (λ action y. holds (made_durable geo action) y) (since.weak ≡ true → since.lost ≡ true) action inputs first answer answers x is all.3 in (
+        λ begun.
+            record {
+              change = not_done (changes action x) answer change.0 begun;
+              brings = small;
+              poison = poison.0 begun;
+              weaken = weaken.0 begun;
+              cover = cover.0 begun;
+            },
+        (change.1, poison.1, weaken.1, cover.1),
+      )
 
   keeps-heard : (input : Input) (inputs : List Input) (h next : Machine) (first : Transcript) (answers : List Answer) (x : Place) (v : Option ℕ) → BringBytes (input ∷ inputs)
-      → Hears h input first next → Spares changes x (input ∷ inputs) (first.answers ++ answers) → Unharmed harmed x (input ∷ inputs) (first.answers ++ answers)
-      → Keeps harmed h x v → Keeps harmed next x v × Spares changes x inputs answers × Unharmed harmed x inputs answers × BringBytes inputs
-  keeps-heard Skipped inputs h next first answers x v bytes heard spares unharmed keeps = (
-    subst (λ m. Keeps harmed m x v) (sym heard.1) keeps,
-    subst (λ s. Spares changes x inputs (s.answers ++ answers)) heard.0 spares,
-    subst (λ s. Unharmed harmed x inputs (s.answers ++ answers)) heard.0 unharmed,
+      → Hears h input first next → Allowed since h.geometry x (input ∷ inputs) (first.answers ++ answers) → Keeps since h x v
+      → Keeps since next x v × Allowed since next.geometry x inputs answers × BringBytes inputs
+  keeps-heard Skipped inputs h next first answers x v bytes heard all keeps = (
+    subst (λ m. Keeps since m x v) (sym heard.1) keeps,
+    subst (λ m. Allowed since m.geometry x inputs answers) (sym heard.1) (subst (λ (s : Transcript). Allowed since h.geometry x inputs (s.answers ++ answers)) heard.0 all),
     bytes,
   )
-  keeps-heard Malformed inputs h next first answers x v bytes heard spares unharmed keeps = (
-    subst (λ m. Keeps harmed m x v) (sym heard.1) keeps,
-    subst (λ s. Spares changes x (Malformed ∷ inputs) (s.answers ++ answers)) heard.0 spares,
-    subst (λ s. Unharmed harmed x (Malformed ∷ inputs) (s.answers ++ answers)) heard.0 unharmed,
+  keeps-heard Malformed inputs h next first answers x v bytes heard all keeps = (
+    subst (λ m. Keeps since m x v) (sym heard.1) keeps,
+    subst (λ m. Allowed since m.geometry x inputs answers) (sym heard.1)
+        (subst (λ (s : Transcript). Allowed since h.geometry x (Malformed ∷ inputs) (s.answers ++ answers)) heard.0 all),
     bytes,
   )
-  keeps-heard (Asked action) inputs h next first answers x v bytes heard spares unharmed keeps =
+  keeps-heard (Asked action) inputs h next first answers x v bytes heard all keeps =
       let taken = step_of h action first next heard in
-      let each = spares-asked changes action inputs first taken.answer answers x taken.answers spares in
-      let harm = unharmed-asked action inputs first taken.answer answers x taken.answers unharmed in
-      (keeps-step harmed h action taken.answer next x v each.0 harm.0 bytes.0 keeps taken.step, each.1, harm.1, bytes.1)
+      let each = allowed-asked h.geometry action inputs first taken.answer answers x bytes.0 taken.answers all in (
+        keeps-step since h action taken.answer next x v bytes.0 each.0 keeps taken.step,
+        subst (λ g. Allowed since g x inputs answers) (sym (geometry_step h action taken.answer next taken.step)) each.1,
+        bytes.1,
+      )
 
   keeps-run : (inputs : List Input) (h later : Machine) (said : Transcript) (x : Place) (v : Option ℕ) → BringBytes inputs → Run h inputs said later
-      → Spares changes x inputs said.answers → Unharmed harmed x inputs said.answers → Keeps harmed h x v → Keeps harmed later x v
-  keeps-run [] h later said x v bytes run spares unharmed keeps = subst (λ m. Keeps harmed m x v) (sym run.1) keeps
-  keeps-run (input ∷ inputs) h later said x v bytes run spares unharmed keeps =
-      let split = subst (λ (s : Transcript). Spares changes x (input ∷ inputs) s.answers) run.3 spares in
-      let apart = subst (λ (s : Transcript). Unharmed harmed x (input ∷ inputs) s.answers) run.3 unharmed in
-      let heard = keeps-heard input inputs h run.2 run.0 run.1.answers x v bytes run.4 split apart keeps in
-      keeps-run inputs run.2 later run.1 x v heard.3 run.5 heard.1 heard.2 heard.0
+      → Allowed since h.geometry x inputs said.answers → Keeps since h x v → Keeps since later x v
+  keeps-run [] h later said x v bytes run all keeps = subst (λ m. Keeps since m x v) (sym run.1) keeps
+  keeps-run (input ∷ inputs) h later said x v bytes run all keeps =
+      let split = subst (λ (s : Transcript). Allowed since h.geometry x (input ∷ inputs) s.answers) run.3 all in
+      let heard = keeps-heard input inputs h run.2 run.0 run.1.answers x v bytes run.4 split keeps in
+      keeps-run inputs run.2 later run.1 x v heard.2 run.5 heard.1 heard.0
 
   -- what a sync left of a line that it touches
   synced_line : (start len i : ℕ) (pages : List Page) → touches start len (i / 64) ≡ true → HaveLines pages
-      → VolumeKeeps harmed (persist start len pages) i (line_has (cell_of (persist start len pages) (i / 64)) (i % 64))
+      → VolumeKeeps since (persist start len pages) i (line_has (cell_of (persist start len pages) (i / 64)) (i % 64))
   synced_line start len i pages touched lines = by_page (is_line_present pages (i / 64)) refl
     where
       by_cell : (o : Option Cell) → IsLineThere o
-          → LineKeeps harmed (option_map (persist_cell start len (i / 64)) o) (i % 64) (line_has (option_map (persist_cell start len (i / 64)) o) (i % 64))
+          → LineKeeps since (option_map (persist_cell start len (i / 64)) o) (i % 64) (line_has (option_map (persist_cell start len (i / 64)) o) (i % 64))
       by_cell None none = absurd none
       by_cell (Some cell) size =
-          subst (λ b. LineKeeps harmed (Some (cond b (flush_cell cell) cell)) (i % 64) (line_has (Some (cond b (flush_cell cell) cell)) (i % 64))) (sym touched)
-          (line_keeps-flushed harmed cell (i % 64) (omega arith) size)
+          subst (λ b. LineKeeps since (Some (cond b (flush_cell cell) cell)) (i % 64) (line_has (Some (cond b (flush_cell cell) cell)) (i % 64))) (sym touched)
+          (line_keeps-flushed since cell (i % 64) (omega arith) size)
 
-      by_page : (b : Bool) → is_line_present pages (i / 64) ≡ b → VolumeKeeps harmed (persist start len pages) i (line_has (cell_of (persist start len pages) (i / 64)) (i % 64))
+      by_page : (b : Bool) → is_line_present pages (i / 64) ≡ b → VolumeKeeps since (persist start len pages) i (line_has (cell_of (persist start len pages) (i / 64)) (i % 64))
       by_page true there =
-          inr (subst (λ o. LineKeeps harmed o (i % 64) (line_has o (i % 64))) (sym (cell_of-persist start len pages (i / 64))) (by_cell (cell_of pages (i / 64)) (lines (i / 64) there)))
+          inr (subst (λ o. LineKeeps since o (i % 64) (line_has o (i % 64))) (sym (cell_of-persist start len pages (i / 64))) (by_cell (cell_of pages (i / 64)) (lines (i / 64) there)))
       by_page false absent =
-          absent-kept harmed (persist start len pages) i (ap (λ bs. slice_index_or bs (i / 64 / 64) false) (presence_of-persist start len pages) ∙ absent)
+          absent-kept since (persist start len pages) i (ap (λ bs. slice_index_or bs (i / 64 / 64) false) (presence_of-persist start len pages) ∙ absent)
 
   -- the same where a span is synced that may be none
   synced_at : (o : Option ℕ) (len i : ℕ) (pages : List Page) → HaveLines pages → (touched_lines_at o len).volume i ≡ true
-      → VolumeKeeps harmed (persist_at o len pages) i (line_has (cell_of (persist_at o len pages) (i / 64)) (i % 64))
+      → VolumeKeeps since (persist_at o len pages) i (line_has (cell_of (persist_at o len pages) (i / 64)) (i % 64))
   synced_at None len i pages lines covered = cc covered
   synced_at (Some start) len i pages lines covered = synced_line start len i pages covered lines
 
   -- and what a clear left of one that was bad
   cleared_line : (n i : ℕ) (pages : List Page) → i / 64 ≡ n → cell_of pages n ≡ Some Bad
-      → VolumeKeeps harmed (change_line clear_cell n pages) i (line_has (cell_of (change_line clear_cell n pages) (i / 64)) (i % 64))
+      → VolumeKeeps since (change_line clear_cell n pages) i (line_has (cell_of (change_line clear_cell n pages) (i / 64)) (i % 64))
   cleared_line n i pages same bad =
       let zeros : cell_of (change_line clear_cell n pages) (i / 64) ≡ Some zero_cell =
       ap (cell_of (change_line clear_cell n pages)) same ∙ cell_of-changed clear_cell n pages ∙ ap (option_map clear_cell) bad in
-      inr (subst (λ o. LineKeeps harmed o (i % 64) (line_has o (i % 64))) (sym zeros) (line_keeps-flushed harmed zero_cell (i % 64) (omega arith) refl))
+      inr (subst (λ o. LineKeeps since o (i % 64) (line_has o (i % 64))) (sym zeros) (line_keeps-flushed since zero_cell (i % 64) (omega arith) refl))
 
   -- A command that covers the place was done: each value of its word has the byte.
   covered_place : (h : Machine) (action : Action) (next : Machine) (x : Place) → IsComplete h → is_made_durable h action x ≡ true → refusal h action ≡ None → Alters h action next
-      → PlaceKeeps harmed next x (byte_at_place next x)
+      → PlaceKeeps since next x (byte_at_place next x)
   covered_place h action next (of_blocks i) whole covered none to = inl refl
   covered_place h (VSync offset len) next (of_volume i) whole covered none to =
-      subst (λ p. VolumeKeeps harmed p i (line_has (cell_of p (i / 64)) (i % 64))) (sym to.volume) (synced_at (Some offset) len i h.volume whole.lines covered)
+      subst (λ p. VolumeKeeps since p i (line_has (cell_of p (i / 64)) (i % 64))) (sym to.volume) (synced_at (Some offset) len i h.volume whole.lines covered)
   covered_place h (VPSync address len) next (of_volume i) whole covered none to =
-      subst (λ p. VolumeKeeps harmed p i (line_has (cell_of p (i / 64)) (i % 64))) (sym to.volume)
+      subst (λ p. VolumeKeeps since p i (line_has (cell_of p (i / 64)) (i % 64))) (sym to.volume)
       (synced_at (physical_offset h.geometry address len) len i h.volume whole.lines covered)
   covered_place h (ClearVolume offset) next (of_volume i) whole covered none to =
-      subst (λ p. VolumeKeeps harmed p i (line_has (cell_of p (i / 64)) (i % 64))) (sym to.volume)
+      subst (λ p. VolumeKeeps since p i (line_has (cell_of p (i / 64)) (i % 64))) (sym to.volume)
       (cleared_line (offset / 64) i h.volume (eqb-true (i / 64) (offset / 64) covered) (was_bad h offset none))
   covered_place h action next (of_volume i) whole covered none to = cc covered
 
-  made : (h next : Machine) (action : Action) (x : Place) → Does h action next → is_made_durable h action x ≡ true → Keeps harmed next x (byte_at_place next x)
+  made : (h next : Machine) (action : Action) (x : Place) → Does h action next → is_made_durable h action x ≡ true → Keeps since next x (byte_at_place next x)
   made h next action x does covered =
       let came = done_by h next action x does covered in
       let free = came.to.interrupted ∙ does.whole.settled (is_on h action (covers_usable h action x covered) came.none) in
       record {
         place = covered_place h action next x does.whole covered came.none came.to;
-        spared = subst (λ o. SparedBy o x) (sym free) tt;
+        spared = subst (λ o. SparedBy since next.geometry o x) (sym free) tt;
         settled = λ on. free;
       }
 
+-- the line may be lost; it was not harmed; it is weak, and was not synced
+abbrev lost_since : MayBe
+lost_since = record { weak = true; lost = true }
+
+abbrev unharmed_since : MayBe
+unharmed_since = record { weak = false; lost = false }
+
+abbrev weak_since : MayBe
+weak_since = record { weak = true; lost = false }
+
+not_lost : (found v : Option ℕ) → HasOrLost false found v → found ≡ v
+not_lost found v (inl is) = is
+not_lost found v (inr lost) = cc lost.1
+
 -- a place that keeps its byte, whatever a run does
-pub lasts : (h : Machine) (x : Place) (v : Option ℕ) → IsComplete h → ((harmed : Bool) → Keeps harmed h x v) → Lasts h x v
+pub lasts : (h : Machine) (x : Place) (v : Option ℕ) → IsComplete h → ((since : MayBe) → Keeps since h x v) → Lasts h x v
 lasts h x v whole keeps inputs said later bytes run = record {
   has = λ spares.
       has true later x v (whole-run inputs h later said whole run)
-      (keeps_byte true later x v (keeps-run true inputs h later said x v bytes run spares (inr refl) (keeps true)));
-  unharmed = λ spares unharmed. unless_harmed (byte_at_place later x) v (keeps_byte false later x v (keeps-run false inputs h later said x v bytes run spares (inl unharmed) (keeps false)));
+      (keeps_byte lost_since later x v
+      (keeps-run lost_since inputs h later said x v bytes run (spares, inr refl, inr refl, inr (λ weak. refl)) (keeps lost_since)));
+  unharmed = λ spares poison weaken. not_lost (byte_at_place later x) v (by_harm spares poison weaken);
 }
   where
-    unless_harmed : (found v : Option ℕ) → HasOrLost false found v → found ≡ v
-    unless_harmed found v (inl is) = is
-    unless_harmed found v (inr lost) = cc lost.1
+    by_harm : Spares changes x inputs said.answers → Spares poisons x inputs said.answers
+        → Spares weakens x inputs said.answers ⊎ Spares (is_made_durable later) x inputs said.answers → HasOrLost false (byte_at_place later x) v
+    by_harm spares poison (inl weaken) =
+        keeps_byte unharmed_since later x v
+        (keeps-run unharmed_since inputs h later said x v bytes run (spares, inl poison, inl weaken, inr (λ weak. cc weak)) (keeps unharmed_since))
+    by_harm spares poison (inr cover) =
+        let synced = subst (λ g. Spares (λ action y. holds (made_durable g action) y) x inputs said.answers) (geometry_run inputs h later said run) cover in
+        keeps_byte weak_since later x v (keeps-run weak_since inputs h later said x v bytes run (spares, inl poison, inr refl, inl synced) (keeps weak_since))
 
 pub durable : (h next : Machine) (action : Action) (x : Place) → Does h action next → is_made_durable h action x ≡ true → IsDurable next x
 durable h next action x does covered =
-    lasts next x (byte_at_place next x) (whole-heard h (Asked action) does.said next does.whole does.came) (λ harmed. made harmed h next action x does covered)
+    lasts next x (byte_at_place next x) (whole-heard h (Asked action) does.said next does.whole does.came) (λ since. made since h next action x does covered)

@@ -1,5 +1,5 @@
 -- What is lost, and that it stays lost.
-use Rattle.std.proofs.Common.{◌≡◌, inl, inr, ℕ, ◌+◌, ◌*◌, ◌/◌, ◌%◌, ◌≤◌, Bool, true, false, cond, nat_le, nat_lt, Option, Some, None, option_map, List, slice_index_or, refl, sym, ap, subst, ◌∙◌, arith}
+use Rattle.std.proofs.Common.{◌≡◌, inl, inr, ℕ, ◌+◌, ◌*◌, ◌/◌, ◌%◌, ◌≤◌, true, false, cond, nat_le, nat_lt, Option, Some, None, option_map, List, slice_index_or, refl, sym, ap, subst, ◌∙◌, arith}
 use Rattle.std.specs.Prelude.{slice_index}
 use Rattle.std.proofs.lemmas.Bool.{both_ways, eqb-true, or_parts}
 use Rattle.std.proofs.lemmas.Bool.Decides.{nat_tests}
@@ -31,21 +31,21 @@ use Rattle.durable.specs.Touching.{is_made_durable, touched_lines_at}
 use Rattle.durable.specs.Durable.{Does, IsComplete, Lasts}
 use Rattle.durable.proofs.StepLemmas.{volume_after}
 use Rattle.durable.proofs.KeepLemmas.{PlaceKeeps, SparedBy}
-use Rattle.durable.proofs.LineLemmas.{lost-kept}
+use Rattle.durable.proofs.LineLemmas.{MayBe, lost-kept}
 use Rattle.durable.proofs.BlockLemmas.{lost_there}
 use Rattle.durable.proofs.LawLemmas.{done_by, lasts, was_bad}
 use Rattle.durable.proofs.RefusalLemmas.{is_refused, line_none, places_none, refused_told, within_none}
 
 pub stays_lost : (h : Machine) (x : Place) → IsComplete h → h.mode ≡ On → byte_at_place h x ≡ None → Lasts h x None
-stays_lost h x whole on lost = lasts h x None whole (λ harmed. record {
-  place = by_place harmed x lost;
-  spared = subst (λ o. SparedBy o x) (sym (whole.settled on)) tt;
+stays_lost h x whole on lost = lasts h x None whole (λ since. record {
+  place = by_place since x lost;
+  spared = subst (λ o. SparedBy since h.geometry o x) (sym (whole.settled on)) tt;
   settled = whole.settled;
 })
   where
-    by_place : (harmed : Bool) (x : Place) → byte_at_place h x ≡ None → PlaceKeeps harmed h x None
-    by_place harmed (of_volume i) none = inr (lost-kept harmed (cell_of h.volume (i / 64)) (i % 64) none)
-    by_place harmed (of_blocks i) none = inl none
+    by_place : (since : MayBe) (x : Place) → byte_at_place h x ≡ None → PlaceKeeps since h x None
+    by_place since (of_volume i) none = inr (lost-kept since (cell_of h.volume (i / 64)) (i % 64) none)
+    by_place since (of_blocks i) none = inl none
 
 -- a line is there, and so is a block that has lines, where a media error takes it
 abbrev needs_line : Option Cell → Option ScrubRefusal
@@ -96,7 +96,7 @@ poisoned_block h next block line i does same =
   where
     by_block : (i % 512) / 64 ≡ line → (b : Block) → needs_lines b ≡ None → block_has (lose_line line b) (i % 512) ≡ None
     by_block which Absent none = cc none
-    by_block which Scarred none = cc none
+    by_block which Scarred none = refl
     by_block which (Data lines) none =
         ap (option_map (λ bytes. slice_index bytes (i % 512 % 64))) (ap (λ k. slice_index_or (lose_at line lines) k None) which ∙ lost_there line lines)
 

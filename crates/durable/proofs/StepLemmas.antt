@@ -22,10 +22,12 @@ use Rattle.machine_host.specs.Interrupted.{interrupted_answer, interrupted_mode}
 use Rattle.machine_host.specs.Restarting.{RestartMayLeave, reading, restarted, restart_answer}
 use Rattle.word_tables.specs.Layout.{volume_line}
 use Rattle.pm_volume.specs.Presence.{presence_read}
-use Rattle.machine_host.specs.Run.{Ends, Takes, Transcript}
+use Rattle.machine_host.specs.Run.{Ends, Hears, Run, Takes, Transcript}
+use Rattle.script_text.specs.Script.{Input}
+use Rattle.script_text.specs.Script.Input.{Skipped, Malformed, Asked}
 use Rattle.durable.specs.Place.{Place}
 use Rattle.durable.specs.Place.Place.{of_volume, of_blocks}
-use Rattle.durable.specs.Touching.{changes, harms, is_made_durable, holds, nothing}
+use Rattle.durable.specs.Touching.{changes, holds, is_made_durable, made_durable, nothing, poisons, weakens}
 
 -- it leaves blocks and volume, and what is interrupted
 pub record Idles (h next : Machine) : Type 0 where
@@ -76,8 +78,11 @@ abbrev pub CoversNothing : Machine → Action → Type 0
 CoversNothing h action = (x : Place) → is_made_durable h action x ≡ false
 
 -- nor does it change or harm anything
-abbrev pub TouchesNothing : Action → Type 0
-TouchesNothing action = (x : Place) → (changes action x ≡ false) × (harms action x ≡ false)
+pub record TouchesNothing (action : Action) : Type 0 where
+  pub change : (x : Place) → changes action x ≡ false
+  pub poison : (x : Place) → poisons action x ≡ false
+  pub weaken : (x : Place) → weakens action x ≡ false
+  pub cover : (geo : Geometry) (x : Place) → holds (made_durable geo action) x ≡ false
 
 pub data Step (h : Machine) (action : Action) (answer : Answer) (next : Machine) : Type 0 where
   idles : (refusal h action ≡ Some answer) ⊎ CoversNothing h action → Idles h next → Step h action answer next
@@ -97,9 +102,6 @@ nowhere : (x : Place) → holds nothing x ≡ false
 nowhere (of_volume i) = refl
 nowhere (of_blocks i) = refl
 
-untouched : (x : Place) → (holds nothing x ≡ false) × (holds nothing x ≡ false)
-untouched x = (nowhere x, nowhere x)
-
 same : (h : Machine) → Idles h h
 same h = record { geometry = refl; blocks = refl; volume = refl; interrupted = refl; mode = λ on. on }
 
@@ -109,7 +111,7 @@ works h to action geometry blocks volume interrupted mode =
     record { geometry = geometry; blocks = blocks; volume = volume; interrupted = interrupted; mode = mode }
 
 suits : (h : Machine) (action : Action) → Suits h action ((meaning action).comes h)
-suits h (BRead block count) = (inr untouched, works h h (BRead block count) refl refl refl refl refl)
+suits h (BRead block count) = (inr (record { change = nowhere; poison = nowhere; weaken = nowhere; cover = λ geo. nowhere }), works h h (BRead block count) refl refl refl refl refl)
 suits h (BWrite block bytes) = (inl refl, works h _ (BWrite block bytes) refl refl refl refl refl)
 suits h (BAtomic block bytes) = (inl refl, works h _ (BAtomic block bytes) refl refl refl refl refl)
 suits h (BMulti ranges bytes) = (inl refl, works h _ (BMulti ranges bytes) refl refl refl refl refl)
@@ -117,7 +119,7 @@ suits h (BDiscard block count) = (inl refl, works h _ (BDiscard block count) ref
 suits h (BDiscardIf block count) = (inl refl, works h _ (BDiscardIf block count) refl refl refl refl refl)
 suits h (BExists block) = inl (nowhere, same h)
 suits h (BScar ranges) = (inl refl, works h _ (BScar ranges) refl refl refl refl refl)
-suits h (VLoad offset len) = (inr untouched, works h h (VLoad offset len) refl refl refl refl refl)
+suits h (VLoad offset len) = (inr (record { change = nowhere; poison = nowhere; weaken = nowhere; cover = λ geo. nowhere }), works h h (VLoad offset len) refl refl refl refl refl)
 suits h (VStore offset bytes) = (inl refl, works h _ (VStore offset bytes) refl refl refl refl refl)
 suits h (VSync offset len) = (inl refl, works h _ (VSync offset len) refl refl refl refl refl)
 suits h VRanges = inl (nowhere, same h)
@@ -220,3 +222,19 @@ step_of h action said next = by_refusal (refusal h action) refl
     by_refusal None none takes = by_fate h action ((meaning action).comes h) said next none (suits h action) takes
     by_refusal (Some answer) some takes =
         record { answer = answer; answers = ap (λ s. s.answers) takes.0; step = idles (inl some) (idle_at h h next (same h) takes.1) }
+
+-- the geometry stays
+pub geometry_step : (h : Machine) (action : Action) (answer : Answer) (next : Machine) → Step h action answer next → next.geometry ≡ h.geometry
+geometry_step h action answer next (idles why to) = to.geometry
+geometry_step h action answer next (alters begun none to) = to.geometry
+geometry_step h action answer next (stops by is to) = to.geometry
+geometry_step h action answer next (returns none back) = back.geometry
+
+geometry_heard : (h : Machine) (input : Input) (said : Transcript) (next : Machine) → Hears h input said next → next.geometry ≡ h.geometry
+geometry_heard h Skipped said next heard = ap (λ m. m.geometry) heard.1
+geometry_heard h Malformed said next heard = ap (λ m. m.geometry) heard.1
+geometry_heard h (Asked action) said next heard = let taken = step_of h action said next heard in geometry_step h action taken.answer next taken.step
+
+pub geometry_run : (inputs : List Input) (h later : Machine) (said : Transcript) → Run h inputs said later → later.geometry ≡ h.geometry
+geometry_run [] h later said run = ap (λ m. m.geometry) run.1
+geometry_run (input ∷ inputs) h later said run = geometry_run inputs run.2 later run.1 run.5 ∙ geometry_heard h input run.0 run.2 run.4

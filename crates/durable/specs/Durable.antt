@@ -18,7 +18,7 @@ use Rattle.machine_host.specs.Machine.{Machine}
 use Rattle.machine_host.specs.Run.{Transcript, Hears, Run}
 use Rattle.durable.specs.Place.{Place, byte_at_place, is_line_present}
 use Rattle.durable.specs.Place.Place.{of_volume, of_blocks}
-use Rattle.durable.specs.Touching.{changes, harms, is_begun, is_made_durable}
+use Rattle.durable.specs.Touching.{changes, is_begun, is_made_durable, poisons, weakens}
 
 -- a line of the volume is there: it is bad, or has its eight words
 abbrev pub IsLineThere : Option Cell → Type 0
@@ -106,11 +106,12 @@ pub record Has (h : Machine) (x : Place) (byte : Option ℕ) : Type 0 where
   pub kept : (byte_at_place h x ≡ byte) ⊎ (byte_at_place h x ≡ None)
   pub shown : IfSome byte (Reads h x)
 
--- What these inputs, answered so, left of a byte that none of them changed: the place has it still; and where none of them
--- harmed its line, it was not lost.
+-- What these inputs, answered so, left of a byte that none of them changed: the place has it still, or was lost. It was not lost
+-- where none poisoned its line, and none made the line weak or none made it durable.
 pub record Remains (inputs : List Input) (answers : List Answer) (later : Machine) (x : Place) (byte : Option ℕ) : Type 0 where
   pub has : Spares changes x inputs answers → Has later x byte
-  pub unharmed : Spares changes x inputs answers → Spares harms x inputs answers → byte_at_place later x ≡ byte
+  pub unharmed : Spares changes x inputs answers → Spares poisons x inputs answers
+      → Spares weakens x inputs answers ⊎ Spares (is_made_durable later) x inputs answers → byte_at_place later x ≡ byte
 
 -- so it is in every later state of every run, whatever is cut and restarted
 abbrev pub Lasts : Machine → Place → Option ℕ → Type 0

@@ -1,4 +1,4 @@
--- Which bytes a command makes durable, which it changes, and of which it harms the line.
+-- Which bytes a command makes durable, which it changes, and of which it makes the line bad or weak.
 use Rattle.std.specs.Prelude.{◌+◌, ◌*◌, ◌/◌, ◌==◌, ℕ, Bool, true, false, List, Option, Some, None, length}
 use Rattle.std.specs.List.{list_any}
 use Rattle.nvm_base.specs.declared.units.Span.{Span}
@@ -107,31 +107,39 @@ region_changed Cut = nothing
 region_changed (CutIn calls) = nothing
 region_changed (Restart choice) = nothing
 
--- the line that a command loses, or makes weak, so that a sync loses it
-abbrev pub region_harmed : Action → Region
-region_harmed (BRead block count) = nothing
-region_harmed (BWrite block bytes) = nothing
-region_harmed (BAtomic block bytes) = nothing
-region_harmed (BMulti ranges bytes) = nothing
-region_harmed (BDiscard block count) = nothing
-region_harmed (BDiscardIf block count) = nothing
-region_harmed (BExists block) = nothing
-region_harmed (BScar ranges) = nothing
-region_harmed (VLoad offset len) = nothing
-region_harmed (VStore offset bytes) = nothing
-region_harmed (VSync offset len) = nothing
-region_harmed VRanges = nothing
-region_harmed (VPSync address len) = nothing
-region_harmed (VDiscard page count) = nothing
-region_harmed (VDiscardIf page count) = nothing
-region_harmed (VExists page) = nothing
-region_harmed (LoseBlock block line) = line_of_blocks (8 * block + line)
-region_harmed (LoseVolume offset) = line_of_volume (offset / 64)
-region_harmed (WeakenVolume offset) = line_of_volume (offset / 64)
-region_harmed (ClearVolume offset) = nothing
-region_harmed Cut = nothing
-region_harmed (CutIn calls) = nothing
-region_harmed (Restart choice) = nothing
+-- the line that a command makes bad at once, and the one that it makes weak, which a sync makes bad
+pub record Harm : Type 0 where
+  pub poisoned : Region
+  pub weakened : Region
+
+abbrev pub no_harm : Harm
+no_harm = record { poisoned = nothing; weakened = nothing }
+
+-- what a command does to lines beside changing them
+abbrev pub harm_done : Action → Harm
+harm_done (BRead block count) = no_harm
+harm_done (BWrite block bytes) = no_harm
+harm_done (BAtomic block bytes) = no_harm
+harm_done (BMulti ranges bytes) = no_harm
+harm_done (BDiscard block count) = no_harm
+harm_done (BDiscardIf block count) = no_harm
+harm_done (BExists block) = no_harm
+harm_done (BScar ranges) = no_harm
+harm_done (VLoad offset len) = no_harm
+harm_done (VStore offset bytes) = no_harm
+harm_done (VSync offset len) = no_harm
+harm_done VRanges = no_harm
+harm_done (VPSync address len) = no_harm
+harm_done (VDiscard page count) = no_harm
+harm_done (VDiscardIf page count) = no_harm
+harm_done (VExists page) = no_harm
+harm_done (LoseBlock block line) = record no_harm { poisoned = line_of_blocks (8 * block + line) }
+harm_done (LoseVolume offset) = record no_harm { poisoned = line_of_volume (offset / 64) }
+harm_done (WeakenVolume offset) = record no_harm { weakened = line_of_volume (offset / 64) }
+harm_done (ClearVolume offset) = no_harm
+harm_done Cut = no_harm
+harm_done (CutIn calls) = no_harm
+harm_done (Restart choice) = no_harm
 
 abbrev pub is_made_durable : Machine → Action → Place → Bool
 is_made_durable h action x = holds (made_durable h.geometry action) x
@@ -139,8 +147,11 @@ is_made_durable h action x = holds (made_durable h.geometry action) x
 abbrev pub changes : Action → Place → Bool
 changes action x = holds (region_changed action) x
 
-abbrev pub harms : Action → Place → Bool
-harms action x = holds (region_harmed action) x
+abbrev pub poisons : Action → Place → Bool
+poisons action x = holds (harm_done action).poisoned x
+
+abbrev pub weakens : Action → Place → Bool
+weakens action x = holds (harm_done action).weakened x
 
 -- a command that was answered so was begun: it was done, or stopped on the way
 abbrev pub is_begun : Answer → Bool

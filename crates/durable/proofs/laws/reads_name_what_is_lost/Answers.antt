@@ -1,4 +1,4 @@
-use Rattle.durable.proofs.ReadLemmas.{names_line, names_obstacle}
+use Rattle.durable.proofs.NamingLemmas.{names_line, names_obstacle}
 use Rattle.durable.proofs.laws.reads_name_what_is_lost.Goals as goal
 
 pub returns-clause-volume : goal.returns-clause-volume
