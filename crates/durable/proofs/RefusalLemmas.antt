@@ -9,10 +9,10 @@ use Rattle.pm_volume.specs.Refusals.VolumeRefusal.{Range as Past, Length as Empt
 use Rattle.nvm_model.specs.Page.{first_bad_line, first_uncovered_line}
 use Rattle.reply_text.specs.declared.reply.Why.{Why}
 use Rattle.reply_text.specs.Answer.{Answer}
-use Rattle.reply_text.specs.Answer.Answer.{Done, DoneBad, Bytes, Ranges, Yes, No, Scarred, PoisonBlock, PoisonVolume, DeviceFailed, PowerLost, Refused, RefusedMeta}
+use Rattle.reply_text.specs.Answer.Answer.{Done, DoneBad, Bytes, Ranges, Yes, No, Scarred, PoisonBlock as PoisonedBlock, PoisonVolume as PoisonedVolume, DeviceFailed, PowerLost, Refused, RefusedMeta}
 use Rattle.reply_text.specs.declared.reply.Why.TheVariants as because
 use Rattle.script_text.specs.Action.{Action}
-use Rattle.script_text.specs.Action.Action.{BRead, BWrite, BAtomic, BMulti, BDiscard, BDiscardIf, BExists, BScar, VLoad, VStore, VSync, VRanges, VPSync, VDiscard, VDiscardIf, VExists, PoisonBlock as LoseBlock, PoisonVolume as LoseVolume, WeakenVolume, ClearVolume, Cut, CutIn, Restart}
+use Rattle.script_text.specs.Action.Action.{BRead, BWrite, BAtomic, BMulti, BDiscard, BDiscardIf, BExists, BScar, VLoad, VStore, VSync, VRanges, VPSync, VDiscard, VDiscardIf, VExists, PoisonBlock, PoisonVolume, WeakenVolume, ClearVolume, Cut, CutIn, Restart}
 use Rattle.machine_host.specs.declared.mode.Mode.{Mode}
 use Rattle.machine_host.specs.declared.mode.Mode.TheVariants.{On, Off, Unsettled}
 use Rattle.machine_host.specs.Machine.{Machine}
@@ -34,8 +34,8 @@ is_refused (Ranges ranges) = false
 is_refused Yes = false
 is_refused No = false
 is_refused (Scarred block) = true
-is_refused (PoisonBlock block line) = true
-is_refused (PoisonVolume offset) = true
+is_refused (PoisonedBlock block line) = true
+is_refused (PoisonedVolume offset) = true
 is_refused DeviceFailed = false
 is_refused PowerLost = false
 is_refused (Refused why) = true
@@ -147,8 +147,8 @@ refusing_reasons h (VPSync address len) = record {
 refusing_reasons h (VDiscard page count) = volume_reasons _ None true
 refusing_reasons h (VDiscardIf page count) = volume_reasons _ None true
 refusing_reasons h (VExists page) = past_reasons _
-refusing_reasons h (LoseBlock block line) = line_reasons _
-refusing_reasons h (LoseVolume offset) = line_reasons _
+refusing_reasons h (PoisonBlock block line) = line_reasons _
+refusing_reasons h (PoisonVolume offset) = line_reasons _
 refusing_reasons h (WeakenVolume offset) = line_reasons _
 refusing_reasons h (ClearVolume offset) = line_reasons _
 refusing_reasons h Cut = why_reasons None

@@ -100,8 +100,7 @@ Reads h (of_blocks i) byte = (block count : ℕ) (bytes : List ℕ) (said : Tran
     → Hears h (Asked (BRead block count)) said next → said.answers ≡ Bytes bytes ∷ [] → is_among block count (i / 512) ≡ true
     → slice_index bytes (i - 512 * block) ≡ byte
 
--- The place has this byte, or it can't be read any more: its line was lost. A byte that is none never could. What a read shows
--- there is the byte.
+-- The place has this byte, or can't be read any more; None is a byte that couldn't be read. What a read shows there is the byte.
 pub record Has (h : Machine) (x : Place) (byte : Option ℕ) : Type 0 where
   pub kept : (byte_at_place h x ≡ byte) ⊎ (byte_at_place h x ≡ None)
   pub shown : IfSome byte (Reads h x)

@@ -7,9 +7,9 @@ use Rattle.nvm_model.specs.Numbered.{is_among}
 use Rattle.block_device.specs.Refusals.{block_spans}
 use Rattle.pm_volume.specs.Refusals.{physical_offset}
 use Rattle.reply_text.specs.Answer.{Answer}
-use Rattle.reply_text.specs.Answer.Answer.{Done, DoneBad, Bytes, Ranges, Yes, No, Scarred, PoisonBlock, PoisonVolume, DeviceFailed, PowerLost, Refused, RefusedMeta}
+use Rattle.reply_text.specs.Answer.Answer.{Done, DoneBad, Bytes, Ranges, Yes, No, Scarred, PoisonBlock as PoisonedBlock, PoisonVolume as PoisonedVolume, DeviceFailed, PowerLost, Refused, RefusedMeta}
 use Rattle.script_text.specs.Action.{Action}
-use Rattle.script_text.specs.Action.Action.{BRead, BWrite, BAtomic, BMulti, BDiscard, BDiscardIf, BExists, BScar, VLoad, VStore, VSync, VRanges, VPSync, VDiscard, VDiscardIf, VExists, PoisonBlock as LoseBlock, PoisonVolume as LoseVolume, WeakenVolume, ClearVolume, Cut, CutIn, Restart}
+use Rattle.script_text.specs.Action.Action.{BRead, BWrite, BAtomic, BMulti, BDiscard, BDiscardIf, BExists, BScar, VLoad, VStore, VSync, VRanges, VPSync, VDiscard, VDiscardIf, VExists, PoisonBlock, PoisonVolume, WeakenVolume, ClearVolume, Cut, CutIn, Restart}
 use Rattle.machine_host.specs.OnBlocks.{blocks_from}
 use Rattle.machine_host.specs.Machine.{Machine}
 use Rattle.word_tables.specs.declared.geometry.Geometry.{Geometry}
@@ -73,8 +73,8 @@ made_durable geo (VPSync address len) = touched_lines_at (physical_offset geo ad
 made_durable geo (VDiscard page count) = nothing
 made_durable geo (VDiscardIf page count) = nothing
 made_durable geo (VExists page) = nothing
-made_durable geo (LoseBlock block line) = nothing
-made_durable geo (LoseVolume offset) = nothing
+made_durable geo (PoisonBlock block line) = nothing
+made_durable geo (PoisonVolume offset) = nothing
 made_durable geo (WeakenVolume offset) = nothing
 made_durable geo (ClearVolume offset) = line_of_volume (offset / 64)
 made_durable geo Cut = nothing
@@ -99,8 +99,8 @@ region_changed (VPSync address len) = nothing
 region_changed (VDiscard page count) = discarded_pages page count
 region_changed (VDiscardIf page count) = discarded_pages page count
 region_changed (VExists page) = nothing
-region_changed (LoseBlock block line) = nothing
-region_changed (LoseVolume offset) = nothing
+region_changed (PoisonBlock block line) = nothing
+region_changed (PoisonVolume offset) = nothing
 region_changed (WeakenVolume offset) = nothing
 region_changed (ClearVolume offset) = line_of_volume (offset / 64)
 region_changed Cut = nothing
@@ -133,8 +133,8 @@ harm_done (VPSync address len) = no_harm
 harm_done (VDiscard page count) = no_harm
 harm_done (VDiscardIf page count) = no_harm
 harm_done (VExists page) = no_harm
-harm_done (LoseBlock block line) = record no_harm { poisoned = line_of_blocks (8 * block + line) }
-harm_done (LoseVolume offset) = record no_harm { poisoned = line_of_volume (offset / 64) }
+harm_done (PoisonBlock block line) = record no_harm { poisoned = line_of_blocks (8 * block + line) }
+harm_done (PoisonVolume offset) = record no_harm { poisoned = line_of_volume (offset / 64) }
 harm_done (WeakenVolume offset) = record no_harm { weakened = line_of_volume (offset / 64) }
 harm_done (ClearVolume offset) = no_harm
 harm_done Cut = no_harm
@@ -162,8 +162,8 @@ is_begun (Ranges ranges) = false
 is_begun Yes = false
 is_begun No = false
 is_begun (Scarred block) = false
-is_begun (PoisonBlock block line) = false
-is_begun (PoisonVolume offset) = false
+is_begun (PoisonedBlock block line) = false
+is_begun (PoisonedVolume offset) = false
 is_begun DeviceFailed = true
 is_begun PowerLost = true
 is_begun (Refused why) = false

@@ -25,8 +25,8 @@ ghost use Rattle.durable.specs.Place.Place.{of_volume, of_blocks};
 ghost use Rattle.durable.specs.Durable.{BringBytes, BringsBytes, Does, IsDurable, IsComplete, KeepsThrough, Lasts};
 
 /// A command that covers a byte was answered `ok`: in every later state, whatever is cut and restarted, the byte is the same or
-/// its line is lost, until a command that changes it is begun. It isn't lost where no command
-/// poisons its line, and none makes it weak or none syncs it.
+/// its line is lost, until a command that changes it is begun. It isn't lost where no command poisons its line, and none makes
+/// the line weak or none syncs it.
 pub fn what_was_made_durable_stays()
     ensures stays { (h next : Machine) (action : Action) (x : Place) → Does h action next → is_made_durable h action x ≡ true → IsDurable next x }
     ensures whole { (h end : Machine) (before after : List Input) (action : Action) (said : Transcript) (x : Place) → IsComplete h
