@@ -12,8 +12,7 @@ use Rattle.nvm_model.specs.Storage.Block.{Absent, Scarred, Data}
 use Rattle.nvm_model.proofs.LostLemmas.{nth-lost}
 use Rattle.nvm_model.proofs.MediaLemmas.{cell_of-changed}
 use Rattle.nvm_model.proofs.PageLemmas.{cell_of-persist}
-use Rattle.scrub.specs.Refusals.{ScrubRefusal}
-use Rattle.scrub.specs.Refusals.ScrubRefusal.{Nothing}
+use Rattle.scrub.specs.Refusals.{cell_refusal, unit_refusal}
 use Rattle.reply_text.specs.Answer.{Answer}
 use Rattle.reply_text.specs.Answer.Answer.{Done}
 use Rattle.script_text.specs.Action.{Action}
@@ -47,16 +46,6 @@ stays_lost h x whole on lost = lasts h x None whole (λ since. record {
     by_place since (of_volume i) none = inr (lost-kept since (cell_of h.volume (i / 64)) (i % 64) none)
     by_place since (of_blocks i) none = inl none
 
--- a line is there, and so is a block that has lines, where a media error takes it
-abbrev needs_line : Option Cell → Option ScrubRefusal
-needs_line None = Some Nothing
-needs_line (Some cell) = None
-
-abbrev needs_lines : Block → Option ScrubRefusal
-needs_lines Absent = Some Nothing
-needs_lines Scarred = Some Nothing
-needs_lines (Data lines) = None
-
 -- a command that needs no call of the device, and was done
 gives_done : (h : Machine) (action : Action) (to next : Machine) → (meaning action).comes h ≡ Gives Done to → Does h action next → (refusal h action ≡ None) × (next ≡ to)
 gives_done h action to next gives does = by_refusal (refusal h action) refl does.came
@@ -71,20 +60,20 @@ gives_done h action to next gives does = by_refusal (refusal h action) refl does
 pub poisoned : (h next : Machine) (offset i : ℕ) → Does h (PoisonVolume offset) next → i / 64 ≡ offset / 64 → byte_at_place next (of_volume i) ≡ None
 poisoned h next offset i does same =
     let done = gives_done h (PoisonVolume offset) (record h { volume = change_line lose_cell (offset / 64) h.volume }) next refl does in
-    let there = (within_none _ (needs_line (cell_of h.volume (offset / 64))) (line_none _ (places_none h (PoisonVolume offset) done.0))).1 in
+    let there = (within_none _ (cell_refusal (cell_of h.volume (offset / 64))) (line_none _ (places_none h (PoisonVolume offset) done.0))).1 in
     ap (λ m. line_has (cell_of m.volume (i / 64)) (i % 64)) done.1
     ∙ ap (λ n. line_has (cell_of (change_line lose_cell (offset / 64) h.volume) n) (i % 64)) same
     ∙ ap (λ o. line_has o (i % 64)) (cell_of-changed lose_cell (offset / 64) h.volume)
     ∙ by_line (cell_of h.volume (offset / 64)) there
   where
-    by_line : (o : Option Cell) → needs_line o ≡ None → line_has (option_map lose_cell o) (i % 64) ≡ None
+    by_line : (o : Option Cell) → cell_refusal o ≡ None → line_has (option_map lose_cell o) (i % 64) ≡ None
     by_line None none = cc none
     by_line (Some cell) none = refl
 
 pub poisoned_block : (h next : Machine) (block line i : ℕ) → Does h (PoisonBlock block line) next → i / 64 ≡ 8 * block + line → byte_at_place next (of_blocks i) ≡ None
 poisoned_block h next block line i does same =
     let done = gives_done h (PoisonBlock block line) (record h { blocks = lose block line h.blocks }) next refl does in
-    let places = within_none _ (needs_lines (nth h.blocks block)) (line_none _ (places_none h (PoisonBlock block line) done.0)) in
+    let places = within_none _ (unit_refusal (nth h.blocks block)) (line_none _ (places_none h (PoisonBlock block line) done.0)) in
     let small = (or_parts (nat_le h.geometry.blocks block) (nat_lt 7 line) places.0).1 in
     let few : line ≤ 7 = grind (arith, nat_tests) in
     let at : i / 512 ≡ block = omega (arith, same, few) in
@@ -94,7 +83,7 @@ poisoned_block h next block line i does same =
     ∙ ap (λ b. block_has b (i % 512)) (nth-lost block line h.blocks)
     ∙ by_block which (nth h.blocks block) places.1
   where
-    by_block : (i % 512) / 64 ≡ line → (b : Block) → needs_lines b ≡ None → block_has (lose_line line b) (i % 512) ≡ None
+    by_block : (i % 512) / 64 ≡ line → (b : Block) → unit_refusal b ≡ None → block_has (lose_line line b) (i % 512) ≡ None
     by_block which Absent none = cc none
     by_block which Scarred none = refl
     by_block which (Data lines) none =
