@@ -13,7 +13,9 @@ use std::alloc::Global;
 use std::test::Fail;
 use word_tables::Geometry;
 
+mod blocks;
 mod clears;
+mod made;
 
 const SMALL: Geometry = Geometry {
     blocks: 8,
