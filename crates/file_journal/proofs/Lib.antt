@@ -2,6 +2,7 @@ pub mod AreaLemmas
 pub mod ChangeLemmas
 pub mod CheckLemmas
 pub mod CommitLemmas
+pub mod FillLemmas
 pub mod HoldLemmas
 pub mod HoleLemmas
 pub mod MountLemmas

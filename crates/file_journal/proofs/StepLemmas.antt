@@ -25,7 +25,7 @@ pub record AreStepped (inode : ℕ) (done : List (ℕ × Option ℕ)) (old : Tab
   pub known : known_units table.pages left ≡ known_units old.pages free + named_units done
 
 -- a switch among the first ones
-switch_take : (switches : List (ℕ × Option ℕ)) (i j page : ℕ) (unit : Option ℕ) → IsSwitch (take i switches) j page unit → (j < i) × IsSwitch switches j page unit
+pub switch_take : (switches : List (ℕ × Option ℕ)) (i j page : ℕ) (unit : Option ℕ) → IsSwitch (take i switches) j page unit → (j < i) × IsSwitch switches j page unit
 switch_take switches i j page unit is =
     let within = slice_get_within (take i switches) j (page, unit) is in
     let low : j < i = omega (arith, length-take i switches) in (
@@ -87,7 +87,7 @@ module _ (inode : ℕ) (switches : List (ℕ × Option ℕ)) (pages : List (Opti
             ∙ sym right
       ]
 
-  set_switched : set (switched_pages inode switches pages) (256 * inode + page) unit ≡ switched_pages inode (switches ++ (page, unit) ∷ []) pages
+  pub set_switched : set (switched_pages inode switches pages) (256 * inode + page) unit ≡ switched_pages inode (switches ++ (page, unit) ∷ []) pages
   set_switched =
       let one = switched_pages inode switches pages in
       let size = length-map_from (switched_page inode switches) 0 pages in

@@ -26,6 +26,10 @@ switched_pages inode switches pages = map_from (switched_page inode switches) 0 
 abbrev pub changed_tables : ℕ → Option FileEntry → List (ℕ × Option ℕ) → Tables → Tables
 changed_tables inode slot switches t = record { files = slice_set t.files inode slot; pages = switched_pages inode switches t.pages }
 
+-- the same of the tables where no inode changes
+abbrev pub switched : ℕ → List (ℕ × Option ℕ) → Tables → Tables
+switched inode switches t = record t { pages = switched_pages inode switches t.pages }
+
 -- the pages from one on become holes
 abbrev pub holes : ℕ → ℕ → List (ℕ × Option ℕ)
 holes first count = list_from (λ page. (page, None)) first count

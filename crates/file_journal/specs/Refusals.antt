@@ -69,7 +69,10 @@ rename_refusal s m name to = first_there (missing_refusal s name) (first_there (
 abbrev pub resize_refusal : JournalState → Medium → List ℕ → ℕ → Option JournalRefusal
 resize_refusal s m name pages = first_there (missing_refusal s name) (first_there (limit_refusal pages) (metadata_refusal s.geo m))
 
--- full where more than all but 16 units would be used
+-- more than all but 16 units would be used
+abbrev pub full_refusal : JournalState → ℕ → List (ℕ × Option ℕ) → Option JournalRefusal
+full_refusal s inode switches =
+    refused_if (nat_lt (s.geo.fpages - 16) (used_pages s.tables.pages + filled_holes s.tables inode switches)) Full
+
 abbrev pub switch_refusal : JournalState → Medium → ℕ → List (ℕ × Option ℕ) → Option JournalRefusal
-switch_refusal s m inode switches =
-    first_there (refused_if (nat_lt (s.geo.fpages - 16) (used_pages s.tables.pages + filled_holes s.tables inode switches)) Full) (metadata_refusal s.geo m)
+switch_refusal s m inode switches = first_there (full_refusal s inode switches) (metadata_refusal s.geo m)

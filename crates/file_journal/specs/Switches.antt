@@ -18,3 +18,7 @@ pub record AreSwitches (units : ℕ) (switches : List (ℕ × Option ℕ)) : Typ
 -- their units are taken, and no page's
 abbrev pub AreHeld : List (Option ℕ) → List Bool → List (ℕ × Option ℕ) → Type 0
 AreHeld pages free switches = (i page unit : ℕ) → IsSwitch switches i page (Some unit) → IsTaken free unit × IsVacant pages unit
+
+-- they are pages below a count
+abbrev pub ArePagesOf : ℕ → List (ℕ × Option ℕ) → Type 0
+ArePagesOf count switches = (i page : ℕ) (unit : Option ℕ) → IsSwitch switches i page unit → page < count

@@ -12,6 +12,7 @@ mod fault;
 mod files;
 mod mounting;
 mod queries;
+mod units;
 mod words;
 
 pub use area::file_area;
