@@ -12,6 +12,8 @@ mod fault;
 mod files;
 mod mounting;
 mod queries;
+#[cfg(test)]
+mod tests;
 mod units;
 mod words;
 
