@@ -1,9 +1,11 @@
 /*
  * oracle run BLOCKS VPAGES FPAGES < SCRIPT > REPLIES
  *
- * The script language over the plainest simulator of lines: of each byte of the volume the durable value and the last one.
+ * The commands on the volume, their media errors, `cut` and `restart`, over a plain simulator of the module's lines: of each
+ * word the values that may be left, sixteen at most. It has no logs, tables or counts, so each page is there from its first store
+ * on. At most 16 pages, so that there are never more than 1,024 dirty lines.
  * A second implementation, whose replies the program's are compared with and whose instructions they are measured against.
- * It is written after docs/formats.md, and reads its own words without a look at their limits.
+ * It is written after docs/formats.md and docs/model.md, and reads its own words without a look at their limits.
  */
 #include <errno.h>
 #include <stdint.h>
@@ -11,12 +13,17 @@
 #include <string.h>
 #include <unistd.h>
 
-enum { LINE = 64, PAGE = 4096, MOST = 65536 };
+enum { WORD = 8, LINE = 64, PAGE = 4096, MOST = 65536, PAGES = 16, LINES = PAGES * PAGE / LINE, VALUES = 16 };
+enum choice { NONE, ALL, SEED };
 
 struct word { const uint8_t *p; size_t n; };
 
-static uint8_t durable[16 * PAGE], last[16 * PAGE], data[MOST];
-static uint64_t size;
+/* The values that each word of a line may be left with, oldest first. */
+struct line { uint8_t is_bad, is_weak, count[8]; uint64_t value[8][VALUES]; };
+
+static struct line lines[LINES];
+static uint8_t last[PAGES * PAGE], is_there[PAGES], data[MOST];
+static uint64_t size, first_half, first_line, second_line;
 static int is_on = 1;
 
 /* ---- replies ---- */
@@ -142,7 +149,7 @@ static size_t bytes(struct word w)
 	return n;
 }
 
-/* ---- commands ---- */
+/* ---- what is refused ---- */
 
 static int is_off(void)
 {
@@ -160,16 +167,153 @@ static int is_outside(uint64_t offset, uint64_t len)
 	return !len || offset + len > size;
 }
 
-static void restart(const uint8_t *kept)
+/* ---- lines ---- */
+
+static void write_back(uint64_t n)
 {
+	for (int w = 0; w < 8; w++) {
+		memcpy(&lines[n].value[w][0], last + n * LINE + w * WORD, WORD);
+		lines[n].count[w] = 1;
+	}
+}
+
+static void clear(uint64_t n)
+{
+	memset(last + n * LINE, 0, LINE);
+	lines[n].is_bad = lines[n].is_weak = 0;
+	write_back(n);
+}
+
+static void persist(uint64_t n)
+{
+	lines[n].is_bad |= lines[n].is_weak;
+	lines[n].is_weak = 0;
+	write_back(n);
+}
+
+/* Bytes into one line. A seventeenth value of a word has the line written back, or drops the second where the line is weak. */
+static void store(uint64_t n, unsigned at, const uint8_t *bytes, unsigned len)
+{
+	struct line *l = &lines[n];
+	unsigned first = at / WORD, end = (at + len + WORD - 1) / WORD;
+
+	if (l->is_bad)
+		clear(n);
+	for (unsigned w = first; w < end; w++)
+		if (l->count[w] == VALUES && !l->is_weak)
+			write_back(n);
+	memcpy(last + n * LINE + at, bytes, len);
+	for (unsigned w = first; w < end; w++) {
+		if (l->count[w] == VALUES)
+			memmove(l->value[w] + 1, l->value[w] + 2, (--l->count[w] - 1) * sizeof l->value[w][0]);
+		memcpy(&l->value[w][l->count[w]++], last + n * LINE + w * WORD, WORD);
+	}
+}
+
+static uint64_t place(uint64_t n, unsigned w)
+{
+	return 8 * (n < first_half ? first_line + n : second_line + n - first_half) + w;
+}
+
+static void keep(uint64_t n, unsigned w, enum choice choice, uint64_t seed)
+{
+	struct line *l = &lines[n];
+	uint64_t x = (seed + place(n, w)) * 6364136223846793005u + 1442695040888963407u;
+	unsigned i = choice == NONE ? 0 : choice == ALL ? l->count[w] - 1u : (unsigned)((x >> 33) % l->count[w]);
+
+	l->value[w][0] = l->value[w][i];
+	l->count[w] = 1;
+	memcpy(last + n * LINE + w * WORD, &l->value[w][0], WORD);
+}
+
+static void restart(enum choice choice, uint64_t seed)
+{
+	uint64_t bad = 0;
+
 	if (is_on) {
 		say("refused on");
 		return;
 	}
-	memmove(durable, kept, size);
-	memcpy(last, durable, size);
+	for (uint64_t n = 0; n < size / LINE; n++) {
+		for (unsigned w = 0; w < 8; w++)
+			keep(n, w, choice, seed);
+		bad += lines[n].is_bad;
+	}
 	is_on = 1;
-	say("ok bad 0");
+	put("ok bad ", 7);
+	put_number(bad);
+	put("\n", 1);
+}
+
+/* ---- commands ---- */
+
+/* The lowest bad line that a span touches, or, for a store, that it doesn't cover. */
+static int is_poisoned(uint64_t offset, uint64_t len, int is_store)
+{
+	for (uint64_t n = offset / LINE; n * LINE < offset + len; n++) {
+		if (!lines[n].is_bad || (is_store && offset <= n * LINE && n * LINE + LINE <= offset + len))
+			continue;
+		put("poison volume ", 14);
+		put_number(n * LINE);
+		put(" 64\n", 4);
+		return 1;
+	}
+	return 0;
+}
+
+static void vstore(uint64_t offset, uint64_t len)
+{
+	const uint8_t *from = data;
+
+	if (is_off() || is_outside(offset, len) || is_poisoned(offset, len, 1))
+		return;
+	for (uint64_t p = offset / PAGE; p * PAGE < offset + len; p++)
+		is_there[p] = 1;
+	while (len) {
+		unsigned at = offset % LINE, n = len < LINE - at ? (unsigned)len : LINE - at;
+
+		store(offset / LINE, at, from, n);
+		offset += n, from += n, len -= n;
+	}
+	say("ok");
+}
+
+static void vsync(uint64_t offset, uint64_t len)
+{
+	if (is_off() || is_outside(offset, len) || is_poisoned(offset, len, 0))
+		return;
+	for (uint64_t n = offset / LINE; n * LINE < offset + len; n++)
+		persist(n);
+	say("ok");
+}
+
+/* What befalls the line of a byte. */
+static void befall(struct word what, uint64_t offset)
+{
+	struct line *l;
+
+	if (is_off())
+		return;
+	if (offset >= size) {
+		say("refused range");
+		return;
+	}
+	if (!is_there[offset / PAGE]) {
+		say("refused nothing");
+		return;
+	}
+	l = &lines[offset / LINE];
+	if (is(what, "clear") && !l->is_bad) {
+		say("refused notpoisoned");
+		return;
+	}
+	if (is(what, "clear"))
+		clear(offset / LINE);
+	else if (is(what, "weaken"))
+		l->is_weak = !l->is_bad;
+	else
+		l->is_bad = 1, l->is_weak = 0;
+	say("ok");
 }
 
 static void command(const struct word *w, size_t k)
@@ -178,25 +322,23 @@ static void command(const struct word *w, size_t k)
 
 	if (k == 3 && number(w[1], &offset)) {
 		if (is(w[0], "vstore") && (len = bytes(w[2]))) {
-			if (is_off() || is_outside(offset, len))
-				return;
-			memcpy(last + offset, data, len);
-			say("ok");
+			vstore(offset, len);
 			return;
 		}
 		if (is(w[0], "vsync") && number(w[2], &len)) {
-			if (is_off() || is_outside(offset, len))
-				return;
-			for (uint64_t at = offset / LINE * LINE; at < offset + len; at += LINE)
-				memcpy(durable + at, last + at, LINE);
-			say("ok");
+			vsync(offset, len);
 			return;
 		}
 		if (is(w[0], "vload") && number(w[2], &len)) {
-			if (!is_off() && !is_outside(offset, len))
+			if (!is_off() && !is_outside(offset, len) && !is_poisoned(offset, len, 0))
 				say_data(last + offset, len);
 			return;
 		}
+	}
+	if (k == 3 && is(w[1], "volume") && number(w[2], &offset)
+	    && (is(w[0], "poison") || is(w[0], "weaken") || is(w[0], "clear"))) {
+		befall(w[0], offset);
+		return;
 	}
 	if (k == 1 && is(w[0], "cut")) {
 		if (!is_off())
@@ -205,7 +347,11 @@ static void command(const struct word *w, size_t k)
 		return;
 	}
 	if (k == 2 && is(w[0], "restart") && (is(w[1], "none") || is(w[1], "all"))) {
-		restart(w[1].n == 3 ? last : durable);
+		restart(w[1].n == 3 ? ALL : NONE, 0);
+		return;
+	}
+	if (k == 3 && is(w[0], "restart") && is(w[1], "seed") && number(w[2], &offset)) {
+		restart(SEED, offset);
 		return;
 	}
 	say("refused syntax");
@@ -237,6 +383,22 @@ static void line(const uint8_t *p, size_t n)
 		command(w, k);
 }
 
+/* Where the lines of so many pages lie: half of them, rounded up, behind the metadata, the others behind the blocks. */
+static int set_up(uint64_t blocks, uint64_t pages)
+{
+	uint64_t metadata = 1 + 17 + blocks / 8 + 65 + (pages + 7) / 8 + 69 + 64 + 2048;
+
+	size = PAGE * pages;
+	if (size > sizeof last)
+		return 0;
+	first_line = (metadata + 63) / 64 * 64;
+	first_half = (pages + 1) / 2 * (PAGE / LINE);
+	second_line = first_line + first_half + 8 * (blocks + 64);
+	for (uint64_t n = 0; n < LINES; n++)
+		clear(n);
+	return 1;
+}
+
 int main(int argc, char **argv)
 {
 	uint8_t *script = NULL, *end;
@@ -245,8 +407,7 @@ int main(int argc, char **argv)
 
 	if (argc != 5)
 		return 2;
-	size = PAGE * strtoull(argv[3], NULL, 10);
-	if (size > sizeof last)
+	if (!set_up(strtoull(argv[2], NULL, 10), strtoull(argv[3], NULL, 10)))
 		return 2;
 	do {
 		if (len == room && !(script = realloc(script, room = 2 * room + MOST)))

@@ -1,150 +1,189 @@
 -- What a step keeps: the byte at a place that it spares, and that the state is whole.
-use Rattle.std.proofs.Common.{◌≡◌, ◌⊎◌, inl, inr, ℕ, ◌/◌, ◌%◌, Bool, true, false, Option, Some, None, List, refl, sym, ap, subst, ◌∙◌}
-use Rattle.std.proofs.lemmas.Bool.{both_ways}
+use Rattle.std.proofs.Common.{◌≡◌, ◌⊎◌, inl, inr, ℕ, ◌/◌, ◌%◌, true, false, Option, Some, None, List, refl, sym, ap, subst, ◌∙◌, arith}
+use Rattle.std.proofs.lemmas.Bool.{both_ways, eq-eqb, eqb-false}
+use Rattle.std.proofs.lemmas.Bool.Decides.{nat_tests}
 use Rattle.line_words.specs.declared.interruption.Interruption.{Interruption}
 use Rattle.line_words.specs.declared.interruption.Interruption.TheVariants.{Failed, PowerLost as Lost}
 use Rattle.machine_host.specs.Interrupted.{interrupted_answer}
 use Rattle.nvm_model.specs.Blocks.{nth}
+use Rattle.nvm_model.specs.Cell.{touches}
 use Rattle.nvm_model.specs.Page.{Page}
 use Rattle.nvm_model.specs.Storage.{Block}
 use Rattle.reply_text.specs.Answer.{Answer}
 use Rattle.reply_text.specs.Answer.Answer.{Done}
 use Rattle.script_text.specs.Action.{Action}
-use Rattle.script_text.specs.Action.Action.{VStore, VSync, VPSync, VDiscard, VDiscardIf}
+use Rattle.script_text.specs.Action.Action.{VStore, VSync, VPSync, VDiscard, VDiscardIf, PoisonBlock, PoisonVolume, WeakenVolume, ClearVolume}
 use Rattle.machine_host.specs.declared.mode.Mode.TheVariants.{On}
 use Rattle.machine_host.specs.Machine.{Machine}
 use Rattle.machine_host.specs.Commands.{LeavesVolume, MayLeaveBlocks, MayLeaveVolume, meaning}
 use Rattle.machine_host.specs.OnVolume.{part_synced_at, persist_at}
 use Rattle.word_tables.specs.declared.geometry.Geometry.{Geometry}
 use Rattle.word_tables.specs.Layout.{volume_line}
+use Rattle.block_device.specs.Reading.{blocks_read}
 use Rattle.pm_volume.specs.Presence.{presence_read}
 use Rattle.pm_volume.specs.Refusals.{physical_offset}
 use Rattle.durable.specs.Place.{Place, block_has, byte_at_place}
 use Rattle.durable.specs.Place.Place.{of_volume, of_blocks}
-use Rattle.durable.specs.Touching.{changes, is_begun}
+use Rattle.durable.specs.Touching.{changes, holds, is_begun, made_durable, poisons, touched_lines_at, weakens}
 use Rattle.durable.specs.Durable.{BringsBytes}
-use Rattle.durable.proofs.StepLemmas.{Alters, ChangesNothing, Returns, Step}
+use Rattle.durable.proofs.StepLemmas.{Alters, Returns, Step, TouchesNothing, blocks_after, volume_after}
 use Rattle.durable.proofs.StepLemmas.Step.{idles, alters, stops, returns}
-use Rattle.durable.proofs.LineLemmas.{VolumeKeeps, byte-kept, keeps-persist, keeps-stored, keeps-may_store, keeps-may_sync, keeps-discard, keeps-may_discard, keeps-read}
-use Rattle.durable.proofs.BlockLemmas.{nth-spared, nth-left}
+use Rattle.durable.proofs.LineLemmas.{HasOrLost, MayBe}
+use Rattle.durable.proofs.VolumeLemmas.{VolumeKeeps, byte-kept, keeps-clear, keeps-lose, keeps-weaken, keeps-persist, keeps-stored, keeps-may_store, keeps-may_sync, keeps-discard, keeps-may_discard, keeps-read}
+use Rattle.durable.proofs.BlockLemmas.{has-lost, nth-spared, nth-left}
 
--- the place has this byte, whatever a cut leaves
-abbrev pub PlaceKeeps : Machine → Place → Option ℕ → Type 0
-PlaceKeeps h (of_volume i) v = VolumeKeeps h.volume i v
-PlaceKeeps h (of_blocks i) v = block_has (nth h.blocks (i / 512)) (i % 512) ≡ v
+-- An action that spares the place: it doesn't change it, stores bytes, and makes its line weak or lost only where it may be.
+pub record SparesPlace (since : MayBe) (geo : Geometry) (action : Action) (x : Place) : Type 0 where
+  pub change : changes action x ≡ false
+  pub brings : BringsBytes action
+  pub poison : poisons action x ≡ true → since.lost ≡ true
+  pub weaken : weakens action x ≡ true → since.weak ≡ true
+  pub cover : holds (made_durable geo action) x ≡ true → since.weak ≡ true → since.lost ≡ true
 
--- the action that is interrupted, if there is one, spares the place
-abbrev pub SparedBy : Option Action → Place → Type 0
-SparedBy None x = Unit {0}
-SparedBy (Some action) x = (changes action x ≡ false) × BringsBytes action
+-- the one that is interrupted, if there is one, does
+abbrev pub SparedBy : MayBe → Geometry → Option Action → Place → Type 0
+SparedBy since geo None x = Unit {0}
+SparedBy since geo (Some action) x = SparesPlace since geo action x
 
-pub record Keeps (h : Machine) (x : Place) (v : Option ℕ) : Type 0 where
-  pub place : PlaceKeeps h x v
-  pub spared : SparedBy h.interrupted x
-  pub settled : h.mode ≡ On → h.interrupted ≡ None
+module _ (since : MayBe) where
+  -- the place has this byte, whatever a cut leaves
+  abbrev pub PlaceKeeps : Machine → Place → Option ℕ → Type 0
+  PlaceKeeps h (of_volume i) v = VolumeKeeps since h.volume i v
+  PlaceKeeps h (of_blocks i) v = HasOrLost since.lost (block_has (nth h.blocks (i / 512)) (i % 512)) v
 
-pub keeps_byte : (h : Machine) (x : Place) (v : Option ℕ) → Keeps h x v → byte_at_place h x ≡ v
-keeps_byte h (of_volume i) v keeps = byte-kept h.volume i v keeps.place
-keeps_byte h (of_blocks i) v keeps = keeps.place
+  pub record Keeps (h : Machine) (x : Place) (v : Option ℕ) : Type 0 where
+    pub place : PlaceKeeps h x v
+    pub spared : SparedBy since h.geometry h.interrupted x
+    pub settled : h.mode ≡ On → h.interrupted ≡ None
 
--- an action that spares a byte of the volume
-persisted_at : (o : Option ℕ) (len i : ℕ) (v : Option ℕ) (pages : List Page) → VolumeKeeps pages i v → VolumeKeeps (persist_at o len pages) i v
-persisted_at None len i v pages keeps = keeps
-persisted_at (Some offset) len i v pages keeps = keeps-persist offset len i v pages keeps
+  pub keeps_byte : (h : Machine) (x : Place) (v : Option ℕ) → Keeps h x v → HasOrLost since.lost (byte_at_place h x) v
+  keeps_byte h (of_volume i) v keeps = byte-kept since h.volume i v keeps.place
+  keeps_byte h (of_blocks i) v keeps = keeps.place
 
-altered_volume : (geo : Geometry) (action : Action) (i : ℕ) (v : Option ℕ) (pages : List Page) → changes action (of_volume i) ≡ false → BringsBytes action
-    → VolumeKeeps pages i v → VolumeKeeps ((meaning action).volume geo pages) i v
-altered_volume geo (VStore offset bytes) i v pages out small keeps = keeps-stored offset i v bytes pages small out keeps
-altered_volume geo (VSync offset len) i v pages out small keeps = keeps-persist offset len i v pages keeps
-altered_volume geo (VPSync address len) i v pages out small keeps = persisted_at (physical_offset geo address len) len i v pages keeps
-altered_volume geo (VDiscard page count) i v pages out small keeps = keeps-discard page count i v pages out keeps
-altered_volume geo (VDiscardIf page count) i v pages out small keeps = keeps-discard page count i v pages out keeps
-altered_volume geo action i v pages out small keeps = keeps
+  -- an action that spares a byte of the volume
+  persisted_at : (o : Option ℕ) (len i : ℕ) (v : Option ℕ) (pages : List Page) → ((touched_lines_at o len).volume i ≡ true → since.weak ≡ true → since.lost ≡ true)
+      → VolumeKeeps since pages i v → VolumeKeeps since (persist_at o len pages) i v
+  persisted_at None len i v pages loses keeps = keeps
+  persisted_at (Some offset) len i v pages loses keeps = keeps-persist since offset len i v pages loses keeps
 
--- and one that was interrupted
-synced_at : (o : Option ℕ) (len i : ℕ) (v : Option ℕ) (pages to left : List Page) → VolumeKeeps pages i v → LeavesVolume (part_synced_at o len) pages to left → VolumeKeeps left i v
-synced_at None len i v pages to left keeps may = keeps-may_sync 0 0 i v pages left keeps may
-synced_at (Some offset) len i v pages to left keeps may = keeps-may_sync offset len i v pages left keeps may
+  altered_volume : (geo : Geometry) (action : Action) (i : ℕ) (v : Option ℕ) (pages : List Page) → SparesPlace since geo action (of_volume i) → VolumeKeeps since pages i v
+      → VolumeKeeps since (volume_after geo action pages) i v
+  altered_volume geo (VStore offset bytes) i v pages spared keeps = keeps-stored since offset i v bytes pages spared.brings spared.change keeps
+  altered_volume geo (VSync offset len) i v pages spared keeps = keeps-persist since offset len i v pages spared.cover keeps
+  altered_volume geo (VPSync address len) i v pages spared keeps = persisted_at (physical_offset geo address len) len i v pages spared.cover keeps
+  altered_volume geo (VDiscard page count) i v pages spared keeps = keeps-discard since page count i v pages spared.change keeps
+  altered_volume geo (VDiscardIf page count) i v pages spared keeps = keeps-discard since page count i v pages spared.change keeps
+  altered_volume geo (PoisonVolume offset) i v pages spared keeps = keeps-lose since (offset / 64) i v pages (λ same. spared.poison (eq-eqb _ _ same)) keeps
+  altered_volume geo (WeakenVolume offset) i v pages spared keeps = keeps-weaken since (offset / 64) i v pages (λ same. spared.weaken (eq-eqb _ _ same)) keeps
+  altered_volume geo (ClearVolume offset) i v pages spared keeps = keeps-clear since (offset / 64) i v pages (eqb-false (i / 64) (offset / 64) spared.change) keeps
+  altered_volume geo action i v pages spared keeps = keeps
 
-left_volume : (geo : Geometry) (action : Action) (i : ℕ) (v : Option ℕ) (pages left : List Page) → changes action (of_volume i) ≡ false → BringsBytes action
-    → VolumeKeeps pages i v → MayLeaveVolume geo (Some action) pages left → VolumeKeeps left i v
-left_volume geo (VStore offset bytes) i v pages left out small keeps may = keeps-may_store offset i v bytes pages left small out keeps may
-left_volume geo (VSync offset len) i v pages left out small keeps may = keeps-may_sync offset len i v pages left keeps may
-left_volume geo (VPSync address len) i v pages left out small keeps may =
-    synced_at (physical_offset geo address len) len i v pages (persist_at (physical_offset geo address len) len pages) left keeps may
-left_volume geo (VDiscard page count) i v pages left out small keeps (inl is) = subst (λ p. VolumeKeeps p i v) {x = pages} (sym is) keeps
-left_volume geo (VDiscard page count) i v pages left out small keeps (inr is) =
-    subst (λ p. VolumeKeeps p i v) (sym is) (keeps-discard page count i v pages out keeps)
-left_volume geo (VDiscardIf page count) i v pages left out small keeps may = keeps-may_discard page count i v pages left out keeps may
-left_volume geo action i v pages left out small keeps is = subst (λ p. VolumeKeeps p i v) {x = pages} (sym is) keeps
+  -- and one that spares a byte of the blocks
+  altered_blocks : (geo : Geometry) (action : Action) (i : ℕ) (v : Option ℕ) (blocks : List Block) → SparesPlace since geo action (of_blocks i)
+      → HasOrLost since.lost (block_has (nth blocks (i / 512)) (i % 512)) v → HasOrLost since.lost (block_has (nth (blocks_after action blocks) (i / 512)) (i % 512)) v
+  altered_blocks geo (PoisonBlock block line) i v blocks spared has = has-lost since.lost block line i v blocks (λ same. spared.poison (eq-eqb _ _ same)) has
+  altered_blocks geo action i v blocks spared has = subst (λ b. HasOrLost since.lost (block_has b (i % 512)) v) (sym (nth-spared action i blocks spared.change)) has
 
-volume_left : (geo : Geometry) (o : Option Action) (i : ℕ) (v : Option ℕ) (pages left : List Page) → SparedBy o (of_volume i) → VolumeKeeps pages i v
-    → MayLeaveVolume geo o pages left → VolumeKeeps left i v
-volume_left geo None i v pages left spared keeps is = subst (λ p. VolumeKeeps p i v) {x = pages} (sym is) keeps
-volume_left geo (Some action) i v pages left spared keeps may = left_volume geo action i v pages left spared.0 spared.1 keeps may
+  -- one that was interrupted
+  synced_at : (o : Option ℕ) (len i : ℕ) (v : Option ℕ) (pages to left : List Page) → ((touched_lines_at o len).volume i ≡ true → since.weak ≡ true → since.lost ≡ true)
+      → VolumeKeeps since pages i v → LeavesVolume (part_synced_at o len) pages to left → VolumeKeeps since left i v
+  synced_at None len i v pages to left loses keeps may = keeps-may_sync since 0 0 i v pages left (λ touched. absurd (untouched touched)) keeps may
+    where
+      untouched : touches 0 0 (i / 64) ≡ true → ⊥
+      untouched touched = grind (arith, nat_tests)
+  synced_at (Some offset) len i v pages to left loses keeps may = keeps-may_sync since offset len i v pages left loses keeps may
 
-blocks_left : (o : Option Action) (i : ℕ) (old new : List Block) → SparedBy o (of_blocks i) → MayLeaveBlocks o old new → nth new (i / 512) ≡ nth old (i / 512)
-blocks_left None i old new spared is = ap (λ bs. nth bs (i / 512)) is
-blocks_left (Some action) i old new spared may =
-    nth-left (meaning action).blocks_left (i / 512) old ((meaning action).blocks old) new (nth-spared action i old spared.0) may
+  left_volume : (geo : Geometry) (action : Action) (i : ℕ) (v : Option ℕ) (pages left : List Page) → SparesPlace since geo action (of_volume i) → VolumeKeeps since pages i v
+      → MayLeaveVolume geo (Some action) pages left → VolumeKeeps since left i v
+  left_volume geo (VStore offset bytes) i v pages left spared keeps may = keeps-may_store since offset i v bytes pages left spared.brings spared.change keeps may
+  left_volume geo (VSync offset len) i v pages left spared keeps may = keeps-may_sync since offset len i v pages left spared.cover keeps may
+  left_volume geo (VPSync address len) i v pages left spared keeps may =
+      synced_at (physical_offset geo address len) len i v pages (persist_at (physical_offset geo address len) len pages) left spared.cover keeps may
+  left_volume geo (VDiscard page count) i v pages left spared keeps (inl is) = subst (λ p. VolumeKeeps since p i v) {x = pages} (sym is) keeps
+  left_volume geo (VDiscard page count) i v pages left spared keeps (inr is) =
+      subst (λ p. VolumeKeeps since p i v) (sym is) (keeps-discard since page count i v pages spared.change keeps)
+  left_volume geo (VDiscardIf page count) i v pages left spared keeps may = keeps-may_discard since page count i v pages left spared.change keeps may
+  left_volume geo (ClearVolume offset) i v pages left spared keeps (inl is) = subst (λ p. VolumeKeeps since p i v) {x = pages} (sym is) keeps
+  left_volume geo (ClearVolume offset) i v pages left spared keeps (inr is) =
+      subst (λ p. VolumeKeeps since p i v) (sym is) (keeps-clear since (offset / 64) i v pages (eqb-false (i / 64) (offset / 64) spared.change) keeps)
+  left_volume geo action i v pages left spared keeps is = subst (λ p. VolumeKeeps since p i v) {x = pages} (sym is) keeps
 
--- the place after a step that leaves it
-same_place : (h next : Machine) (x : Place) (v : Option ℕ) → next.blocks ≡ h.blocks → next.volume ≡ h.volume → PlaceKeeps h x v → PlaceKeeps next x v
-same_place h next (of_volume i) v blocks volume keeps = subst (λ p. VolumeKeeps p i v) {x = h.volume} (sym volume) keeps
-same_place h next (of_blocks i) v blocks volume keeps = ap (λ bs. block_has (nth bs (i / 512)) (i % 512)) blocks ∙ keeps
+  volume_left : (geo : Geometry) (o : Option Action) (i : ℕ) (v : Option ℕ) (pages left : List Page) → SparedBy since geo o (of_volume i) → VolumeKeeps since pages i v
+      → MayLeaveVolume geo o pages left → VolumeKeeps since left i v
+  volume_left geo None i v pages left spared keeps is = subst (λ p. VolumeKeeps since p i v) {x = pages} (sym is) keeps
+  volume_left geo (Some action) i v pages left spared keeps may = left_volume geo action i v pages left spared keeps may
 
-altered_place : (h : Machine) (action : Action) (next : Machine) (x : Place) (v : Option ℕ) → Alters h action next → changes action x ≡ false → BringsBytes action
-    → PlaceKeeps h x v → PlaceKeeps next x v
-altered_place h action next (of_volume i) v to out small keeps =
-    subst (λ p. VolumeKeeps p i v) {x = (meaning action).volume h.geometry h.volume} (sym to.volume) (altered_volume h.geometry action i v h.volume out small keeps)
-altered_place h action next (of_blocks i) v to out small keeps =
-    ap (λ bs. block_has (nth bs (i / 512)) (i % 512)) to.blocks ∙ ap (λ b. block_has b (i % 512)) (nth-spared action i h.blocks out) ∙ keeps
+  blocks_left : (geo : Geometry) (o : Option Action) (i : ℕ) (old new : List Block) → SparedBy since geo o (of_blocks i) → MayLeaveBlocks o old new
+      → nth new (i / 512) ≡ nth old (i / 512)
+  blocks_left geo None i old new spared is = ap (λ bs. nth bs (i / 512)) is
+  blocks_left geo (Some action) i old new spared may =
+      nth-left (meaning action).blocks_left (i / 512) old ((meaning action).blocks old) new (nth-spared action i old spared.change) may
 
-returned_place : (h next : Machine) (x : Place) (v : Option ℕ) → Returns h next → SparedBy h.interrupted x → PlaceKeeps h x v → PlaceKeeps next x v
-returned_place h next (of_volume i) v back spared keeps =
-    subst (λ p. VolumeKeeps p i v) (sym back.volume)
-    (keeps-read back.choice (volume_line h.geometry) back.image (presence_read h.geometry back.image.word) i v back.may.left
-    (volume_left h.geometry h.interrupted i v h.volume back.may.left spared keeps back.may.may) back.may.there back.may.volume)
-returned_place h next (of_blocks i) v back spared keeps =
-    ap (λ bs. block_has (nth bs (i / 512)) (i % 512)) back.blocks
-    ∙ ap (λ b. block_has b (i % 512)) (blocks_left h.interrupted i h.blocks _ spared back.may.blocks) ∙ keeps
+  -- the place after a step that leaves it
+  same_place : (h next : Machine) (x : Place) (v : Option ℕ) → next.blocks ≡ h.blocks → next.volume ≡ h.volume → PlaceKeeps h x v → PlaceKeeps next x v
+  same_place h next (of_volume i) v blocks volume keeps = subst (λ p. VolumeKeeps since p i v) {x = h.volume} (sym volume) keeps
+  same_place h next (of_blocks i) v blocks volume keeps = subst (λ bs. HasOrLost since.lost (block_has (nth bs (i / 512)) (i % 512)) v) {x = h.blocks} (sym blocks) keeps
 
--- an action that changes the place and was begun is none that spares it
-spares : (action : Action) (x : Place) (answer : Answer) → (changes action x ≡ true → is_begun answer ≡ false) → is_begun answer ≡ true → changes action x ≡ false
-spares action x answer only begun = by_test (changes action x) refl
-  where
-    by_test : (b : Bool) → changes action x ≡ b → b ≡ false
-    by_test true is = absurd (both_ways (is_begun answer) (only is) begun)
-    by_test false is = refl
+  altered_place : (h : Machine) (action : Action) (next : Machine) (x : Place) (v : Option ℕ) → Alters h action next → SparesPlace since h.geometry action x
+      → PlaceKeeps h x v → PlaceKeeps next x v
+  altered_place h action next (of_volume i) v to spared keeps =
+      subst (λ p. VolumeKeeps since p i v) {x = volume_after h.geometry action h.volume} (sym to.volume) (altered_volume h.geometry action i v h.volume spared keeps)
+  altered_place h action next (of_blocks i) v to spared keeps =
+      subst (λ bs. HasOrLost since.lost (block_has (nth bs (i / 512)) (i % 512)) v) {x = blocks_after action h.blocks} (sym to.blocks)
+      (altered_blocks h.geometry action i v h.blocks spared keeps)
 
-spares_when : (action : Action) (x : Place) (answer : Answer) → (changes action x ≡ true → is_begun answer ≡ false) → (answer ≡ Done) ⊎ ChangesNothing action → changes action x ≡ false
-spares_when action x answer only (inl done) = spares action x answer only (ap is_begun done)
-spares_when action x answer only (inr none) = none x
+  returned_place : (h next : Machine) (x : Place) (v : Option ℕ) → Returns h next → SparedBy since h.geometry h.interrupted x → PlaceKeeps h x v → PlaceKeeps next x v
+  returned_place h next (of_volume i) v back spared keeps =
+      subst (λ p. VolumeKeeps since p i v) (sym back.volume)
+      (keeps-read since back.choice (volume_line h.geometry) back.image (presence_read h.geometry back.image.word) i v back.may.left
+      (volume_left h.geometry h.interrupted i v h.volume back.may.left spared keeps back.may.may) back.may.there back.may.volume)
+  returned_place h next (of_blocks i) v back spared keeps =
+      subst (λ bs. HasOrLost since.lost (block_has (nth bs (i / 512)) (i % 512)) v) {x = blocks_read h.geometry back.image.is_bad back.image.word} (sym back.blocks)
+      (subst (λ b. HasOrLost since.lost (block_has b (i % 512)) v) (sym (blocks_left h.geometry h.interrupted i h.blocks _ spared back.may.blocks)) keeps)
 
-pub stop_begun : (by : Interruption) → is_begun (interrupted_answer by) ≡ true
-stop_begun Failed = refl
-stop_begun Lost = refl
+  pub stop_begun : (by : Interruption) → is_begun (interrupted_answer by) ≡ true
+  stop_begun Failed = refl
+  stop_begun Lost = refl
 
--- A step that spares the place keeps its byte.
-pub keeps-step : (h : Machine) (action : Action) (answer : Answer) (next : Machine) (x : Place) (v : Option ℕ) → (changes action x ≡ true → is_begun answer ≡ false) → BringsBytes action
-    → Keeps h x v → Step h action answer next → Keeps next x v
-keeps-step h action answer next x v only small keeps (idles why to) = record {
-  place = same_place h next x v to.blocks to.volume keeps.place;
-  spared = subst (λ o. SparedBy o x) (sym to.interrupted) keeps.spared;
-  settled = λ on. to.interrupted ∙ keeps.settled (to.mode on);
-}
-keeps-step h action answer next x v only small keeps (alters begun none to) = record {
-  place = altered_place h action next x v to (spares_when action x answer only begun) small keeps.place;
-  spared = subst (λ o. SparedBy o x) (sym to.interrupted) keeps.spared;
-  settled = λ on. to.interrupted ∙ keeps.settled (sym to.mode ∙ on);
-}
-keeps-step h action answer next x v only small keeps (stops by is to) = record {
-  place = same_place h next x v to.blocks to.volume keeps.place;
-  spared = subst (λ o. SparedBy o x) (sym to.interrupted) (spares action x answer only (ap is_begun is ∙ stop_begun by), small);
-  settled = λ on. absurd (to.mode on);
-}
-keeps-step h action answer next x v only small keeps (returns is_made_durable back) = record {
-  place = returned_place h next x v back keeps.spared keeps.place;
-  spared = subst (λ o. SparedBy o x) (sym back.interrupted) tt;
-  settled = λ on. back.interrupted;
-}
+  -- an action that does nothing to any place, or was begun
+  spared_when : (geo : Geometry) (action : Action) (x : Place) (answer : Answer) → BringsBytes action → (is_begun answer ≡ true → SparesPlace since geo action x)
+      → (answer ≡ Done) ⊎ TouchesNothing action → SparesPlace since geo action x
+  spared_when geo action x answer small spares (inl done) = spares (ap is_begun done)
+  spared_when geo action x answer small spares (inr none) = record {
+    change = none.change x;
+    brings = small;
+    poison = λ does. absurd (both_ways _ (none.poison x) does);
+    weaken = λ does. absurd (both_ways _ (none.weaken x) does);
+    cover = λ does. absurd (both_ways _ (none.cover geo x) does);
+  }
+
+  -- what is interrupted stays
+  spared_as : (h next : Machine) (x : Place) → next.geometry ≡ h.geometry → next.interrupted ≡ h.interrupted → SparedBy since h.geometry h.interrupted x
+      → SparedBy since next.geometry next.interrupted x
+  spared_as h next x geometry interrupted spared =
+      subst (λ g. SparedBy since g next.interrupted x) (sym geometry) (subst (λ o. SparedBy since h.geometry o x) (sym interrupted) spared)
+
+  -- A step that spares the place keeps its byte.
+  pub keeps-step : (h : Machine) (action : Action) (answer : Answer) (next : Machine) (x : Place) (v : Option ℕ) → BringsBytes action
+      → (is_begun answer ≡ true → SparesPlace since h.geometry action x) → Keeps h x v → Step h action answer next → Keeps next x v
+  keeps-step h action answer next x v small spares keeps (idles why to) = record {
+    place = same_place h next x v to.blocks to.volume keeps.place;
+    spared = spared_as h next x to.geometry to.interrupted keeps.spared;
+    settled = λ on. to.interrupted ∙ keeps.settled (to.mode on);
+  }
+  keeps-step h action answer next x v small spares keeps (alters begun none to) = record {
+    place = altered_place h action next x v to (spared_when h.geometry action x answer small spares begun) keeps.place;
+    spared = spared_as h next x to.geometry to.interrupted keeps.spared;
+    settled = λ on. to.interrupted ∙ keeps.settled (sym to.mode ∙ on);
+  }
+  keeps-step h action answer next x v small spares keeps (stops by is to) = record {
+    place = same_place h next x v to.blocks to.volume keeps.place;
+    spared = subst (λ g. SparedBy since g next.interrupted x) (sym to.geometry)
+        (subst (λ o. SparedBy since h.geometry o x) {x = Some action} (sym to.interrupted) (spares (ap is_begun is ∙ stop_begun by)));
+    settled = λ on. absurd (to.mode on);
+  }
+  keeps-step h action answer next x v small spares keeps (returns covers_nothing back) = record {
+    place = returned_place h next x v back keeps.spared keeps.place;
+    spared = subst (λ o. SparedBy since next.geometry o x) (sym back.interrupted) tt;
+    settled = λ on. back.interrupted;
+  }

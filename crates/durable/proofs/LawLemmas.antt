@@ -1,69 +1,47 @@
 -- What was made durable stays: by induction over a run.
-use Rattle.std.proofs.Common.{◌≡◌, inl, inr, ℕ, ◌+◌, ◌-◌, ◌*◌, ◌/◌, ◌%◌, ◌<◌, ◌≤◌, Bool, true, false, cond, Option, Some, None, option_map, List, [], ◌∷◌, ◌++◌, slice_index_or, refl, sym, ap, subst, ◌∙◌, arith}
-use Rattle.std.specs.Prelude.{IfSome, slice_index}
-use Rattle.std.proofs.lemmas.Bool.{both_ways}
-use Rattle.std.proofs.lemmas.Bool.Decides.{nat_tests}
-use Rattle.std.proofs.lemmas.Option.{get_or_from_slice_get, same_Some}
+use Rattle.std.proofs.Common.{◌≡◌, ◌⊎◌, inl, inr, ℕ, ◌/◌, ◌%◌, Bool, true, false, cond, Option, Some, None, option_map, List, [], ◌∷◌, ◌++◌, slice_index_or, refl, sym, ap, subst, ◌∙◌, arith}
+use Rattle.std.proofs.lemmas.Bool.{both_ways, eqb-true}
 use Rattle.line_words.specs.declared.interruption.Interruption.{Interruption}
 use Rattle.line_words.specs.declared.interruption.Interruption.TheVariants.{Failed, PowerLost as Lost}
-use Rattle.nvm_model.specs.Blocks.{block_byte, byte_of_blocks, line_byte, look_blocks, nth}
-use Rattle.nvm_model.specs.Cell.{Cell, cell_byte, flush_cell, persist_cell, touches}
+use Rattle.nvm_model.specs.Cell.{Cell, clear_cell, flush_cell, persist_cell, touches, zero_cell}
 use Rattle.nvm_model.specs.Cell.Cell.{Bad, Kept}
-use Rattle.nvm_model.specs.Numbered.{is_among, list_from}
-use Rattle.nvm_model.specs.Page.{Page, byte_in, cell_of, look, persist}
-use Rattle.nvm_model.specs.Storage.{Block}
-use Rattle.nvm_model.specs.Storage.Block.{Absent, Scarred, Data}
-use Rattle.nvm_model.proofs.NumberedLemmas.{slice_get-list_from}
+use Rattle.nvm_model.specs.Page.{Page, cell_of, change_line, persist}
+use Rattle.nvm_model.proofs.MediaLemmas.{cell_of-changed}
+use Rattle.scrub.specs.Refusals.{line_refusal}
 use Rattle.nvm_model.proofs.PageLemmas.{cell_of-persist, presence_of-persist}
 use Rattle.reply_text.specs.Answer.{Answer}
-use Rattle.reply_text.specs.Answer.Answer.{Done, Bytes}
+use Rattle.reply_text.specs.Answer.Answer.{Done}
 use Rattle.script_text.specs.Action.{Action}
-use Rattle.script_text.specs.Action.Action.{BRead, VLoad, VSync, VPSync, Cut, CutIn, Restart}
+use Rattle.script_text.specs.Action.Action.{VSync, VPSync, ClearVolume, Cut, CutIn, Restart}
 use Rattle.script_text.specs.Script.{Input}
 use Rattle.script_text.specs.Script.Input.{Skipped, Malformed, Asked}
 use Rattle.machine_host.specs.Machine.{Machine}
-use Rattle.machine_host.specs.Machine.Fate.{Works}
-use Rattle.machine_host.specs.Commands.{fate, meaning, refusal, unless_refused}
+use Rattle.word_tables.specs.declared.geometry.Geometry.{Geometry}
+use Rattle.machine_host.specs.Commands.{meaning, refusal}
 use Rattle.machine_host.specs.Interrupted.{interrupted_answer}
 use Rattle.machine_host.specs.Meaning.Needs.{Usable}
 use Rattle.machine_host.specs.OnVolume.{persist_at}
 use Rattle.pm_volume.specs.Refusals.{physical_offset}
-use Rattle.machine_host.specs.Run.{Hears, Run, Takes, Transcript}
-use Rattle.durable.specs.Place.{Place, block_has, byte_at_place, is_line_present, line_has}
+use Rattle.machine_host.specs.Run.{Hears, Run, Transcript}
+use Rattle.durable.specs.Place.{Place, byte_at_place, line_has}
+use Rattle.durable.specs.Place.{is_line_present}
 use Rattle.durable.specs.Place.Place.{of_volume, of_blocks}
-use Rattle.durable.specs.Touching.{is_made_durable, touched_lines_at}
-use Rattle.durable.specs.Durable.{BringBytes, Has, Does, HaveLines, IsDurable, IsLineThere, IsComplete, Reads, Spares}
-use Rattle.durable.proofs.StepLemmas.{Alters, Step, step_of}
+use Rattle.durable.specs.Touching.{changes, holds, is_begun, is_made_durable, made_durable, poisons, touched_lines_at, weakens}
+use Rattle.durable.specs.Durable.{BringBytes, BringsBytes, Does, HaveLines, IsComplete, IsDurable, IsLineThere, Lasts, Spares}
+use Rattle.durable.proofs.StepLemmas.{Alters, Step, geometry_run, geometry_step, step_of}
 use Rattle.durable.proofs.StepLemmas.Step.{idles, alters, stops, returns}
-use Rattle.durable.proofs.LineLemmas.{LineKeeps, VolumeKeeps, absent-kept, line_keeps-flushed}
-use Rattle.durable.proofs.KeepLemmas.{Keeps, PlaceKeeps, SparedBy, keeps-step, keeps_byte}
-use Rattle.durable.proofs.RefusalLemmas.{is_on, is_refused, refused_told}
+use Rattle.durable.proofs.LineLemmas.{HasOrLost, LineKeeps, MayBe, line_keeps-flushed}
+use Rattle.durable.proofs.VolumeLemmas.{VolumeKeeps, absent-kept}
+use Rattle.durable.proofs.KeepLemmas.{Keeps, PlaceKeeps, SparedBy, SparesPlace, keeps-step, keeps_byte}
+use Rattle.durable.proofs.ReadLemmas.{has}
+use Rattle.durable.proofs.RefusalLemmas.{is_on, is_refused, line_none, places_none, refused_told, within_none}
+use Rattle.durable.proofs.WholeLemmas.{whole-heard, whole-run}
 
--- answers of a first step and of the rest
-keeps-heard : (input : Input) (inputs : List Input) (h next : Machine) (first : Transcript) (answers : List Answer) (x : Place) (v : Option ℕ) → BringBytes (input ∷ inputs)
-    → Hears h input first next → Spares x (input ∷ inputs) (first.answers ++ answers) → Keeps h x v → Keeps next x v × Spares x inputs answers × BringBytes inputs
-keeps-heard Skipped inputs h next first answers x v bytes heard spares keeps = (
-  subst (λ m. Keeps m x v) (sym heard.1) keeps,
-  subst (λ s. Spares x inputs (s.answers ++ answers)) heard.0 spares,
-  bytes,
-)
-keeps-heard Malformed inputs h next first answers x v bytes heard spares keeps = (
-  subst (λ m. Keeps m x v) (sym heard.1) keeps,
-  subst (λ s. Spares x (Malformed ∷ inputs) (s.answers ++ answers)) heard.0 spares,
-  bytes,
-)
-keeps-heard (Asked action) inputs h next first answers x v bytes heard spares keeps =
-    let taken = step_of h action first next heard in
-    let each = subst (λ s. Spares x (Asked action ∷ inputs) (s ++ answers)) taken.answers spares in
-    (keeps-step h action taken.answer next x v each.0 bytes.0 keeps taken.step, each.1, bytes.1)
-
-keeps-run : (inputs : List Input) (h later : Machine) (said : Transcript) (x : Place) (v : Option ℕ) → BringBytes inputs → Run h inputs said later
-    → Spares x inputs said.answers → Keeps h x v → Keeps later x v
-keeps-run [] h later said x v bytes run spares keeps = subst (λ m. Keeps m x v) (sym run.1) keeps
-keeps-run (input ∷ inputs) h later said x v bytes run spares keeps =
-    let split = subst (λ (s : Transcript). Spares x (input ∷ inputs) s.answers) run.3 spares in
-    let heard = keeps-heard input inputs h run.2 run.0 run.1.answers x v bytes run.4 split keeps in
-    keeps-run inputs run.2 later run.1 x v heard.2 run.5 heard.1 heard.0
+-- the answer of a first command, and those of the rest
+spares-asked : (does : Action → Place → Bool) (action : Action) (inputs : List Input) (first : Transcript) (answer : Answer) (answers : List Answer) (x : Place)
+    → first.answers ≡ answer ∷ [] → Spares does x (Asked action ∷ inputs) (first.answers ++ answers)
+    → (does action x ≡ true → is_begun answer ≡ false) × Spares does x inputs answers
+spares-asked does action inputs first answer answers x is spares = subst (λ s. Spares does x (Asked action ∷ inputs) (s ++ answers)) is spares
 
 -- a command that covers something needs a machine that is on
 covers_usable : (h : Machine) (action : Action) (x : Place) → is_made_durable h action x ≡ true → (meaning action).needs ≡ Usable
@@ -75,139 +53,199 @@ covers_usable h (Restart choice) (of_volume i) covered = cc covered
 covers_usable h (Restart choice) (of_blocks i) covered = cc covered
 covers_usable h action x covered = refl
 
--- what a sync left of a line that it touches
-synced_line : (start len i : ℕ) (pages : List Page) → touches start len (i / 64) ≡ true → HaveLines pages
-    → VolumeKeeps (persist start len pages) i (line_has (cell_of (persist start len pages) (i / 64)) (i % 64))
-synced_line start len i pages touched lines = by_page (is_line_present pages (i / 64)) refl
-  where
-    by_cell : (o : Option Cell) → IsLineThere o
-        → LineKeeps (option_map (persist_cell start len (i / 64)) o) (i % 64) (line_has (option_map (persist_cell start len (i / 64)) o) (i % 64))
-    by_cell None none = absurd none
-    by_cell (Some cell) size =
-        subst (λ b. LineKeeps (Some (cond b (flush_cell cell) cell)) (i % 64) (line_has (Some (cond b (flush_cell cell) cell)) (i % 64))) (sym touched)
-        (line_keeps-flushed cell (i % 64) (omega arith) size)
-
-    by_page : (b : Bool) → is_line_present pages (i / 64) ≡ b → VolumeKeeps (persist start len pages) i (line_has (cell_of (persist start len pages) (i / 64)) (i % 64))
-    by_page true there =
-        inr (subst (λ o. LineKeeps o (i % 64) (line_has o (i % 64))) (sym (cell_of-persist start len pages (i / 64))) (by_cell (cell_of pages (i / 64)) (lines (i / 64) there)))
-    by_page false absent =
-        absent-kept (persist start len pages) i (ap (λ bs. slice_index_or bs (i / 64 / 64) false) (presence_of-persist start len pages) ∙ absent)
-
--- the same where a span is synced that may be none
-synced_at : (o : Option ℕ) (len i : ℕ) (pages : List Page) → HaveLines pages → (touched_lines_at o len).volume i ≡ true
-    → VolumeKeeps (persist_at o len pages) i (line_has (cell_of (persist_at o len pages) (i / 64)) (i % 64))
-synced_at None len i pages lines covered = cc covered
-synced_at (Some start) len i pages lines covered = synced_line start len i pages covered lines
-
--- A command that covers the place was done: each value of its word has the byte.
-covered_place : (h : Machine) (action : Action) (next : Machine) (x : Place) → IsComplete h → is_made_durable h action x ≡ true → Alters h action next
-    → PlaceKeeps next x (byte_at_place next x)
-covered_place h action next (of_blocks i) whole covered to = refl
-covered_place h (VSync offset len) next (of_volume i) whole covered to =
-    subst (λ p. VolumeKeeps p i (line_has (cell_of p (i / 64)) (i % 64))) (sym to.volume) (synced_at (Some offset) len i h.volume whole.lines covered)
-covered_place h (VPSync address len) next (of_volume i) whole covered to =
-    subst (λ p. VolumeKeeps p i (line_has (cell_of p (i / 64)) (i % 64))) (sym to.volume)
-    (synced_at (physical_offset h.geometry address len) len i h.volume whole.lines covered)
-covered_place h action next (of_volume i) whole covered to = cc covered
-
 pub stop_done : (by : Interruption) → Done ≡ interrupted_answer by → ⊥
 stop_done Failed is = cc is
 stop_done Lost is = cc is
 
-covered_step : (h : Machine) (action : Action) (answer : Answer) (next : Machine) (x : Place) → IsComplete h → is_made_durable h action x ≡ true → answer ≡ Done → Step h action answer next
-    → Keeps next x (byte_at_place next x)
-covered_step h action answer next x whole covered done (idles (inl why) to) = absurd (both_ways (is_refused answer) (ap is_refused done) (refused_told h action answer why))
-covered_step h action answer next x whole covered done (idles (inr is_made_durable) to) = absurd (both_ways _ (is_made_durable x) covered)
-covered_step h action answer next x whole covered done (stops by is to) = absurd (stop_done by (sym done ∙ is))
-covered_step h action answer next x whole covered done (returns is_made_durable back) = absurd (both_ways _ (is_made_durable x) covered)
-covered_step h action answer next x whole covered done (alters begun none to) =
-    let free = to.interrupted ∙ whole.settled (is_on h action (covers_usable h action x covered) none) in
-    record {
-      place = covered_place h action next x whole covered to;
-      spared = subst (λ o. SparedBy o x) (sym free) tt;
-      settled = λ on. free;
-    }
+-- a command that covers the place and was done was not refused, and was done by changing
+pub record Came (h : Machine) (action : Action) (next : Machine) : Type 0 where
+  pub none : refusal h action ≡ None
+  pub to : Alters h action next
 
-made : (h next : Machine) (action : Action) (x : Place) → Does h action next → is_made_durable h action x ≡ true → Keeps next x (byte_at_place next x)
-made h next action x does covered =
+came_by : (h : Machine) (action : Action) (answer : Answer) (next : Machine) (x : Place) → is_made_durable h action x ≡ true → answer ≡ Done → Step h action answer next → Came h action next
+came_by h action answer next x covered done (idles (inl why) to) = absurd (both_ways (is_refused answer) (ap is_refused done) (refused_told h action answer why))
+came_by h action answer next x covered done (idles (inr none) to) = absurd (both_ways _ (none x) covered)
+came_by h action answer next x covered done (stops by is to) = absurd (stop_done by (sym done ∙ is))
+came_by h action answer next x covered done (returns none back) = absurd (both_ways _ (none x) covered)
+came_by h action answer next x covered done (alters begun none to) = record { none = none; to = to }
+
+pub done_by : (h next : Machine) (action : Action) (x : Place) → Does h action next → is_made_durable h action x ≡ true → Came h action next
+done_by h next action x does covered =
     let taken = step_of h action does.said next does.came in
-    let done : taken.answer ≡ Done = cc (taken.answers, does.done) in covered_step h action taken.answer next x does.whole covered done taken.step
+    let done : taken.answer ≡ Done = cc (taken.answers, does.done) in came_by h action taken.answer next x covered done taken.step
 
--- what a read shows
-line_shown : (o : Option Cell) (i byte : ℕ) → line_has o i ≡ Some byte → elim o [ None ↦ 0 | Some cell ↦ cell_byte cell i ] ≡ byte
-line_shown None i byte is = same_Some 0 byte is
-line_shown (Some Bad) i byte is = cc is
-line_shown (Some (Kept weak words)) i byte is = same_Some _ byte is
-
-block_shown : (block : Block) (i byte : ℕ) → block_has block i ≡ Some byte → block_byte block i ≡ byte
-block_shown Absent i byte is = same_Some 0 byte is
-block_shown Scarred i byte is = cc is
-block_shown (Data lines) i byte is = by_line (slice_index_or lines (i / 64) None) is
+-- a line that is cleared was bad
+pub was_bad : (h : Machine) (offset : ℕ) → refusal h (ClearVolume offset) ≡ None → cell_of h.volume (offset / 64) ≡ Some Bad
+was_bad h offset none = by_line (cell_of h.volume (offset / 64)) (within_none _ _ (line_none _ (places_none h (ClearVolume offset) none))).1
   where
-    by_line : (o : Option (List ℕ)) → option_map (λ bytes. slice_index bytes (i % 64)) o ≡ Some byte → line_byte o (i % 64) ≡ byte
-    by_line None same = cc same
-    by_line (Some bytes) same = same_Some _ byte same
+    by_line : (o : Option Cell) → line_refusal o ≡ None → o ≡ Some Bad
+    by_line None is = cc is
+    by_line (Some Bad) is = refl
+    by_line (Some (Kept weak words)) is = cc is
 
-at_index : (f : ℕ → ℕ) (start count i byte : ℕ) → start ≤ i → i < start + count → f i ≡ byte → slice_index (list_from f start count) (i - start) ≡ byte
-at_index f start count i byte from to is =
-    let there : start + (i - start) ≡ i = omega arith in
-    get_or_from_slice_get (list_from f start count) (i - start) (f (start + (i - start))) 0 (slice_get-list_from f start count (i - start) (omega arith))
-    ∙ ap f there ∙ is
+-- no command does so to the place, or it may
+abbrev pub SparesOr : (Action → Place → Bool) → Type 0 → Place → List Input → List Answer → Type 0
+SparesOr does may x inputs answers = Spares does x inputs answers ⊎ may
 
-stop_bytes : (by : Interruption) (bytes : List ℕ) → Bytes bytes ≡ interrupted_answer by → ⊥
-stop_bytes Failed bytes is = cc is
-stop_bytes Lost bytes is = cc is
+may-asked : (does : Action → Place → Bool) (may : Type 0) (action : Action) (inputs : List Input) (first : Transcript) (answer : Answer) (answers : List Answer) (x : Place)
+    → first.answers ≡ answer ∷ [] → SparesOr does may x (Asked action ∷ inputs) (first.answers ++ answers)
+    → (is_begun answer ≡ true → does action x ≡ true → may) × SparesOr does may x inputs answers
+may-asked does may action inputs first answer answers x is (inl spares) =
+    let each = spares-asked does action inputs first answer answers x is spares in
+    (λ begun did. absurd (both_ways (is_begun answer) (each.0 did) begun), inl each.1)
+may-asked does may action inputs first answer answers x is (inr so) = (λ begun did. so, inr so)
 
--- a command that reads, answered with bytes
-read_bytes : (h : Machine) (action : Action) (shown bytes : List ℕ) (said : Transcript) (next : Machine) → (meaning action).comes h ≡ Works (Bytes shown) h
-    → Takes h action (fate h action) said next → said.answers ≡ Bytes bytes ∷ [] → bytes ≡ shown
-read_bytes h action shown bytes said next reads takes told = by_refusal (refusal h action) refl takes
+not_done : (does : Bool) (answer : Answer) → (does ≡ true → is_begun answer ≡ false) → is_begun answer ≡ true → does ≡ false
+not_done true answer only begun = absurd (both_ways (is_begun answer) (only refl) begun)
+not_done false answer only begun = refl
+
+-- no command changes the place, and its line becomes weak or lost only where it may
+abbrev pub Allowed : MayBe → Geometry → Place → List Input → List Answer → Type 0
+Allowed since geo x inputs answers =
+    Spares changes x inputs answers × SparesOr poisons (since.lost ≡ true) x inputs answers × SparesOr weakens (since.weak ≡ true) x inputs answers
+    × SparesOr (λ action y. holds (made_durable geo action) y) (since.weak ≡ true → since.lost ≡ true) x inputs answers
+
+module _ (since : MayBe) where
+  -- of a first command, and of the rest
+  allowed-asked : (geo : Geometry) (action : Action) (inputs : List Input) (first : Transcript) (answer : Answer) (answers : List Answer) (x : Place) → BringsBytes action
+      → first.answers ≡ answer ∷ [] → Allowed since geo x (Asked action ∷ inputs) (first.answers ++ answers)
+      → (is_begun answer ≡ true → SparesPlace since geo action x) × Allowed since geo x inputs answers
+  allowed-asked geo action inputs first answer answers x small is all =
+      let change = spares-asked changes action inputs first answer answers x is all.0 in
+      let poison = may-asked poisons (since.lost ≡ true) action inputs first answer answers x is all.1 in
+      let weaken = may-asked weakens (since.weak ≡ true) action inputs first answer answers x is all.2 in
+      let cover =
+      may-asked (λ action y. holds (made_durable geo action) y) (since.weak ≡ true → since.lost ≡ true) action inputs first answer answers x is all.3 in (
+        λ begun.
+            record {
+              change = not_done (changes action x) answer change.0 begun;
+              brings = small;
+              poison = poison.0 begun;
+              weaken = weaken.0 begun;
+              cover = cover.0 begun;
+            },
+        (change.1, poison.1, weaken.1, cover.1),
+      )
+
+  keeps-heard : (input : Input) (inputs : List Input) (h next : Machine) (first : Transcript) (answers : List Answer) (x : Place) (v : Option ℕ) → BringBytes (input ∷ inputs)
+      → Hears h input first next → Allowed since h.geometry x (input ∷ inputs) (first.answers ++ answers) → Keeps since h x v
+      → Keeps since next x v × Allowed since next.geometry x inputs answers × BringBytes inputs
+  keeps-heard Skipped inputs h next first answers x v bytes heard all keeps = (
+    subst (λ m. Keeps since m x v) (sym heard.1) keeps,
+    subst (λ m. Allowed since m.geometry x inputs answers) (sym heard.1) (subst (λ (s : Transcript). Allowed since h.geometry x inputs (s.answers ++ answers)) heard.0 all),
+    bytes,
+  )
+  keeps-heard Malformed inputs h next first answers x v bytes heard all keeps = (
+    subst (λ m. Keeps since m x v) (sym heard.1) keeps,
+    subst (λ m. Allowed since m.geometry x inputs answers) (sym heard.1)
+        (subst (λ (s : Transcript). Allowed since h.geometry x (Malformed ∷ inputs) (s.answers ++ answers)) heard.0 all),
+    bytes,
+  )
+  keeps-heard (Asked action) inputs h next first answers x v bytes heard all keeps =
+      let taken = step_of h action first next heard in
+      let each = allowed-asked h.geometry action inputs first taken.answer answers x bytes.0 taken.answers all in (
+        keeps-step since h action taken.answer next x v bytes.0 each.0 keeps taken.step,
+        subst (λ g. Allowed since g x inputs answers) (sym (geometry_step h action taken.answer next taken.step)) each.1,
+        bytes.1,
+      )
+
+  keeps-run : (inputs : List Input) (h later : Machine) (said : Transcript) (x : Place) (v : Option ℕ) → BringBytes inputs → Run h inputs said later
+      → Allowed since h.geometry x inputs said.answers → Keeps since h x v → Keeps since later x v
+  keeps-run [] h later said x v bytes run all keeps = subst (λ m. Keeps since m x v) (sym run.1) keeps
+  keeps-run (input ∷ inputs) h later said x v bytes run all keeps =
+      let split = subst (λ (s : Transcript). Allowed since h.geometry x (input ∷ inputs) s.answers) run.3 all in
+      let heard = keeps-heard input inputs h run.2 run.0 run.1.answers x v bytes run.4 split keeps in
+      keeps-run inputs run.2 later run.1 x v heard.2 run.5 heard.1 heard.0
+
+  -- what a sync left of a line that it touches
+  synced_line : (start len i : ℕ) (pages : List Page) → touches start len (i / 64) ≡ true → HaveLines pages
+      → VolumeKeeps since (persist start len pages) i (line_has (cell_of (persist start len pages) (i / 64)) (i % 64))
+  synced_line start len i pages touched lines = by_page (is_line_present pages (i / 64)) refl
+    where
+      by_cell : (o : Option Cell) → IsLineThere o
+          → LineKeeps since (option_map (persist_cell start len (i / 64)) o) (i % 64) (line_has (option_map (persist_cell start len (i / 64)) o) (i % 64))
+      by_cell None none = absurd none
+      by_cell (Some cell) size =
+          subst (λ b. LineKeeps since (Some (cond b (flush_cell cell) cell)) (i % 64) (line_has (Some (cond b (flush_cell cell) cell)) (i % 64))) (sym touched)
+          (line_keeps-flushed since cell (i % 64) (omega arith) size)
+
+      by_page : (b : Bool) → is_line_present pages (i / 64) ≡ b → VolumeKeeps since (persist start len pages) i (line_has (cell_of (persist start len pages) (i / 64)) (i % 64))
+      by_page true there =
+          inr (subst (λ o. LineKeeps since o (i % 64) (line_has o (i % 64))) (sym (cell_of-persist start len pages (i / 64))) (by_cell (cell_of pages (i / 64)) (lines (i / 64) there)))
+      by_page false absent =
+          absent-kept since (persist start len pages) i (ap (λ bs. slice_index_or bs (i / 64 / 64) false) (presence_of-persist start len pages) ∙ absent)
+
+  -- the same where a span is synced that may be none
+  synced_at : (o : Option ℕ) (len i : ℕ) (pages : List Page) → HaveLines pages → (touched_lines_at o len).volume i ≡ true
+      → VolumeKeeps since (persist_at o len pages) i (line_has (cell_of (persist_at o len pages) (i / 64)) (i % 64))
+  synced_at None len i pages lines covered = cc covered
+  synced_at (Some start) len i pages lines covered = synced_line start len i pages covered lines
+
+  -- and what a clear left of one that was bad
+  cleared_line : (n i : ℕ) (pages : List Page) → i / 64 ≡ n → cell_of pages n ≡ Some Bad
+      → VolumeKeeps since (change_line clear_cell n pages) i (line_has (cell_of (change_line clear_cell n pages) (i / 64)) (i % 64))
+  cleared_line n i pages same bad =
+      let zeros : cell_of (change_line clear_cell n pages) (i / 64) ≡ Some zero_cell =
+      ap (cell_of (change_line clear_cell n pages)) same ∙ cell_of-changed clear_cell n pages ∙ ap (option_map clear_cell) bad in
+      inr (subst (λ o. LineKeeps since o (i % 64) (line_has o (i % 64))) (sym zeros) (line_keeps-flushed since zero_cell (i % 64) (omega arith) refl))
+
+  -- A command that covers the place was done: each value of its word has the byte.
+  covered_place : (h : Machine) (action : Action) (next : Machine) (x : Place) → IsComplete h → is_made_durable h action x ≡ true → refusal h action ≡ None → Alters h action next
+      → PlaceKeeps since next x (byte_at_place next x)
+  covered_place h action next (of_blocks i) whole covered none to = inl refl
+  covered_place h (VSync offset len) next (of_volume i) whole covered none to =
+      subst (λ p. VolumeKeeps since p i (line_has (cell_of p (i / 64)) (i % 64))) (sym to.volume) (synced_at (Some offset) len i h.volume whole.lines covered)
+  covered_place h (VPSync address len) next (of_volume i) whole covered none to =
+      subst (λ p. VolumeKeeps since p i (line_has (cell_of p (i / 64)) (i % 64))) (sym to.volume)
+      (synced_at (physical_offset h.geometry address len) len i h.volume whole.lines covered)
+  covered_place h (ClearVolume offset) next (of_volume i) whole covered none to =
+      subst (λ p. VolumeKeeps since p i (line_has (cell_of p (i / 64)) (i % 64))) (sym to.volume)
+      (cleared_line (offset / 64) i h.volume (eqb-true (i / 64) (offset / 64) covered) (was_bad h offset none))
+  covered_place h action next (of_volume i) whole covered none to = cc covered
+
+  made : (h next : Machine) (action : Action) (x : Place) → Does h action next → is_made_durable h action x ≡ true → Keeps since next x (byte_at_place next x)
+  made h next action x does covered =
+      let came = done_by h next action x does covered in
+      let free = came.to.interrupted ∙ does.whole.settled (is_on h action (covers_usable h action x covered) came.none) in
+      record {
+        place = covered_place h action next x does.whole covered came.none came.to;
+        spared = subst (λ o. SparedBy since next.geometry o x) (sym free) tt;
+        settled = λ on. free;
+      }
+
+-- the line may be lost; it was not harmed; it is weak, and was not synced
+abbrev lost_since : MayBe
+lost_since = record { weak = true; lost = true }
+
+abbrev unharmed_since : MayBe
+unharmed_since = record { weak = false; lost = false }
+
+abbrev weak_since : MayBe
+weak_since = record { weak = true; lost = false }
+
+not_lost : (found v : Option ℕ) → HasOrLost false found v → found ≡ v
+not_lost found v (inl is) = is
+not_lost found v (inr lost) = cc lost.1
+
+-- a place that keeps its byte, whatever a run does
+pub lasts : (h : Machine) (x : Place) (v : Option ℕ) → IsComplete h → ((since : MayBe) → Keeps since h x v) → Lasts h x v
+lasts h x v whole keeps inputs said later bytes run = record {
+  has = λ spares.
+      has true later x v (whole-run inputs h later said whole run)
+      (keeps_byte lost_since later x v
+      (keeps-run lost_since inputs h later said x v bytes run (spares, inr refl, inr refl, inr (λ weak. refl)) (keeps lost_since)));
+  unharmed = λ spares poison weaken. not_lost (byte_at_place later x) v (by_harm spares poison weaken);
+}
   where
-    by_refusal : (o : Option Answer) → refusal h action ≡ o → Takes h action (unless_refused h o ((meaning action).comes h)) said next → bytes ≡ shown
-    by_refusal (Some answer) is took =
-        let same : answer ≡ Bytes bytes = cc (ap (λ s. s.answers) took.0, told) in
-        absurd (both_ways (is_refused answer) (ap is_refused same) (refused_told h action answer is))
-    by_refusal None is took =
-        let t = subst (λ f. Takes h action f said next) reads took in
-        let same : t.0 ≡ Bytes bytes = cc (ap (λ s. s.answers) t.1, told) in
-        elim t.2 as (λ _. bytes ≡ shown) [ inl end ↦ cc (same, end.0) | inr end ↦ absurd (stop_bytes end.0 bytes (sym same ∙ end.1)) ]
-
-reads_volume : (h : Machine) (i byte : ℕ) → byte_at_place h (of_volume i) ≡ Some byte → Reads h (of_volume i) byte
-unfolding look
-reads_volume h i byte is = λ offset len bytes said next heard told among.
-    ap (λ xs. slice_index xs (i - offset)) (read_bytes h (VLoad offset len) (look h.volume offset len) bytes said next refl heard told)
-    ∙ at_index (byte_in h.volume) offset len i byte (from offset len among) (to offset len among) (line_shown (cell_of h.volume (i / 64)) (i % 64) byte is)
-  where
-    from : (offset len : ℕ) → is_among offset len i ≡ true → offset ≤ i
-    from offset len among = grind (arith, nat_tests)
-
-    to : (offset len : ℕ) → is_among offset len i ≡ true → i < offset + len
-    to offset len among = grind (arith, nat_tests)
-
-reads_blocks : (h : Machine) (i byte : ℕ) → byte_at_place h (of_blocks i) ≡ Some byte → Reads h (of_blocks i) byte
-unfolding look_blocks
-reads_blocks h i byte is = λ block count bytes said next heard told among.
-    ap (λ xs. slice_index xs (i - 512 * block)) (read_bytes h (BRead block count) (look_blocks h.blocks block count) bytes said next refl heard told)
-    ∙ at_index (byte_of_blocks h.blocks) (512 * block) (512 * count) i byte (from block count among) (to block count among)
-    (block_shown (nth h.blocks (i / 512)) (i % 512) byte is)
-  where
-    from : (block count : ℕ) → is_among block count (i / 512) ≡ true → 512 * block ≤ i
-    from block count among = let low : block ≤ i / 512 = grind (arith, nat_tests) in omega arith
-
-    to : (block count : ℕ) → is_among block count (i / 512) ≡ true → i < 512 * block + 512 * count
-    to block count among = let high : i / 512 < block + count = grind (arith, nat_tests) in omega arith
-
-reads : (h : Machine) (x : Place) (byte : ℕ) → byte_at_place h x ≡ Some byte → Reads h x byte
-reads h (of_volume i) byte is = reads_volume h i byte is
-reads h (of_blocks i) byte is = reads_blocks h i byte is
-
-pub has : (h : Machine) (x : Place) (v : Option ℕ) → byte_at_place h x ≡ v → Has h x v
-has h x v is = record { kept = is; shown = by_value v is }
-  where
-    by_value : (o : Option ℕ) → byte_at_place h x ≡ o → IfSome o (Reads h x)
-    by_value None none = tt
-    by_value (Some byte) some = reads h x byte some
+    by_harm : Spares changes x inputs said.answers → Spares poisons x inputs said.answers
+        → Spares weakens x inputs said.answers ⊎ Spares (is_made_durable later) x inputs said.answers → HasOrLost false (byte_at_place later x) v
+    by_harm spares poison (inl weaken) =
+        keeps_byte unharmed_since later x v
+        (keeps-run unharmed_since inputs h later said x v bytes run (spares, inl poison, inl weaken, inr (λ weak. cc weak)) (keeps unharmed_since))
+    by_harm spares poison (inr cover) =
+        let synced = subst (λ g. Spares (λ action y. holds (made_durable g action) y) x inputs said.answers) (geometry_run inputs h later said run) cover in
+        keeps_byte weak_since later x v (keeps-run weak_since inputs h later said x v bytes run (spares, inl poison, inr refl, inl synced) (keeps weak_since))
 
 pub durable : (h next : Machine) (action : Action) (x : Place) → Does h action next → is_made_durable h action x ≡ true → IsDurable next x
-durable h next action x does covered inputs said later bytes run spares =
-    has later x (byte_at_place next x) (keeps_byte later x (byte_at_place next x) (keeps-run inputs next later said x (byte_at_place next x) bytes run spares (made h next action x does covered)))
+durable h next action x does covered =
+    lasts next x (byte_at_place next x) (whole-heard h (Asked action) does.said next does.whole does.came) (λ since. made since h next action x does covered)

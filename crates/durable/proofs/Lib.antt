@@ -2,11 +2,16 @@ pub mod StepLemmas
 pub mod WordLemmas
 pub mod PresenceLemmas
 pub mod LineLemmas
+pub mod VolumeLemmas
 pub mod BlockLemmas
+pub mod EightLemmas
 pub mod KeepLemmas
 pub mod RefusalLemmas
 pub mod WholeLemmas
+pub mod NamingLemmas
+pub mod ReadLemmas
 pub mod LawLemmas
+pub mod LostLemmas
 pub mod ScriptLemmas
 pub mod WrittenLemmas
 pub mod UnsyncedLemmas

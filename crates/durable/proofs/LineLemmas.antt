@@ -1,5 +1,5 @@
 -- A byte of a line of the volume that each value of its word has.
-use Rattle.std.proofs.Common.{◌≡◌, ◌⊎◌, ◌^◌, zero, suc, inl, inr, ℕ, ◌+◌, ◌*◌, ◌/◌, ◌%◌, ◌<◌, Bool, true, false, cond, Option, Some, None, option_map, option_and_then, List, [], ◌∷◌, length, map, get_or, slice_get, slice_index_or, replicate, refl, sym, ap, subst, ◌∙◌, arith}
+use Rattle.std.proofs.Common.{◌≡◌, ◌⊎◌, ◌^◌, zero, suc, inl, inr, ℕ, ◌+◌, ◌*◌, ◌/◌, ◌%◌, ◌<◌, Bool, true, false, cond, Option, Some, None, option_map, List, [], ◌∷◌, length, map, get_or, slice_get, slice_index_or, replicate, refl, sym, ap, subst, ◌∙◌, arith}
 use Rattle.std.proofs.lemmas.Bool.Decides.{nat_tests}
 use Rattle.std.proofs.lemmas.Option.{slice_get-get_or, slice_get-map, get_or_from_slice_get}
 use Rattle.std.specs.Int.{byte_at}
@@ -7,17 +7,13 @@ use Rattle.line_device.specs.History.{latest, newest}
 use Rattle.line_device.specs.Medium.{word_stored}
 use Rattle.line_device.specs.Panel.{Image}
 use Rattle.line_device.specs.declared.line.Choice.{Choice}
-use Rattle.nvm_model.specs.Numbered.{AreMixed, is_among, list_from, map_from}
+use Rattle.nvm_model.specs.Numbered.{is_among, list_from, map_from}
 use Rattle.nvm_model.specs.Cell.{Cell, KeepsCell, covers, flush_cell, persist_cell, put_cell, read_cell, touches, zero_cell}
 use Rattle.nvm_model.specs.Cell.Cell.{Bad, Kept}
-use Rattle.nvm_model.specs.Interrupted.{Became, LineByLine, MayPersist, MayPut, MayStore, MaySync}
-use Rattle.nvm_model.specs.Page.{Page, KeepsPages, cell_in, cell_of, discard, discard_page, fill, fill_page, is_present, persist, presence_of, put, read_pages, touches_page}
-use Rattle.nvm_model.specs.Page.Page.{Absent, Present}
+use Rattle.nvm_model.specs.Interrupted.{MayPut}
 use Rattle.nvm_model.proofs.NumberedLemmas.{slice_get-list_from, slice_get-map_from}
-use Rattle.nvm_model.proofs.PageLemmas.{cell_of-fill, cell_of-persist, cell_of-put, cell_of-read_pages, presence_of-persist, presence_of-put, presence_of-read_pages}
-use Rattle.durable.specs.Place.{is_line_present, line_has}
+use Rattle.durable.specs.Place.{line_has}
 use Rattle.durable.specs.Durable.{IsLineThere}
-use Rattle.durable.proofs.PresenceLemmas.{has_lines, line_in, page_present, zero_at}
 use Rattle.std.proofs.lemmas.List.{get_or-replicate}
 use native.Mathlib.Nat.{zero-div}
 use Rattle.durable.proofs.WordLemmas.{WordKeeps, word_keeps-flushed, word_keeps-latest, word_keeps-one, word_keeps-stored}
@@ -28,310 +24,139 @@ pub record WordsKeep (words : List (List ℕ)) (i : ℕ) (v : Option ℕ) : Type
   pub there : slice_get words (i / 8) ≡ Some history
   pub word : WordKeeps history (i % 8) v
 
--- the line is bad and has no byte, or it is not weak and has this byte in each value
-abbrev pub LineKeeps : Option Cell → ℕ → Option ℕ → Type 0
-LineKeeps None i v = ⊥
-LineKeeps (Some Bad) i v = v ≡ None
-LineKeeps (Some (Kept weak words)) i v = (weak ≡ false) × WordsKeep words i v
-
--- so it has the byte
-pub line_has-kept : (o : Option Cell) (i : ℕ) (v : Option ℕ) → LineKeeps o i v → line_has o i ≡ v
-line_has-kept None i v keeps = absurd keeps
-line_has-kept (Some Bad) i v keeps = sym keeps
-line_has-kept (Some (Kept weak words)) i v keeps =
-    let w = keeps.1 in
-    ap (λ h. Some (byte_at (i % 8) (newest h))) (get_or_from_slice_get words (i / 8) w.history [] w.there) ∙ w.word.last
-
--- a line that was made durable has each byte that it has
-pub line_keeps-flushed : (cell : Cell) (i : ℕ) → i < 64 → IsLineThere (Some cell) → LineKeeps (Some (flush_cell cell)) i (line_has (Some (flush_cell cell)) i)
-line_keeps-flushed Bad i lt size = refl
-line_keeps-flushed (Kept true words) i lt size = refl
-line_keeps-flushed (Kept false words) i lt size =
-    let history = slice_index_or words (i / 8) [] in
-    let found : slice_get (map latest words) (i / 8) ≡ Some (latest history) =
-    slice_get-map latest words (i / 8) ∙ ap (option_map latest) (slice_get-get_or words (i / 8) [] (omega (arith, size))) in
-    let same : slice_index_or (map latest words) (i / 8) [] ≡ latest history = get_or_from_slice_get (map latest words) (i / 8) (latest history) [] found in (
-      refl,
-      record {
-        history = latest history;
-        there = found;
-        word = subst (λ h. WordKeeps (latest history) (i % 8) (Some (byte_at (i % 8) (newest h)))) (sym same) (word_keeps-latest history (i % 8));
-      },
-    )
-
--- a sync keeps it
-line_keeps-persist : (start len n i : ℕ) (v : Option ℕ) (cell : Cell) → LineKeeps (Some cell) i v → LineKeeps (Some (persist_cell start len n cell)) i v
-line_keeps-persist start len n i v cell keeps = by_test (touches start len n)
-  where
-    flushed : (c : Cell) → LineKeeps (Some c) i v → LineKeeps (Some (flush_cell c)) i v
-    flushed Bad k = k
-    flushed (Kept true words) k = cc k.0
-    flushed (Kept false words) k = (
-      refl,
-      record {
-        history = latest k.1.history;
-        there = slice_get-map latest words (i / 8) ∙ ap (option_map latest) k.1.there;
-        word = word_keeps-flushed k.1.history (i % 8) v k.1.word;
-      },
-    )
-
-    by_test : (b : Bool) → LineKeeps (Some (cond b (flush_cell cell) cell)) i v
-    by_test true = flushed cell keeps
-    by_test false = keeps
-
--- bytes that don't reach the byte don't cover its line
-not_covered : (at len i : ℕ) → is_among at len i ≡ false → covers at len (i / 64) ≡ true → ⊥
-not_covered at len i out covered = grind (arith, nat_tests)
-
-words_keep-stored : (at i : ℕ) (v : Option ℕ) (bytes : List ℕ) (words : List (List ℕ)) → ((k : ℕ) → get_or bytes k 0 < 256) → is_among at (length bytes) i ≡ false
-    → WordsKeep words (i % 64) v → WordsKeep (map_from (word_stored at bytes) (8 * (i / 64)) words) (i % 64) v
-words_keep-stored at i v bytes words small out keeps =
-    let place : 8 * (8 * (i / 64) + (i % 64) / 8) + (i % 64) % 8 ≡ i = omega arith in
-    record {
-      history = word_stored at bytes (8 * (i / 64) + (i % 64) / 8) keeps.history;
-      there = slice_get-map_from (word_stored at bytes) (8 * (i / 64)) words ((i % 64) / 8)
-          ∙ ap (option_map (word_stored at bytes (8 * (i / 64) + (i % 64) / 8))) keeps.there;
-      word = word_keeps-stored at (8 * (i / 64) + (i % 64) / 8) ((i % 64) % 8) bytes keeps.history v small (omega arith)
-          (ap (is_among at (length bytes)) place ∙ out) keeps.word;
-    }
-
--- a store elsewhere keeps it
-line_keeps-put : (at i : ℕ) (v : Option ℕ) (bytes : List ℕ) (cell : Cell) → ((k : ℕ) → get_or bytes k 0 < 256) → is_among at (length bytes) i ≡ false
-    → LineKeeps (Some cell) (i % 64) v → LineKeeps (Some (put_cell at bytes (i / 64) cell)) (i % 64) v
-line_keeps-put at i v bytes Bad small out keeps = by_test (covers at (length bytes) (i / 64)) refl
-  where
-    by_test : (b : Bool) → covers at (length bytes) (i / 64) ≡ b
-        → LineKeeps (Some (cond b (Kept false (map_from (word_stored at bytes) (8 * (i / 64)) (replicate 8 (0 ∷ [])))) Bad)) (i % 64) v
-    by_test true is = absurd (not_covered at (length bytes) i out is)
-    by_test false is = keeps
-line_keeps-put at i v bytes (Kept weak words) small out keeps = (keeps.0, words_keep-stored at i v bytes words small out keeps.1)
-
--- and so does one that was stopped
-line_keeps-may_put : (at i : ℕ) (v : Option ℕ) (bytes : List ℕ) (cell new : Cell) → ((k : ℕ) → get_or bytes k 0 < 256) → is_among at (length bytes) i ≡ false
-    → LineKeeps (Some cell) (i % 64) v → MayPut at bytes (i / 64) cell new → LineKeeps (Some new) (i % 64) v
-line_keeps-may_put at i v bytes Bad new small out keeps (inl still) = subst (λ c. LineKeeps (Some c) (i % 64) v) {x = Bad} (sym still) keeps
-line_keeps-may_put at i v bytes Bad new small out keeps (inr may) = absurd (not_covered at (length bytes) i out may.0)
-line_keeps-may_put at i v bytes (Kept weak words) Bad small out keeps may = absurd may
-line_keeps-may_put at i v bytes (Kept weak words) (Kept mark mixed) small out keeps may =
-    let put_there = words_keep-stored at i v bytes words small out keeps.1 in (
-      may.0 ∙ keeps.0,
-      elim (may.1.each ((i % 64) / 8)) as (λ _. WordsKeep mixed (i % 64) v) [
-        | inl old ↦ record { history = keeps.1.history; there = old ∙ keeps.1.there; word = keeps.1.word }
-        | inr stored ↦ record { history = put_there.history; there = stored ∙ put_there.there; word = put_there.word }
-      ],
-    )
-
--- what a restart left of it
-line_keeps-read : (choice : Choice) (image : Image) (n i : ℕ) (v : Option ℕ) (cell : Cell) → i < 64 → LineKeeps (Some cell) i v → KeepsCell choice image n cell
-    → LineKeeps (Some (read_cell image n)) i v
-line_keeps-read choice image n i v Bad lt keeps bad =
-    subst (λ b. LineKeeps (Some (cond b Bad (Kept (image.is_weak n) (list_from (λ p. image.word p ∷ []) (8 * n) 8)))) i v) (sym bad) keeps
-line_keeps-read choice image n i v (Kept weak words) lt keeps kept =
-    subst (λ b. LineKeeps (Some (cond b Bad (Kept (image.is_weak n) (list_from (λ p. image.word p ∷ []) (8 * n) 8)))) i v) (sym kept.0) (
-      kept.1 ∙ keeps.0,
-      record {
-        history = image.word (8 * n + i / 8) ∷ [];
-        there = slice_get-list_from (λ p. image.word p ∷ []) (8 * n) 8 (i / 8) (omega arith);
-        word = word_keeps-one keeps.1.history (i % 8) (image.word (8 * n + i / 8)) v keeps.1.word (kept.2 (i / 8) keeps.1.history keeps.1.there).was;
-      },
-    )
-
 -- a line of zeros has no other byte
 byte_at-zero : (k : ℕ) → byte_at k 0 ≡ 0
 byte_at-zero zero = refl
 byte_at-zero (suc k) = ap (λ n. n % 256) (zero-div (256 ^ suc k))
 
-line_keeps-zero : (i : ℕ) (v : Option ℕ) → i < 64 → v ≡ Some 0 → LineKeeps (Some zero_cell) i v
-line_keeps-zero i v lt is = subst (LineKeeps (Some zero_cell) i) (shown ∙ sym is) (line_keeps-flushed zero_cell i lt refl)
-  where
-    zero_word : List ℕ
-    zero_word = 0 ∷ []
+pub zero_shown : (i : ℕ) → i < 64 → line_has (Some zero_cell) i ≡ Some 0
+zero_shown i lt = ap (λ h. Some (byte_at (i % 8) (newest h))) (get_or-replicate 8 (i / 8) (0 ∷ []) [] (omega arith)) ∙ ap Some (byte_at-zero (i % 8))
 
-    word : slice_index_or (replicate 8 zero_word) (i / 8) [] ≡ zero_word
-    word = get_or-replicate 8 (i / 8) zero_word [] (omega arith)
+-- what is there is this, or it was lost, where it may be
+abbrev pub HasOrLost : Bool → Option ℕ → Option ℕ → Type 0
+HasOrLost lost found v = (found ≡ v) ⊎ ((found ≡ None) × (lost ≡ true))
 
-    shown : line_has (Some (flush_cell zero_cell)) i ≡ Some 0
-    shown = ap (λ h. Some (byte_at (i % 8) (newest h))) word ∙ ap Some (byte_at-zero (i % 8))
+-- what may have become of a line since: whether it may be weak, and whether it may be lost
+pub record MayBe : Type 0 where
+  pub weak : Bool
+  pub lost : Bool
 
--- the page of the byte is absent, where it reads as 0
-pub record AbsentKeeps (pages : List Page) (i : ℕ) (v : Option ℕ) : Type 0 where
-  pub absent : is_line_present pages (i / 64) ≡ false
-  pub zero : v ≡ Some 0
+module _ (since : MayBe) where
+  -- The line is bad and has no byte, or it has this byte in each value. It is lost or weak only where it may be.
+  abbrev pub LineKeeps : Option Cell → ℕ → Option ℕ → Type 0
+  LineKeeps None i v = ⊥
+  LineKeeps (Some Bad) i v = (v ≡ None) ⊎ (since.lost ≡ true)
+  LineKeeps (Some (Kept weak words)) i v = (weak ≡ true → since.weak ≡ true) × WordsKeep words i v
 
--- The byte i of the volume has v, whatever a cut leaves.
-abbrev pub VolumeKeeps : List Page → ℕ → Option ℕ → Type 0
-VolumeKeeps pages i v = AbsentKeeps pages i v ⊎ LineKeeps (cell_of pages (i / 64)) (i % 64) v
+  -- so it has the byte, or is lost
+  pub line_has-kept : (o : Option Cell) (i : ℕ) (v : Option ℕ) → LineKeeps o i v → HasOrLost since.lost (line_has o i) v
+  line_has-kept None i v keeps = absurd keeps
+  line_has-kept (Some Bad) i v (inl none) = inl (sym none)
+  line_has-kept (Some Bad) i v (inr hurt) = inr (refl, hurt)
+  line_has-kept (Some (Kept weak words)) i v keeps =
+      let w = keeps.1 in
+      inl (ap (λ h. Some (byte_at (i % 8) (newest h))) (get_or_from_slice_get words (i / 8) w.history [] w.there) ∙ w.word.last)
 
--- an absent page has no line
-absent_line : (pages : List Page) (n : ℕ) → is_line_present pages n ≡ false → cell_of pages n ≡ None
-absent_line pages n absent = by_page (slice_get pages (n / 64)) (sym (page_present pages n) ∙ absent)
-  where
-    by_page : (o : Option Page) → has_lines o ≡ false → line_in n o ≡ None
-    by_page None none = refl
-    by_page (Some Absent) none = refl
-    by_page (Some (Present cells)) there = cc there
+  -- a line that was made durable has each byte that it has
+  pub line_keeps-flushed : (cell : Cell) (i : ℕ) → i < 64 → IsLineThere (Some cell) → LineKeeps (Some (flush_cell cell)) i (line_has (Some (flush_cell cell)) i)
+  line_keeps-flushed Bad i lt size = inl refl
+  line_keeps-flushed (Kept true words) i lt size = inl refl
+  line_keeps-flushed (Kept false words) i lt size =
+      let history = slice_index_or words (i / 8) [] in
+      let found : slice_get (map latest words) (i / 8) ≡ Some (latest history) =
+      slice_get-map latest words (i / 8) ∙ ap (option_map latest) (slice_get-get_or words (i / 8) [] (omega (arith, size))) in
+      let same : slice_index_or (map latest words) (i / 8) [] ≡ latest history = get_or_from_slice_get (map latest words) (i / 8) (latest history) [] found in (
+        λ weak. cc weak,
+        record {
+          history = latest history;
+          there = found;
+          word = subst (λ h. WordKeeps (latest history) (i % 8) (Some (byte_at (i % 8) (newest h)))) (sym same) (word_keeps-latest history (i % 8));
+        },
+      )
 
-pub byte-kept : (pages : List Page) (i : ℕ) (v : Option ℕ) → VolumeKeeps pages i v → line_has (cell_of pages (i / 64)) (i % 64) ≡ v
-byte-kept pages i v (inl keeps) = ap (λ o. line_has o (i % 64)) (absent_line pages (i / 64) keeps.absent) ∙ sym keeps.zero
-byte-kept pages i v (inr keeps) = line_has-kept (cell_of pages (i / 64)) (i % 64) v keeps
+  -- a sync keeps it
+  pub line_keeps-persist : (start len n i : ℕ) (v : Option ℕ) (cell : Cell) → (touches start len n ≡ true → since.weak ≡ true → since.lost ≡ true) → LineKeeps (Some cell) i v
+      → LineKeeps (Some (persist_cell start len n cell)) i v
+  line_keeps-persist start len n i v cell loses keeps = by_test (touches start len n) refl
+    where
+      flushed : (c : Cell) → touches start len n ≡ true → LineKeeps (Some c) i v → LineKeeps (Some (flush_cell c)) i v
+      flushed Bad touched k = k
+      flushed (Kept true words) touched k = inr (loses touched (k.0 refl))
+      flushed (Kept false words) touched k = (
+        λ weak. cc weak,
+        record {
+          history = latest k.1.history;
+          there = slice_get-map latest words (i / 8) ∙ ap (option_map latest) k.1.there;
+          word = word_keeps-flushed k.1.history (i % 8) v k.1.word;
+        },
+      )
 
--- and what an absent page has is kept
-pub absent-kept : (pages : List Page) (i : ℕ) → is_line_present pages (i / 64) ≡ false → VolumeKeeps pages i (line_has (cell_of pages (i / 64)) (i % 64))
-absent-kept pages i absent = inl (record { absent = absent; zero = ap (λ o. line_has o (i % 64)) (absent_line pages (i / 64) absent) })
+      by_test : (b : Bool) → touches start len n ≡ b → LineKeeps (Some (cond b (flush_cell cell) cell)) i v
+      by_test true is = flushed cell is keeps
+      by_test false is = keeps
 
--- pages of which the same are there
-absent_as : (i : ℕ) (v : Option ℕ) (pages new : List Page) → presence_of new ≡ presence_of pages → AbsentKeeps pages i v → AbsentKeeps new i v
-absent_as i v pages new same keeps =
-    record { absent = ap (λ bs. slice_index_or bs (i / 64 / 64) false) same ∙ keeps.absent; zero = keeps.zero }
+  -- bytes that don't reach the byte don't cover its line
+  not_covered : (at len i : ℕ) → is_among at len i ≡ false → covers at len (i / 64) ≡ true → ⊥
+  not_covered at len i out covered = grind (arith, nat_tests)
 
--- a line that keeps is one that is there
-pub record KeptLine (o : Option Cell) (i : ℕ) (v : Option ℕ) : Type 0 where
-  pub cell : Cell
-  pub is : o ≡ Some cell
-  pub keeps : LineKeeps (Some cell) i v
+  words_keep-stored : (at i : ℕ) (v : Option ℕ) (bytes : List ℕ) (words : List (List ℕ)) → ((k : ℕ) → get_or bytes k 0 < 256) → is_among at (length bytes) i ≡ false
+      → WordsKeep words (i % 64) v → WordsKeep (map_from (word_stored at bytes) (8 * (i / 64)) words) (i % 64) v
+  words_keep-stored at i v bytes words small out keeps =
+      let place : 8 * (8 * (i / 64) + (i % 64) / 8) + (i % 64) % 8 ≡ i = omega arith in
+      record {
+        history = word_stored at bytes (8 * (i / 64) + (i % 64) / 8) keeps.history;
+        there = slice_get-map_from (word_stored at bytes) (8 * (i / 64)) words ((i % 64) / 8)
+            ∙ ap (option_map (word_stored at bytes (8 * (i / 64) + (i % 64) / 8))) keeps.there;
+        word = word_keeps-stored at (8 * (i / 64) + (i % 64) / 8) ((i % 64) % 8) bytes keeps.history v small (omega arith)
+            (ap (is_among at (length bytes)) place ∙ out) keeps.word;
+      }
 
-pub kept_line : (o : Option Cell) (i : ℕ) (v : Option ℕ) → LineKeeps o i v → KeptLine o i v
-kept_line None i v keeps = absurd keeps
-kept_line (Some cell) i v keeps = record { cell = cell; is = refl; keeps = keeps }
+  -- a store elsewhere keeps it
+  pub line_keeps-put : (at i : ℕ) (v : Option ℕ) (bytes : List ℕ) (cell : Cell) → ((k : ℕ) → get_or bytes k 0 < 256) → is_among at (length bytes) i ≡ false
+      → LineKeeps (Some cell) (i % 64) v → LineKeeps (Some (put_cell at bytes (i / 64) cell)) (i % 64) v
+  line_keeps-put at i v bytes Bad small out keeps = by_test (covers at (length bytes) (i / 64)) refl
+    where
+      by_test : (b : Bool) → covers at (length bytes) (i / 64) ≡ b
+          → LineKeeps (Some (cond b (Kept false (map_from (word_stored at bytes) (8 * (i / 64)) (replicate 8 (0 ∷ [])))) Bad)) (i % 64) v
+      by_test true is = absurd (not_covered at (length bytes) i out is)
+      by_test false is = keeps
+  line_keeps-put at i v bytes (Kept weak words) small out keeps = (keeps.0, words_keep-stored at i v bytes words small out keeps.1)
 
-pub keeps-persist : (start len i : ℕ) (v : Option ℕ) (pages : List Page) → VolumeKeeps pages i v → VolumeKeeps (persist start len pages) i v
-keeps-persist start len i v pages (inl keeps) = inl (absent_as i v pages (persist start len pages) (presence_of-persist start len pages) keeps)
-keeps-persist start len i v pages (inr keeps) =
-    let line = kept_line (cell_of pages (i / 64)) (i % 64) v keeps in
-    inr (subst (λ o. LineKeeps o (i % 64) v)
-    (sym (cell_of-persist start len pages (i / 64) ∙ ap (option_map (persist_cell start len (i / 64))) line.is))
-    (line_keeps-persist start len (i / 64) (i % 64) v line.cell line.keeps))
+  -- and so does one that was stopped
+  pub line_keeps-may_put : (at i : ℕ) (v : Option ℕ) (bytes : List ℕ) (cell new : Cell) → ((k : ℕ) → get_or bytes k 0 < 256) → is_among at (length bytes) i ≡ false
+      → LineKeeps (Some cell) (i % 64) v → MayPut at bytes (i / 64) cell new → LineKeeps (Some new) (i % 64) v
+  line_keeps-may_put at i v bytes Bad new small out keeps (inl still) = subst (λ c. LineKeeps (Some c) (i % 64) v) {x = Bad} (sym still) keeps
+  line_keeps-may_put at i v bytes Bad new small out keeps (inr may) = absurd (not_covered at (length bytes) i out may.0)
+  line_keeps-may_put at i v bytes (Kept weak words) Bad small out keeps may = absurd may
+  line_keeps-may_put at i v bytes (Kept weak words) (Kept mark mixed) small out keeps may =
+      let put_there = words_keep-stored at i v bytes words small out keeps.1 in (
+        λ weak. keeps.0 (sym may.0 ∙ weak),
+        elim (may.1.each ((i % 64) / 8)) as (λ _. WordsKeep mixed (i % 64) v) [
+          | inl old ↦ record { history = keeps.1.history; there = old ∙ keeps.1.there; word = keeps.1.word }
+          | inr stored ↦ record { history = put_there.history; there = stored ∙ put_there.there; word = put_there.word }
+        ],
+      )
 
--- pages that a store fills
-page_of-fill : (at len : ℕ) (pages : List Page) (k : ℕ) → slice_get (fill at len pages) k ≡ option_map (fill_page at len (0 + k)) (slice_get pages k)
-unfolding fill
-page_of-fill at len pages k = slice_get-map_from (fill_page at len) 0 pages k
+  -- what a restart left of it
+  pub line_keeps-read : (choice : Choice) (image : Image) (n i : ℕ) (v : Option ℕ) (cell : Cell) → i < 64 → LineKeeps (Some cell) i v → KeepsCell choice image n cell
+      → LineKeeps (Some (read_cell image n)) i v
+  line_keeps-read choice image n i v Bad lt keeps bad =
+      subst (λ b. LineKeeps (Some (cond b Bad (Kept (image.is_weak n) (list_from (λ p. image.word p ∷ []) (8 * n) 8)))) i v) (sym bad) keeps
+  line_keeps-read choice image n i v (Kept weak words) lt keeps kept =
+      subst (λ b. LineKeeps (Some (cond b Bad (Kept (image.is_weak n) (list_from (λ p. image.word p ∷ []) (8 * n) 8)))) i v) (sym kept.0) (
+        λ weak. keeps.0 (sym kept.1 ∙ weak),
+        record {
+          history = image.word (8 * n + i / 8) ∷ [];
+          there = slice_get-list_from (λ p. image.word p ∷ []) (8 * n) 8 (i / 8) (omega arith);
+          word = word_keeps-one keeps.1.history (i % 8) (image.word (8 * n + i / 8)) v keeps.1.word (kept.2 (i / 8) keeps.1.history keeps.1.there).was;
+        },
+      )
 
-keeps-fill : (at len i : ℕ) (v : Option ℕ) (pages : List Page) → VolumeKeeps pages i v → VolumeKeeps (fill at len pages) i v
-keeps-fill at len i v pages (inr keeps) =
-    let line = kept_line (cell_of pages (i / 64)) (i % 64) v keeps in
-    inr (subst (λ o. LineKeeps o (i % 64) v) (sym (cell_of-fill at len pages (i / 64) line.cell line.is)) line.keeps)
-keeps-fill at len i v pages (inl keeps) = filled
-  where
-    found : slice_get (fill at len pages) (i / 64 / 64) ≡ option_map (fill_page at len (0 + i / 64 / 64)) (slice_get pages (i / 64 / 64))
-    found = page_of-fill at len pages (i / 64 / 64)
+  pub line_keeps-zero : (i : ℕ) (v : Option ℕ) → i < 64 → v ≡ Some 0 → LineKeeps (Some zero_cell) i v
+  line_keeps-zero i v lt is = subst (LineKeeps (Some zero_cell) i) (zero_shown i lt ∙ sym is) (line_keeps-flushed zero_cell i lt refl)
 
-    still : has_lines (option_map (fill_page at len (0 + i / 64 / 64)) (slice_get pages (i / 64 / 64))) ≡ false → VolumeKeeps (fill at len pages) i v
-    still absent = inl (record { absent = page_present (fill at len pages) (i / 64) ∙ ap has_lines found ∙ absent; zero = keeps.zero })
-
-    zeros : option_map (fill_page at len (0 + i / 64 / 64)) (slice_get pages (i / 64 / 64)) ≡ Some (Present (replicate 64 zero_cell)) → VolumeKeeps (fill at len pages) i v
-    zeros is =
-        let line : cell_of (fill at len pages) (i / 64) ≡ Some zero_cell = ap (line_in (i / 64)) (found ∙ is) ∙ zero_at 64 (i / 64 % 64) (omega arith) in
-        inr (subst (λ o. LineKeeps o (i % 64) v) (sym line) (line_keeps-zero (i % 64) v (omega arith) keeps.zero))
-
-    by_page : (o : Option Page) → has_lines o ≡ false
-        → (has_lines (option_map (fill_page at len (0 + i / 64 / 64)) o) ≡ false) ⊎ (option_map (fill_page at len (0 + i / 64 / 64)) o ≡ Some (Present (replicate 64 zero_cell)))
-    by_page None none = inl refl
-    by_page (Some Absent) none = by_test (touches_page at len (0 + i / 64 / 64))
-      where
-        by_test : (t : Bool) → (is_present (cond t (Present (replicate 64 zero_cell)) Absent) ≡ false) ⊎ (Some (cond t (Present (replicate 64 zero_cell)) Absent) ≡ Some (Present (replicate 64 zero_cell)))
-        by_test true = inr refl
-        by_test false = inl refl
-    by_page (Some (Present cells)) there = cc there
-
-    filled : VolumeKeeps (fill at len pages) i v
-    filled = elim (by_page (slice_get pages (i / 64 / 64)) (sym (page_present pages (i / 64)) ∙ keeps.absent)) as (λ _. VolumeKeeps (fill at len pages) i v) [
-      | inl absent ↦ still absent
-      | inr is ↦ zeros is
-    ]
-
-keeps-put : (at i : ℕ) (v : Option ℕ) (bytes : List ℕ) (pages : List Page) → ((k : ℕ) → get_or bytes k 0 < 256) → is_among at (length bytes) i ≡ false
-    → VolumeKeeps pages i v → VolumeKeeps (put at bytes pages) i v
-keeps-put at i v bytes pages small out (inl keeps) = inl (absent_as i v pages (put at bytes pages) (presence_of-put at bytes pages) keeps)
-keeps-put at i v bytes pages small out (inr keeps) =
-    let line = kept_line (cell_of pages (i / 64)) (i % 64) v keeps in
-    inr (subst (λ o. LineKeeps o (i % 64) v)
-    (sym (cell_of-put at bytes pages (i / 64) ∙ ap (option_map (put_cell at bytes (i / 64))) line.is))
-    (line_keeps-put at i v bytes line.cell small out line.keeps))
-
-pub keeps-stored : (at i : ℕ) (v : Option ℕ) (bytes : List ℕ) (pages : List Page) → ((k : ℕ) → get_or bytes k 0 < 256) → is_among at (length bytes) i ≡ false
-    → VolumeKeeps pages i v → VolumeKeeps (put at bytes (fill at (length bytes) pages)) i v
-keeps-stored at i v bytes pages small out keeps = keeps-put at i v bytes (fill at (length bytes) pages) small out (keeps-fill at (length bytes) i v pages keeps)
-
-became : (R : Cell → Cell → Type 0) (i : ℕ) (v : Option ℕ) (old : Cell) (new : Option Cell) → ((c : Cell) → R old c → LineKeeps (Some c) i v)
-    → Became R (Some old) new → LineKeeps new i v
-became R i v old None then may = absurd may
-became R i v old (Some c) then may = then c may
-
--- pages each line of which became one that keeps it
-by_lines : (R : ℕ → Cell → Cell → Type 0) (i : ℕ) (v : Option ℕ) (pages left : List Page)
-    → ((cell c : Cell) → LineKeeps (Some cell) (i % 64) v → R (i / 64) cell c → LineKeeps (Some c) (i % 64) v) → VolumeKeeps pages i v → LineByLine R pages left
-    → VolumeKeeps left i v
-by_lines R i v pages left each (inl keeps) lines = inl (absent_as i v pages left lines.there keeps)
-by_lines R i v pages left each (inr keeps) lines =
-    let line = kept_line (cell_of pages (i / 64)) (i % 64) v keeps in
-    inr (became (R (i / 64)) (i % 64) v line.cell (cell_of left (i / 64)) (λ c may. each line.cell c line.keeps may)
-    (subst (λ o. Became (R (i / 64)) o (cell_of left (i / 64))) line.is (lines.each (i / 64))))
-
-pub keeps-may_store : (at i : ℕ) (v : Option ℕ) (bytes : List ℕ) (pages left : List Page) → ((k : ℕ) → get_or bytes k 0 < 256) → is_among at (length bytes) i ≡ false
-    → VolumeKeeps pages i v → MayStore at bytes pages left → VolumeKeeps left i v
-keeps-may_store at i v bytes pages left small out keeps (inl is) = subst (λ p. VolumeKeeps p i v) {x = pages} (sym is) keeps
-keeps-may_store at i v bytes pages left small out keeps (inr lines) =
-    by_lines (MayPut at bytes) i v (fill at (length bytes) pages) left (λ cell c line may. line_keeps-may_put at i v bytes cell c small out line may)
-    (keeps-fill at (length bytes) i v pages keeps) lines
-
-pub keeps-may_sync : (start len i : ℕ) (v : Option ℕ) (pages left : List Page) → VolumeKeeps pages i v → MaySync start len pages left → VolumeKeeps left i v
-keeps-may_sync start len i v pages left keeps lines = by_lines (MayPersist start len) i v pages left synced keeps lines
-  where
-    synced : (cell c : Cell) → LineKeeps (Some cell) (i % 64) v → MayPersist start len (i / 64) cell c → LineKeeps (Some c) (i % 64) v
-    synced cell c line (inl is) = subst (λ o. LineKeeps (Some o) (i % 64) v) {x = cell} (sym is) line
-    synced cell c line (inr is) =
-        subst (λ o. LineKeeps (Some o) (i % 64) v) {x = persist_cell start len (i / 64) cell} (sym is) (line_keeps-persist start len (i / 64) (i % 64) v cell line)
-
--- pages that have the page of the byte
-same_page : (i : ℕ) (v : Option ℕ) (pages new : List Page) → slice_get new (i / 64 / 64) ≡ slice_get pages (i / 64 / 64) → VolumeKeeps pages i v → VolumeKeeps new i v
-same_page i v pages new is (inl keeps) =
-    inl (record { absent = page_present new (i / 64) ∙ ap has_lines is ∙ sym (page_present pages (i / 64)) ∙ keeps.absent; zero = keeps.zero })
-same_page i v pages new is (inr keeps) = inr (subst (λ o. LineKeeps (line_in (i / 64) o) (i % 64) v) (sym is) keeps)
-
-page_of-discard : (first count k : ℕ) (pages : List Page) → is_among first count k ≡ false → slice_get (discard first count pages) k ≡ slice_get pages k
-unfolding discard
-page_of-discard first count k pages out = slice_get-map_from (discard_page first count) 0 pages k ∙ by_page (slice_get pages k)
-  where
-    number : 0 + k ≡ k
-    number = omega arith
-
-    by_page : (o : Option Page) → option_map (discard_page first count (0 + k)) o ≡ o
-    by_page None = refl
-    by_page (Some page) = ap (λ j. Some (discard_page first count j page)) number ∙ ap (λ b. Some (cond b Absent page)) out
-
--- a byte of a page that is not discarded
-spared_page : (first count i : ℕ) (pages : List Page) → is_among first count (i / 4096) ≡ false
-    → slice_get (discard first count pages) (i / 64 / 64) ≡ slice_get pages (i / 64 / 64)
-spared_page first count i pages out =
-    let number : i / 64 / 64 ≡ i / 4096 = omega arith in page_of-discard first count (i / 64 / 64) pages (ap (is_among first count) number ∙ out)
-
-pub keeps-discard : (first count i : ℕ) (v : Option ℕ) (pages : List Page) → is_among first count (i / 4096) ≡ false → VolumeKeeps pages i v
-    → VolumeKeeps (discard first count pages) i v
-keeps-discard first count i v pages out keeps = same_page i v pages (discard first count pages) (spared_page first count i pages out) keeps
-
-pub keeps-may_discard : (first count i : ℕ) (v : Option ℕ) (pages left : List Page) → is_among first count (i / 4096) ≡ false → VolumeKeeps pages i v
-    → AreMixed Page pages (discard first count pages) left → VolumeKeeps left i v
-keeps-may_discard first count i v pages left out keeps may = elim (may.each (i / 64 / 64)) as (λ _. VolumeKeeps left i v) [
-  | inl is ↦ same_page i v pages left is keeps
-  | inr is ↦ same_page i v pages left (is ∙ spared_page first count i pages out) keeps
-]
-
--- a line that is there is one of a page that is there
-page_there : (pages : List Page) (n : ℕ) (cell : Cell) → cell_of pages n ≡ Some cell → slice_get (presence_of pages) (n / 64) ≡ Some true
-page_there pages n cell is = slice_get-map is_present pages (n / 64) ∙ by_page (slice_get pages (n / 64)) is
-  where
-    by_page : (o : Option Page) → option_and_then (λ page. cell_in page (n % 64)) o ≡ Some cell → option_map is_present o ≡ Some true
-    by_page None none = cc none
-    by_page (Some Absent) none = cc none
-    by_page (Some (Present cells)) found = refl
-
-pub keeps-read : (choice : Choice) (place : ℕ → ℕ) (image : Image) (there : List Bool) (i : ℕ) (v : Option ℕ) (pages : List Page) → VolumeKeeps pages i v
-    → presence_of pages ≡ there → KeepsPages choice place image pages → VolumeKeeps (read_pages place image there) i v
-keeps-read choice place image there i v pages (inl keeps) present kept =
-    inl (absent_as i v pages (read_pages place image there) (presence_of-read_pages place image there ∙ sym present) keeps)
-keeps-read choice place image there i v pages (inr keeps) present kept =
-    let line = kept_line (cell_of pages (i / 64)) (i % 64) v keeps in
-    let is : slice_get there (i / 64 / 64) ≡ Some true = ap (λ bs. slice_get bs (i / 64 / 64)) (sym present) ∙ page_there pages (i / 64) line.cell line.is in
-    inr (subst (λ o. LineKeeps o (i % 64) v) (sym (cell_of-read_pages place image there (i / 64) is))
-    (line_keeps-read choice image (place (i / 64)) (i % 64) v line.cell (omega arith) line.keeps (kept (i / 64) line.cell line.is)))
+  -- what a lost line has is kept
+  pub lost-kept : (o : Option Cell) (i : ℕ) → line_has o i ≡ None → LineKeeps o i None
+  lost-kept None i lost = cc lost
+  lost-kept (Some Bad) i lost = inl refl
+  lost-kept (Some (Kept weak words)) i lost = cc lost

@@ -45,8 +45,8 @@ keeps_through h end before after action said x whole bytes run =
     let passes = pass before h end action after said run in
     record {
       passes = passes;
-      keeps = λ covered done spares.
+      keeps = λ covered done.
           durable passes.here passes.next action x
           (record { whole = whole-run before h passes.here passes.early whole passes.run; said = passes.middle; came = passes.came; done = done }) covered after passes.late end bytes
-          passes.rest spares;
+          passes.rest;
     }

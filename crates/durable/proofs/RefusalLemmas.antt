@@ -9,15 +9,18 @@ use Rattle.pm_volume.specs.Refusals.VolumeRefusal.{Range as Past, Length as Empt
 use Rattle.nvm_model.specs.Page.{first_bad_line, first_uncovered_line}
 use Rattle.reply_text.specs.declared.reply.Why.{Why}
 use Rattle.reply_text.specs.Answer.{Answer}
-use Rattle.reply_text.specs.Answer.Answer.{Done, DoneBad, Bytes, Ranges, Yes, No, Scarred, PoisonBlock, PoisonVolume, DeviceFailed, PowerLost, Refused, RefusedMeta}
+use Rattle.reply_text.specs.Answer.Answer.{Done, DoneBad, Bytes, Ranges, Yes, No, Scarred, PoisonBlock as PoisonedBlock, PoisonVolume as PoisonedVolume, DeviceFailed, PowerLost, Refused, RefusedMeta}
 use Rattle.reply_text.specs.declared.reply.Why.TheVariants as because
 use Rattle.script_text.specs.Action.{Action}
-use Rattle.script_text.specs.Action.Action.{BRead, BWrite, BAtomic, BMulti, BDiscard, BDiscardIf, BExists, BScar, VLoad, VStore, VSync, VRanges, VPSync, VDiscard, VDiscardIf, VExists, Cut, CutIn, Restart}
+use Rattle.script_text.specs.Action.Action.{BRead, BWrite, BAtomic, BMulti, BDiscard, BDiscardIf, BExists, BScar, VLoad, VStore, VSync, VRanges, VPSync, VDiscard, VDiscardIf, VExists, PoisonBlock, PoisonVolume, WeakenVolume, ClearVolume, Cut, CutIn, Restart}
 use Rattle.machine_host.specs.declared.mode.Mode.{Mode}
 use Rattle.machine_host.specs.declared.mode.Mode.TheVariants.{On, Off, Unsettled}
 use Rattle.machine_host.specs.Machine.{Machine}
 use Rattle.machine_host.specs.Meaning.{Reasons, first_reason, metadata_refusal, mode_refusal}
 use Rattle.machine_host.specs.Meaning.Needs.{Usable}
+use Rattle.scrub.specs.Refusals.{ScrubRefusal}
+use Rattle.scrub.specs.Refusals.ScrubRefusal.{Range as Beyond, Nothing, NotPoisoned}
+use Rattle.machine_host.specs.OnMedia.{line_answer}
 use Rattle.machine_host.specs.OnBlocks.{refusal_answer}
 use Rattle.machine_host.specs.OnVolume.{volume_answer}
 use Rattle.machine_host.specs.Commands.{meaning, refusal}
@@ -31,8 +34,8 @@ is_refused (Ranges ranges) = false
 is_refused Yes = false
 is_refused No = false
 is_refused (Scarred block) = true
-is_refused (PoisonBlock block line) = true
-is_refused (PoisonVolume offset) = true
+is_refused (PoisonedBlock block line) = true
+is_refused (PoisonedVolume offset) = true
 is_refused DeviceFailed = false
 is_refused PowerLost = false
 is_refused (Refused why) = true
@@ -85,6 +88,12 @@ refuses_volume : (o : Option VolumeRefusal) → Refuses (option_map volume_answe
 refuses_volume None = tt
 refuses_volume (Some why) = refuses_volume_refusal why
 
+refuses_line : (o : Option ScrubRefusal) → Refuses (option_map line_answer o)
+refuses_line None = tt
+refuses_line (Some Beyond) = refl
+refuses_line (Some Nothing) = refl
+refuses_line (Some NotPoisoned) = refl
+
 refuses_span : (f : ℕ → Option VolumeRefusal) (o : Option ℕ) → Refuses (option_and_then (λ offset. option_map volume_answer (f offset)) o)
 refuses_span f None = tt
 refuses_span f (Some offset) = refuses_volume (f offset)
@@ -107,6 +116,9 @@ why_reasons o = record { named = tt; places = refuses_why o; full = tt; unreadab
 volume_reasons : (places poison : Option VolumeRefusal) (changes : Bool)
     → RefusingReasons (record { named = None; places = option_map volume_answer places; full = None; changes_metadata = changes; unreadable = option_map volume_answer poison })
 volume_reasons places poison changes = record { named = tt; places = refuses_volume places; full = tt; unreadable = refuses_volume poison }
+
+line_reasons : (o : Option ScrubRefusal) → RefusingReasons (record { named = None; places = option_map line_answer o; full = None; changes_metadata = false; unreadable = None })
+line_reasons o = record { named = tt; places = refuses_line o; full = tt; unreadable = tt }
 
 past_reasons : (b : Bool) → RefusingReasons (record { named = None; places = cond b None (Some (Refused because.Range)); full = None; changes_metadata = false; unreadable = None })
 past_reasons b = record { named = tt; places = refuses_past b; full = tt; unreadable = tt }
@@ -135,6 +147,10 @@ refusing_reasons h (VPSync address len) = record {
 refusing_reasons h (VDiscard page count) = volume_reasons _ None true
 refusing_reasons h (VDiscardIf page count) = volume_reasons _ None true
 refusing_reasons h (VExists page) = past_reasons _
+refusing_reasons h (PoisonBlock block line) = line_reasons _
+refusing_reasons h (PoisonVolume offset) = line_reasons _
+refusing_reasons h (WeakenVolume offset) = line_reasons _
+refusing_reasons h (ClearVolume offset) = line_reasons _
 refusing_reasons h Cut = why_reasons None
 refusing_reasons h (CutIn calls) = why_reasons _
 refusing_reasons h (Restart choice) = why_reasons None
@@ -178,3 +194,20 @@ unfolding refusal
 places_none h action none =
     let rest = (first_none (option_map Refused (mode_refusal h.mode (meaning action).needs)) _ none).1 in
     (first_none ((meaning action).reasons h).places _ (first_none ((meaning action).reasons h).named _ rest).1).0
+
+pub unreadable_none : (h : Machine) (action : Action) → refusal h action ≡ None → ((meaning action).reasons h).unreadable ≡ None
+unfolding refusal
+unreadable_none h action none =
+    let r = (meaning action).reasons h in
+    let rest = (first_none (option_map Refused (mode_refusal h.mode (meaning action).needs)) _ none).1 in
+    let full = (first_none r.places _ (first_none r.named _ rest).1).1 in
+    (first_none (metadata_refusal r.changes_metadata h.bad_meta) r.unreadable (first_none r.full _ full).1).1
+
+-- a place of a line that is not refused
+pub line_none : (o : Option ScrubRefusal) → option_map line_answer o ≡ None → o ≡ None
+line_none None none = refl
+line_none (Some why) none = cc none
+
+pub within_none : (past : Bool) (o : Option ScrubRefusal) → cond past (Some Beyond) o ≡ None → (past ≡ false) × (o ≡ None)
+within_none true o none = cc none
+within_none false o none = (refl, none)

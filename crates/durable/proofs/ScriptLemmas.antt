@@ -9,12 +9,12 @@ use Rattle.std.proofs.lemmas.Bool.{and_parts, ltb-true}
 use Rattle.nvm_base.specs.declared.units.Span.{Span}
 use Rattle.nvm_base.specs.declared.reading.TextFault.{TextFault}
 use Rattle.nvm_base.specs.declared.reading.TextFault.TheVariants.{TooLong}
-use Rattle.line_device.specs.declared.line.Choice.TheVariants.{Firsts, Lasts}
+use Rattle.line_device.specs.declared.line.Choice.TheVariants.{Firsts, Lasts, Seed}
 use Rattle.nvm_base.specs.Data.{ByteRun, byte_count, data_within, followed, item_of, items_of, pair_of, pairs_of, repeated, run, runs_of, spelled, within}
 use Rattle.nvm_base.specs.Numbers.{number_of}
 use Rattle.script_text.specs.Action.{Action}
-use Rattle.script_text.specs.Action.Action.{BRead, BWrite, BAtomic, BMulti, BDiscard, BDiscardIf, BExists, BScar, VLoad, VStore, VSync, VRanges, VPSync, VDiscard, VDiscardIf, VExists, CutIn, Restart}
-use Rattle.script_text.specs.Script.{Input, asked, bare_action, command_action, cut_action, data_action, fitting, inputs, inputs_of, is_comment, line_input, lines_of, number_action, of_data, of_numbers, plain_action, power_action, ranges_action, ranges_of, restart_action, span_action, spans_action, spans_of, volume_action, words_input, words_of}
+use Rattle.script_text.specs.Action.Action.{BRead, BWrite, BAtomic, BMulti, BDiscard, BDiscardIf, BExists, BScar, VLoad, VStore, VSync, VRanges, VPSync, VDiscard, VDiscardIf, VExists, PoisonBlock, PoisonVolume, WeakenVolume, ClearVolume, CutIn, Restart}
+use Rattle.script_text.specs.Script.{Input, asked, bare_action, command_action, cut_action, data_action, fitting, in_volume_action, inputs, inputs_of, is_comment, line_input, lines_of, media_action, number_action, of_data, of_numbers, plain_action, poison_action, power_action, ranges_action, ranges_of, restart_action, span_action, spans_action, spans_of, volume_action, words_input, words_of}
 use Rattle.script_text.specs.Script.Input.{Skipped, Malformed, Asked}
 use Rattle.durable.specs.Durable.{BringBytes, BringsBytes}
 
@@ -180,20 +180,37 @@ brings-cut : (words : List (List ℕ)) → Brings (cut_action words)
 brings-cut [] = tt
 brings-cut (x ∷ words) = brings-cond (bytes_eq x (codes "in")) (number_action CutIn words) None (brings-number CutIn words (λ a. tt)) tt
 
-brings-restart : (words : List (List ℕ)) → Brings (restart_action words)
-brings-restart [] = tt
-brings-restart (x ∷ []) =
-    brings-cond (bytes_eq x (codes "none")) (Some (Restart Firsts)) _ tt (brings-cond (bytes_eq x (codes "all")) (Some (Restart Lasts)) None tt tt)
-brings-restart (x ∷ y ∷ more) = tt
-
 brings-bare : (action : Action) (words : List (List ℕ)) → BringsBytes action → Brings (bare_action action words)
 brings-bare action [] small = small
 brings-bare action (x ∷ words) small = tt
+
+brings-restart : (words : List (List ℕ)) → Brings (restart_action words)
+brings-restart [] = tt
+brings-restart (x ∷ words) =
+    brings-cond (bytes_eq x (codes "none")) (bare_action (Restart Firsts) words) _ (brings-bare (Restart Firsts) words tt)
+    (brings-cond (bytes_eq x (codes "all")) (bare_action (Restart Lasts) words) _ (brings-bare (Restart Lasts) words tt)
+    (brings-cond (bytes_eq x (codes "seed")) (number_action (λ n. Restart (Seed n)) words) None (brings-number (λ n. Restart (Seed n)) words (λ n. tt)) tt))
+
+brings-in_volume : (make : ℕ → Action) (words : List (List ℕ)) → ((a : ℕ) → BringsBytes (make a)) → Brings (in_volume_action make words)
+brings-in_volume make [] each = tt
+brings-in_volume make (x ∷ words) each = brings-cond (bytes_eq x (codes "volume")) (number_action make words) None (brings-number make words each) tt
+
+brings-poison : (words : List (List ℕ)) → Brings (poison_action words)
+brings-poison [] = tt
+brings-poison (x ∷ words) =
+    brings-cond (bytes_eq x (codes "block")) (span_action PoisonBlock words) _ (brings-span PoisonBlock words (λ a b. tt))
+    (brings-cond (bytes_eq x (codes "volume")) (number_action PoisonVolume words) None (brings-number PoisonVolume words (λ a. tt)) tt)
 
 brings-power : (name : List ℕ) (words : List (List ℕ)) → Brings (power_action name words)
 brings-power name words =
     brings-cond (bytes_eq name (codes "cut")) (cut_action words) _ (brings-cut words)
     (brings-cond (bytes_eq name (codes "restart")) (restart_action words) None (brings-restart words) tt)
+
+brings-media : (name : List ℕ) (words : List (List ℕ)) → Brings (media_action name words)
+brings-media name words =
+    brings-cond (bytes_eq name (codes "poison")) (poison_action words) _ (brings-poison words)
+    (brings-cond (bytes_eq name (codes "weaken")) (in_volume_action WeakenVolume words) _ (brings-in_volume WeakenVolume words (λ a. tt))
+    (brings-cond (bytes_eq name (codes "clear")) (in_volume_action ClearVolume words) _ (brings-in_volume ClearVolume words (λ a. tt)) (brings-power name words)))
 
 brings-volume : (name : List ℕ) (words : List (List ℕ)) → Brings (volume_action name words)
 brings-volume name words =
@@ -203,7 +220,7 @@ brings-volume name words =
     (brings-cond (bytes_eq name (codes "vdiscard")) (span_action VDiscard words) _ (brings-span VDiscard words (λ a b. tt))
     (brings-cond (bytes_eq name (codes "vdiscardif")) (span_action VDiscardIf words) _ (brings-span VDiscardIf words (λ a b. tt))
     (brings-cond (bytes_eq name (codes "vexists")) (number_action VExists words) _ (brings-number VExists words (λ a. tt))
-    (brings-cond (bytes_eq name (codes "vranges")) (bare_action VRanges words) _ (brings-bare VRanges words tt) (brings-power name words)))))))
+    (brings-cond (bytes_eq name (codes "vranges")) (bare_action VRanges words) _ (brings-bare VRanges words tt) (brings-media name words)))))))
 
 brings-plain : (name : List ℕ) (words : List (List ℕ)) → Brings (plain_action name words)
 brings-plain name words =

@@ -7,12 +7,14 @@ use Rattle.line_device.specs.Panel.{Image}
 use Rattle.word_tables.specs.declared.geometry.Geometry.{Geometry}
 use Rattle.word_tables.specs.Layout.{total_lines, volume_line}
 use Rattle.nvm_model.specs.Numbered.{is_among, list_from, map_from}
-use Rattle.nvm_model.specs.Cell.{Cell, covers, flush_cell, persist_cell, put_cell, touches, zero_cell}
+use Rattle.nvm_model.specs.Cell.{Cell, clear_cell, covers, flush_cell, lose_cell, persist_cell, put_cell, touches, weaken_cell, zero_cell}
 use Rattle.nvm_model.specs.Cell.Cell.{Bad, Kept}
-use Rattle.nvm_model.specs.Page.{Page, cell_in, cell_of, discard, discard_page, fill, fill_page, is_present, persist, put, read_pages, touches_page}
+use Rattle.nvm_model.specs.Page.{Page, at_line, cell_in, cell_of, change_line, discard, discard_page, fill, fill_page, is_present, persist, put, read_pages, touches_page}
 use Rattle.nvm_model.specs.Page.Page.{Absent as Missing, Present}
 use Rattle.nvm_model.proofs.NumberedLemmas.{length-list_from, length-map_from, slice_get-map_from}
 use Rattle.nvm_model.proofs.PageLemmas.{cell_of-persist, cell_of-put, cell_of-read_pages, length-discard, length-persist, length-put_fill, length-read_pages, presence_of-persist, presence_of-put, presence_of-read_pages}
+use Rattle.nvm_model.proofs.LostLemmas.{length-lose}
+use Rattle.nvm_model.proofs.MediaLemmas.{cell_of-change, length-change as length-change_line, presence_of-change}
 use Rattle.nvm_base.specs.declared.units.Span.{Span}
 use Rattle.nvm_model.specs.Blocks.{change, change_block, write, write_block, write_ranges}
 use Rattle.nvm_model.specs.Storage.{Block}
@@ -21,20 +23,20 @@ use Rattle.block_device.specs.Reading.{block_read, blocks_read, states_read}
 use Rattle.machine_host.specs.OnBlocks.{blocks_from}
 use Rattle.reply_text.specs.Answer.{Answer}
 use Rattle.script_text.specs.Action.{Action}
-use Rattle.script_text.specs.Action.Action.{BWrite, BAtomic, BMulti, BDiscard, BDiscardIf, BScar, VStore, VSync, VPSync, VDiscard, VDiscardIf}
+use Rattle.script_text.specs.Action.Action.{BWrite, BAtomic, BMulti, BDiscard, BDiscardIf, BScar, VStore, VSync, VPSync, VDiscard, VDiscardIf, PoisonBlock, PoisonVolume, WeakenVolume, ClearVolume}
 use Rattle.script_text.specs.Script.{Input}
 use Rattle.script_text.specs.Script.Input.{Skipped, Malformed, Asked}
 use Rattle.machine_host.specs.Machine.{Machine}
-use Rattle.machine_host.specs.Commands.{meaning}
 use Rattle.machine_host.specs.Restarting.{fresh, reading, zero_image}
 use Rattle.machine_host.specs.declared.mode.Mode.TheVariants.{On}
 use Rattle.machine_host.specs.OnVolume.{persist_at}
 use Rattle.pm_volume.specs.Presence.{presence_read, words_read}
 use Rattle.pm_volume.specs.Refusals.{physical_offset}
 use Rattle.machine_host.specs.Run.{Hears, Run, Transcript}
-use Rattle.durable.specs.Durable.{HaveLines, IsLineThere, IsComplete}
+use Rattle.durable.specs.Durable.{HaveEightLines, HaveLines, IsLineThere, IsComplete}
 use Rattle.durable.proofs.PresenceLemmas.{has_lines, line_in, page_present, zero_at}
-use Rattle.durable.proofs.StepLemmas.{Step, step_of}
+use Rattle.durable.proofs.EightLemmas.{eight-altered, eight-read}
+use Rattle.durable.proofs.StepLemmas.{Step, blocks_after, step_of, volume_after}
 use Rattle.durable.proofs.StepLemmas.Step.{idles, alters, stops, returns}
 
 there-persist : (start len n : ℕ) (o : Option Cell) → IsLineThere o → IsLineThere (option_map (persist_cell start len n) o)
@@ -130,12 +132,37 @@ lines-read place image there n present =
     by_mark true = tt
     by_mark false = length-list_from (λ p. image.word p ∷ []) (8 * place n) 8
 
-lines-altered : (geo : Geometry) (action : Action) (pages : List Page) → HaveLines pages → HaveLines ((meaning action).volume geo pages)
+lines-change : (f : Cell → Cell) (n : ℕ) (pages : List Page) → ((cell : Cell) → IsLineThere (Some cell) → IsLineThere (Some (f cell))) → HaveLines pages
+    → HaveLines (change_line f n pages)
+lines-change f n pages each whole k there =
+    subst IsLineThere (sym (cell_of-change f n pages k))
+    (by_cell (cell_of pages k) (whole k (ap (λ bs. slice_index_or bs (k / 64) false) (sym (presence_of-change f n pages)) ∙ there)))
+  where
+    by_test : (b : Bool) (cell : Cell) → IsLineThere (Some cell) → IsLineThere (Some (cond b (f cell) cell))
+    by_test true cell has = each cell has
+    by_test false cell has = has
+
+    by_cell : (o : Option Cell) → IsLineThere o → IsLineThere (option_map (at_line f n k) o)
+    by_cell None none = absurd none
+    by_cell (Some cell) has = by_test (k == n) cell has
+
+there-weaken : (cell : Cell) → IsLineThere (Some cell) → IsLineThere (Some (weaken_cell cell))
+there-weaken Bad has = tt
+there-weaken (Kept weak words) has = has
+
+there-clear : (cell : Cell) → IsLineThere (Some cell) → IsLineThere (Some (clear_cell cell))
+there-clear Bad has = refl
+there-clear (Kept weak words) has = has
+
+lines-altered : (geo : Geometry) (action : Action) (pages : List Page) → HaveLines pages → HaveLines (volume_after geo action pages)
 lines-altered geo (VStore offset bytes) pages whole = lines-put offset bytes (fill offset (length bytes) pages) (lines-fill offset (length bytes) pages whole)
 lines-altered geo (VSync offset len) pages whole = lines-persist offset len pages whole
 lines-altered geo (VPSync address len) pages whole = lines-persist_at (physical_offset geo address len) len pages whole
 lines-altered geo (VDiscard page count) pages whole = lines-discard page count pages whole
 lines-altered geo (VDiscardIf page count) pages whole = lines-discard page count pages whole
+lines-altered geo (PoisonVolume offset) pages whole = lines-change lose_cell (offset / 64) pages (λ cell has. tt) whole
+lines-altered geo (WeakenVolume offset) pages whole = lines-change weaken_cell (offset / 64) pages there-weaken whole
+lines-altered geo (ClearVolume offset) pages whole = lines-change clear_cell (offset / 64) pages there-clear whole
 lines-altered geo action pages whole = whole
 
 -- how many pages there are
@@ -143,12 +170,15 @@ length-persist_at : (o : Option ℕ) (len : ℕ) (pages : List Page) → length 
 length-persist_at None len pages = refl
 length-persist_at (Some start) len pages = length-persist start len pages
 
-pages-altered : (geo : Geometry) (action : Action) (pages : List Page) → length ((meaning action).volume geo pages) ≡ length pages
+pages-altered : (geo : Geometry) (action : Action) (pages : List Page) → length (volume_after geo action pages) ≡ length pages
 pages-altered geo (VStore offset bytes) pages = length-put_fill offset (length bytes) bytes pages
 pages-altered geo (VSync offset len) pages = length-persist offset len pages
 pages-altered geo (VPSync address len) pages = length-persist_at (physical_offset geo address len) len pages
 pages-altered geo (VDiscard page count) pages = length-discard page count pages
 pages-altered geo (VDiscardIf page count) pages = length-discard page count pages
+pages-altered geo (PoisonVolume offset) pages = length-change_line lose_cell (offset / 64) pages
+pages-altered geo (WeakenVolume offset) pages = length-change_line weaken_cell (offset / 64) pages
+pages-altered geo (ClearVolume offset) pages = length-change_line clear_cell (offset / 64) pages
 pages-altered geo action pages = refl
 
 pages-read : (geo : Geometry) (image : Image) → length (read_pages (volume_line geo) image (presence_read geo image.word)) ≡ geo.vpages
@@ -169,13 +199,14 @@ length-change : (spans : List Span) (to : Block) (blocks : List Block) → lengt
 unfolding change
 length-change spans to blocks = length-map_from (change_block spans to) 0 blocks
 
-length-altered : (action : Action) (blocks : List Block) → length ((meaning action).blocks blocks) ≡ length blocks
+length-altered : (action : Action) (blocks : List Block) → length (blocks_after action blocks) ≡ length blocks
 length-altered (BWrite block bytes) blocks = length-write block bytes blocks
 length-altered (BAtomic block bytes) blocks = length-write block bytes blocks
 length-altered (BMulti ranges bytes) blocks = length-write_ranges ranges bytes blocks
 length-altered (BDiscard block count) blocks = length-change (blocks_from block count) Absent blocks
 length-altered (BDiscardIf block count) blocks = length-change (blocks_from block count) Absent blocks
 length-altered (BScar ranges) blocks = length-change ranges Scarred blocks
+length-altered (PoisonBlock block line) blocks = length-lose block line blocks
 length-altered action blocks = refl
 
 length-read : (geo : Geometry) (bad : ℕ → Bool) (word : ℕ → ℕ) → length (blocks_read geo bad word) ≡ geo.blocks
@@ -187,6 +218,7 @@ same_storage : (h next : Machine) → IsComplete h → next.geometry ≡ h.geome
     → IsComplete next
 same_storage h next whole geometry blocks volume settled = record {
   blocks = ap length blocks ∙ whole.blocks ∙ sym (ap (λ g. g.blocks) geometry);
+  eight = subst HaveEightLines {x = h.blocks} (sym blocks) whole.eight;
   pages = ap length volume ∙ whole.pages ∙ sym (ap (λ g. g.vpages) geometry);
   lines = subst HaveLines {x = h.volume} (sym volume) whole.lines;
   settled = settled;
@@ -197,13 +229,15 @@ whole-step h action answer next whole (idles why to) =
     same_storage h next whole to.geometry to.blocks to.volume (λ on. to.interrupted ∙ whole.settled (to.mode on))
 whole-step h action answer next whole (alters begun none to) = record {
   blocks = ap length to.blocks ∙ length-altered action h.blocks ∙ whole.blocks ∙ sym (ap (λ g. g.blocks) to.geometry);
+  eight = subst HaveEightLines {x = blocks_after action h.blocks} (sym to.blocks) (eight-altered action h.blocks whole.eight);
   pages = ap length to.volume ∙ pages-altered h.geometry action h.volume ∙ whole.pages ∙ sym (ap (λ g. g.vpages) to.geometry);
-  lines = subst HaveLines {x = (meaning action).volume h.geometry h.volume} (sym to.volume) (lines-altered h.geometry action h.volume whole.lines);
+  lines = subst HaveLines {x = volume_after h.geometry action h.volume} (sym to.volume) (lines-altered h.geometry action h.volume whole.lines);
   settled = λ on. to.interrupted ∙ whole.settled (sym to.mode ∙ on);
 }
 whole-step h action answer next whole (stops by is to) = same_storage h next whole to.geometry to.blocks to.volume (λ on. absurd (to.mode on))
-whole-step h action answer next whole (returns covers back) = record {
+whole-step h action answer next whole (returns covered back) = record {
   blocks = ap length back.blocks ∙ length-read h.geometry back.image.is_bad back.image.word ∙ sym (ap (λ g. g.blocks) back.geometry);
+  eight = subst HaveEightLines (sym back.blocks) (eight-read h.geometry back.image.is_bad back.image.word);
   pages = ap length back.volume ∙ pages-read h.geometry back.image ∙ sym (ap (λ g. g.vpages) back.geometry);
   lines = subst HaveLines (sym back.volume) (lines-read (volume_line h.geometry) back.image (presence_read h.geometry back.image.word));
   settled = λ on. back.interrupted;
@@ -225,6 +259,7 @@ whole-armed : (geo : Geometry) (image : Image) (cut fail : Bool) → IsComplete 
 unfolding reading
 whole-armed geo image cut fail = record {
   blocks = length-read geo image.is_bad image.word;
+  eight = eight-read geo image.is_bad image.word;
   pages = pages-read geo image;
   lines = lines-read (volume_line geo) image (presence_read geo image.word);
   settled = λ on. refl;

@@ -1,7 +1,7 @@
 -- What was written is what lasts.
-use Rattle.std.proofs.Common.{◌≡◌, ◌⊎◌, inl, inr, ℕ, zero, suc, ◌||◌, ◌==◌, ◌+◌, ◌-◌, ◌*◌, ◌/◌, ◌%◌, ◌<◌, ◌≤◌, Bool, true, false, cond, Option, Some, None, option_map, List, [], ◌∷◌, length, map, replicate, get_or, nat_lt, slice_get, slice_index_or, refl, sym, ap, subst, ◌∙◌, arith}
+use Rattle.std.proofs.Common.{◌≡◌, inl, inr, ℕ, zero, suc, ◌||◌, ◌==◌, ◌+◌, ◌-◌, ◌*◌, ◌/◌, ◌%◌, ◌<◌, ◌≤◌, Bool, true, false, cond, Option, Some, None, option_map, option_and_then, List, [], ◌∷◌, length, map, replicate, get_or, nat_lt, slice_get, slice_index_or, refl, sym, ap, subst, ◌∙◌, arith}
 use Rattle.std.specs.Prelude.{slice_index}
-use Rattle.std.proofs.lemmas.Bool.{both_ways}
+use Rattle.std.proofs.lemmas.Bool.{both_ways, eq-eqb, eqb-false}
 use Rattle.std.proofs.lemmas.Bool.Decides.{nat_tests}
 use Rattle.std.proofs.lemmas.Option.{get_or_from_slice_get, slice_get-get_or}
 use Rattle.std.specs.Int.{byte_at}
@@ -10,10 +10,10 @@ use Rattle.line_device.specs.Medium.{word_stored}
 use Rattle.line_device.proofs.WordLemmas.{byte_over-in}
 use Rattle.line_device.proofs.HistoryLemmas.{newest-latest}
 use Rattle.nvm_model.specs.Blocks.{data_from, first_there, nth, write, write_block}
-use Rattle.nvm_model.specs.Cell.{Cell, TakesPut, cell_byte, covers as holds_line, flush_cell, persist_cell, put_cell, touches}
+use Rattle.nvm_model.specs.Cell.{Cell, TakesPut, cell_byte, clear_cell, zero_cell, covers as holds_line, flush_cell, persist_cell, put_cell, touches}
 use Rattle.nvm_model.specs.Cell.Cell.{Bad, Kept}
 use Rattle.nvm_model.specs.Numbered.{is_among, list_from, map_from}
-use Rattle.nvm_model.specs.Page.{Page, byte_in, cell_of, fill, is_present, persist, presence_of, put, touches_page}
+use Rattle.nvm_model.specs.Page.{Page, byte_in, cell_of, change_line, fill, first_bad_line, is_bad_cell, is_present, persist, presence_of, put, touches_page}
 use Rattle.nvm_model.specs.Storage.{Block}
 use Rattle.nvm_model.specs.Storage.Block.{Absent}
 use Rattle.nvm_model.proofs.NumberedLemmas.{slice_get-list_from, slice_get-map_from}
@@ -21,7 +21,9 @@ use Rattle.nvm_model.proofs.PageLemmas.{cell_of-persist, cell_of-put}
 use Rattle.nvm_model.proofs.FillLemmas.{presence_of-fill}
 use Rattle.std.proofs.lemmas.List.{length-map}
 use Rattle.word_tables.specs.declared.geometry.Geometry.{Geometry}
-use Rattle.pm_volume.specs.Refusals.{VolumeRefusal, extent_refusal, physical_offset, refused_if}
+use Rattle.nvm_model.proofs.MediaLemmas.{cell_of-changed}
+use Rattle.pm_volume.proofs.BadLemmas.{none_touched}
+use Rattle.pm_volume.specs.Refusals.{VolumeRefusal, extent_refusal, physical_offset, poisoned_at, refused_if}
 use Rattle.pm_volume.specs.Refusals.VolumeRefusal.{Range as Past, Length as Empty}
 use Rattle.nvm_model.proofs.PutLemmas.{byte_in-put}
 use Rattle.block_device.specs.Refusals.{Refusal, blocks_touched, bytes_refusal, where_}
@@ -29,19 +31,20 @@ use Rattle.block_device.specs.Refusals.Refusal.{Range, Limit}
 use Rattle.reply_text.specs.Answer.{Answer}
 use Rattle.reply_text.specs.Answer.Answer.{Done}
 use Rattle.script_text.specs.Action.{Action}
-use Rattle.script_text.specs.Action.Action.{BWrite, BAtomic, VStore, VSync, VPSync}
+use Rattle.script_text.specs.Action.Action.{BWrite, BAtomic, VStore, VSync, VPSync, ClearVolume}
 use Rattle.machine_host.specs.Machine.{Machine}
 use Rattle.machine_host.specs.Machine.Fate.{Works}
 use Rattle.machine_host.specs.Commands.{meaning, refusal, unless_refused}
 use Rattle.machine_host.specs.OnBlocks.{refusal_answer}
 use Rattle.machine_host.specs.OnVolume.{persist_at, volume_answer}
 use Rattle.machine_host.specs.Run.{Takes}
-use Rattle.durable.specs.Place.{block_has, byte_at_place, is_line_present, line_has}
+use Rattle.durable.specs.Place.{block_has, byte_at_place, is_line_present, is_weak_line, line_has}
 use Rattle.durable.specs.Place.Place.{of_volume, of_blocks}
 use Rattle.durable.specs.Touching.{is_made_durable, touched_lines_at}
 use Rattle.durable.specs.Durable.{Does, IsLineThere, Lasts}
-use Rattle.durable.proofs.RefusalLemmas.{is_refused, places_none, refused_told}
-use Rattle.durable.proofs.LawLemmas.{durable, stop_done}
+use Rattle.durable.proofs.RefusalLemmas.{is_refused, places_none, refused_told, unreadable_none}
+use Rattle.durable.proofs.LawLemmas.{durable, stop_done, was_bad}
+use Rattle.durable.proofs.LineLemmas.{zero_shown}
 use Rattle.durable.proofs.WholeLemmas.{lines-fill}
 
 -- a command that was done
@@ -137,20 +140,18 @@ get_or-latest [] w = refl
 get_or-latest (h ∷ words) zero = refl
 get_or-latest (h ∷ words) (suc w) = get_or-latest words w
 
-flush_shown : (cell : Cell) (k : ℕ) → (line_has (Some (flush_cell cell)) k ≡ None) ⊎ (line_has (Some (flush_cell cell)) k ≡ Some (cell_byte cell k))
-flush_shown Bad k = inl refl
-flush_shown (Kept true words) k = inl refl
-flush_shown (Kept false words) k =
-    inr (ap (λ h. Some (byte_at (k % 8) (newest h))) (get_or-latest words (k / 8)) ∙ ap (λ v. Some (byte_at (k % 8) v)) (newest-latest (slice_index_or words (k / 8) [])))
-
--- the line is lost, or shows the byte that was put
-abbrev ShowsPut : ℕ → ℕ → List ℕ → Option Cell → Type 0
-ShowsPut at i bytes o = (line_has o (i % 64) ≡ None) ⊎ (line_has o (i % 64) ≡ Some (slice_index bytes (i - at)))
+flush_shown : (cell : Cell) (k : ℕ) → is_bad_cell (Some cell) ≡ false → is_weak_line (Some cell) ≡ false → line_has (Some (flush_cell cell)) k ≡ Some (cell_byte cell k)
+flush_shown Bad k good strong = cc good
+flush_shown (Kept true words) k good strong = cc strong
+flush_shown (Kept false words) k good strong =
+    ap (λ h. Some (byte_at (k % 8) (newest h))) (get_or-latest words (k / 8)) ∙ ap (λ v. Some (byte_at (k % 8) v)) (newest-latest (slice_index_or words (k / 8) []))
 
 -- a byte that was stored in a line that is there, and then synced
 synced_byte : (at start len i : ℕ) (bytes : List ℕ) (pages : List Page) → ((k : ℕ) → get_or bytes k 0 < 256) → is_among at (length bytes) i ≡ true
-    → touches start len (i / 64) ≡ true → IsLineThere (cell_of pages (i / 64)) → ShowsPut at i bytes (cell_of (persist start len (put at bytes pages)) (i / 64))
-synced_byte at start len i bytes pages small among touched there = by_line (cell_of pages (i / 64)) refl there
+    → touches start len (i / 64) ≡ true → IsLineThere (cell_of pages (i / 64)) → is_bad_cell (cell_of (put at bytes pages) (i / 64)) ≡ false
+    → is_weak_line (cell_of (put at bytes pages) (i / 64)) ≡ false
+    → line_has (cell_of (persist start len (put at bytes pages)) (i / 64)) (i % 64) ≡ Some (slice_index bytes (i - at))
+synced_byte at start len i bytes pages small among touched there good strong = by_line (cell_of pages (i / 64)) refl there
   where
     stored : List Page
     stored = put at bytes pages
@@ -163,7 +164,8 @@ synced_byte at start len i bytes pages small among touched there = by_line (cell
     seen None = 0
     seen (Some cell) = cell_byte cell (i % 64)
 
-    taken : (cell : Cell) → cell_of pages (i / 64) ≡ Some cell → TakesPut at (length bytes) (i / 64) cell → ShowsPut at i bytes (cell_of (persist start len stored) (i / 64))
+    taken : (cell : Cell) → cell_of pages (i / 64) ≡ Some cell → TakesPut at (length bytes) (i / 64) cell
+        → line_has (cell_of (persist start len stored) (i / 64)) (i % 64) ≡ Some (slice_index bytes (i - at))
     taken cell is takes =
         let put_is : cell_of stored (i / 64) ≡ Some (put_cell at bytes (i / 64) cell) =
         cell_of-put at bytes pages (i / 64) ∙ ap (option_map (put_cell at bytes (i / 64))) is in
@@ -171,32 +173,51 @@ synced_byte at start len i bytes pages small among touched there = by_line (cell
         let to : i < at + length bytes = grind (arith, nat_tests) in
         let byte : cell_byte (put_cell at bytes (i / 64) cell) (i % 64) ≡ slice_index bytes (i - at) =
         sym (ap seen put_is) ∙ byte_in-put at i bytes pages cell small is takes ∙ byte_over-in at i (byte_in pages i) bytes from to in
-        subst (ShowsPut at i bytes) (sym (synced (put_cell at bytes (i / 64) cell) put_is))
-        (elim (flush_shown (put_cell at bytes (i / 64) cell) (i % 64)) as (λ _. ShowsPut at i bytes (Some (flush_cell (put_cell at bytes (i / 64) cell)))) [
-          | inl none ↦ inl none
-          | inr shown ↦ inr (shown ∙ ap Some byte)
-        ])
+        ap (λ o. line_has o (i % 64)) (synced (put_cell at bytes (i / 64) cell) put_is)
+        ∙ flush_shown (put_cell at bytes (i / 64) cell) (i % 64) (sym (ap is_bad_cell put_is) ∙ good) (sym (ap is_weak_line put_is) ∙ strong) ∙ ap Some byte
 
-    lost : cell_of pages (i / 64) ≡ Some Bad → holds_line at (length bytes) (i / 64) ≡ false → ShowsPut at i bytes (cell_of (persist start len stored) (i / 64))
-    lost is out =
+    left_bad : cell_of pages (i / 64) ≡ Some Bad → holds_line at (length bytes) (i / 64) ≡ false → ⊥
+    left_bad is out =
         let put_is : cell_of stored (i / 64) ≡ Some Bad =
         cell_of-put at bytes pages (i / 64) ∙ ap (option_map (put_cell at bytes (i / 64))) is
         ∙ ap (λ b. Some (cond b (Kept false (map_from (word_stored at bytes) (8 * (i / 64)) (replicate 8 (0 ∷ [])))) Bad)) out in
-        subst (ShowsPut at i bytes) (sym (synced Bad put_is)) (inl refl)
+        both_ways (is_bad_cell (cell_of stored (i / 64))) good (ap is_bad_cell put_is)
 
-    by_line : (o : Option Cell) → cell_of pages (i / 64) ≡ o → IsLineThere o → ShowsPut at i bytes (cell_of (persist start len stored) (i / 64))
+    by_line : (o : Option Cell) → cell_of pages (i / 64) ≡ o → IsLineThere o
+        → line_has (cell_of (persist start len stored) (i / 64)) (i % 64) ≡ Some (slice_index bytes (i - at))
     by_line None is none = absurd none
     by_line (Some (Kept weak words)) is size = taken (Kept weak words) is size
     by_line (Some Bad) is size = by_cover (holds_line at (length bytes) (i / 64)) refl
       where
-        by_cover : (b : Bool) → holds_line at (length bytes) (i / 64) ≡ b → ShowsPut at i bytes (cell_of (persist start len stored) (i / 64))
+        by_cover : (b : Bool) → holds_line at (length bytes) (i / 64) ≡ b → line_has (cell_of (persist start len stored) (i / 64)) (i % 64) ≡ Some (slice_index bytes (i - at))
         by_cover true covered = taken Bad is covered
-        by_cover false out = lost is out
+        by_cover false out = absurd (left_bad is out)
+
+-- a sync that is not refused finds no bad line
+no_bad_line : (o : Option ℕ) → option_map volume_answer (poisoned_at o) ≡ None → o ≡ None
+no_bad_line None none = refl
+no_bad_line (Some n) none = cc none
+
+good_line : (pages : List Page) (start len n : ℕ) → 1 ≤ len → option_map volume_answer (poisoned_at (first_bad_line pages start len)) ≡ None → touches start len n ≡ true
+    → is_bad_cell (cell_of pages n) ≡ false
+unfolding first_bad_line
+good_line pages start len n some none touched = none_touched (λ k. is_bad_cell (cell_of pages k)) start len n some (no_bad_line _ none) touched
 
 -- a store that is not refused ends within the volume
 volume_none : (o : Option VolumeRefusal) → option_map volume_answer o ≡ None → o ≡ None
 volume_none None none = refl
 volume_none (Some why) none = cc none
+
+first_there_none : (a b : Option VolumeRefusal) → first_there a b ≡ None → (a ≡ None) × (b ≡ None)
+first_there_none None b none = (refl, none)
+first_there_none (Some why) b none = cc none
+
+some_length : (len : ℕ) → refused_if (len == 0) Empty ≡ None → 1 ≤ len
+some_length len none = by_test (len == 0) refl none
+  where
+    by_test : (b : Bool) → (len == 0) ≡ b → cond b (Some Empty) None ≡ None → 1 ≤ len
+    by_test true is refused = cc refused
+    by_test false is allowed = let some : len ≡ 0 → ⊥ = eqb-false len 0 is in omega (arith, some)
 
 stored_within : (geo : Geometry) (at len : ℕ) → extent_refusal (4096 * geo.vpages) at len ≡ None → at + len ≤ 4096 * geo.vpages
 stored_within geo at len none = by_test (nat_lt (4096 * geo.vpages) (at + len)) refl none
@@ -227,10 +248,10 @@ filled_there at len i pages among within =
 -- a store, and a command after it that syncs a line of it
 synced_by : (h stored next : Machine) (action : Action) (at start len i : ℕ) (bytes : List ℕ) → ((k : ℕ) → get_or bytes k 0 < 256) → Does h (VStore at bytes) stored
     → Does stored action next → next.volume ≡ persist start len stored.volume
-    → is_made_durable stored action (of_volume i) ≡ true
-    → is_among at (length bytes) i ≡ true → touches start len (i / 64) ≡ true
-    → (byte_at_place next (of_volume i) ≡ None) ⊎ Lasts next (of_volume i) (Some (slice_index bytes (i - at)))
-synced_by h stored next action at start len i bytes small stores syncs is covers among touched =
+    → is_bad_cell (cell_of stored.volume (i / 64)) ≡ false → is_made_durable stored action (of_volume i) ≡ true
+    → is_among at (length bytes) i ≡ true → touches start len (i / 64) ≡ true → is_weak_line (cell_of stored.volume (i / 64)) ≡ false
+    → Lasts next (of_volume i) (Some (slice_index bytes (i - at)))
+synced_by h stored next action at start len i bytes small stores syncs is good covers among touched strong =
     let filled = fill at (length bytes) h.volume in
     let put_is = works_done h (VStore at bytes) (record h { volume = put at bytes filled }) stored refl stores in
     let within = stored_within h.geometry at (length bytes) (volume_none _ (places_none h (VStore at bytes) put_is.0)) in
@@ -239,27 +260,41 @@ synced_by h stored next action at start len i bytes small stores syncs is covers
     let volume : stored.volume ≡ put at bytes filled = ap (λ m. m.volume) put_is.1 in
     let shown : byte_at_place next (of_volume i) ≡ line_has (cell_of (persist start len (put at bytes filled)) (i / 64)) (i % 64) =
     ap (λ p. line_has (cell_of p (i / 64)) (i % 64)) (is ∙ ap (persist start len) volume) in
-    elim (synced_byte at start len i bytes filled small among touched (lines-fill at (length bytes) h.volume stores.whole.lines (i / 64) there))
-    as (λ _. (byte_at_place next (of_volume i) ≡ None) ⊎ Lasts next (of_volume i) (Some (slice_index bytes (i - at)))) [
-      | inl none ↦ inl (shown ∙ none)
-      | inr byte ↦ inr (subst (Lasts next (of_volume i)) (shown ∙ byte) (durable stored next action (of_volume i) syncs covers))
-    ]
+    let byte = synced_byte at start len i bytes filled small among touched (lines-fill at (length bytes) h.volume stores.whole.lines (i / 64) there)
+    (sym (ap (λ p. is_bad_cell (cell_of p (i / 64))) volume) ∙ good) (sym (ap (λ p. is_weak_line (cell_of p (i / 64))) volume) ∙ strong) in
+    subst (Lasts next (of_volume i)) (shown ∙ byte) (durable stored next action (of_volume i) syncs covers)
 
 pub synced : (h stored next : Machine) (at start len i : ℕ) (bytes : List ℕ) → ((k : ℕ) → get_or bytes k 0 < 256) → Does h (VStore at bytes) stored → Does stored (VSync start len) next
-    → is_among at (length bytes) i ≡ true → touches start len (i / 64) ≡ true
-    → (byte_at_place next (of_volume i) ≡ None) ⊎ Lasts next (of_volume i) (Some (slice_index bytes (i - at)))
-synced h stored next at start len i bytes small stores syncs among touched =
+    → is_among at (length bytes) i ≡ true → touches start len (i / 64) ≡ true → is_weak_line (cell_of stored.volume (i / 64)) ≡ false
+    → Lasts next (of_volume i) (Some (slice_index bytes (i - at)))
+synced h stored next at start len i bytes small stores syncs among touched strong =
     let sync_is = works_done stored (VSync start len) (record stored { volume = persist start len stored.volume }) next refl syncs in
-    synced_by h stored next (VSync start len) at start len i bytes small stores syncs (ap (λ m. m.volume) sync_is.1) touched among touched
+    let some = some_length len (first_there_none _ _ (volume_none _ (places_none stored (VSync start len) sync_is.0))).1 in
+    synced_by h stored next (VSync start len) at start len i bytes small stores syncs (ap (λ m. m.volume) sync_is.1)
+    (good_line stored.volume start len (i / 64) some (unreadable_none stored (VSync start len) sync_is.0) touched) touched among touched strong
 
 pub synced_by_address : (h stored next : Machine) (at address start len i : ℕ) (bytes : List ℕ) → ((k : ℕ) → get_or bytes k 0 < 256) → Does h (VStore at bytes) stored
     → Does stored (VPSync address len) next → physical_offset h.geometry address len ≡ Some start
-    → is_among at (length bytes) i ≡ true → touches start len (i / 64) ≡ true
-    → (byte_at_place next (of_volume i) ≡ None) ⊎ Lasts next (of_volume i) (Some (slice_index bytes (i - at)))
-synced_by_address h stored next at address start len i bytes small stores syncs begins among touched =
+    → is_among at (length bytes) i ≡ true → touches start len (i / 64) ≡ true → is_weak_line (cell_of stored.volume (i / 64)) ≡ false
+    → Lasts next (of_volume i) (Some (slice_index bytes (i - at)))
+synced_by_address h stored next at address start len i bytes small stores syncs begins among touched strong =
     let put_is = works_done h (VStore at bytes) (record h { volume = put at bytes (fill at (length bytes) h.volume) }) stored refl stores in
     let offset : physical_offset stored.geometry address len ≡ Some start = ap (λ m. physical_offset m.geometry address len) put_is.1 ∙ begins in
     let sync_is = works_done stored (VPSync address len) (record stored { volume = persist_at (physical_offset stored.geometry address len) len stored.volume }) next refl syncs in
+    let some = some_length len (first_there_none _ _ (volume_none _ (places_none stored (VPSync address len) sync_is.0))).0 in
+    let found = sym (ap (option_and_then (λ o. option_map volume_answer (poisoned_at (first_bad_line stored.volume o len)))) offset) ∙ unreadable_none stored (VPSync address len) sync_is.0 in
     synced_by h stored next (VPSync address len) at start len i bytes small stores syncs
     (ap (λ m. m.volume) sync_is.1 ∙ ap (λ o. persist_at o len stored.volume) offset)
-    (ap (λ o. (touched_lines_at o len).volume i) offset ∙ touched) among touched
+    (good_line stored.volume start len (i / 64) some found touched)
+    (ap (λ o. (touched_lines_at o len).volume i) offset ∙ touched) among touched strong
+
+-- a line that is cleared has zeros
+pub cleared : (h next : Machine) (offset i : ℕ) → Does h (ClearVolume offset) next → i / 64 ≡ offset / 64 → Lasts next (of_volume i) (Some 0)
+cleared h next offset i does same =
+    let done = works_done h (ClearVolume offset) (record h { volume = change_line clear_cell (offset / 64) h.volume }) next refl does in
+    let line : cell_of (change_line clear_cell (offset / 64) h.volume) (i / 64) ≡ Some zero_cell =
+    ap (cell_of (change_line clear_cell (offset / 64) h.volume)) same ∙ cell_of-changed clear_cell (offset / 64) h.volume
+    ∙ ap (option_map clear_cell) (was_bad h offset done.0) in
+    let is : byte_at_place next (of_volume i) ≡ Some 0 =
+    ap (λ m. byte_at_place m (of_volume i)) done.1 ∙ ap (λ o. line_has o (i % 64)) line ∙ zero_shown (i % 64) (omega arith) in
+    subst (Lasts next (of_volume i)) is (durable h next (ClearVolume offset) (of_volume i) does (eq-eqb (i / 64) (offset / 64) same))

@@ -1,13 +1,16 @@
 -- What was made durable stays.
-use Rattle.std.specs.Prelude.{◌≡◌, ◌*◌, ◌-◌, ◌/◌, ◌<◌, ℕ, true, false, List, [], ◌∷◌, ◌++◌, length, slice_index, Option, None, Some, IfSome}
+use Rattle.std.specs.Prelude.{◌≡◌, ◌⊎◌, ◌*◌, ◌-◌, ◌/◌, ◌<◌, ℕ, Bool, true, false, List, [], ◌∷◌, ◌++◌, length, slice_index, Option, None, Some, IfSome}
+use Rattle.nvm_model.specs.Blocks.{nth}
 use Rattle.nvm_model.specs.Cell.{Cell}
 use Rattle.nvm_model.specs.Cell.Cell.{Bad, Kept}
 use Rattle.nvm_model.specs.Numbered.{is_among}
 use Rattle.nvm_model.specs.Page.{Page, cell_of}
+use Rattle.nvm_model.specs.Storage.{Block}
+use Rattle.nvm_model.specs.Storage.Block.{Absent, Scarred, Data}
 use Rattle.reply_text.specs.Answer.{Answer}
 use Rattle.reply_text.specs.Answer.Answer.{Done, Bytes}
 use Rattle.script_text.specs.Action.{Action}
-use Rattle.script_text.specs.Action.Action.{BRead, BWrite, BAtomic, BMulti, BDiscard, BDiscardIf, BExists, BScar, VLoad, VStore, VSync, VRanges, VPSync, VDiscard, VDiscardIf, VExists, Cut, CutIn, Restart}
+use Rattle.script_text.specs.Action.Action.{BRead, BWrite, BAtomic, BMulti, BDiscard, BDiscardIf, BExists, BScar, VLoad, VStore, VSync, VRanges, VPSync, VDiscard, VDiscardIf, VExists, PoisonBlock, PoisonVolume, WeakenVolume, ClearVolume, Cut, CutIn, Restart}
 use Rattle.script_text.specs.Script.{Input}
 use Rattle.script_text.specs.Script.Input.{Skipped, Malformed, Asked}
 use Rattle.machine_host.specs.declared.mode.Mode.TheVariants.{On}
@@ -15,7 +18,7 @@ use Rattle.machine_host.specs.Machine.{Machine}
 use Rattle.machine_host.specs.Run.{Transcript, Hears, Run}
 use Rattle.durable.specs.Place.{Place, byte_at_place, is_line_present}
 use Rattle.durable.specs.Place.Place.{of_volume, of_blocks}
-use Rattle.durable.specs.Touching.{changes, is_begun, is_made_durable}
+use Rattle.durable.specs.Touching.{changes, is_begun, is_made_durable, poisons, weakens}
 
 -- a line of the volume is there: it is bad, or has its eight words
 abbrev pub IsLineThere : Option Cell → Type 0
@@ -27,10 +30,20 @@ IsLineThere (Some (Kept weak words)) = length words ≡ 8
 abbrev pub HaveLines : List Page → Type 0
 HaveLines pages = (n : ℕ) → is_line_present pages n ≡ true → IsLineThere (cell_of pages n)
 
--- A state that a run may come to: all blocks and pages are counted, the pages that are there have their lines, and nothing is
+-- a block that has lines has eight, and so have all blocks
+abbrev pub HasEightLines : Block → Type 0
+HasEightLines Absent = Unit {0}
+HasEightLines Scarred = Unit {0}
+HasEightLines (Data lines) = length lines ≡ 8
+
+abbrev pub HaveEightLines : List Block → Type 0
+HaveEightLines blocks = (n : ℕ) → HasEightLines (nth blocks n)
+
+-- A state that a run may come to: all blocks and pages are counted, those that are there have their lines, and nothing is
 -- interrupted in mode On.
 pub record IsComplete (h : Machine) : Type 0 where
   pub blocks : length h.blocks ≡ h.geometry.blocks
+  pub eight : HaveEightLines h.blocks
   pub pages : length h.volume ≡ h.geometry.vpages
   pub lines : HaveLines h.volume
   pub settled : h.mode ≡ On → h.interrupted ≡ None
@@ -53,6 +66,10 @@ BringsBytes (VPSync address len) = Unit {0}
 BringsBytes (VDiscard page count) = Unit {0}
 BringsBytes (VDiscardIf page count) = Unit {0}
 BringsBytes (VExists page) = Unit {0}
+BringsBytes (PoisonBlock block line) = Unit {0}
+BringsBytes (PoisonVolume offset) = Unit {0}
+BringsBytes (WeakenVolume offset) = Unit {0}
+BringsBytes (ClearVolume offset) = Unit {0}
 BringsBytes Cut = Unit {0}
 BringsBytes (CutIn calls) = Unit {0}
 BringsBytes (Restart choice) = Unit {0}
@@ -64,15 +81,15 @@ BringBytes (Skipped ∷ inputs) = BringBytes inputs
 BringBytes (Malformed ∷ inputs) = BringBytes inputs
 BringBytes (Asked action ∷ inputs) = BringsBytes action × BringBytes inputs
 
--- no command of these that changes the place was begun, by what they were answered
-abbrev pub Spares : Place → List Input → List Answer → Type 0
-Spares x [] answers = Unit {0}
-Spares x (Skipped ∷ inputs) answers = Spares x inputs answers
-Spares x (Malformed ∷ inputs) [] = Unit {0}
-Spares x (Malformed ∷ inputs) (answer ∷ answers) = Spares x inputs answers
-Spares x (Asked action ∷ inputs) [] = Unit {0}
-Spares x (Asked action ∷ inputs) (answer ∷ answers) =
-    (changes action x ≡ true → is_begun answer ≡ false) × Spares x inputs answers
+-- no command of these that does so to the place was begun, by what they were answered
+abbrev pub Spares : (Action → Place → Bool) → Place → List Input → List Answer → Type 0
+Spares does x [] answers = Unit {0}
+Spares does x (Skipped ∷ inputs) answers = Spares does x inputs answers
+Spares does x (Malformed ∷ inputs) [] = Unit {0}
+Spares does x (Malformed ∷ inputs) (answer ∷ answers) = Spares does x inputs answers
+Spares does x (Asked action ∷ inputs) [] = Unit {0}
+Spares does x (Asked action ∷ inputs) (answer ∷ answers) =
+    (does action x ≡ true → is_begun answer ≡ false) × Spares does x inputs answers
 
 -- a read at the place that is answered with bytes has this one there
 abbrev pub Reads : Machine → Place → ℕ → Type 0
@@ -83,15 +100,22 @@ Reads h (of_blocks i) byte = (block count : ℕ) (bytes : List ℕ) (said : Tran
     → Hears h (Asked (BRead block count)) said next → said.answers ≡ Bytes bytes ∷ [] → is_among block count (i / 512) ≡ true
     → slice_index bytes (i - 512 * block) ≡ byte
 
--- The place has this byte, and shows it. It has none where its line is bad or its block is scarred.
+-- The place has this byte, or can't be read any more; None is a byte that couldn't be read. What a read shows there is the byte.
 pub record Has (h : Machine) (x : Place) (byte : Option ℕ) : Type 0 where
-  pub kept : byte_at_place h x ≡ byte
+  pub kept : (byte_at_place h x ≡ byte) ⊎ (byte_at_place h x ≡ None)
   pub shown : IfSome byte (Reads h x)
 
--- In every later state of every run that spares the place it has this byte, whatever is cut and restarted.
+-- What these inputs, answered so, left of a byte that none of them changed: the place has it still, or was lost. It was not lost
+-- where none poisoned its line, and none made the line weak or none made it durable.
+pub record Remains (inputs : List Input) (answers : List Answer) (later : Machine) (x : Place) (byte : Option ℕ) : Type 0 where
+  pub has : Spares changes x inputs answers → Has later x byte
+  pub unharmed : Spares changes x inputs answers → Spares poisons x inputs answers
+      → Spares weakens x inputs answers ⊎ Spares (is_made_durable later) x inputs answers → byte_at_place later x ≡ byte
+
+-- so it is in every later state of every run, whatever is cut and restarted
 abbrev pub Lasts : Machine → Place → Option ℕ → Type 0
 Lasts h x byte = (inputs : List Input) (said : Transcript) (later : Machine) → BringBytes inputs → Run h inputs said later
-    → Spares x inputs said.answers → Has later x byte
+    → Remains inputs said.answers later x byte
 
 -- it has the byte that it has now
 abbrev pub IsDurable : Machine → Place → Type 0
@@ -116,8 +140,8 @@ pub record Passes (h : Machine) (before : List Input) (action : Action) (after :
   pub rest : Run next after late end
   pub answers : said.answers ≡ early.answers ++ (middle.answers ++ late.answers)
 
--- where the command made the place durable and was done, and the rest spares the place, its byte is the one that the command left
+-- where the command made the place durable and was done, the rest left of its byte what it leaves of a durable one
 pub record KeepsThrough (h : Machine) (before : List Input) (action : Action) (after : List Input) (said : Transcript) (end : Machine) (x : Place) : Type 0 where
   pub passes : Passes h before action after said end
-  pub keeps : is_made_durable passes.here action x ≡ true → passes.middle.answers ≡ Done ∷ [] → Spares x after passes.late.answers
-      → Has end x (byte_at_place passes.next x)
+  pub keeps : is_made_durable passes.here action x ≡ true → passes.middle.answers ≡ Done ∷ []
+      → Remains after passes.late.answers end x (byte_at_place passes.next x)

@@ -1,3 +1,4 @@
 pub mod Place
 pub mod Touching
+pub mod Naming
 pub mod Durable

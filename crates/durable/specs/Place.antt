@@ -17,6 +17,12 @@ pub data Place : Type 0 where
 abbrev pub is_line_present : List Page → ℕ → Bool
 is_line_present pages n = slice_index_or (presence_of pages) (n / 64) false
 
+-- a line of the volume that is there and weak
+abbrev pub is_weak_line : Option Cell → Bool
+is_weak_line None = false
+is_weak_line (Some Bad) = false
+is_weak_line (Some (Kept weak words)) = weak
+
 -- byte i of a line of the volume and of a block: 0 where nothing is kept, None where it can't be read
 abbrev pub line_has : Option Cell → ℕ → Option ℕ
 line_has None i = Some 0

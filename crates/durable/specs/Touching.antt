@@ -1,5 +1,5 @@
--- Which bytes a command makes durable, and which it changes.
-use Rattle.std.specs.Prelude.{◌/◌, ℕ, Bool, true, false, List, Option, Some, None, length}
+-- Which bytes a command makes durable, which it changes, and of which it makes the line bad or weak.
+use Rattle.std.specs.Prelude.{◌+◌, ◌*◌, ◌/◌, ◌==◌, ℕ, Bool, true, false, List, Option, Some, None, length}
 use Rattle.std.specs.List.{list_any}
 use Rattle.nvm_base.specs.declared.units.Span.{Span}
 use Rattle.nvm_model.specs.Cell.{touches}
@@ -7,26 +7,26 @@ use Rattle.nvm_model.specs.Numbered.{is_among}
 use Rattle.block_device.specs.Refusals.{block_spans}
 use Rattle.pm_volume.specs.Refusals.{physical_offset}
 use Rattle.reply_text.specs.Answer.{Answer}
-use Rattle.reply_text.specs.Answer.Answer.{Done, DoneBad, Bytes, Ranges, Yes, No, Scarred, PoisonBlock, PoisonVolume, DeviceFailed, PowerLost, Refused, RefusedMeta}
+use Rattle.reply_text.specs.Answer.Answer.{Done, DoneBad, Bytes, Ranges, Yes, No, Scarred, PoisonBlock as PoisonedBlock, PoisonVolume as PoisonedVolume, DeviceFailed, PowerLost, Refused, RefusedMeta}
 use Rattle.script_text.specs.Action.{Action}
-use Rattle.script_text.specs.Action.Action.{BRead, BWrite, BAtomic, BMulti, BDiscard, BDiscardIf, BExists, BScar, VLoad, VStore, VSync, VRanges, VPSync, VDiscard, VDiscardIf, VExists, Cut, CutIn, Restart}
+use Rattle.script_text.specs.Action.Action.{BRead, BWrite, BAtomic, BMulti, BDiscard, BDiscardIf, BExists, BScar, VLoad, VStore, VSync, VRanges, VPSync, VDiscard, VDiscardIf, VExists, PoisonBlock, PoisonVolume, WeakenVolume, ClearVolume, Cut, CutIn, Restart}
 use Rattle.machine_host.specs.OnBlocks.{blocks_from}
 use Rattle.machine_host.specs.Machine.{Machine}
 use Rattle.word_tables.specs.declared.geometry.Geometry.{Geometry}
 use Rattle.durable.specs.Place.{Place}
 use Rattle.durable.specs.Place.Place.{of_volume, of_blocks}
 
--- a part of storage: which bytes of the volume, and which blocks
+-- a part of storage: which bytes of the volume, and which of the blocks
 pub record Region : Type 0 where
   pub volume : ℕ → Bool
   pub blocks : ℕ → Bool
 
 abbrev pub nothing : Region
-nothing = record { volume = λ i. false; blocks = λ block. false }
+nothing = record { volume = λ i. false; blocks = λ i. false }
 
--- blocks of some spans
+-- the bytes of blocks of some spans
 abbrev pub spanned : List Span → Region
-spanned spans = record nothing { blocks = λ block. list_any (λ (span : Span). is_among span.start span.len block) spans }
+spanned spans = record nothing { blocks = λ i. list_any (λ (span : Span). is_among span.start span.len (i / 512)) spans }
 
 -- bytes of the volume, and those of pages
 abbrev pub stored_bytes : ℕ → ℕ → Region
@@ -34,6 +34,13 @@ stored_bytes offset len = record nothing { volume = is_among offset len }
 
 abbrev pub discarded_pages : ℕ → ℕ → Region
 discarded_pages page count = record nothing { volume = λ i. is_among page count (i / 4096) }
+
+-- all bytes of a line of the volume, or of the blocks
+abbrev pub line_of_volume : ℕ → Region
+line_of_volume n = record nothing { volume = λ i. i / 64 == n }
+
+abbrev pub line_of_blocks : ℕ → Region
+line_of_blocks n = record nothing { blocks = λ i. i / 64 == n }
 
 -- all bytes of the lines that a span of the volume touches
 abbrev pub touched_lines : ℕ → ℕ → Region
@@ -46,9 +53,9 @@ touched_lines_at (Some offset) len = touched_lines offset len
 
 abbrev pub holds : Region → Place → Bool
 holds region (of_volume i) = region.volume i
-holds region (of_blocks i) = region.blocks (i / 512)
+holds region (of_blocks i) = region.blocks i
 
--- what is durable once a command is done on storage of these sizes: the blocks that it writes, and the lines that it syncs
+-- what is durable once a command is done on storage of these sizes: the blocks that it writes, the lines that it syncs, and one that it clears
 abbrev pub made_durable : Geometry → Action → Region
 made_durable geo (BRead block count) = nothing
 made_durable geo (BWrite block bytes) = spanned (blocks_from block (length bytes / 512))
@@ -66,11 +73,15 @@ made_durable geo (VPSync address len) = touched_lines_at (physical_offset geo ad
 made_durable geo (VDiscard page count) = nothing
 made_durable geo (VDiscardIf page count) = nothing
 made_durable geo (VExists page) = nothing
+made_durable geo (PoisonBlock block line) = nothing
+made_durable geo (PoisonVolume offset) = nothing
+made_durable geo (WeakenVolume offset) = nothing
+made_durable geo (ClearVolume offset) = line_of_volume (offset / 64)
 made_durable geo Cut = nothing
 made_durable geo (CutIn calls) = nothing
 made_durable geo (Restart choice) = nothing
 
--- what a command writes, discards, scars or stores
+-- what a command writes, discards, scars, stores or clears
 abbrev pub region_changed : Action → Region
 region_changed (BRead block count) = nothing
 region_changed (BWrite block bytes) = spanned (blocks_from block (length bytes / 512))
@@ -88,9 +99,47 @@ region_changed (VPSync address len) = nothing
 region_changed (VDiscard page count) = discarded_pages page count
 region_changed (VDiscardIf page count) = discarded_pages page count
 region_changed (VExists page) = nothing
+region_changed (PoisonBlock block line) = nothing
+region_changed (PoisonVolume offset) = nothing
+region_changed (WeakenVolume offset) = nothing
+region_changed (ClearVolume offset) = line_of_volume (offset / 64)
 region_changed Cut = nothing
 region_changed (CutIn calls) = nothing
 region_changed (Restart choice) = nothing
+
+-- the line that a command makes bad at once, and the one that it makes weak, which a sync makes bad
+pub record Harm : Type 0 where
+  pub poisoned : Region
+  pub weakened : Region
+
+abbrev pub no_harm : Harm
+no_harm = record { poisoned = nothing; weakened = nothing }
+
+-- what a command does to lines beside changing them
+abbrev pub harm_done : Action → Harm
+harm_done (BRead block count) = no_harm
+harm_done (BWrite block bytes) = no_harm
+harm_done (BAtomic block bytes) = no_harm
+harm_done (BMulti ranges bytes) = no_harm
+harm_done (BDiscard block count) = no_harm
+harm_done (BDiscardIf block count) = no_harm
+harm_done (BExists block) = no_harm
+harm_done (BScar ranges) = no_harm
+harm_done (VLoad offset len) = no_harm
+harm_done (VStore offset bytes) = no_harm
+harm_done (VSync offset len) = no_harm
+harm_done VRanges = no_harm
+harm_done (VPSync address len) = no_harm
+harm_done (VDiscard page count) = no_harm
+harm_done (VDiscardIf page count) = no_harm
+harm_done (VExists page) = no_harm
+harm_done (PoisonBlock block line) = record no_harm { poisoned = line_of_blocks (8 * block + line) }
+harm_done (PoisonVolume offset) = record no_harm { poisoned = line_of_volume (offset / 64) }
+harm_done (WeakenVolume offset) = record no_harm { weakened = line_of_volume (offset / 64) }
+harm_done (ClearVolume offset) = no_harm
+harm_done Cut = no_harm
+harm_done (CutIn calls) = no_harm
+harm_done (Restart choice) = no_harm
 
 abbrev pub is_made_durable : Machine → Action → Place → Bool
 is_made_durable h action x = holds (made_durable h.geometry action) x
@@ -98,7 +147,13 @@ is_made_durable h action x = holds (made_durable h.geometry action) x
 abbrev pub changes : Action → Place → Bool
 changes action x = holds (region_changed action) x
 
--- a change that was answered so was begun: it was done, or stopped on the way
+abbrev pub poisons : Action → Place → Bool
+poisons action x = holds (harm_done action).poisoned x
+
+abbrev pub weakens : Action → Place → Bool
+weakens action x = holds (harm_done action).weakened x
+
+-- a command that was answered so was begun: it was done, or stopped on the way
 abbrev pub is_begun : Answer → Bool
 is_begun Done = true
 is_begun (DoneBad n) = false
@@ -107,8 +162,8 @@ is_begun (Ranges ranges) = false
 is_begun Yes = false
 is_begun No = false
 is_begun (Scarred block) = false
-is_begun (PoisonBlock block line) = false
-is_begun (PoisonVolume offset) = false
+is_begun (PoisonedBlock block line) = false
+is_begun (PoisonedVolume offset) = false
 is_begun DeviceFailed = true
 is_begun PowerLost = true
 is_begun (Refused why) = false

@@ -1,28 +1,32 @@
 // Laws of whole runs, each a function without a body.
-ghost use Rattle.std.specs.Prelude.{◌≡◌, ◌⊎◌, ◌-◌, ◌*◌, ◌/◌, ℕ, true, false, List, [], ◌∷◌, ◌++◌, length, slice_index, Some, None};
+ghost use Rattle.std.specs.Prelude.{◌≡◌, ◌+◌, ◌-◌, ◌*◌, ◌/◌, ℕ, true, false, List, [], ◌∷◌, ◌++◌, length, slice_index, Some, None};
 ghost use Rattle.word_tables.specs.declared.geometry.Geometry.{Geometry};
 ghost use Rattle.durable.specs.Touching.{is_made_durable};
 ghost use Rattle.nvm_model.specs.Cell.{covers, touches};
 ghost use Rattle.nvm_model.specs.Numbered.{is_among};
-ghost use Rattle.nvm_model.specs.Page.{touches_absent};
+ghost use Rattle.nvm_model.specs.Page.{cell_of, touches_absent};
 ghost use Rattle.line_device.specs.Panel.{Image};
 ghost use Rattle.word_tables.specs.Layout.{volume_line};
 ghost use Rattle.pm_volume.specs.Presence.{presence_read};
 ghost use Rattle.pm_volume.specs.Refusals.{physical_offset};
 ghost use Rattle.script_text.specs.Action.{Action};
-ghost use Rattle.script_text.specs.Action.Action.{BWrite, BAtomic, Cut, Restart, VStore, VSync, VPSync};
+ghost use Rattle.script_text.specs.Action.Action.{BRead, BWrite, BAtomic, VLoad, VStore, VSync, VPSync, PoisonBlock, PoisonVolume, ClearVolume, Cut, Restart};
 ghost use Rattle.script_text.specs.Script.{Input, inputs};
 ghost use Rattle.script_text.specs.Script.Input.{Asked};
 ghost use Rattle.line_device.specs.declared.line.Choice.TheVariants.{Firsts};
+ghost use Rattle.machine_host.specs.declared.mode.Mode.TheVariants.{On};
 ghost use Rattle.machine_host.specs.Machine.{Machine};
 ghost use Rattle.machine_host.specs.Restarting.{reading};
-ghost use Rattle.machine_host.specs.Run.{Transcript, Run};
-ghost use Rattle.durable.specs.Place.{Place, byte_at_place};
+ghost use Rattle.machine_host.specs.Commands.{early_refusal};
+ghost use Rattle.machine_host.specs.Run.{Hears, Transcript, Run};
+ghost use Rattle.durable.specs.Place.{Place, byte_at_place, is_weak_line};
+ghost use Rattle.durable.specs.Naming.{Names, NamesLine, NamesObstacle};
 ghost use Rattle.durable.specs.Place.Place.{of_volume, of_blocks};
 ghost use Rattle.durable.specs.Durable.{BringBytes, BringsBytes, Does, IsDurable, IsComplete, KeepsThrough, Lasts};
 
-/// A command that covers a byte was answered `ok`: the byte is the same in every later state, whatever is cut and restarted,
-/// until a command that changes it is begun.
+/// A command that covers a byte was answered `ok`: in every later state, whatever is cut and restarted, the byte is the same or
+/// its line is lost, until a command that changes it is begun. It isn't lost where no command poisons its line, and none makes
+/// the line weak or none syncs it.
 pub fn what_was_made_durable_stays()
     ensures stays { (h next : Machine) (action : Action) (x : Place) → Does h action next → is_made_durable h action x ≡ true → IsDurable next x }
     ensures whole { (h end : Machine) (before after : List Input) (action : Action) (said : Transcript) (x : Place) → IsComplete h
@@ -30,8 +34,8 @@ pub fn what_was_made_durable_stays()
     ensures scripts { (script : List ℕ) → BringBytes (inputs script) }
 {}
 
-/// The bytes that were written are the ones that last: those of a write of blocks, and those of a store that is synced, but in
-/// a line that is bad.
+/// The bytes that were written are the ones that last: those of a write of blocks, those of a store that is synced, but in a
+/// weak line, and the zeros of a line that is cleared.
 pub fn what_was_written_lasts()
     ensures write { (h next : Machine) (block i : ℕ) (bytes : List ℕ) → Does h (BWrite block bytes) next
         → is_among block (length bytes / 512) (i / 512) ≡ true
@@ -42,12 +46,39 @@ pub fn what_was_written_lasts()
     ensures synced { (h stored next : Machine) (offset start len i : ℕ) (bytes : List ℕ) → BringsBytes (VStore offset bytes)
         → Does h (VStore offset bytes) stored → Does stored (VSync start len) next
         → is_among offset (length bytes) i ≡ true → touches start len (i / 64) ≡ true
-        → (byte_at_place next (of_volume i) ≡ None) ⊎ Lasts next (of_volume i) (Some (slice_index bytes (i - offset))) }
+        → is_weak_line (cell_of stored.volume (i / 64)) ≡ false
+        → Lasts next (of_volume i) (Some (slice_index bytes (i - offset))) }
     ensures by_address { (h stored next : Machine) (offset address start len i : ℕ) (bytes : List ℕ) → BringsBytes (VStore offset bytes)
         → Does h (VStore offset bytes) stored → Does stored (VPSync address len) next
         → physical_offset h.geometry address len ≡ Some start
         → is_among offset (length bytes) i ≡ true → touches start len (i / 64) ≡ true
-        → (byte_at_place next (of_volume i) ≡ None) ⊎ Lasts next (of_volume i) (Some (slice_index bytes (i - offset))) }
+        → is_weak_line (cell_of stored.volume (i / 64)) ≡ false
+        → Lasts next (of_volume i) (Some (slice_index bytes (i - offset))) }
+    ensures cleared { (h next : Machine) (offset i : ℕ) → Does h (ClearVolume offset) next → i / 64 ≡ offset / 64
+        → Lasts next (of_volume i) (Some 0) }
+{}
+
+/// A line that is poisoned is lost at once, and so is one that was weak when it was synced, though the answer is `ok`. What is
+/// lost stays lost, whatever is cut and restarted, until a command that changes it is begun.
+pub fn what_is_lost_stays_lost()
+    ensures poisoned { (h next : Machine) (offset i : ℕ) → Does h (PoisonVolume offset) next → i / 64 ≡ offset / 64
+        → byte_at_place next (of_volume i) ≡ None }
+    ensures of_a_block { (h next : Machine) (block line i : ℕ) → Does h (PoisonBlock block line) next → i / 64 ≡ 8 * block + line
+        → byte_at_place next (of_blocks i) ≡ None }
+    ensures worn_out { (h next : Machine) (action : Action) (i : ℕ) → Does h action next → is_made_durable h action (of_volume i) ≡ true
+        → is_weak_line (cell_of h.volume (i / 64)) ≡ true → byte_at_place next (of_volume i) ≡ None }
+    ensures stays { (h : Machine) (x : Place) → IsComplete h → h.mode ≡ On → byte_at_place h x ≡ None → Lasts h x None }
+{}
+
+/// A read over a lost byte gives no data. Unless its mode or its span refuses it, it names the lowest bad line of its span, or
+/// the lowest block that is scarred or has a bad line.
+pub fn reads_name_what_is_lost()
+    ensures volume { (h next : Machine) (offset len i : ℕ) (said : Transcript) → byte_at_place h (of_volume i) ≡ None
+        → is_among offset len i ≡ true → Hears h (Asked (VLoad offset len)) said next
+        → Names (early_refusal h.mode h.geometry (VLoad offset len)) (NamesLine h.volume offset len) said.answers }
+    ensures blocks { (h next : Machine) (block count i : ℕ) (said : Transcript) → IsComplete h → byte_at_place h (of_blocks i) ≡ None
+        → is_among block count (i / 512) ≡ true → Hears h (Asked (BRead block count)) said next
+        → Names (early_refusal h.mode h.geometry (BRead block count)) (NamesObstacle h.blocks block count) said.answers }
 {}
 
 /// No more lasts than that: a store that is not synced may be lost, though no later command changes anything. Of a machine as a

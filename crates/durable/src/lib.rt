@@ -4,6 +4,6 @@
 mod laws;
 
 pub use laws::{
-    runs_come_to_whole_states, what_is_not_synced_may_go, what_was_made_durable_stays,
-    what_was_written_lasts,
+    reads_name_what_is_lost, runs_come_to_whole_states, what_is_lost_stays_lost,
+    what_is_not_synced_may_go, what_was_made_durable_stays, what_was_written_lasts,
 };

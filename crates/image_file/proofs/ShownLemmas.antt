@@ -2,7 +2,7 @@
 use Rattle.std.proofs.Common.{◌≡◌, inl, ℕ, zero, suc, true, false, ◌+◌, ◌*◌, ◌/◌, ◌%◌, ◌<◌, ◌≤◌, List, [], ◌∷◌, length, get_or, Option, Some, None, refl, sym, ap, subst, ◌∙◌, arith}
 use Rattle.std.specs.List.{slice_get, AllByRecursion}
 use Rattle.std.proofs.lemmas.Bool.{false≢true}
-use Rattle.std.proofs.lemmas.Option.{slice_get-get_or, slice_get_within}
+use Rattle.std.proofs.lemmas.Option.{slice_get-get_or}
 use Rattle.line_device.specs.Word.{word_at}
 use Rattle.line_device.specs.History.{newest, IsIn}
 use Rattle.line_device.specs.Medium.{Medium, IsLine, IsSound, Shows}
@@ -10,7 +10,7 @@ use Rattle.line_device.specs.Device.{Depicts}
 use Rattle.line_device.specs.declared.line.LineState.{LineState}
 use Rattle.line_device.specs.declared.line.LineState.TheVariants.{Healthy, Weak, Bad}
 use Rattle.image_file.specs.Text.{FitImage, IsImageLine, IsSnapshot}
-use Rattle.image_file.specs.Devices.{AreLinesGood, DepictsLast, IsLastImage, image_of, is_told_bad, is_told_weak, medium_of, told_values, told_word}
+use Rattle.image_file.specs.Devices.{DepictsLast, IsLastImage, image_of, is_told_bad, is_told_weak, medium_of, told_values, told_word}
 
 -- a line within the list is there
 there : (lines : List LineState) (n : ℕ) → n < length lines → slice_get lines n ≡ Some (get_or lines n Bad)
@@ -57,23 +57,23 @@ image_line [] n line all is = absurd (cc)
 image_line (x ∷ lines) zero line all is = let same : x ≡ line = cc in subst IsImageLine same all.0
 image_line (x ∷ lines) (suc n) line all is = image_line lines n line all.1 is
 
-healthy_shown : (lines : List LineState) (n : ℕ) (line : LineState) → slice_get lines n ≡ Some line → IsImageLine line → Shows (medium_of lines) n line
-healthy_shown lines n (Healthy bytes) is long = (
-  ap is_told_bad is,
-  ap is_told_weak is,
-  record {
-    length = long;
-    words = λ w below.
-        let line : (8 * n + w) / 8 ≡ n = omega arith in
-        let word : (8 * n + w) % 8 ≡ w = omega arith in
-        ap (λ k. newest (told_values (slice_get lines k) ((8 * n + w) % 8))) line ∙ ap (λ o. newest (told_values o ((8 * n + w) % 8))) is ∙ ap (word_at bytes) word;
-  },
-)
-healthy_shown lines n (Weak bytes) is never = absurd never
-healthy_shown lines n Bad is never = absurd never
+-- the words of a line with these values
+bytes_shown : (lines : List LineState) (n : ℕ) (bytes : List ℕ) → ((w : ℕ) → told_values (slice_get lines n) w ≡ word_at bytes w ∷ []) → length bytes ≡ 64 → IsLine (medium_of lines) n bytes
+bytes_shown lines n bytes is long = record {
+  length = long;
+  words = λ w below.
+      let line : (8 * n + w) / 8 ≡ n = omega arith in
+      let word : (8 * n + w) % 8 ≡ w = omega arith in
+      ap (λ k. newest (told_values (slice_get lines k) ((8 * n + w) % 8))) line ∙ ap newest (is ((8 * n + w) % 8)) ∙ ap (word_at bytes) word;
+}
+
+line_shown : (lines : List LineState) (n : ℕ) (line : LineState) → slice_get lines n ≡ Some line → IsImageLine line → Shows (medium_of lines) n line
+line_shown lines n (Healthy bytes) is long = (ap is_told_bad is, ap is_told_weak is, bytes_shown lines n bytes (λ w. ap (λ o. told_values o w) is) long)
+line_shown lines n (Weak bytes) is long = (ap is_told_bad is, ap is_told_weak is, bytes_shown lines n bytes (λ w. ap (λ o. told_values o w) is) long)
+line_shown lines n Bad is whole = ap is_told_bad is
 
 pub back : (lines : List LineState) → AllByRecursion IsImageLine lines → IsLastImage (medium_of lines) lines
-back lines all = record { count = refl; shows = λ n line is. healthy_shown lines n line is (image_line lines n line all is) }
+back lines all = record { count = refl; shows = λ n line is. line_shown lines n line is (image_line lines n line all is) }
 
 -- what a line that is shown tells of the device
 bad_shown : (m : Medium) (n : ℕ) (line : LineState) → Shows m n line → is_told_bad (Some line) ≡ m.is_bad n
@@ -110,18 +110,18 @@ depicted_last m lines sound l = record {
       ap (λ o. told_word o (p % 8)) found ∙ word_shown m p (get_or lines (p / 8) Bad) (l.shows (p / 8) _ found) healthy.1;
 }
 
-good_shown : (m : Medium) (n : ℕ) (line : LineState) → Shows m n line → m.is_bad n ≡ false → m.is_weak n ≡ false → IsImageLine line
-good_shown m n (Healthy bytes) s good strong = s.2.length
-good_shown m n (Weak bytes) s good strong = absurd (false≢true (sym strong ∙ s.1))
-good_shown m n Bad s good strong = absurd (false≢true (sym good ∙ s))
+allowed_shown : (m : Medium) (n : ℕ) (line : LineState) → Shows m n line → IsImageLine line
+allowed_shown m n (Healthy bytes) s = s.2.length
+allowed_shown m n (Weak bytes) s = s.2.length
+allowed_shown m n Bad s = tt
 
 all_image_lines : (lines : List LineState) → ((n : ℕ) (line : LineState) → slice_get lines n ≡ Some line → IsImageLine line) → AllByRecursion IsImageLine lines
 all_image_lines [] each = tt
 all_image_lines (x ∷ lines) each = (each 0 x refl, all_image_lines lines (λ n line is. each (suc n) line is))
 
-pub snapshot_last : (m : Medium) (lines : List LineState) → FitImage m.count → AreLinesGood m → IsLastImage m lines → IsSnapshot (record { unit = 8; lines = lines })
-snapshot_last m lines fit good l = record {
+pub snapshot_last : (m : Medium) (lines : List LineState) → FitImage m.count → IsLastImage m lines → IsSnapshot (record { unit = 8; lines = lines })
+snapshot_last m lines fit l = record {
   unit = refl;
   count = subst FitImage (sym l.count) fit;
-  whole = all_image_lines lines (λ n line is. let marks = good n (subst (λ c. n < c) l.count (slice_get_within lines n line is)) in good_shown m n line (l.shows n line is) marks.0 marks.1);
+  whole = all_image_lines lines (λ n line is. allowed_shown m n line (l.shows n line is));
 }

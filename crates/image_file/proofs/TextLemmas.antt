@@ -1,11 +1,11 @@
 -- Whole images.
-use Rattle.std.proofs.Common.{◌≡◌, ℕ, ◌+◌, ◌≤◌, List, [], ◌∷◌, ◌++◌, length, drop, Some, None, Result, Ok, Err, refl, sym, ap, subst, ◌∙◌, arith, length-append}
+use Rattle.std.proofs.Common.{◌≡◌, ℕ, ◌+◌, ◌≤◌, List, [], ◌++◌, length, drop, Some, None, Result, Ok, Err, refl, sym, ap, subst, ◌∙◌, arith, length-append}
 use Rattle.std.specs.List.{AllByRecursion, flat_map}
 use Rattle.std.proofs.lemmas.Bool.{le-leb}
 use Rattle.byteorder.specs.Endian.{little_number}
 use Rattle.byteorder.specs.Numbers.{little_number-reads_back}
 use Rattle.line_device.specs.declared.line.LineState.{LineState}
-use Rattle.image_file.specs.Text.{FitImage, IsHealthyLine, IsImageLine, IsSnapshot, Snapshot, image_head, image_magic, image_text, line_text, number_text, snapshot_of}
+use Rattle.image_file.specs.Text.{FitImage, IsImageLine, IsSnapshot, Snapshot, image_head, image_magic, image_text, line_text, number_text, snapshot_of}
 use Rattle.image_file.specs.WrongField.{field_number, first_wrong_offset, wrong_in_lines}
 use Rattle.nvm_base.specs.Stock.{Stock}
 use Rattle.image_file.specs.declared.Image.{Image}
@@ -69,13 +69,9 @@ image_only bytes (Ok image) h m right is = snapshots_same (snapshot_of image) m 
 image_only bytes (Err (faults.Bad offset)) h m right is = let none : None ≡ Some offset = sym (snapshot_right m right) ∙ ap first_wrong_offset (sym is) ∙ h in absurd (cc)
 image_only bytes (Err faults.Memory) h m right is = tt
 
--- lines are an image's if they are healthy
-lines_allowed : (lines : List LineState) → AllByRecursion (λ line. IsHealthyLine line → IsImageLine line) lines → AllByRecursion IsHealthyLine lines → AllByRecursion IsImageLine lines
-lines_allowed [] may healthy = tt
-lines_allowed (line ∷ lines) may healthy = (may.0 healthy.0, lines_allowed lines may.1 healthy.1)
-
-pub snapshot_allowed : (m : Snapshot) (lines : List LineState) → m.unit ≡ 8 → FitImage (length m.lines) → lines ≡ m.lines → AllByRecursion (λ line. IsHealthyLine line → IsImageLine line) lines → AllByRecursion IsHealthyLine m.lines → IsSnapshot m
-snapshot_allowed m lines unit fit same may healthy = record { unit = unit; count = fit; whole = lines_allowed m.lines (subst (AllByRecursion (λ line. IsHealthyLine line → IsImageLine line)) same may) healthy }
+-- lines that are an image's, so many, and the bytes of a word
+pub snapshot_allowed : (m : Snapshot) (lines : List LineState) → m.unit ≡ 8 → FitImage (length m.lines) → lines ≡ m.lines → AllByRecursion IsImageLine lines → IsSnapshot m
+snapshot_allowed m lines unit fit same whole = record { unit = unit; count = fit; whole = subst (AllByRecursion IsImageLine) same whole }
 
 -- the fields one after another
 pub written : (m : Snapshot) (none magic unit count out : List ℕ) (n : ℕ) (lines : List LineState) → none ≡ [] → magic ≡ none ++ image_magic → unit ≡ magic ++ number_text m.unit → n ≡ length m.lines → count ≡ unit ++ number_text n

@@ -60,10 +60,6 @@ pub record IsLastImage (m : Medium) (lines : List LineState) : Type 0 where
   pub count : length lines ≡ m.count
   pub shows : (n : ℕ) (line : LineState) → slice_get lines n ≡ Some line → Shows m n line
 
--- no line of the device is bad or weak
-abbrev pub AreLinesGood : Medium → Type 0
-AreLinesGood m = (n : ℕ) → n < m.count → (m.is_bad n ≡ false) × (m.is_weak n ≡ false)
-
 -- the marks of the lines, and of each healthy word the last value
 pub record DepictsLast (m : Medium) (image : Image) : Type 0 where
   pub count : image.count ≡ m.count

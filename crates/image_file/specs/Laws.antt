@@ -1,6 +1,6 @@
 -- Laws of images and their bytes, and worked images.
 use Rattle.std.specs.Prelude.{◌≡◌, ◌+◌, ◌<◌, ℕ, List, [], ◌∷◌, ◌++◌, take, drop, replicate, slice_index, Some, None}
-use Rattle.line_device.specs.declared.line.LineState.TheVariants.{Healthy}
+use Rattle.line_device.specs.declared.line.LineState.TheVariants.{Healthy, Weak, Bad}
 use Rattle.image_file.specs.Text.{Snapshot, image_text, IsSnapshot}
 use Rattle.image_file.specs.WrongField.{first_wrong_offset}
 
@@ -18,11 +18,15 @@ pub record IsSpelled (bytes : List ℕ) : Type 0 where
 abbrev pub one_line : List ℕ
 one_line = image_text (record { unit = 8; lines = Healthy (replicate 64 0) ∷ [] })
 
+-- an image of a bad line, a weak one and a healthy one
+abbrev pub three_lines : List ℕ
+three_lines = image_text (record { unit = 8; lines = Bad ∷ Weak (replicate 64 0) ∷ Healthy (replicate 64 0) ∷ [] })
+
 -- bytes with another one at a place
 abbrev pub with_byte : ℕ → ℕ → List ℕ → List ℕ
 with_byte place byte bytes = take place bytes ++ byte ∷ drop (place + 1) bytes
 
--- where an image of one line is wrong once it is changed
+-- where images of one line and of three are wrong once they are changed
 pub record ImageRows : Type 0 where
   pub right : first_wrong_offset one_line ≡ None
   pub nothing : first_wrong_offset [] ≡ Some 0
@@ -38,8 +42,19 @@ pub record ImageRows : Type 0 where
   pub tag_of_3 : first_wrong_offset (with_byte 24 3 one_line) ≡ Some 24
   pub no_bytes : first_wrong_offset (take 25 one_line) ≡ Some 25
   pub last_byte_cut : first_wrong_offset (take 88 one_line) ≡ Some 25
-  pub weak : first_wrong_offset (with_byte 24 1 one_line) ≡ Some 24
-  pub bad_with_bytes : first_wrong_offset (with_byte 24 2 one_line) ≡ Some 24
-  pub bad : first_wrong_offset (take 25 (with_byte 24 2 one_line)) ≡ Some 24
+  pub weak : first_wrong_offset (with_byte 24 1 one_line) ≡ None
+  pub weak_without_bytes : first_wrong_offset (take 25 (with_byte 24 1 one_line)) ≡ Some 25
+  pub weak_cut_short : first_wrong_offset (take 88 (with_byte 24 1 one_line)) ≡ Some 25
+  pub bad : first_wrong_offset (take 25 (with_byte 24 2 one_line)) ≡ None
+  pub bad_with_a_byte : first_wrong_offset (take 26 (with_byte 24 2 one_line)) ≡ Some 25
+  pub bad_with_bytes : first_wrong_offset (with_byte 24 2 one_line) ≡ Some 25
   pub second_line_missing : first_wrong_offset (with_byte 16 2 one_line) ≡ Some 89
   pub byte_too_many : first_wrong_offset (one_line ++ 0 ∷ []) ≡ Some 89
+  pub all_three : first_wrong_offset three_lines ≡ None
+  pub second_of_three_missing : first_wrong_offset (take 25 three_lines) ≡ Some 25
+  pub second_of_three_cut : first_wrong_offset (take 89 three_lines) ≡ Some 26
+  pub second_of_three_bad : first_wrong_offset (with_byte 25 2 three_lines) ≡ Some 91
+  pub third_of_three_missing : first_wrong_offset (take 90 three_lines) ≡ Some 90
+  pub third_of_three_cut : first_wrong_offset (take 154 three_lines) ≡ Some 91
+  pub tag_of_255 : first_wrong_offset (with_byte 90 255 three_lines) ≡ Some 90
+  pub byte_behind_three : first_wrong_offset (three_lines ++ 2 ∷ []) ≡ Some 155

@@ -38,18 +38,11 @@ image_head unit lines = image_magic ++ number_text unit ++ number_text lines
 unfoldable pub image_text : Snapshot → List ℕ
 image_text m = image_head m.unit (length m.lines) ++ flat_map line_text m.lines
 
--- a line that is neither weak nor bad
-abbrev pub IsHealthyLine : LineState → Type 0
-IsHealthyLine (Healthy bytes) = Unit {0}
-IsHealthyLine (Weak bytes) = ⊥
-IsHealthyLine Bad = ⊥
-
--- A line that may stand in an image. For the time being that is a healthy one alone, of 64 bytes, although a line's text has
--- three tags: weak and bad lines are let in by their cases here and in tag_len, and by their arms in read_line.
+-- a line that may stand in an image: one of 64 bytes, or a bad one
 abbrev pub IsImageLine : LineState → Type 0
 IsImageLine (Healthy bytes) = length bytes ≡ 64
-IsImageLine (Weak bytes) = ⊥
-IsImageLine Bad = ⊥
+IsImageLine (Weak bytes) = length bytes ≡ 64
+IsImageLine Bad = Unit {0}
 
 -- so many lines may stand in an image
 abbrev pub FitImage : ℕ → Type 0

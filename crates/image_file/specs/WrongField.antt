@@ -4,10 +4,12 @@ use Rattle.std.specs.List.{starts_with}
 use Rattle.byteorder.specs.Endian.{little_number}
 use Rattle.image_file.specs.Text.{image_magic}
 
--- how many bytes follow a line's tag: that of a healthy line, and any other, which may not stand in an image
+-- how many bytes follow the tag of a healthy line, of a weak and of a bad one, and any other, which may not stand in an image
 abbrev pub tag_len : ℕ → Option ℕ
 tag_len zero = Some 64
-tag_len (suc tag) = None
+tag_len (suc zero) = Some 64
+tag_len (suc (suc zero)) = Some 0
+tag_len (suc (suc (suc tag))) = None
 
 -- where the first wrong field of so many lines begins, in the bytes from this offset on
 unfoldable pub wrong_in_lines : ℕ → ℕ → List ℕ → Option ℕ

@@ -3,7 +3,7 @@ ghost use Rattle.std.specs.List.{AllByRecursion, concat};
 ghost use Rattle.line_device.specs.Device.{Depicts};
 ghost use Rattle.line_device.specs.Medium.{IsSound, Medium};
 ghost use Rattle.line_device.specs.declared.line.LineState.{LineState};
-ghost use Rattle.image_file.specs.Devices.{AreLinesGood, DepictsLast, IsLastImage, image_of, medium_of};
+ghost use Rattle.image_file.specs.Devices.{DepictsLast, IsLastImage, image_of, medium_of};
 ghost use Rattle.image_file.specs.Fields.{IsFirstWrong, image_fields};
 ghost use Rattle.image_file.specs.Text.{FitImage, IsImageLine, IsSnapshot, Snapshot, image_text};
 ghost use Rattle.image_file.specs.WrongField.{first_wrong_offset};
@@ -23,7 +23,7 @@ pub fn first_wrong_fields_are_told()
     ensures first { (bytes : List ℕ) (offset : ℕ) → AreFileBytes bytes → first_wrong_offset bytes ≡ Some offset → IsFirstWrong bytes offset }
 {}
 
-/// Where an image of one line is wrong once it is changed.
+/// Where images of one line and of three are wrong once they are changed.
 pub fn worked_images()
     ensures { ImageRows }
 {}
@@ -35,10 +35,10 @@ pub fn installed_lines_are_shown()
     ensures back { (lines : List LineState) → AllByRecursion IsImageLine lines → IsLastImage (medium_of lines) lines }
 {}
 
-/// Laws: lines that were read out have the marks of the device's lines and the last value of each healthy word, and where no
-/// line is bad or weak they may stand in an image.
+/// Laws: lines that were read out have the marks of the device's lines and the last value of each healthy word, and they may
+/// stand in an image.
 pub fn extracted_lines_are_the_last()
     ensures words { (m : Medium) (lines : List LineState) → IsSound m → IsLastImage m lines → DepictsLast m (image_of lines) }
-    ensures image { (m : Medium) (lines : List LineState) → FitImage m.count → AreLinesGood m → IsLastImage m lines
+    ensures image { (m : Medium) (lines : List LineState) → FitImage m.count → IsLastImage m lines
         → IsSnapshot (record { unit = 8; lines = lines }) }
 {}

@@ -1,7 +1,6 @@
 //! The image file: a device's lines as bytes, one spelling for each state of a device.
 // All numbers are of eight bytes, the lowest first. The bytes NVMIMG01; the bytes of a word, 8; how many lines, 1 to
 // 118,016; and then each line: its tag (0 healthy, 1 weak, 2 bad), and its 64 bytes unless it is bad. Nothing follows.
-// For the time being an image is read only if all of its lines are healthy.
 #![tactic(auto)]
 
 mod extracting;

@@ -4,7 +4,7 @@ ghost use Rattle.image_file.specs.Text.{IsSnapshot, Snapshot, image_text};
 ghost use Rattle.image_file.specs.WrongField.{field_number};
 ghost use Rattle.image_file.specs.Results.{GivesImage, ReadsCount, ReadsImage, ReadsLine, ReadsLines};
 
-use crate::{HEALTHY, Image, ImageFault, MAGIC, MOST_LINES, UNIT};
+use crate::{BAD, HEALTHY, Image, ImageFault, MAGIC, MOST_LINES, UNIT, WEAK};
 use byteorder::{ByteOrder, LittleEndian};
 use line_device::{LineList, LineState};
 use std::alloc::Global;
@@ -88,6 +88,11 @@ fn read_line(bytes: &[u8]) -> Result<(LineState, &[u8]), u64>
             Some((line, rest)) => Ok((LineState::Healthy(*line), rest)),
             None => Err(1),
         },
+        [WEAK, rest @ ..] => match line_bytes(rest) {
+            Some((line, rest)) => Ok((LineState::Weak(*line), rest)),
+            None => Err(1),
+        },
+        [BAD, rest @ ..] => Ok((LineState::Bad, rest)),
         [] | [_, ..] => Err(0),
     }
 }

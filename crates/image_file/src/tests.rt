@@ -52,9 +52,9 @@ fn a_changed_field_is_told_by_its_offset(rt: HostRuntime) -> Result<(), Fail> {
         (&[(16, 0), (17, 0xcd), (18, 1)], 328664),
         (&[(16, 0xbf)], 328599),
         (&[(24, 3)], 24),
-        (&[(24, 1)], 24),
-        (&[(24, 2)], 24),
-        (&[(219, 1)], 219),
+        (&[(24, 2)], 25),
+        (&[(219, 2)], 328600),
+        (&[(219, 3)], 219),
     ];
     for (changes, offset) in cases {
         let mut bytes = fresh_bytes(rt.alloc())?;
@@ -103,26 +103,47 @@ fn bytes_that_are_missing_or_too_many_are_told(rt: HostRuntime) -> Result<(), Fa
 }
 
 #[test]
-fn healthy_lines_come_back_and_others_are_refused(rt: HostRuntime) -> Result<(), Fail> {
+fn each_line_is_spelled_by_its_tag_and_comes_back(rt: HostRuntime) -> Result<(), Fail> {
     let cases = [
-        (LineState::Healthy([9; 64]), 65, None),
-        (LineState::Weak([9; 64]), 65, Some(ImageFault::Bad(89))),
-        (LineState::Bad, 1, Some(ImageFault::Bad(89))),
+        (LineState::Healthy([9; 64]), 65, 0),
+        (LineState::Weak([9; 64]), 65, 1),
+        (LineState::Bad, 1, 2),
     ];
-    for (second, bytes_more, fault) in cases {
-        let told = [LineState::Healthy([7; 64]), second];
+    for (line, len, tag) in cases {
+        let told = [line, LineState::Healthy([7; 64])];
         let mut lines = LineList::new(rt.alloc());
         lines.extend(&told)?;
         let bytes = write(rt.alloc(), &Image { unit: 8, lines })?;
-        assert_eq!(rt; bytes.len(), 24 + 65 + bytes_more);
-        match read(rt.alloc(), bytes.as_slice()) {
-            Ok(image) => {
-                assert_eq!(rt; image.unit, 8);
-                assert_eq!(rt; image.lines.as_slice(), told.as_slice());
-                assert_eq!(rt; fault, None);
-            }
-            Err(told) => assert_eq!(rt; Some(told), fault),
-        }
+        assert_eq!(rt; bytes.len(), 24 + len + 65);
+        assert_eq!(rt; bytes.as_slice().get(24).copied(), Some(tag));
+        let image = match read(rt.alloc(), bytes.as_slice()) {
+            Ok(image) => image,
+            Err(_) => return Err("the image is read".into()),
+        };
+        assert_eq!(rt; image.unit, 8);
+        assert_eq!(rt; image.lines.as_slice(), told.as_slice());
     }
+    Ok(())
+}
+
+#[test]
+fn a_weak_line_has_bytes_and_a_bad_one_none(rt: HostRuntime) -> Result<(), Fail> {
+    let mut lines = LineList::new(rt.alloc());
+    lines.extend(&[LineState::Weak([9; 64]), LineState::Bad])?;
+    let mut bytes = write(rt.alloc(), &Image { unit: 8, lines })?;
+    assert_eq!(rt; fault_of(rt.alloc(), bytes.as_slice()), None);
+    for (len, offset) in [(24, 24), (25, 25), (88, 25), (89, 89)] {
+        let part = bytes.as_slice().get(..len).ok_or("the image is longer")?;
+        assert_eq!(rt;
+            fault_of(rt.alloc(), part),
+            Some(ImageFault::Bad(offset)),
+            "{len}"
+        );
+    }
+    bytes.extend(&[9; 64])?;
+    assert_eq!(rt;
+        fault_of(rt.alloc(), bytes.as_slice()),
+        Some(ImageFault::Bad(90))
+    );
     Ok(())
 }

@@ -1,7 +1,7 @@
 // An image as bytes.
 ghost use Rattle.std.specs.Prelude.{◌≡◌, ◌++◌, OnOk, IfOk, length};
 ghost use Rattle.std.specs.List.{AllByRecursion, flat_map};
-ghost use Rattle.image_file.specs.Text.{FitImage, IsHealthyLine, IsImageLine, IsSnapshot, image_text, line_text, number_text, snapshot_of};
+ghost use Rattle.image_file.specs.Text.{FitImage, IsImageLine, IsSnapshot, image_text, line_text, number_text, snapshot_of};
 
 use crate::{BAD, HEALTHY, Image, MAGIC, WEAK};
 use byteorder::{ByteOrder, LittleEndian};
@@ -9,12 +9,12 @@ use line_device::LineState;
 use nvm_base::Bytes;
 use std::alloc::{AllocError, Global};
 
-/// The image's bytes. Weak and bad lines are spelled too, but no image that has some is read.
+/// The image's bytes.
 pub fn write(alloc: Global, image: &Image) -> Result<Bytes, AllocError>
     requires unit { image.now.unit ≡ 8 }
     requires lines { FitImage (length image.now.lines.items) }
     ensures text { IfOk result (λ out. out.items ≡ image_text (snapshot_of image.now)) }
-    ensures image { OnOk result (AllByRecursion IsHealthyLine image.now.lines.items → IsSnapshot (snapshot_of image.now)) }
+    ensures image { OnOk result (IsSnapshot (snapshot_of image.now)) }
 {
     let mut out = Bytes::new(alloc);
     out.reserve(24 + 65 * image.lines.len())?;
@@ -35,7 +35,7 @@ fn write_number(n: u64, out: &mut Bytes) -> Result<(), AllocError>
 
 fn write_lines(lines: &[LineState], out: &mut Bytes) -> Result<(), AllocError>
     ensures text { OnOk result (out.new.items ≡ out.old.items ++ flat_map line_text lines.now) }
-    ensures whole { OnOk result (AllByRecursion (λ line. IsHealthyLine line → IsImageLine line) lines.now) }
+    ensures whole { OnOk result (AllByRecursion IsImageLine lines.now) }
 {
     for line in lines {
         write_line(line, out)?;
@@ -45,7 +45,7 @@ fn write_lines(lines: &[LineState], out: &mut Bytes) -> Result<(), AllocError>
 
 fn write_line(line: &LineState, out: &mut Bytes) -> Result<(), AllocError>
     ensures text { OnOk result (out.new.items ≡ out.old.items ++ line_text line.now) }
-    ensures whole { OnOk result (IsHealthyLine line.now → IsImageLine line.now) }
+    ensures whole { OnOk result (IsImageLine line.now) }
 {
     match line {
         LineState::Healthy(bytes) => {

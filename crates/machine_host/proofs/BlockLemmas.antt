@@ -46,8 +46,8 @@ use Rattle.pm_volume.specs.Images.{EachReadsPages}
 use Rattle.pm_volume.specs.Object.{VolumeHolds}
 use Rattle.pm_volume.proofs.StandingLemmas.{LineKept, each_pages-then}
 use Rattle.machine_host.proofs.CallLemmas.{IsPart, comes_of_call, printable_after, serves_of_call, short_told}
-use Rattle.machine_host.proofs.ElsewhereLemmas.{first_not_blocks, kept-beside, layout-beside, pages_elsewhere, strong-beside, volume_apart, volume_holds_elsewhere, volume_serves_elsewhere}
-use Rattle.machine_host.proofs.MetadataLemmas.{good_metadata, metadata-beside, nothing_bad}
+use Rattle.machine_host.proofs.ElsewhereLemmas.{first_not_blocks, kept-beside, layout-beside, pages_elsewhere, volume_apart, volume_holds_elsewhere, volume_serves_elsewhere}
+use Rattle.machine_host.proofs.MetadataLemmas.{metadata-beside, nothing_bad}
 use Rattle.machine_host.proofs.StepLemmas.{DeviceLeft, is_whole, stands_done, whole_pages}
 
 -- what a call on the blocks says, whichever it is
@@ -132,14 +132,14 @@ module _ (host : HostState) (s : BlocksState) (old new : Device) (on : host.mode
     volume_geometry = mounted.volume_geometry;
     volume_settled = mounted.volume_settled;
     volume_serves = volume_serves_elsewhere host.geometry old.medium new.medium serves.layout.valid kept_beside host.volume mounted.volume_geometry
-        (strong-beside (IsBlockLine host.blocks.geo) old.medium new.medium (meta_lines host.volume.geo) outside mounted.volume_serves.strong) outside.count mounted.volume_serves;
+        (λ n below. outside.stays_strong n (mounted.volume_serves.strong n below)) outside.count mounted.volume_serves;
   }
 
   pub served_after : (served : object.BlocksServe s new.medium) → s.geo ≡ host.blocks.geo → EachReads host.geometry new.medium (λ bs. bs ≡ blocks_of s new.medium)
   served_after served geo =
       let same = geo ∙ mounted.geometry in
       subst (λ g. EachReads g new.medium (λ bs. bs ≡ blocks_of s new.medium)) same
-      (served_reads s new.medium (subst (λ g. HasGoodMetadata g new.medium) (sym same) (good_metadata host.geometry new.medium layout_after)) served)
+      (served_reads s new.medium (subst (λ g. HasGoodMetadata g new.medium) (sym same) layout_after.good) served)
 
 -- A call on the blocks comes to what the machine makes of it: done, refused, or interrupted.
 module _ (host : HostState) (s : BlocksState) (action : Action) (calls persists : ℕ) (h : Machine) (few : calls ≤ (spending h action).calls) (few_persists : persists ≤ (spending h action).persists)
@@ -227,7 +227,7 @@ called state host s r P calls persists before after untouched images outside ser
 
 -- where nothing is bad, no line of metadata refuses
 pub no_meta : (geo : Geometry) (m : Medium) → HasLayout geo m → blocks.meta_refusal geo m ≡ None
-no_meta geo m layout = ap (option_map Meta) (none_below m.is_bad (meta_lines geo) (good_metadata geo m layout))
+no_meta geo m layout = ap (option_map Meta) (none_below m.is_bad (meta_lines geo) layout.good)
 
 -- of a state that the host stands for, the refusals of the blocks are the machine's
 module _ (host : HostState) (old : Device) (h : Machine) (serves : HostServes host old) (stands : Stands host old h) (on : host.mode ≡ On) where

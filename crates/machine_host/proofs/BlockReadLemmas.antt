@@ -37,7 +37,6 @@ use Rattle.reply_text.specs.Room.{most_of}
 use Rattle.machine_host.proofs.BlockLemmas.{Called, host_after, blocks_part, change_serves, change_comes}
 use Rattle.machine_host.proofs.CallLemmas.{printable_told, short_told}
 use Rattle.block_device.specs.Refusals.{block_says}
-use Rattle.machine_host.proofs.MetadataLemmas.{good_metadata}
 
 -- a buffer that a call filled
 pub refilled : (items out : List ℕ) → length out ≡ length items → take (length items) (out ++ drop (length out) items) ≡ out
@@ -117,7 +116,7 @@ module _ (now host after : HostState) (s : BlocksState) (r : Result (Unit {0}) B
       let served_was = subst (λ k. ServesBlocks k.blocks old.medium) (sym inside) (serves.mounted on).serves in
       each_reads-write_back host.blocks.geo old.medium new.medium may layout.valid lines
       (each_reads-then host.blocks.geo old.medium (λ bs. bs ≡ blocks_of host.blocks old.medium) may (λ bs e. e)
-      (served_reads host.blocks old.medium (good_metadata host.blocks.geo old.medium layout) served_was))
+      (served_reads host.blocks old.medium layout.good served_was))
 
   call : Called host s r may calls 0 old new
   call = record {

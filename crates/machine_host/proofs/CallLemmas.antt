@@ -33,6 +33,11 @@ told_stays (Refuses why) w e = refl
 told_stays (Stops by) w e = cc e
 told_stays Starves w e = cc e
 
+-- what holds where a call was refused
+pub on_refused-then : {T E R P Q : Type 0} (says : E → Told R) (r : Result T E) → (P → Q) → OnRefused says r P → OnRefused says r Q
+on_refused-then says (Ok x) then_ p = tt
+on_refused-then says (Err f) then_ p = λ told. then_ (p told)
+
 -- what a call is answered that gives no bytes is short
 pub short_told : {R : Type 0} (answer : R → Answer) → ((w : R) → most_of (answer w) ≤ 64) → (t : Told R) → most_of (told_answer answer t) ≤ 64
 short_told answer short (Refuses why) = short why

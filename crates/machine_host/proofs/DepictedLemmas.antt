@@ -1,5 +1,5 @@
 -- What blocks and pages read as where the power just came back: each word has one value.
-use Rattle.std.proofs.Common.{◌≡◌, ℕ, inl, inr, ◌/◌, ◌<◌, ◌==◌, Bool, None, List, length, map, take, refl, sym, ◌∙◌, ap, subst, arith}
+use Rattle.std.proofs.Common.{◌≡◌, ℕ, inl, inr, ◌/◌, ◌<◌, ◌==◌, Bool, false, None, List, length, map, take, refl, sym, ◌∙◌, ap, subst, arith}
 use Rattle.std.proofs.lemmas.List.{length-map}
 use Rattle.line_device.specs.History.{newest, IsIn}
 use Rattle.line_device.specs.Medium.{Medium, IsSound, Survivors, last_image}
@@ -26,6 +26,7 @@ use Rattle.block_device.specs.Reading.{map_read, states_read, blocks_read}
 use Rattle.block_device.specs.Images.{IsBlockImage, ReadsAs, EachReads, AreReadable, KeepsReads}
 use Rattle.block_device.proofs.AreaLemmas.{area_shaped}
 use Rattle.block_device.proofs.FrameLemmas.{length-states_read}
+use Rattle.block_device.proofs.PlaceLemmas as block
 use Rattle.block_device.proofs.PlaceLemmas.{area_is_block, data_on_device, named_is_data}
 use Rattle.block_device.proofs.ReadLemmas.{list_from-cong, map_read-same}
 use Rattle.block_device.proofs.ReachLemmas.{states_read-replays}
@@ -35,6 +36,7 @@ use Rattle.pm_volume.specs.Device.{device_pages}
 use Rattle.pm_volume.specs.Object.{VolumeState, VolumeHolds}
 use Rattle.pm_volume.specs.Presence.{presence_read, words_read}
 use Rattle.pm_volume.proofs.DeviceLemmas.{device_pages-stand, presence_of-device}
+use Rattle.pm_volume.proofs.AreaLemmas.{area_in_metadata}
 use Rattle.pm_volume.proofs.StandingLemmas.{line_of_volume, pages-kept, volume_shaped}
 use Rattle.recovery.specs.Mounting.{IsOfLogs}
 use Rattle.machine_host.specs.Lines.{HasLayout}
@@ -52,10 +54,9 @@ module _ (geo : Geometry) (m : Medium) (image : Image) (layout : HasLayout geo m
   there n below = subst (λ c. n < c) (sym layout.lines) below
 
   -- an image of such lines has their values
-  word_is : (word : ℕ → ℕ) → IsBlockImage geo m word → (p : ℕ) → IsBlockPlace geo p → image.word p ≡ word p
-  word_is word is p of =
+  word_is : (word : ℕ → ℕ) → IsBlockImage geo m word → (p : ℕ) → IsBlockPlace geo p → m.is_bad (p / 8) ≡ false → image.word p ≡ word p
+  word_is word is p of good =
       let on = there (p / 8) (block_on_device geo layout.valid (p / 8) of) in
-      let good = (layout.intact (p / 8) on).0 in
       sym (is_in-one (word p) (image.word p) (subst (IsIn (word p)) (shows.words p (on, good)) (is p of good)))
 
   -- so each reads as the image that was told
@@ -65,13 +66,13 @@ module _ (geo : Geometry) (m : Medium) (image : Image) (layout : HasLayout geo m
       let states : List BlockState = states_read geo word in
       let area = block_area geo in
       let own : Replays area word (replayed area word) = record { valid = r.log; home = λ p _. refl } in
-      let told = replays-same area image.word word (replayed area word) (area_shaped geo layout.valid) (λ p of. word_is word is p (area_is_block geo layout.valid p of)) own in
+      let told = replays-same area image.word word (replayed area word) (area_shaped geo layout.valid) (λ p of. word_is word is p (area_is_block geo layout.valid p of) (layout.good (p / 8) (block.area_in_metadata geo layout.valid p of))) own in
       let same : states_read geo image.word ≡ states = states_read-replays geo image.word word layout.valid told in
       sym (
       ap (map_read geo image.is_bad image.word) same
       ∙ map_read-same geo m.is_bad image.is_bad word image.word states
       (λ n named. shows.bad n (there n (data_on_device geo layout.valid n (named_is_data geo layout.valid states n (length-states_read geo word) r.map named))))
-      (λ p named _. word_is word is p (inr (inr (named_is_data geo layout.valid states (p / 8) (length-states_read geo word) r.map named))))
+      (λ p named good. word_is word is p (inr (inr (named_is_data geo layout.valid states (p / 8) (length-states_read geo word) r.map named))) good)
       )
 
   -- and after a mount too, however it ended
@@ -83,7 +84,7 @@ module _ (geo : Geometry) (m : Medium) (image : Image) (layout : HasLayout geo m
       record { log = r.log; map = r.map; durable = r.durable; blocks = r.blocks ∙ blocks_depicted kept.before (λ _. Unit {0}) kept.was was }
 
   -- the power could have come back to such lines
-  survives : Survivors Lasts m m
+  pub survives : Survivors Lasts m m
   survives = record {
     count = refl;
     bad = λ n. refl;
@@ -125,7 +126,7 @@ module _ (geo : Geometry) (m : Medium) (image : Image) (layout : HasLayout geo m
       same : (p : ℕ) → IsOf (volume_area geo) p → image.word p ≡ word p
       same p of =
           let on = there (p / 8) (volume_within geo (p / 8) (area_of_volume geo p layout.valid of)) in
-          sym (is_in-one (word p) (image.word p) (subst (IsIn (word p)) (shows.words p (on, (layout.intact (p / 8) on).0)) (is p of)))
+          sym (is_in-one (word p) (image.word p) (subst (IsIn (word p)) (shows.words p (on, layout.good (p / 8) (area_in_metadata geo layout.valid p of))) (is p of)))
 
   -- The volume that was mounted there stands for the pages that are read.
   pub holds_depicted : (new : Medium) (v : VolumeState) → IsSound m → first_wrong (volume_area geo) (last_image m) ≡ None → WritesBackOutside (IsOfLogs geo) m new → v.geo ≡ geo

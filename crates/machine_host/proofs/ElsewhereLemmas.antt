@@ -17,9 +17,10 @@ use Rattle.nvm_model.specs.Lines.{AreStrong}
 use Rattle.nvm_model.specs.Page.{Page}
 use Rattle.block_device.specs.Area.{block_area, IsBlockLine, IsBlockPlace}
 use Rattle.block_device.specs.Object.{BlocksState, BlocksServe, blocks_of}
-use Rattle.block_device.proofs.ReadLemmas.{map_read-outside}
-use Rattle.block_device.proofs.PlaceLemmas.{area_is_block, named_is_data}
-use Rattle.block_device.proofs.ServesLemmas.{serves-outside}
+use Rattle.block_device.proofs.ReadLemmas.{Stays}
+use Rattle.block_device.proofs.PlaceLemmas.{area_is_block}
+use Rattle.block_device.proofs.ServesLemmas.{serves-stays, serves-write_back}
+use Rattle.page_lines.specs.Turns.{WritesBackOthers}
 use Rattle.pm_volume.specs.Area.{IsOfVolume, IsVolumePlace, volume_area}
 use Rattle.pm_volume.specs.Images.{EachReadsPages}
 use Rattle.pm_volume.specs.Object.{VolumeState, VolumeHolds, VolumeServes}
@@ -93,23 +94,8 @@ pub layout-beside : (geo : Geometry) (lines : ℕ → Type 0) (old new : Medium)
 layout-beside geo lines old new layout x = record {
   valid = layout.valid;
   lines = x.count ∙ layout.lines;
-  intact = λ n below. let was = layout.intact n (subst (λ c. n < c) x.count below) in (x.stays_good n was.0, λ behind. x.stays_strong n (was.1 behind));
+  good = λ n below. x.stays_good n (layout.good n below);
 }
-
--- mounted blocks stay so, and stand for the same
-blocks_mounted-outside : (geo : Geometry) (s : BlocksState) (inside : ℕ → Type 0) (old new : Medium) → ((p : ℕ) → IsBlockPlace geo p → inside p → ⊥)
-    → WritesBackOutside inside old new → s.geo ≡ geo → BlocksServe s old → BlocksServe s new
-blocks_mounted-outside geo s inside old new apart x same serves =
-    serves-outside s inside old new serves.valid
-    (λ p of. apart p (subst (λ g. IsBlockPlace g p) same (area_is_block s.geo serves.valid p of)))
-    (λ p named. apart p (subst (λ g. IsBlockPlace g p) same (inr (inr (named_is_data s.geo serves.valid s.map (p / 8) serves.all serves.is_map named)))))
-    x serves
-
-pub blocks_of-outside : (geo : Geometry) (s : BlocksState) (inside : ℕ → Type 0) (old new : Medium) → ((p : ℕ) → IsBlockPlace geo p → inside p → ⊥)
-    → WritesBackOutside inside old new → s.geo ≡ geo → BlocksServe s old → blocks_of s new ≡ blocks_of s old
-blocks_of-outside geo s inside old new apart x same serves =
-    map_read-outside s.geo s.map old new inside x
-    (λ p named. apart p (subst (λ g. IsBlockPlace g p) same (inr (inr (named_is_data s.geo serves.valid s.map (p / 8) serves.all serves.is_map named)))))
 
 -- Lines that are not worked on are kept: words of the volume by places, and beside lines.
 pub kept-outside : (inside : ℕ → Type 0) (old new : Medium) (line : ℕ) → ((p : ℕ) → p / 8 ≡ line → inside p → ⊥) → WritesBackOutside inside old new → LineKept old new line
@@ -125,6 +111,16 @@ kept-beside lines old new line apart x = record {
   weak = x.weak line apart;
   words = λ p at. subst (λ n. WordWritesBack (old.is_weak n) (old.history p) (new.history p)) at (x.word_write_back p (λ of. apart (subst lines at of)));
 }
+
+pub kept-others : (lines : ℕ → Type 0) (old new : Medium) (line : ℕ) → (lines line → ⊥) → WritesBackOthers lines old new → LineKept old new line
+kept-others lines old new line apart x = record {
+  bad = x.bad line apart;
+  weak = x.weak line apart;
+  words = λ p at. subst (λ n. WordWritesBack (old.is_weak n) (old.history p) (new.history p)) at (x.word_write_back p (λ of. apart (subst lines at of)));
+}
+
+pub stays_of_kept : (old new : Medium) (line : ℕ) → LineKept old new line → Stays old new line
+stays_of_kept old new line kept = record { bad = kept.bad; word_write_back = kept.words }
 
 -- a mount leaves the lines of pages, but for write-back
 pub range_kept : (geo : Geometry) (old new : Medium) → IsValid geo → WritesBackOutside (IsOfLogs geo) old new → (n : ℕ) → n < 64 * geo.vpages → LineKept old new (volume_line geo n)
@@ -151,19 +147,12 @@ module _ (geo : Geometry) (old new : Medium) (valid : IsValid geo) (kept : (line
         (λ n lt. subst (λ g. LineKept old new (volume_line g n)) (sym same) (kept (volume_line geo n) (line_of_range geo n (subst (λ g. n < 64 * g.vpages) same lt)))) holds.stand;
   }
 
--- no metadata line becomes weak
-pub strong-outside : (inside : ℕ → Type 0) (old new : Medium) (lines : ℕ) → WritesBackOutside inside old new → AreStrong old lines → AreStrong new lines
-strong-outside inside old new lines x strong n below = x.weak n ∙ strong n below
-
-pub strong-beside : (inside : ℕ → Type 0) (old new : Medium) (lines : ℕ) → WritesBackBeside inside old new → AreStrong old lines → AreStrong new lines
-strong-beside inside old new lines x strong n below = x.stays_strong n (strong n below)
-
 -- what is mounted stays so where all lines are only written back
 pub mounted-write_back : (geo : Geometry) (b : BlocksState) (v : VolumeState) (old new : Medium) → IsValid geo → WritesBack old new → AreMounted geo b v old → AreMounted geo b v new
 mounted-write_back geo b v old new valid w mounted = record {
   geometry = mounted.geometry;
   settled = mounted.settled;
-  serves = blocks_mounted-outside geo b (λ _. ⊥) old new (λ p of at. at) (outside-write_back (λ _. ⊥) old new w) mounted.geometry mounted.serves;
+  serves = serves-write_back b old new w mounted.serves;
   volume_geometry = mounted.volume_geometry;
   volume_settled = mounted.volume_settled;
   volume_serves = volume_serves_elsewhere geo old new valid (λ line of. line_kept-write_back old new line w) v mounted.volume_geometry
@@ -171,12 +160,12 @@ mounted-write_back geo b v old new valid w mounted = record {
 }
 
 -- work on the volume leaves mounted blocks
-pub mounted-worked : (geo : Geometry) (b : BlocksState) (v w : VolumeState) (old new : Medium) → IsValid geo → WritesBackOutside (IsVolumePlace geo) old new → AreMounted geo b v old
-    → w.geo ≡ v.geo → IsTrue w.settled → VolumeServes w new → AreMounted geo b w new
-mounted-worked geo b v w old new valid x mounted same settled serves = record {
+pub mounted-worked : (geo : Geometry) (b : BlocksState) (v w : VolumeState) (old new : Medium) → ((n : ℕ) → IsBlockLine geo n → Stays old new n) → AreStrong new (meta_lines geo)
+    → new.count ≡ old.count → AreMounted geo b v old → w.geo ≡ v.geo → IsTrue w.settled → VolumeServes w new → AreMounted geo b w new
+mounted-worked geo b v w old new stays strong count mounted same settled serves = record {
   geometry = mounted.geometry;
   settled = mounted.settled;
-  serves = blocks_mounted-outside geo b (IsVolumePlace geo) old new (λ p of_blocks of_volume. volume_apart geo (p / 8) valid of_volume of_blocks) x mounted.geometry mounted.serves;
+  serves = serves-stays b old new (λ n of. stays n (subst (λ g. IsBlockLine g n) mounted.geometry of)) (subst (λ g. AreStrong new (meta_lines g)) (sym mounted.geometry) strong) count mounted.serves;
   volume_geometry = same ∙ mounted.volume_geometry;
   volume_settled = settled;
   volume_serves = serves;

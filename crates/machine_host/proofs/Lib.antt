@@ -19,9 +19,12 @@ pub mod PartLemmas
 pub mod PageRunLemmas
 pub mod MountLemmas
 pub mod MountedLemmas
+pub mod BackLemmas
 pub mod RestartLemmas
 pub mod RestartAnswerLemmas
 pub mod RemountLemmas
 pub mod SettlingLemmas
 pub mod VolumeFateLemmas
 pub mod LoadLemmas
+pub mod MediaLemmas
+pub mod LineLemmas

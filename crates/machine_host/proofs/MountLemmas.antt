@@ -37,27 +37,22 @@ use Rattle.word_log.specs.Rest.{IsImageOn}
 use Rattle.nvm_model.specs.Page.{is_present, presence_of}
 use Rattle.pm_volume.specs.Area.{volume_area}
 use Rattle.pm_volume.specs.Images.{ReadsPages, EachReadsPages}
+use Rattle.pm_volume.proofs.AreaLemmas.{area_in_metadata}
 use Rattle.pm_volume.specs.Presence.{wrong_volume_place}
 use Rattle.pm_volume.proofs.StandingLemmas.{nothing_wrong}
 use Rattle.recovery.specs.declared.fault.MountFault.{MountFault}
 use Rattle.recovery.specs.declared.fault.MountFault.TheVariants as fault
 use Rattle.recovery.proofs.FindingLemmas.{all_right, early_none as both_none, is_superblock, nothing_early, nothing_found}
-use Rattle.recovery.proofs.SuperblockLemmas.{early_none, some_lines, superblock_told, superblock-outside}
-use Rattle.machine_host.specs.Lines.{HasGoodData, HasLayout}
+use Rattle.recovery.proofs.SuperblockLemmas.{early_none, some_lines, some_meta, superblock_told, superblock-outside}
+use Rattle.machine_host.specs.Lines.{HasLayout}
 use Rattle.machine_host.specs.Stands.{IsFlushed, MetadataStands}
 use Rattle.machine_host.specs.Costs.{mount_calls, mount_persists}
-use Rattle.machine_host.proofs.MetadataLemmas.{good_metadata, none_bad}
+use Rattle.machine_host.proofs.MetadataLemmas.{none_bad}
 use Rattle.machine_host.proofs.ElsewhereLemmas.{area_of_volume, first_not_blocks, first_not_volume, volume_within}
 
 -- there is a first line
 pub line_zero : (geo : Geometry) (m : Medium) → HasLayout geo m → 1 ≤ m.count
 line_zero geo m layout = omega (arith, layout.lines, some_lines geo)
-
--- no line is bad or weak, where none of metadata is weak
-pub all_intact : (geo : Geometry) (m : Medium) → HasLayout geo m → HasStrongMetadata geo m → IsIntact m
-all_intact geo m layout strong n there =
-    let line = layout.intact n there in
-    (line.0, elim (cases_lt n (meta_lines geo)) as (λ _. m.is_weak n ≡ false) [ inl below ↦ strong n below | inr behind ↦ line.1 behind ])
 
 -- each word has one value after a restart
 pub flushed-restarted : (choice : Choice) (old new : Medium) → IsSound old → Survivors choice old new → IsFlushed new
@@ -129,16 +124,9 @@ metadata_mounted old new some flushed none x order =
           (λ p below. subst (λ v. IsOnly v (old.history p)) (is.words p below) (flushed p (omega (arith, first_place p below, some))));
     }
 
--- and its layout, where the lines behind were good
-pub layout_mounted : (geo : Geometry) (inside : ℕ → Type 0) (old new : Medium) → IsInOrder geo new → WritesBackOutside inside old new → HasGoodData geo old → HasLayout geo new
-layout_mounted geo inside old new order x good = record {
-  valid = order.valid;
-  lines = order.count;
-  intact = λ n there. elim (cases_lt n (meta_lines geo)) as (λ _. (new.is_bad n ≡ false) × (meta_lines geo ≤ n → new.is_weak n ≡ false)) [
-    | inl below ↦ (order.good n below, λ behind. absurd (omega (arith, below, behind)))
-    | inr behind ↦ let was = good n behind (subst (λ c. n < c) x.count there) in (x.bad n ∙ was.0, λ _. x.weak n ∙ was.1)
-  ];
-}
+-- and its layout
+pub layout_mounted : (geo : Geometry) (new : Medium) → IsInOrder geo new → HasLayout geo new
+layout_mounted geo new order = record { valid = order.valid; lines = order.count; good = order.good }
 
 -- of a device that stands for a state, as a mount sees it: its sizes, and that nothing is found before the log
 pub record IsTold (geo : Geometry) (m : Medium) : Type 0 where
@@ -149,8 +137,8 @@ pub is_told : (geo : Geometry) (m : Medium) (bad_meta : List ℕ) → HasLayout 
 is_told geo m bad_meta layout stands sound =
     let some = line_zero geo m layout in
     record {
-      sizes = superblock_told geo m sound some (layout.intact 0 some).0 stands.superblock layout.valid;
-      early = early_none geo m sound layout.valid layout.lines (good_metadata geo m layout) stands.strong stands.superblock;
+      sizes = superblock_told geo m sound some (layout.good 0 (some_meta geo)) stands.superblock layout.valid;
+      early = early_none geo m sound layout.valid layout.lines layout.good stands.strong stands.superblock;
     }
 
 -- a mount that was stopped, or had no memory
@@ -165,12 +153,12 @@ StopsMount fault.Memory = Unit {0}
 pub volume_image-last : (geo : Geometry) (m : Medium) → IsSound m → HasLayout geo m → IsImageOn (volume_area geo) m (last_image m)
 volume_image-last geo m sound layout p of =
     let on : p / 8 < m.count = subst (λ c. p / 8 < c) (sym layout.lines) (volume_within geo (p / 8) (area_of_volume geo p layout.valid of)) in
-    sound.last p (on, (layout.intact (p / 8) on).0)
+    sound.last p (on, layout.good (p / 8) (area_in_metadata geo layout.valid p of))
 
--- Of such a device a mount is refused by nothing but device, power and memory.
-pub only_stops : {T : Type 0} → (geo : Geometry) (m : Medium) (r : Result T MountFault) → HasLayout geo m → IsTold geo m → IsSound m → AreReadable geo m → EachReadsPages geo m (λ _. Unit {0})
-    → Finds (first_finding m) r → IfErr r StopsMount
-only_stops {T} geo m r layout told sound readable each finds = by_answer r (subst (λ found. Finds found r) nothing finds)
+-- Nothing is wrong with such a device.
+pub nothing_wrong_there : (geo : Geometry) (m : Medium) → HasLayout geo m → IsTold geo m → IsSound m → AreReadable geo m → EachReadsPages geo m (λ _. Unit {0}) → first_finding m ≡ None
+nothing_wrong_there geo m layout told sound readable each =
+    all_right m told.early (ap (λ g. wrong_place g (last_image m)) told.sizes ∙ none_wrong) (ap (λ g. wrong_volume_place g (last_image m)) told.sizes ∙ no_page_wrong)
   where
     none_wrong : wrong_place geo (last_image m) ≡ None
     none_wrong = reads_right geo m (λ _. Unit {0}) (last_image m) (readable (last_image m) (block_image-last geo layout.valid m sound layout.lines))
@@ -181,16 +169,14 @@ only_stops {T} geo m r layout told sound readable each finds = by_answer r (subs
     no_page_wrong : wrong_volume_place geo (last_image m) ≡ None
     no_page_wrong = nothing_wrong geo (last_image m) (presence_of pages.pages) (length-map pages.pages is_present ∙ pages.all) pages.replays
 
-    nothing : first_finding m ≡ None
-    nothing = all_right m told.early (ap (λ g. wrong_place g (last_image m)) told.sizes ∙ none_wrong) (ap (λ g. wrong_volume_place g (last_image m)) told.sizes ∙ no_page_wrong)
-
-    by_answer : (q : Result T MountFault) → Finds None q → IfErr q StopsMount
-    by_answer (Ok x) f = tt
-    by_answer (Err (fault.Meta line)) f = cc f
-    by_answer (Err (fault.Layout at)) f = cc f
-    by_answer (Err fault.Device) f = tt
-    by_answer (Err fault.PowerLost) f = tt
-    by_answer (Err fault.Memory) f = tt
+-- So a mount is refused by nothing but device, power and memory.
+pub only_stops : {T : Type 0} (r : Result T MountFault) → Finds None r → IfErr r StopsMount
+only_stops (Ok x) f = tt
+only_stops (Err (fault.Meta line)) f = cc f
+only_stops (Err (fault.Layout at)) f = cc f
+only_stops (Err fault.Device) f = tt
+only_stops (Err fault.PowerLost) f = tt
+only_stops (Err fault.Memory) f = tt
 
 pub mount_within : (m : Medium) (e : Outcome) (p q : Panel) → Runs (mount_calls_told m) (mount_persists_told m) e p q → Runs mount_calls mount_persists e p q
 mount_within m e p q runs =

@@ -24,11 +24,10 @@ use Rattle.recovery.specs.Findings.{geometry_told, first_finding}
 use Rattle.recovery.specs.Mounting.{IsOfLogs}
 use Rattle.recovery.proofs.FindingLemmas.{early_none as both_none, first_none, good_metadata as good_found, is_superblock, nothing_early, nothing_found}
 use Rattle.machine_host.specs.declared.mode.Mode.TheVariants as modes
-use Rattle.machine_host.specs.Lines.{HasGoodData, HasLayout}
+use Rattle.machine_host.specs.Lines.{HasLayout}
 use Rattle.machine_host.specs.Restarting.{holding, reading}
 use Rattle.machine_host.specs.Stands.{HostState, HostServes, IsFlushed, MetadataStands, Stands, is_powered}
 use Rattle.machine_host.proofs.DepictedLemmas.{blocks_depicted, holds_depicted}
-use Rattle.machine_host.proofs.MetadataLemmas.{good_metadata}
 use Rattle.machine_host.proofs.MountLemmas.{durable_flushed, found_map}
 
 -- Once blocks and volume are mounted, host and device stand for them.
@@ -37,7 +36,7 @@ pub stands_mounted : (host : HostState) (d : Device) (pages : List Page) → hos
 unfolding reading
 stands_mounted host d pages on serves metadata holds =
     let mounted = serves.mounted on in
-    let good = subst (λ g. HasGoodMetadata g d.medium) (sym mounted.geometry) (good_metadata host.geometry d.medium serves.layout) in
+    let good = subst (λ g. HasGoodMetadata g d.medium) (sym mounted.geometry) serves.layout.good in
     record {
       geometry = refl;
       mode = on;
@@ -55,19 +54,11 @@ stands_mounted host d pages on serves metadata holds =
     }
 
 -- a medium on which nothing is found has the layout that it tells, where its other lines are good
-pub layout_found : (m : Medium) → first_finding m ≡ None → HasGoodData (geometry_told m) m → HasLayout (geometry_told m) m
-layout_found m none good =
-    let geo = geometry_told m in
+pub layout_found : (m : Medium) → first_finding m ≡ None → HasLayout (geometry_told m) m
+layout_found m none =
     let early = both_none m (nothing_early m none) in
     let is = is_superblock m early.0 in
-    record {
-      valid = is.valid;
-      lines = is.count;
-      intact = λ n there. elim (cases_lt n (meta_lines geo)) as (λ _. (m.is_bad n ≡ false) × (meta_lines geo ≤ n → m.is_weak n ≡ false)) [
-        | inl below ↦ (good_found geo m early.1 n below, λ behind. absurd (omega (arith, below, behind)))
-        | inr behind ↦ let line = good n behind there in (line.0, λ _. line.1)
-      ];
-    }
+    record { valid = is.valid; lines = is.count; good = good_found (geometry_told m) m early.1 }
 
 -- its last values are blocks, and a valid log of the volume
 blocks_found : (m : Medium) → IsFlushed m → first_finding m ≡ None → ReadsAs (geometry_told m) m (λ _. Unit {0}) (last_image m)
@@ -86,16 +77,16 @@ volume_found m none =
 
 -- A host that mounted a device stands for what is read there, where each word had one value.
 pub stands_found : (host : HostState) (old new : Device) (image : Image) → IsSound old.medium → IsFlushed old.medium → first_finding old.medium ≡ None → Depicts old.medium image
-    → HasGoodData (geometry_told old.medium) old.medium → host.geometry ≡ geometry_told old.medium → host.mode ≡ modes.On
+    → host.geometry ≡ geometry_told old.medium → host.mode ≡ modes.On
     → blocks_of host.blocks new.medium ≡ blocks_read (geometry_told old.medium) old.medium.is_bad (last_image old.medium)
     → host.volume.present ≡ presence_read (geometry_told old.medium) (last_image old.medium) → WritesBackOutside (IsOfLogs (geometry_told old.medium)) old.medium new.medium
     → MetadataStands host.geometry new.medium [] → HostServes host new
     → Stands host new (record (reading (geometry_told old.medium) image) { cut_armed = new.panel.cut_armed; fail_armed = new.panel.fail_armed })
 unfolding reading
-stands_found host old new image sound flushed none shows good sizes on blocks present outside metadata serves =
+stands_found host old new image sound flushed none shows sizes on blocks present outside metadata serves =
     let m = old.medium in
     let geo = geometry_told m in
-    let layout = layout_found m none good in
+    let layout = layout_found m none in
     let pages = read_pages (volume_line geo) image (presence_read geo image.word) in
     let read = blocks ∙ blocks_depicted geo m image layout shows (last_image m) (λ _. Unit {0}) (block_image-last geo layout.valid m sound layout.lines) (blocks_found m flushed none) in
     let holds = holds_depicted geo m image layout shows new.medium host.volume sound (volume_found m none) outside ((serves.mounted on).volume_geometry ∙ sizes) present in

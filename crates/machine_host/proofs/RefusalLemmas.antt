@@ -8,7 +8,7 @@ use Rattle.nvm_model.specs.Storage.{Block}
 use Rattle.block_device.specs.Refusals.{Refusal}
 use Rattle.block_device.specs.Refusals.Refusal.{Unreadable}
 use Rattle.script_text.specs.Action.{Action}
-use Rattle.script_text.specs.Action.Action.{BRead, BWrite, BAtomic, BMulti, BDiscard, BDiscardIf, BExists, BScar, VLoad, VStore, VSync, VRanges, VPSync, VDiscard, VDiscardIf, VExists, Cut, CutIn, Restart}
+use Rattle.script_text.specs.Action.Action.{BRead, BWrite, BAtomic, BMulti, BDiscard, BDiscardIf, BExists, BScar, VLoad, VStore, VSync, VRanges, VPSync, VDiscard, VDiscardIf, VExists, PoisonBlock, PoisonVolume, WeakenVolume, ClearVolume, Cut, CutIn, Restart}
 use Rattle.reply_text.specs.declared.reply.Why.{Why}
 use Rattle.reply_text.specs.declared.reply.Why.TheVariants.{Range, Length, Limit}
 use Rattle.reply_text.specs.Answer.Answer.{Done, Bytes, Refused}
@@ -124,6 +124,10 @@ places_refused h (VPSync address len) why is = cc is
 places_refused h (VDiscard page count) why is = cc is
 places_refused h (VDiscardIf page count) why is = cc is
 places_refused h (VExists page) why is = cc is
+places_refused h (PoisonBlock block line) why is = cc is
+places_refused h (PoisonVolume offset) why is = cc is
+places_refused h (WeakenVolume offset) why is = cc is
+places_refused h (ClearVolume offset) why is = cc is
 places_refused h Cut why is = cc is
 places_refused h (CutIn calls) why is = (refl, ap (option_map Refused) is)
 places_refused h (Restart choice) why is = cc is

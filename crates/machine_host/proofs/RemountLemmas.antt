@@ -38,7 +38,7 @@ use Rattle.machine_host.specs.Stands.{HostState, HostServes, MetadataStands, Sta
 use Rattle.machine_host.specs.Settling.{Asks, IsQuiet, IsSettled, StaysUnmounted, Settled, SettlesTo, disarmed}
 use Rattle.machine_host.proofs.ElsewhereLemmas.{range_kept}
 use Rattle.machine_host.proofs.MetadataLemmas.{metadata-outside, nothing_bad}
-use Rattle.machine_host.proofs.MountLemmas.{StopsMount, IsTold, first_not_area, is_told, only_stops, volume_image-last}
+use Rattle.machine_host.proofs.MountLemmas.{StopsMount, IsTold, first_not_area, is_told, nothing_wrong_there, only_stops, volume_image-last}
 use Rattle.machine_host.proofs.MountedLemmas.{stands_mounted}
 use Rattle.machine_host.proofs.RestartLemmas.{IsMount}
 use Rattle.machine_host.proofs.VolumeLemmas.{has_layout-outside}
@@ -100,7 +100,9 @@ module _ (host : HostState) (old new : Device) (serves : HostServes host old) (u
     -- and nothing else keeps it from being done than memory
     stops_alone : {T : Type 0} (r : Result T MountFault) → Finds (first_finding old.medium) r → IfErr r StopsMount
     stops_alone r finds =
-        only_stops geo old.medium r layout told sound readable (each_pages-then geo old.medium (MayLeaveVolume geo h.interrupted h.volume) (λ _. Unit {0}) (λ _ _. tt) stands.device.volume) finds
+        only_stops r
+        (subst (λ found. Finds found r)
+        (nothing_wrong_there geo old.medium layout told sound readable (each_pages-then geo old.medium (MayLeaveVolume geo h.interrupted h.volume) (λ _. Unit {0}) (λ _ _. tt) stands.device.volume)) finds)
 
     metadata : MetadataStands geo new.medium h.bad_meta
     metadata = metadata-outside geo h.bad_meta old.medium new.medium stands.device.metadata (IsOfLogs geo) outside (first_not_area geo layout.valid)

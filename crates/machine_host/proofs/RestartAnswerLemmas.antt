@@ -30,7 +30,7 @@ use Rattle.machine_host.specs.Commands.{fate}
 use Rattle.machine_host.specs.Interrupted.{interrupted_answer, interrupted_mode}
 use Rattle.machine_host.specs.Costs.{mount_calls, mount_persists}
 use Rattle.machine_host.specs.Stands.{HostState, HostServes, Stands, Comes, is_powered}
-use Rattle.machine_host.specs.Faults.{unmounted_answer, unmounted_mode}
+use Rattle.machine_host.specs.Faults.{CountsBad, unmounted_answer, unmounted_mode}
 use Rattle.machine_host.specs.Responding.{Answered, Responds}
 use Rattle.machine_host.proofs.CostLemmas.{opens-runs}
 use Rattle.machine_host.specs.Meaning.{mode_refusal}
@@ -96,15 +96,16 @@ module _ (now host after : HostState) (choice : Choice) (old mid new : Device) (
   pub restart_mounted : (found : Geometry) (s : BlocksState) (v : VolumeState) (answer : Answer) → Runs mount_calls mount_persists went mid.panel new.panel → found ≡ geometry_told mid.medium
       → s.geo ≡ geometry_told mid.medium → IsTrue s.settled → BlocksServe s new.medium → blocks_of s new.medium ≡ blocks_read (geometry_told mid.medium) mid.medium.is_bad (last_image mid.medium)
       → v.geo ≡ geometry_told mid.medium → v.present ≡ presence_read (geometry_told mid.medium) (last_image mid.medium) → IsTrue v.settled → VolumeServes v new.medium
-      → ((found ≡ host.geometry) × (after ≡ record host { mode = modes.On; blocks = s; volume = v }) × (answer ≡ DoneBad 0)) ⊎ ((found ≢ host.geometry) × (after ≡ record host { mode = modes.Unsettled }) × (answer ≡ DeviceFailed))
+      → ((found ≡ host.geometry) × (after ≡ record host { mode = modes.On; blocks = s; volume = v }) × CountsBad s v new.medium answer) ⊎ ((found ≢ host.geometry) × (after ≡ record host { mode = modes.Unsettled }) × (answer ≡ DeviceFailed))
       → Answered (Restart choice) answer now after old new
   restart_mounted found s v answer runs told geo settled served blocks vgeo present vsettled vserved (inl same) =
       let next : HostState = record { geometry = now.geometry; mode = modes.On; blocks = s; volume = v } in
       let is : after ≡ next = same.1 ∙ ap (λ (k : HostState). record k { mode = modes.On; blocks = s; volume = v }) inside in
       let sizes : geometry_told mid.medium ≡ now.geometry = sym told ∙ same.0 ∙ ap (λ k. k.geometry) inside in
-      subst (λ a. Answered (Restart choice) a now after old new) (sym same.2)
-      (subst (λ k. Answered (Restart choice) (DoneBad 0) now k old new) (sym is) (record {
-        step = λ h stands. subst (λ f. Comes h (Restart choice) f (DoneBad 0) next old new) (sym (back_done h stands)) (comes_of_restart now choice old mid new h start serves stands left sound_old sound s v runs x blocks vgeo present);
+      let bad = same.2.bad in
+      subst (λ a. Answered (Restart choice) a now after old new) (sym same.2.told)
+      (subst (λ k. Answered (Restart choice) (DoneBad bad) now k old new) (sym is) (record {
+        step = λ h stands. subst (λ f. Comes h (Restart choice) f (DoneBad bad) next old new) (sym (back_done h stands)) (comes_of_restart now choice old mid new h start serves stands left sound_old sound s v bad runs x blocks vgeo present same.2.count);
         printable = tt;
         room = omega arith;
         serves = serves_remounted now next choice old mid new start _ serves left refl x.outside (runs.cause.0 ∙ back_on) (λ _. record { geometry = geo ∙ sizes; settled = settled; serves = served; volume_geometry = vgeo ∙ sizes; volume_settled = vsettled; volume_serves = vserved });

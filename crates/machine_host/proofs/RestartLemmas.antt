@@ -13,12 +13,13 @@ use Rattle.word_tables.specs.declared.geometry.Geometry.{Geometry}
 use Rattle.word_log.specs.Area.{IsOf}
 use Rattle.nvm_model.specs.Page.{Page, is_present, presence_of, read_pages, bad_lines, PagesStand, KeepsPages}
 use Rattle.nvm_model.specs.Blocks.{bad_block_lines}
-use Rattle.nvm_model.proofs.PageLemmas.{bad_lines-none, length-read_pages, presence_of-read_pages}
+use Rattle.nvm_model.proofs.PageLemmas.{length-read_pages, presence_of-read_pages}
 use Rattle.nvm_model.proofs.RestartLemmas.{stand-restarted}
 use Rattle.pm_volume.specs.Area.{volume_area}
 use Rattle.pm_volume.specs.Images.{ReadsPages, EachReadsPages}
 use Rattle.pm_volume.specs.Object.{VolumeState, VolumeHolds}
 use Rattle.pm_volume.specs.Presence.{presence_read, presence_words}
+use Rattle.pm_volume.proofs.AreaLemmas.{area_in_metadata}
 use Rattle.pm_volume.proofs.StandingLemmas.{each_pages-reached, each_pages-then, line_of_volume, presence_read-replays, reads_same}
 use Rattle.std.proofs.lemmas.List.{length-map}
 use Rattle.line_device.specs.History.{IsIn}
@@ -29,7 +30,6 @@ use Rattle.word_tables.specs.Layout.{volume_line}
 use Rattle.block_device.specs.Object.{BlocksState, blocks_of}
 use Rattle.block_device.specs.Reading.{blocks_read}
 use Rattle.block_device.specs.Images.{AreReadable, KeepsReads}
-use Rattle.block_device.proofs.GoodLemmas.{no_bad_blocks-restarted}
 use Rattle.block_device.proofs.ImageLemmas.{each_reads-then}
 use Rattle.block_device.proofs.RestartLemmas.{block_image-last, blocks_read-restarted, each_reads-restarted}
 use Rattle.recovery.specs.Findings.{geometry_told, early_finding, first_finding}
@@ -56,16 +56,10 @@ use Rattle.machine_host.proofs.ElsewhereLemmas.{area_of_volume, range_kept, volu
 use Rattle.machine_host.proofs.MetadataLemmas.{metadata-outside, metadata-restarted, nothing_bad}
 use Rattle.machine_host.proofs.TellingLemmas.{interrupts, never_on, power_struck, struck, tells_interrupted, tells_work}
 use Rattle.machine_host.proofs.DepictedLemmas.{blocks_depicted, holds_depicted, reads_remounted}
-use Rattle.machine_host.proofs.MountLemmas.{StopsMount, IsTold, all_intact, first_not_area, is_told, only_stops, volume_image-last}
+use Rattle.machine_host.proofs.BackLemmas.{each_back, kept_back, layout-restarted, layout_back, metadata_back, nothing_back, readable_back, told_back}
+use Rattle.machine_host.proofs.MountLemmas.{StopsMount, IsTold, first_not_area, is_told, nothing_wrong_there, only_stops, volume_image-last}
 
--- the layout after a restart, and after one that was refused
-pub layout-restarted : (geo : Geometry) (choice : Choice) (old new : Medium) → HasLayout geo old → Survivors choice old new → HasLayout geo new
-layout-restarted geo choice old new layout x = record {
-  valid = layout.valid;
-  lines = x.count ∙ layout.lines;
-  intact = λ n below. let was = layout.intact n (subst (λ c. n < c) x.count below) in (x.bad n ∙ was.0, λ behind. x.weak n ∙ was.1 behind);
-}
-
+-- a restart that was refused leaves the layout
 pub serves_waited : (host : HostState) (old new : Device) → HostServes host old → host.mode ≡ modes.Off → Waited old new → HostServes host new
 serves_waited host old new serves off x =
     let layout = serves.layout in
@@ -73,7 +67,7 @@ serves_waited host old new serves off x =
       layout = record {
         valid = layout.valid;
         lines = x.lines.count ∙ layout.lines;
-        intact = λ n below. let was = layout.intact n (subst (λ c. n < c) x.lines.count below) in (x.lines.bad n ∙ was.0, λ behind. x.lines.weak n ∙ was.1 behind);
+        good = λ n below. x.lines.bad n ∙ layout.good n below;
       };
       power = x.panel.power ∙ serves.power;
       mounted = λ on. cc (on, off);
@@ -120,99 +114,37 @@ module _ (host : HostState) (choice : Choice) (old mid new : Device) (h : Machin
   was = subst (λ g. HasLayout g old.medium) stands.geometry serves.layout
 
   layout : HasLayout geo mid.medium
-  layout = layout-restarted geo choice old.medium mid.medium was left.lines
+  layout = layout_back h choice old.medium mid.medium start.image was stands.device.metadata stands.device.blocks stands.device.volume left.lines left.image sound_old sound
 
   metadata : MetadataStands geo mid.medium h.bad_meta
-  metadata = metadata-restarted geo h.bad_meta old.medium mid.medium stands.device.metadata choice sound_old was left.lines
+  metadata = metadata_back h choice old.medium mid.medium start.image was stands.device.metadata stands.device.blocks stands.device.volume left.lines left.image sound_old sound
 
   told : IsTold geo mid.medium
-  told = is_told geo mid.medium h.bad_meta layout metadata sound
+  told = told_back h choice old.medium mid.medium start.image was stands.device.metadata stands.device.blocks stands.device.volume left.lines left.image sound_old sound
 
   -- the mount finds the host's sizes
   pub sizes_back : geometry_told mid.medium ≡ host.geometry
   sizes_back = told.sizes ∙ sym stands.geometry
 
   readable : AreReadable geo mid.medium
-  readable =
-      each_reads-restarted geo was.valid choice old.medium mid.medium (λ _. Unit {0}) sound_old was.lines left.lines
-      (each_reads-then geo old.medium (MayLeaveBlocks h.interrupted h.blocks) (λ _. Unit {0}) (λ bs x. tt) stands.device.blocks)
-
-  -- the start is an image of what was before
-  start_was : IsImageOn (volume_area geo) old.medium start.image.word
-  start_was p of =
-      let on : p / 8 < old.medium.count = subst (λ c. p / 8 < c) (sym was.lines) (volume_within geo (p / 8) (area_of_volume geo p was.valid of)) in
-      let healthy : IsHealthy old.medium (p / 8) = (on, (was.intact (p / 8) on).0) in
-      let back : IsHealthy mid.medium (p / 8) = (subst (λ c. p / 8 < c) (sym left.lines.count) on, left.lines.bad (p / 8) ∙ healthy.1) in
-      let word = left.lines.words p healthy in
-      let same : start.image.word p ≡ word.0 = cc (word.1.one, left.image.words p back) in
-      subst (λ v. IsIn v (old.medium.history p)) (sym same) word.1.was
-
-  -- and the only one of what is after
-  start_is : (image : ℕ → ℕ) → IsImageOn (volume_area geo) mid.medium image → (p : ℕ) → IsOf (volume_area geo) p → image p ≡ start.image.word p
-  start_is image is p of =
-      let on : p / 8 < mid.medium.count = subst (λ c. p / 8 < c) (sym layout.lines) (volume_within geo (p / 8) (area_of_volume geo p was.valid of)) in
-      is_in-one (image p) (start.image.word p) (subst (IsIn (image p)) (left.image.words p (on, (layout.intact (p / 8) on).0)) (is p of))
-
-  pages_were : ReadsPages geo old.medium (MayLeaveVolume geo h.interrupted h.volume) start.image.word
-  pages_were = stands.device.volume start.image.word start_was
-
-  abbrev there : List Bool
-  there = presence_read geo start.image.word
-
-  all_there : length (presence_of pages_were.pages) ≡ geo.vpages
-  all_there = length-map pages_were.pages is_present ∙ pages_were.all
-
-  there_is : there ≡ presence_of pages_were.pages
-  there_is = presence_read-replays geo start.image.word (presence_of pages_were.pages) all_there pages_were.replays
+  readable = readable_back h choice old.medium mid.medium start.image was stands.device.metadata stands.device.blocks stands.device.volume left.lines left.image sound_old sound
 
   -- the pages that the machine reads
-  abbrev pages_back : List Page
-  pages_back = read_pages (volume_line geo) start.image there
+  abbrev pages_read : List Page
+  pages_read = read_pages (volume_line geo) start.image (presence_read geo start.image.word)
 
-  pages_kept : KeepsPages choice (volume_line geo) start.image pages_were.pages × PagesStand (volume_line geo) mid.medium pages_back
-  pages_kept =
-      subst (λ t. KeepsPages choice (volume_line geo) start.image pages_were.pages × PagesStand (volume_line geo) mid.medium (read_pages (volume_line geo) start.image t)) (sym there_is)
-      (stand-restarted choice old.medium mid.medium start.image (volume_line geo) pages_were.pages pages_were.stand
-      (λ n cell is. line_there geo old.medium n was.lines (line_of_volume geo pages_were.pages n cell pages_were.all is)) left.lines left.image)
-
-  all_back : length pages_back ≡ geo.vpages
-  all_back = length-read_pages (volume_line geo) start.image there ∙ ap length there_is ∙ all_there
-
-  -- each image reads as these
-  replays_back : (image : ℕ → ℕ) → IsImageOn (volume_area geo) mid.medium image → Replays (volume_area geo) image (presence_words geo (presence_of pages_back))
-  replays_back image is =
-      subst (λ t. Replays (volume_area geo) image (presence_words geo t)) (sym (presence_of-read_pages (volume_line geo) start.image there ∙ there_is))
-      (reads_same geo image start.image.word (presence_of pages_were.pages) was.valid (start_is image is) pages_were.replays)
-
-  each_back : EachReadsPages geo mid.medium (λ pages. pages ≡ pages_back)
-  each_back image is = record { pages = pages_back; is = refl; all = all_back; replays = replays_back image is; stand = pages_kept.1 }
+  each_read : EachReadsPages geo mid.medium (λ pages. pages ≡ pages_read)
+  each_read = each_back h choice old.medium mid.medium start.image was stands.device.metadata stands.device.blocks stands.device.volume left.lines left.image sound_old sound
 
   -- and can only be stopped
   pub stops_alone : {T : Type 0} (r : Result T MountFault) → Finds (first_finding mid.medium) r → IfErr r StopsMount
-  stops_alone r finds = only_stops geo mid.medium r layout told sound readable (each_pages-then geo mid.medium (λ pages. pages ≡ pages_back) (λ _. Unit {0}) (λ _ _. tt) each_back) finds
+  stops_alone r finds =
+      only_stops r
+      (subst (λ found. Finds found r) (nothing_back h choice old.medium mid.medium start.image was stands.device.metadata stands.device.blocks stands.device.volume left.lines left.image sound_old sound) finds)
 
   -- the restart left what it may leave
   pub keeps : RestartMayLeave choice start.image h
-  keeps = record {
-    blocks = blocks_read-restarted geo was.valid choice old.medium mid.medium start.image (MayLeaveBlocks h.interrupted h.blocks) was.lines left.lines left.image stands.device.blocks;
-    left = pages_were.pages;
-    may = pages_were.is;
-    there = sym there_is;
-    volume = pages_kept.0;
-  }
-
-  no_bad_pages : bad_lines pages_back ≡ 0
-  no_bad_pages =
-      bad_lines-none (volume_line geo) start.image there
-      (λ k lt.
-      let on = line_there geo mid.medium k layout.lines (subst (λ n. k < 64 * n) (ap length there_is ∙ all_there) lt) in
-      left.image.bad (volume_line geo k) on ∙ (layout.intact (volume_line geo k) on).0)
-
-  no_bad_lines : bad_block_lines (blocks_read geo start.image.is_bad start.image.word) + bad_lines pages_back ≡ 0
-  no_bad_lines =
-      let intact = all_intact geo old.medium was stands.device.metadata.strong in
-      let none = no_bad_blocks-restarted geo choice old.medium mid.medium start.image (MayLeaveBlocks h.interrupted h.blocks) was.valid intact was.lines left.lines left.image stands.device.blocks in
-      omega (arith, none, no_bad_pages)
+  keeps = kept_back h choice old.medium mid.medium start.image was stands.device.metadata stands.device.blocks stands.device.volume left.lines left.image sound_old sound
 
   -- what the device stands for after a mount, however it ended, in this mode and with what is armed then
   remounted : (mode : Mode) → IsMount mid new → new.panel.power ≡ is_powered mode
@@ -227,7 +159,7 @@ module _ (host : HostState) (choice : Choice) (old mid new : Device) (h : Machin
         metadata = subst (MetadataStands geo new.medium) none_bad_meta
             (metadata-outside geo h.bad_meta mid.medium new.medium metadata (IsOfLogs geo) outside (first_not_area geo was.valid));
         blocks = reads_remounted geo mid.medium start.image layout left.image new.medium readable reads;
-        volume = each_pages-reached geo mid.medium new.medium (λ pages. pages ≡ pages_back) was.valid presence (range_kept geo mid.medium new.medium was.valid outside) each_back;
+        volume = each_pages-reached geo mid.medium new.medium (λ pages. pages ≡ pages_read) was.valid presence (range_kept geo mid.medium new.medium was.valid outside) each_read;
         power = power;
         cut_armed = refl;
         fail_armed = refl;
@@ -235,9 +167,9 @@ module _ (host : HostState) (choice : Choice) (old mid new : Device) (h : Machin
       }
 
   -- and the volume that was mounted stands for the pages
-  holds_back : (v : VolumeState) → IsMount mid new → v.geo ≡ geometry_told mid.medium → v.present ≡ presence_read (geometry_told mid.medium) (last_image mid.medium) → VolumeHolds v new.medium pages_back
+  holds_back : (v : VolumeState) → IsMount mid new → v.geo ≡ geometry_told mid.medium → v.present ≡ presence_read (geometry_told mid.medium) (last_image mid.medium) → VolumeHolds v new.medium pages_read
   holds_back v x same present =
-      holds_depicted geo mid.medium start.image layout left.image new.medium v sound (replays_back (last_image mid.medium) (volume_image-last geo mid.medium sound layout)).valid
+      holds_depicted geo mid.medium start.image layout left.image new.medium v sound (each_read (last_image mid.medium) (volume_image-last geo mid.medium sound layout)).replays.valid
       (subst (λ g. WritesBackOutside (IsOfLogs g) mid.medium new.medium) told.sizes x.outside)
       (same ∙ told.sizes)
       (present ∙ ap (λ g. presence_read g (last_image mid.medium)) told.sizes)
@@ -258,26 +190,29 @@ module _ (host : HostState) (choice : Choice) (old mid new : Device) (h : Machin
       (remounted mode x power))
 
   -- A restart comes to what the machine reads in what it left.
-  pub comes_of_restart : (s : BlocksState) (v : VolumeState) → Runs mount_calls mount_persists went mid.panel new.panel → IsMount mid new
+  pub comes_of_restart : (s : BlocksState) (v : VolumeState) (bad : ℕ) → Runs mount_calls mount_persists went mid.panel new.panel → IsMount mid new
       → blocks_of s new.medium ≡ blocks_read (geometry_told mid.medium) mid.medium.is_bad (last_image mid.medium)
       → v.geo ≡ geometry_told mid.medium → v.present ≡ presence_read (geometry_told mid.medium) (last_image mid.medium)
-      → Comes h (Restart choice) (Restarts choice) (DoneBad 0) (record { geometry = host.geometry; mode = modes.On; blocks = s; volume = v }) old new
+      → ((pages : List Page) → VolumeHolds v new.medium pages → bad ≡ bad_block_lines (blocks_of s new.medium) + bad_lines pages) → Comes h (Restart choice) (Restarts choice) (DoneBad bad) (record { geometry = host.geometry; mode = modes.On; blocks = s; volume = v }) old new
   unfolding reading
-  comes_of_restart s v runs x mounted same present =
+  comes_of_restart s v bad runs x mounted same present counts =
       let last = block_image-last geo was.valid mid.medium sound layout.lines in
-      let answer_is = ap (λ n. DoneBad n) (sym no_bad_lines) in
+      let seen =
+      mounted ∙ ap (λ g. blocks_read g mid.medium.is_bad (last_image mid.medium)) told.sizes
+      ∙ blocks_depicted geo mid.medium start.image layout left.image (last_image mid.medium) (λ _. Unit {0}) last (readable (last_image mid.medium) last) in
+      let holds = holds_back v x same present in
+      let answer_is = ap (λ n. DoneBad n) (counts pages_read holds ∙ ap (λ bs. bad_block_lines bs + bad_lines pages_read) seen) in
       record {
-        said = with_start (spending h (Restart choice)) start (DoneBad 0);
+        said = with_start (spending h (Restart choice)) start (DoneBad bad);
         next = restarted h start.image;
         answers = refl;
-        takes = (start, DoneBad 0, refl, left.asked, keeps, inl (answer_is, refl));
-        tells = tells_back (spending h (Restart choice)) start old.panel mid.panel new.panel left.panel (DoneBad 0) (tells_work (spending h (Restart choice)) mount_calls mount_persists (omega arith) (omega arith) mid.panel new.panel (DoneBad 0) refl runs);
+        takes = (start, DoneBad bad, refl, left.asked, keeps, inl (answer_is, refl));
+        tells = tells_back (spending h (Restart choice)) start old.panel mid.panel new.panel left.panel (DoneBad bad) (tells_work (spending h (Restart choice)) mount_calls mount_persists (omega arith) (omega arith) mid.panel new.panel (DoneBad bad) refl runs);
         stands = record {
           geometry = stands.geometry;
           mode = refl;
-          blocks = λ _. mounted ∙ ap (λ g. blocks_read g mid.medium.is_bad (last_image mid.medium)) told.sizes
-              ∙ blocks_depicted geo mid.medium start.image layout left.image (last_image mid.medium) (λ _. Unit {0}) last (readable (last_image mid.medium) last);
-          volume = λ _. holds_back v x same present;
+          blocks = λ _. seen;
+          volume = λ _. holds;
           device = remounted_whole modes.On runs x (runs.cause.0 ∙ ap (λ p. p.power) left.panel);
         };
       }

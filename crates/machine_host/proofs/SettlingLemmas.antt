@@ -22,7 +22,8 @@ use Rattle.machine_host.specs.Stands.{HostState, HostServes, Stands}
 use Rattle.machine_host.specs.Telling.{bumped_by}
 use Rattle.machine_host.specs.Settling.{Asks, IsQuiet, IsSettled, LeavesUnmounted, StaysUnmounted, LeftUnsettled, MountsAnew, Settled, Settles, SettlesTo, disarmed}
 use Rattle.machine_host.proofs.ElsewhereLemmas.{serves_ordered}
-use Rattle.machine_host.proofs.RestartLemmas.{IsMount, layout-restarted, serves_waited, stands_unmounted}
+use Rattle.machine_host.proofs.BackLemmas.{layout-restarted}
+use Rattle.machine_host.proofs.RestartLemmas.{IsMount, serves_waited, stands_unmounted}
 use Rattle.machine_host.proofs.StepLemmas.{stands_ordered}
 use Rattle.machine_host.proofs.RemountLemmas.{stays_off}
 

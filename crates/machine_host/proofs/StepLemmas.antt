@@ -1,21 +1,22 @@
 -- What a host and its device stand for, after what is done to the device.
-use Rattle.std.proofs.Common.{◌≡◌, ℕ, ◌/◌, ◌≤◌, inl, inr, true, false, Some, None, option_map, Err, List, refl, sym, ap, subst, ◌∙◌, arith}
+use Rattle.std.proofs.Common.{◌≡◌, ℕ, ◌/◌, ◌≤◌, inl, inr, true, false, Some, None, option_map, Result, Ok, Err, OnErr, List, refl, sym, ap, subst, ◌∙◌, arith}
 use Rattle.line_device.specs.Medium.{Medium, WritesBack}
+use Rattle.line_device.proofs.WriteBackLemmas.{write_back-refl}
 use Rattle.line_device.specs.Panel.{Runs, after_arm_cut, after_power_off}
 use Rattle.line_device.specs.declared.order.Order.TheVariants.{Cut as ForCut}
 use Rattle.line_device.specs.Panel.Outcome.{went}
 use Rattle.line_device.specs.Device.{Device}
 use Rattle.line_words.specs.declared.interruption.Interruption.{Interruption}
 use Rattle.line_words.specs.Ending.{ended}
-use Rattle.line_words.specs.Words.{WritesBackOutside}
 use Rattle.line_words.proofs.FrameLemmas.{outside-write_back}
 use Rattle.nvm_model.specs.Page.{Page}
 use Rattle.nvm_model.specs.Storage.{Block}
-use Rattle.block_device.specs.Area.{IsBlockPlace}
+use Rattle.block_device.specs.Area.{IsBlockLine}
 use Rattle.block_device.specs.Object.{blocks_of}
 use Rattle.block_device.specs.Images.{EachReads}
-use Rattle.block_device.proofs.FrameLemmas.{each_reads-outside}
-use Rattle.pm_volume.specs.Area.{IsVolumePlace}
+use Rattle.block_device.proofs.FrameLemmas.{each_reads-stays}
+use Rattle.block_device.proofs.ReadLemmas.{Stays}
+use Rattle.block_device.proofs.ServesLemmas.{blocks_of-stays}
 use Rattle.pm_volume.specs.Images.{EachReadsPages}
 use Rattle.pm_volume.specs.Object.{VolumeHolds}
 use Rattle.pm_volume.proofs.StandingLemmas.{line_kept-write_back}
@@ -31,9 +32,11 @@ use Rattle.machine_host.specs.Interrupted.{interrupted_answer, interrupted_mode,
 use Rattle.machine_host.specs.Run.{answered, with_cut, with_order, worked}
 use Rattle.machine_host.specs.Telling.{Tells}
 use Rattle.machine_host.specs.declared.mode.Mode.TheVariants as modes
-use Rattle.machine_host.specs.Meaning.{mode_refusal, no_reasons}
+use Rattle.machine_host.specs.Faults.{LeavesStarved}
+use Rattle.machine_host.specs.Meaning.{Starved, mode_refusal, no_reasons}
+use Rattle.machine_host.specs.Meaning.Starved.{Untouched, WrittenBack, Unmounted}
 use Rattle.machine_host.specs.Stands.{HostState, HostServes, MetadataStands, Stands, Comes, is_powered}
-use Rattle.machine_host.proofs.ElsewhereLemmas.{first_not_volume, volume_apart, blocks_of-outside, pages_elsewhere, volume_holds_elsewhere}
+use Rattle.machine_host.proofs.ElsewhereLemmas.{pages_elsewhere, stays_of_kept, volume_holds_elsewhere}
 use Rattle.machine_host.proofs.MetadataLemmas.{metadata-outside}
 use Rattle.machine_host.proofs.RefusalLemmas.{early_first, fate_placed}
 use Rattle.machine_host.proofs.TellingLemmas.{interrupts, never_on, power_struck, struck, tells_interrupted, tells_nothing, tells_work}
@@ -50,22 +53,19 @@ module _ (host : HostState) (d : Device) (h : Machine) (stands : Stands host d h
   pub is_whole : host.mode ≡ modes.On → h.interrupted ≡ None
   is_whole on = stands.device.whole (sym stands.mode ∙ on)
 
--- blocks stay for what they are, while the volume is worked on
-pub blocks_elsewhere : (host : HostState) (old new : Device) (h : Machine) → Stands host old h → HostServes host old → WritesBackOutside (IsVolumePlace host.geometry) old.medium new.medium
+-- blocks stay for what they are, while other lines are worked on
+pub blocks_elsewhere : (host : HostState) (old new : Device) (h : Machine) → Stands host old h → HostServes host old → ((n : ℕ) → IsBlockLine host.geometry n → Stays old.medium new.medium n)
     → (EachReads h.geometry new.medium (MayLeaveBlocks h.interrupted h.blocks)) × (host.mode ≡ modes.On → blocks_of host.blocks new.medium ≡ h.blocks)
-blocks_elsewhere host old new h stands serves x =
+blocks_elsewhere host old new h stands serves stays =
     let geo = host.geometry in
-    let P = MayLeaveBlocks h.interrupted h.blocks in
-    let apart : (p : ℕ) → IsBlockPlace geo p → IsVolumePlace geo p → ⊥ = λ p of_blocks of_volume. volume_apart geo (p / 8) serves.layout.valid of_volume of_blocks in (
+    let P = MayLeaveBlocks h.interrupted h.blocks in (
       subst (λ g. EachReads g new.medium P) stands.geometry
-          (each_reads-outside geo (IsVolumePlace geo) old.medium new.medium P serves.layout.valid apart x
+          (each_reads-stays geo old.medium new.medium P serves.layout.valid stays
           (subst (λ g. EachReads g old.medium P) (sym stands.geometry) stands.device.blocks)),
-      λ on. blocks_of-outside geo host.blocks (IsVolumePlace geo) old.medium new.medium apart x (serves.mounted on).geometry (serves.mounted on).serves ∙ stands.blocks on,
+      λ on.
+          let mounted = serves.mounted on in
+          blocks_of-stays host.blocks old.medium new.medium mounted.serves.valid (λ n of. stays n (subst (λ g. IsBlockLine g n) mounted.geometry of)) mounted.serves.all mounted.serves.is_map ∙ stands.blocks on,
     )
-
--- the metadata stays, while the volume is worked on
-pub metadata_elsewhere : (host : HostState) (old new : Device) (h : Machine) → Stands host old h → WritesBackOutside (IsVolumePlace host.geometry) old.medium new.medium → MetadataStands h.geometry new.medium h.bad_meta
-metadata_elsewhere host old new h stands x = metadata-outside h.geometry h.bad_meta old.medium new.medium stands.device.metadata (IsVolumePlace host.geometry) x (first_not_volume host.geometry)
 
 -- the volume stays for what it is, where all is only written back
 module _ (host : HostState) (old new : Device) (h : Machine) (stands : Stands host old h) (serves : HostServes host old) (w : WritesBack old.medium new.medium) where
@@ -158,15 +158,14 @@ written_back : (host : HostState) (old new : Device) (h next : Machine) → Stan
     → new.panel.power ≡ is_powered next.mode → new.panel.cut_armed ≡ next.cut_armed → new.panel.fail_armed ≡ next.fail_armed → (next.mode ≡ modes.On → h.mode ≡ modes.On)
     → Stands (record host { mode = next.mode }) new next
 written_back host old new h next stands serves write_back is power cut fail mode =
-    let outside = outside-write_back (IsVolumePlace host.geometry) old.medium new.medium write_back in
-    let kept = blocks_elsewhere host old new h stands serves outside in
+    let kept = blocks_elsewhere host old new h stands serves (λ n of. stays_of_kept old.medium new.medium n (line_kept-write_back old.medium new.medium n write_back)) in
     subst (λ n. Stands (record host { mode = next.mode }) new n) (sym is) (record {
       geometry = stands.geometry;
       mode = refl;
       blocks = λ on. kept.1 (stands.mode ∙ mode on);
       volume = λ on. holds_written_back host old new h stands serves write_back (stands.mode ∙ mode on);
       device = record {
-        metadata = metadata_elsewhere host old new h stands outside;
+        metadata = metadata-outside h.geometry h.bad_meta old.medium new.medium stands.device.metadata (λ _. ⊥) (outside-write_back (λ _. ⊥) old.medium new.medium write_back) (λ p below none. none);
         blocks = kept.0;
         volume = pages_written_back host old new h stands serves write_back;
         power = power;
@@ -249,6 +248,21 @@ comes_placed host after old new h action answer stands mode reasons places =
     subst (λ f. Comes h action f answer after old new)
     (sym (fate_placed h action (subst (λ m. mode_refusal m (meaning action).needs ≡ None) stands.mode mode) reasons
     (subst (λ geo. (meaning action).checked geo ≡ None) stands.geometry places)))
+
+-- what holds at an error
+pub on_err : {T E P : Type 0} (r : Result T E) → P → OnErr r P
+on_err (Ok x) p = tt
+on_err (Err e) p = p
+
+pub on_err-with : {T E Q : Type 0} (P : Type 0) (r : Result T E) → OnErr r P → Q → OnErr r (P × Q)
+on_err-with P (Ok x) p q = tt
+on_err-with P (Err e) p q = (p, q)
+
+-- where all is as it was, a command that ran out of memory leaves what it may
+pub leaves_all : (starved : Starved) (host after : HostState) (old new : Device) → after ≡ host → new ≡ old → LeavesStarved starved host after old new
+leaves_all Untouched host after old new same is = (same, is)
+leaves_all WrittenBack host after old new same is = (same, subst (λ d. WritesBack old.medium d.medium) (sym is) (write_back-refl old.medium), ap (λ d. d.panel) is)
+leaves_all (Unmounted choice) host after old new same is = inl (same, inl is)
 
 -- A refusal comes to itself.
 pub comes_of_refusal : (host : HostState) (d : Device) (h : Machine) (action : Action) (why : Why) → Stands host d h

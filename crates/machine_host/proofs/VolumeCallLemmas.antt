@@ -3,21 +3,23 @@ use Rattle.std.proofs.Common.{◌≡◌, ◌≢◌, ◌==◌, ◌<◌, ◌≤◌
 use Rattle.line_device.specs.Medium.{Medium}
 use Rattle.line_device.specs.Panel.{Runs}
 use Rattle.line_device.specs.Device.{Device}
-use Rattle.line_words.specs.Told.{Answers, OnRefused, OnWorked, is_done, outcome_by, refusal_of}
+use Rattle.line_words.specs.Told.{Told, Answers, OnRefused, OnWorked, is_done, outcome_by, refusal_of}
 use Rattle.line_words.specs.Told.Told.{Starves}
-use Rattle.line_words.specs.Words.{WritesBackOutside}
 use Rattle.word_tables.specs.declared.geometry.Geometry.{Geometry}
 use Rattle.word_tables.specs.Layout.{meta_lines}
 use Rattle.nvm_model.specs.Blocks.{first_there}
+use Rattle.nvm_model.specs.Lines.{AreStrong}
 use Rattle.nvm_model.specs.Interrupted.{MaySync}
 use Rattle.nvm_model.specs.Page.{Page, first_bad_line, persist, presence_of}
 use Rattle.nvm_model.specs.Storage.{Block}
 use Rattle.page_lines.specs.Turns.{WritesBackOthers}
 use Rattle.block_device.specs.Images.{EachReads}
-use Rattle.block_device.specs.Object.{HasGoodMetadata}
+use Rattle.block_device.specs.Area.{IsBlockLine}
+use Rattle.block_device.specs.Object.{HasGoodMetadata, blocks_of}
+use Rattle.block_device.proofs.ReadLemmas.{Stays}
 use Rattle.block_device.proofs.ImageLemmas.{each_reads-then}
 use Rattle.block_device.proofs.PositionLemmas.{none_below}
-use Rattle.pm_volume.specs.Area.{IsOfVolume, IsVolumePlace}
+use Rattle.pm_volume.specs.Area.{IsOfVolume}
 use Rattle.pm_volume.specs.Images.{EachReadsPages}
 use Rattle.pm_volume.specs.Object.{VolumeState, VolumeHolds, VolumeServes}
 use Rattle.pm_volume.specs.Refusals.{VolumeRefusal, metadata_refusal_if, physical_offset, physical_refusal, poisoned_at, refused_if, volume_says}
@@ -40,22 +42,23 @@ use Rattle.machine_host.specs.Interrupted.{stop_in}
 use Rattle.machine_host.specs.Lines.{HasLayout}
 use Rattle.machine_host.specs.OnVolume.{part_synced_at, persist_at, volume_answer}
 use Rattle.machine_host.specs.Responding.{Answered}
-use Rattle.machine_host.specs.Stands.{HostState, HostServes, AreMounted, Stands, Comes}
+use Rattle.machine_host.specs.Stands.{HostState, HostServes, AreMounted, MetadataStands, Stands, Comes}
 use Rattle.machine_host.proofs.BlockLemmas.{good_state}
-use Rattle.machine_host.proofs.CallLemmas.{IsPart, comes_of_call, printable_after, serves_of_call, short_told}
-use Rattle.machine_host.proofs.ElsewhereLemmas.{mounted-worked, volume_within}
-use Rattle.machine_host.proofs.MetadataLemmas.{good_metadata}
-use Rattle.machine_host.proofs.StepLemmas.{DeviceLeft, blocks_elsewhere, is_whole, metadata_elsewhere, stands_done}
-use Rattle.machine_host.proofs.VolumeLemmas.{has_layout-outside, outside-others}
+use Rattle.machine_host.proofs.CallLemmas.{IsPart, comes_of_call, on_refused-then, printable_after, serves_of_call, short_told}
+use Rattle.machine_host.proofs.ElsewhereLemmas.{first_not_volume, kept-others, mounted-worked, stays_of_kept, volume_apart}
+use Rattle.machine_host.proofs.MetadataLemmas.{metadata-others}
+use Rattle.machine_host.proofs.StepLemmas.{DeviceLeft, blocks_elsewhere, is_whole, stands_done}
+use Rattle.machine_host.proofs.VolumeLemmas.{has_layout-others}
 
 -- What a call on the volume says, whichever it is. What it may leave is told of the pages that the volume stood for.
-pub record VolumeCalled {T : Type 0} (host : HostState) (s : VolumeState) (r : Result T VolumeFault) (may : List Page → List Page → Type 0) (calls persists : ℕ) (old new : Device) : Type 0 where
-  pub untouched : OnRefused volume_says r ((s ≡ host.volume) × (new ≡ old))
-  pub images : OnWorked volume_says r ((pages : List Page) → VolumeHolds host.volume old.medium pages → EachReadsPages host.volume.geo new.medium (may pages))
+pub record VolumeCalled {T E R : Type 0} (says : E → Told R) (host : HostState) (s : VolumeState) (r : Result T E) (may : List Page → List Page → Type 0) (calls persists : ℕ) (old new : Device) : Type 0 where
+  pub untouched : OnRefused says r ((s ≡ host.volume) × (new ≡ old))
+  pub images : OnWorked says r ((pages : List Page) → VolumeHolds host.volume old.medium pages → EachReadsPages host.volume.geo new.medium (may pages))
   pub outside : WritesBackOthers (IsOfVolume host.volume.geo) old.medium new.medium
   pub serves : IsTrue s.settled → VolumeServes s new.medium
-  pub object : (s.geo ≡ host.volume.geo) × (s.settled ≡ is_done (outcome_by volume_says r))
-  pub runs : Runs calls persists (outcome_by volume_says r) old.panel new.panel
+  pub sizes : s.geo ≡ host.volume.geo
+  pub settled : OnOk r (IsTrue s.settled)
+  pub runs : Runs calls persists (outcome_by says r) old.panel new.panel
 
 -- its answers
 never_starves : (f : VolumeFault) → volume_says f ≡ Starves → ⊥
@@ -91,76 +94,91 @@ printable_refusal (Poison offset) = tt
 pub volume_part : IsPart volume_says volume_answer
 volume_part = record { printable = printable_refusal; quiet = no_stop; short = short_refusal; fed = never_starves }
 
-pub short_after : (good : Answer) → most_of good ≤ 64 → (r : Result (Unit {0}) VolumeFault) → most_of (answer_after volume_says volume_answer good r) ≤ 64
-short_after good short (Ok x) = short
-short_after good short (Err f) = short_told volume_answer short_refusal (volume_says f)
+pub short_after : {E R : Type 0} (says : E → Told R) (answer_to : R → Answer) → IsPart says answer_to → (good : Answer) → most_of good ≤ 64 → (r : Result (Unit {0}) E) → most_of (answer_after says answer_to good r) ≤ 64
+short_after says answer_to part good short (Ok x) = short
+short_after says answer_to part good short (Err f) = short_told answer_to part.short (says f)
 
 -- the host in a mode after the call
 abbrev pub volume_after : HostState → VolumeState → Mode → HostState
 volume_after host s mode = record { geometry = host.geometry; mode = mode; blocks = host.blocks; volume = s }
 
-module _ (host : HostState) (s : VolumeState) (old new : Device) (on : host.mode ≡ On) (serves : HostServes host old) (outside : WritesBackOthers (IsOfVolume host.volume.geo) old.medium new.medium) where
+module _ (host : HostState) (old new : Device) (on : host.mode ≡ On) (serves : HostServes host old) (outside : WritesBackOthers (IsOfVolume host.volume.geo) old.medium new.medium) where
   mounted : AreMounted host.geometry host.blocks host.volume old.medium
   mounted = serves.mounted on
 
-  -- other words than the volume's are only written back
-  pub outside_volume : WritesBackOutside (IsVolumePlace host.geometry) old.medium new.medium
-  outside_volume =
-      outside-others host.geometry (IsOfVolume host.geometry) old.medium new.medium serves.layout
-      (λ n below. mounted.serves.strong n (subst (λ g. n < meta_lines g) (sym mounted.geometry) below))
-      (volume_within host.geometry) (subst (λ g. WritesBackOthers (IsOfVolume g) old.medium new.medium) mounted.volume_geometry outside)
+  work_outside : WritesBackOthers (IsOfVolume host.geometry) old.medium new.medium
+  work_outside = subst (λ g. WritesBackOthers (IsOfVolume g) old.medium new.medium) mounted.volume_geometry outside
+
+  -- the blocks' lines are only written back
+  blocks_stay : (n : ℕ) → IsBlockLine host.geometry n → Stays old.medium new.medium n
+  blocks_stay n of =
+      stays_of_kept old.medium new.medium n
+      (kept-others (IsOfVolume host.geometry) old.medium new.medium n (λ of_volume. volume_apart host.geometry n serves.layout.valid of_volume of) work_outside)
+
+  -- and metadata stays strong
+  strong_was : AreStrong old.medium (meta_lines host.geometry)
+  strong_was n below = mounted.serves.strong n (subst (λ g. n < meta_lines g) (sym mounted.geometry) below)
 
   layout_worked : HasLayout host.geometry new.medium
-  layout_worked = has_layout-outside host.geometry (IsVolumePlace host.geometry) old.medium new.medium serves.layout outside_volume
+  layout_worked = has_layout-others host.geometry (IsOfVolume host.geometry) old.medium new.medium serves.layout strong_was work_outside
 
-module _ (host : HostState) (s : VolumeState) (action : Action) (calls persists : ℕ) (h : Machine) (few : calls ≤ (spending h action).calls) (few_persists : persists ≤ (spending h action).persists)
+  mounted_worked : (s : VolumeState) → s.geo ≡ host.volume.geo → IsTrue s.settled → VolumeServes s new.medium → AreMounted host.geometry host.blocks s new.medium
+  mounted_worked s same settled serves =
+      mounted-worked host.geometry host.blocks host.volume s old.medium new.medium blocks_stay (λ n below. work_outside.stays_strong n (strong_was n below)) work_outside.count mounted same settled serves
+
+module _ {E R : Type 0} (says : E → Told R) (host : HostState) (s : VolumeState) (action : Action) (calls persists : ℕ) (h : Machine) (few : calls ≤ (spending h action).calls) (few_persists : persists ≤ (spending h action).persists)
     (old new : Device) (on : host.mode ≡ On) (serves : HostServes host old) (stands : Stands host old h) where
   geo_is : host.volume.geo ≡ h.geometry
   geo_is = (serves.mounted on).volume_geometry ∙ stands.geometry
 
   -- the blocks, which such a call leaves
-  blocks_left : WritesBackOthers (IsOfVolume host.volume.geo) old.medium new.medium → EachReads h.geometry new.medium (λ bs. bs ≡ h.blocks)
-  blocks_left outside =
-      subst (λ interrupted. EachReads h.geometry new.medium (MayLeaveBlocks interrupted h.blocks)) (is_whole host old h stands on)
-      (blocks_elsewhere host old new h stands serves (outside_volume host s old new on serves outside)).0
+  blocks_after : WritesBackOthers (IsOfVolume host.volume.geo) old.medium new.medium → (EachReads h.geometry new.medium (λ bs. bs ≡ h.blocks)) × (blocks_of host.blocks new.medium ≡ h.blocks)
+  blocks_after outside =
+      let kept = blocks_elsewhere host old new h stands serves (blocks_stay host old new on serves outside) in
+      (subst (λ interrupted. EachReads h.geometry new.medium (MayLeaveBlocks interrupted h.blocks)) (is_whole host old h stands on) kept.0, kept.1 on)
+
+  -- and the metadata
+  metadata_after : WritesBackOthers (IsOfVolume host.volume.geo) old.medium new.medium → MetadataStands h.geometry new.medium h.bad_meta
+  metadata_after outside =
+      metadata-others h.geometry h.bad_meta old.medium new.medium stands.device.metadata (IsOfVolume host.volume.geo) (subst (λ g. HasLayout g old.medium) stands.geometry serves.layout) outside
+      (λ of. first_not_volume host.volume.geo 0 (omega arith) of)
 
   -- the state after a call that went well
-  stands_worked : {T : Type 0} {may : List Page → List Page → Type 0} (r : Result T VolumeFault) (pages : List Page) → VolumeCalled host s r may calls persists old new → OnOk r (VolumeHolds s new.medium pages)
+  stands_worked : {T : Type 0} {may : List Page → List Page → Type 0} (r : Result T E) (pages : List Page) → VolumeCalled says host s r may calls persists old new → OnOk r (VolumeHolds s new.medium pages)
       → OnOk r (Stands (volume_after host s On) new (record h { volume = pages }))
   stands_worked (Ok x) pages c holds =
-      let moved = outside_volume host s old new on serves c.outside in
-      stands_done host (volume_after host s On) old new h action stands on calls persists few few_persists refl h.blocks pages refl c.runs (metadata_elsewhere host old new h stands moved)
-      (blocks_left c.outside) ((blocks_elsewhere host old new h stands serves moved).1 on)
-      (subst (λ g. EachReadsPages g new.medium (λ x. x ≡ pages)) (c.object.0 ∙ geo_is) (served_pages s new.medium pages (c.serves c.object.1) holds)) holds
+      let blocks = blocks_after c.outside in
+      stands_done host (volume_after host s On) old new h action stands on calls persists few few_persists refl h.blocks pages refl c.runs (metadata_after c.outside)
+      blocks.0 blocks.1
+      (subst (λ g. EachReadsPages g new.medium (λ x. x ≡ pages)) (c.sizes ∙ geo_is) (served_pages s new.medium pages (c.serves c.settled) holds)) holds
   stands_worked (Err e) pages c holds = tt
 
   left_by : ((bs : List Block) → bs ≡ h.blocks → MayLeaveBlocks (Some action) h.blocks bs) → WritesBackOthers (IsOfVolume host.volume.geo) old.medium new.medium
       → EachReadsPages host.volume.geo new.medium (MayLeaveVolume host.volume.geo (Some action) h.volume) → DeviceLeft h action new.medium
   left_by kept outside each = record {
-    metadata = metadata_elsewhere host old new h stands (outside_volume host s old new on serves outside);
-    blocks = each_reads-then h.geometry new.medium (λ bs. bs ≡ h.blocks) (MayLeaveBlocks (Some action) h.blocks) kept (blocks_left outside);
+    metadata = metadata_after outside;
+    blocks = each_reads-then h.geometry new.medium (λ bs. bs ≡ h.blocks) (MayLeaveBlocks (Some action) h.blocks) kept (blocks_after outside).0;
     volume = subst (λ g. EachReadsPages g new.medium (MayLeaveVolume g (Some action) h.volume)) geo_is each;
   }
 
-  left_worked : {T : Type 0} (r : Result T VolumeFault) → ((bs : List Block) → bs ≡ h.blocks → MayLeaveBlocks (Some action) h.blocks bs)
-      → VolumeCalled host s r (MayLeaveVolume host.volume.geo (Some action)) calls persists old new → OnWorked volume_says r (DeviceLeft h action new.medium)
+  left_worked : {T : Type 0} (r : Result T E) → ((bs : List Block) → bs ≡ h.blocks → MayLeaveBlocks (Some action) h.blocks bs)
+      → VolumeCalled says host s r (MayLeaveVolume host.volume.geo (Some action)) calls persists old new → OnWorked says r (DeviceLeft h action new.medium)
   left_worked (Ok x) kept c = left_by kept c.outside (c.images h.volume (stands.volume on))
   left_worked (Err e) kept c = λ worked. left_by kept c.outside (c.images worked h.volume (stands.volume on))
 
-same_host : {T : Type 0} (host : HostState) (s : VolumeState) (r : Result T VolumeFault) (old new : Device) → OnRefused volume_says r ((s ≡ host.volume) × (new ≡ old))
-    → OnRefused volume_says r ((volume_after host s host.mode ≡ host) × (new ≡ old))
-same_host host s (Ok x) old new untouched = tt
-same_host host s (Err e) old new untouched = λ told. let same = untouched told in (ap (λ v. record { geometry = host.geometry; mode = host.mode; blocks = host.blocks; volume = v }) same.0, same.1)
+same_host : {T E R : Type 0} (says : E → Told R) (host : HostState) (s : VolumeState) (r : Result T E) (old new : Device) → OnRefused says r ((s ≡ host.volume) × (new ≡ old))
+    → OnRefused says r ((volume_after host s host.mode ≡ host) × (new ≡ old))
+same_host says host s (Ok x) old new untouched = tt
+same_host says host s (Err e) old new untouched = λ told. let same = untouched told in (ap (λ v. record { geometry = host.geometry; mode = host.mode; blocks = host.blocks; volume = v }) same.0, same.1)
 
-mounted_ok : {T : Type 0} {may : List Page → List Page → Type 0} (host : HostState) (s : VolumeState) (r : Result T VolumeFault) (calls persists : ℕ) (old new : Device) → host.mode ≡ On → HostServes host old
-    → VolumeCalled host s r may calls persists old new → OnOk r (AreMounted host.geometry host.blocks s new.medium)
-mounted_ok host s (Ok x) calls persists old new on serves c =
-    mounted-worked host.geometry host.blocks host.volume s old.medium new.medium serves.layout.valid (outside_volume host s old new on serves c.outside) (serves.mounted on) c.object.0 c.object.1 (c.serves c.object.1)
-mounted_ok host s (Err e) calls persists old new on serves c = tt
+mounted_ok : {T E R : Type 0} {may : List Page → List Page → Type 0} (says : E → Told R) (host : HostState) (s : VolumeState) (r : Result T E) (calls persists : ℕ) (old new : Device) → host.mode ≡ On → HostServes host old
+    → VolumeCalled says host s r may calls persists old new → OnOk r (AreMounted host.geometry host.blocks s new.medium)
+mounted_ok says host s (Ok x) calls persists old new on serves c = mounted_worked host old new on serves c.outside s c.sizes c.settled (c.serves c.settled)
+mounted_ok says host s (Err e) calls persists old new on serves c = tt
 
-on_refused-then : {T P Q : Type 0} (r : Result T VolumeFault) → (P → Q) → OnRefused volume_says r P → OnRefused volume_says r Q
-on_refused-then (Ok x) then_ p = tt
-on_refused-then (Err f) then_ p = λ told. then_ (p told)
+pub settled_ok : {T : Type 0} (s : VolumeState) (r : Result T VolumeFault) → s.settled ≡ is_done (outcome_by volume_says r) → OnOk r (IsTrue s.settled)
+settled_ok s (Ok x) is = is
+settled_ok s (Err f) is = tt
 
 -- a call on the volume, whichever, by its clauses
 pub volume_called : {D : Type 0} (state : D → Device) (host : HostState) (s : VolumeState) (r : Result (Unit {0}) VolumeFault) (may : List Page → List Page → Type 0) (calls persists : ℕ) (before after : D)
@@ -168,22 +186,23 @@ pub volume_called : {D : Type 0} (state : D → Device) (host : HostState) (s : 
     → OnWorked volume_says r ((pages : List Page) → VolumeHolds host.volume (state before).medium pages → EachReadsPages host.volume.geo (state after).medium (may pages))
     → WritesBackOthers (IsOfVolume host.volume.geo) (state before).medium (state after).medium → (IsTrue s.settled → VolumeServes s (state after).medium)
     → (s.geo ≡ host.volume.geo) × (s.settled ≡ is_done (outcome_by volume_says r)) → Runs calls persists (outcome_by volume_says r) (state before).panel (state after).panel
-    → VolumeCalled host s r may calls persists (state before) (state after)
+    → VolumeCalled volume_says host s r may calls persists (state before) (state after)
 volume_called state host s r may calls persists before after untouched images outside serves object runs = record {
-  untouched = on_refused-then r (λ same. (same.0, ap state same.1)) untouched;
+  untouched = on_refused-then volume_says r (λ same. (same.0, ap state same.1)) untouched;
   images = images;
   outside = outside;
   serves = serves;
-  object = object;
+  sizes = object.0;
+  settled = settled_ok s r object.1;
   runs = runs;
 }
 
 -- Of a host behind a reference: `host` is what is inside `now`, and `after` what the answer leaves.
-module _ (now host after : HostState) (s : VolumeState) (r : Result (Unit {0}) VolumeFault) (calls persists : ℕ) (old new : Device)
-    (inside : host ≡ now) (state : after ≡ volume_after host s (mode_after volume_says r)) (on : now.mode ≡ On) (serves : HostServes now old) (action : Action)
+module _ {E R : Type 0} (says : E → Told R) (answer_to : R → Answer) (part : IsPart says answer_to) (now host after : HostState) (s : VolumeState) (r : Result (Unit {0}) E) (calls persists : ℕ) (old new : Device)
+    (inside : host ≡ now) (state : after ≡ volume_after host s (mode_after says r)) (on : now.mode ≡ On) (serves : HostServes now old) (action : Action)
     (few : (h : Machine) → Stands now old h → (calls ≤ (spending h action).calls) × (persists ≤ (spending h action).persists))
     (kept : (h : Machine) (bs : List Block) → bs ≡ h.blocks → MayLeaveBlocks (Some action) h.blocks bs)
-    (call : VolumeCalled host s r (MayLeaveVolume host.volume.geo (Some action)) calls persists old new) where
+    (call : VolumeCalled says host s r (MayLeaveVolume host.volume.geo (Some action)) calls persists old new) where
   on_inside : host.mode ≡ On
   on_inside = ap (λ k. k.mode) inside ∙ on
 
@@ -193,22 +212,22 @@ module _ (now host after : HostState) (s : VolumeState) (r : Result (Unit {0}) V
   pub work_serves : HostServes after new
   work_serves =
       subst (λ k. HostServes k new) (sym state)
-      (serves_of_call volume_says volume_answer volume_part host (volume_after host s) old new on_inside (λ m. refl) (λ m. refl) calls persists r serves_inside
-      (same_host host s r old new call.untouched) (layout_worked host s old new on_inside serves_inside call.outside) (mounted_ok host s r calls persists old new on_inside serves_inside call) call.runs)
+      (serves_of_call says answer_to part host (volume_after host s) old new on_inside (λ m. refl) (λ m. refl) calls persists r serves_inside
+      (same_host says host s r old new call.untouched) (layout_worked host old new on_inside serves_inside call.outside) (mounted_ok says host s r calls persists old new on_inside serves_inside call) call.runs)
 
-  pub work_comes : (h : Machine) (good answer : Answer) (why : Option VolumeRefusal) (pages : List Page) → stop_in good ≡ None → Stands now old h
-      → fate h action ≡ unless_refused h (option_map volume_answer why) (Works good (record h { volume = pages })) → Answers volume_says why r → OnOk r (VolumeHolds s new.medium pages)
-      → answer ≡ answer_after volume_says volume_answer good r → Comes h action (fate h action) answer after old new
+  pub work_comes : (h : Machine) (good answer : Answer) (why : Option R) (pages : List Page) → stop_in good ≡ None → Stands now old h
+      → fate h action ≡ unless_refused h (option_map answer_to why) (Works good (record h { volume = pages })) → Answers says why r → OnOk r (VolumeHolds s new.medium pages)
+      → answer ≡ answer_after says answer_to good r → Comes h action (fate h action) answer after old new
   work_comes h good answer why pages quiet stands fate_is refused ok answer_is =
       let stands_inside = subst (λ k. Stands k old h) (sym inside) stands in
       let spent = few h stands in
       subst (λ a. Comes h action (fate h action) a after old new) (sym answer_is)
-      (subst (λ k. Comes h action (fate h action) (answer_after volume_says volume_answer good r) k old new) (sym state)
-      (subst (λ fate. Comes h action fate (answer_after volume_says volume_answer good r) (volume_after host s (mode_after volume_says r)) old new) (sym fate_is)
-      (comes_of_call volume_says volume_answer volume_part host (volume_after host s) old new on_inside (λ m. refl) (λ m. refl) calls persists action h stands_inside spent.0 spent.1
-      r good why (record h { volume = pages }) quiet refused (same_host host s r old new call.untouched)
-      (stands_worked host s action calls persists h spent.0 spent.1 old new on_inside serves_inside stands_inside r pages call ok)
-      (left_worked host s action calls persists h spent.0 spent.1 old new on_inside serves_inside stands_inside r (kept h) call) call.runs)))
+      (subst (λ k. Comes h action (fate h action) (answer_after says answer_to good r) k old new) (sym state)
+      (subst (λ fate. Comes h action fate (answer_after says answer_to good r) (volume_after host s (mode_after says r)) old new) (sym fate_is)
+      (comes_of_call says answer_to part host (volume_after host s) old new on_inside (λ m. refl) (λ m. refl) calls persists action h stands_inside spent.0 spent.1
+      r good why (record h { volume = pages }) quiet refused (same_host says host s r old new call.untouched)
+      (stands_worked says host s action calls persists h spent.0 spent.1 old new on_inside serves_inside stands_inside r pages call ok)
+      (left_worked says host s action calls persists h spent.0 spent.1 old new on_inside serves_inside stands_inside r (kept h) call) call.runs)))
 
 -- The refusals of the volume are the machine's, of a state that the host stands for.
 module _ (now host : HostState) (old : Device) (h : Machine) (inside : host ≡ now) (on : now.mode ≡ On) (serves : HostServes now old) (stands : Stands now old h) where
@@ -232,33 +251,33 @@ module _ (now host : HostState) (old : Device) (h : Machine) (inside : host ≡ 
   no_bad_meta true =
       ap (option_map Meta)
       (none_below old.medium.is_bad (meta_lines host.volume.geo)
-      (subst (λ g. HasGoodMetadata g old.medium) (sym (ap (λ k. k.volume.geo) inside ∙ (serves.mounted on).volume_geometry)) (good_metadata now.geometry old.medium serves.layout)))
+      (subst (λ g. HasGoodMetadata g old.medium) (sym (ap (λ k. k.volume.geo) inside ∙ (serves.mounted on).volume_geometry)) serves.layout.good))
   no_bad_meta false = refl
 
   pub no_bad_lines : h.bad_meta ≡ []
   no_bad_lines = good_state now old h serves stands on
 
 -- a call that was not refused or stopped, of the pages that the volume stands for
-pub of_pages : {T : Type 0} (s t : VolumeState) (m n : Medium) (r : Result T VolumeFault) (f : List Page → List Page) (pages : List Page)
+pub of_pages : {T E : Type 0} (s t : VolumeState) (m n : Medium) (r : Result T E) (f : List Page → List Page) (pages : List Page)
     → OnOk r ((pages : List Page) → VolumeHolds s m pages → VolumeHolds t n (f pages)) → VolumeHolds s m pages → OnOk r (VolumeHolds t n (f pages))
 of_pages s t m n (Ok x) f pages so holds = so pages holds
 of_pages s t m n (Err e) f pages so holds = tt
 
-module _ (now host after : HostState) (s : VolumeState) (r : Result (Unit {0}) VolumeFault) (calls persists : ℕ) (old new : Device)
-    (inside : host ≡ now) (state : after ≡ volume_after host s (mode_after volume_says r)) (on : now.mode ≡ On) (serves : HostServes now old) (action : Action)
+module _ {E R : Type 0} (says : E → Told R) (answer_to : R → Answer) (part : IsPart says answer_to) (now host after : HostState) (s : VolumeState) (r : Result (Unit {0}) E) (calls persists : ℕ) (old new : Device)
+    (inside : host ≡ now) (state : after ≡ volume_after host s (mode_after says r)) (on : now.mode ≡ On) (serves : HostServes now old) (action : Action)
     (few : (h : Machine) → Stands now old h → (calls ≤ (spending h action).calls) × (persists ≤ (spending h action).persists))
     (kept : (h : Machine) (bs : List Block) → bs ≡ h.blocks → MayLeaveBlocks (Some action) h.blocks bs)
-    (call : VolumeCalled host s r (MayLeaveVolume host.volume.geo (Some action)) calls persists old new) where
+    (call : VolumeCalled says host s r (MayLeaveVolume host.volume.geo (Some action)) calls persists old new) where
   -- A change of the volume is answered.
-  pub work_answered : (answer : Answer) (why : List Page → Option VolumeRefusal) (to : Machine → List Page) → longest action ≡ 64
-      → ((h : Machine) → Stands now old h → fate h action ≡ unless_refused h (option_map volume_answer (why h.volume)) (Works Done (record h { volume = to h })))
-      → ((h : Machine) → Stands now old h → Answers volume_says (why h.volume) r) → ((h : Machine) → Stands now old h → OnOk r (VolumeHolds s new.medium (to h)))
-      → answer ≡ answer_after volume_says volume_answer Done r → Answered action answer now after old new
+  pub work_answered : (answer : Answer) (why : List Page → Option R) (to : Machine → List Page) → longest action ≡ 64
+      → ((h : Machine) → Stands now old h → fate h action ≡ unless_refused h (option_map answer_to (why h.volume)) (Works Done (record h { volume = to h })))
+      → ((h : Machine) → Stands now old h → Answers says (why h.volume) r) → ((h : Machine) → Stands now old h → OnOk r (VolumeHolds s new.medium (to h)))
+      → answer ≡ answer_after says answer_to Done r → Answered action answer now after old new
   work_answered answer why to long fate_is refused ok answer_is = record {
-    step = λ h stands. work_comes now host after s r calls persists old new inside state on serves action few kept call h Done answer (why h.volume) (to h) refl stands (fate_is h stands) (refused h stands) (ok h stands) answer_is;
-    printable = subst IsPrintable (sym answer_is) (printable_after volume_says volume_answer volume_part Done tt r);
-    room = let short = subst (λ a. most_of a ≤ 64) (sym answer_is) (short_after Done (omega arith) r) in subst (λ n. most_of answer ≤ n) (sym long) short;
-    serves = work_serves now host after s r calls persists old new inside state on serves action few kept call;
+    step = λ h stands. work_comes says answer_to part now host after s r calls persists old new inside state on serves action few kept call h Done answer (why h.volume) (to h) refl stands (fate_is h stands) (refused h stands) (ok h stands) answer_is;
+    printable = subst IsPrintable (sym answer_is) (printable_after says answer_to part Done tt r);
+    room = let short = subst (λ a. most_of a ≤ 64) (sym answer_is) (short_after says answer_to part Done (omega arith) r) in subst (λ n. most_of answer ≤ n) (sym long) short;
+    serves = work_serves says answer_to part now host after s r calls persists old new inside state on serves action few kept call;
   }
 
 -- a fault that refuses leaves the volume settled

@@ -34,37 +34,11 @@ pub line_there : (geo : Geometry) (m : Medium) (n : ℕ) → m.count ≡ total_l
 line_there geo m n lines lt = subst (λ c. volume_line geo n < c) (sym lines) (volume_line-within geo n lt)
 
 pub has_layout-outside : (geo : Geometry) (inside : ℕ → Type 0) (a b : Medium) → HasLayout geo a → WritesBackOutside inside a b → HasLayout geo b
-has_layout-outside geo inside a b layout w = record {
-  valid = layout.valid;
-  lines = w.count ∙ layout.lines;
-  intact = λ n lt. let was = layout.intact n (subst (λ c. n < c) w.count lt) in (w.bad n ∙ was.0, λ behind. w.weak n ∙ was.1 behind);
-}
+has_layout-outside geo inside a b layout w = record { valid = layout.valid; lines = w.count ∙ layout.lines; good = λ n below. w.bad n ∙ layout.good n below }
 
 pub has_layout-write_back : (geo : Geometry) (a b : Medium) → HasLayout geo a → WritesBack a b → HasLayout geo b
 has_layout-write_back geo a b layout w = has_layout-outside geo (λ _. ⊥) a b layout (outside-write_back (λ _. ⊥) a b w)
 
--- Work on lines of a device none of whose lines is bad or weak leaves all marks.
-pub outside-others : (geo : Geometry) (lines : ℕ → Type 0) (a b : Medium) → HasLayout geo a → AreStrong a (meta_lines geo) → ((n : ℕ) → lines n → n < total_lines geo)
-    → WritesBackOthers lines a b → WritesBackOutside (λ p. lines (p / 8)) a b
-outside-others geo lines a b layout strong there x = record {
-  count = x.count;
-  bad = λ n. elim (cases_lt n (total_lines geo)) as (λ _. b.is_bad n ≡ a.is_bad n) [
-    | inl on ↦ let was = good n on in x.stays_good n was.0 was.1 ∙ sym was.0
-    | inr past ↦ x.bad n (λ at. absurd (not_past n past at))
-  ];
-  weak = λ n. elim (cases_lt n (total_lines geo)) as (λ _. b.is_weak n ≡ a.is_weak n) [
-    | inl on ↦ let was = good n on in x.stays_strong n was.1 ∙ sym was.1
-    | inr past ↦ x.weak n (λ at. absurd (not_past n past at))
-  ];
-  word_write_back = x.word_write_back;
-}
-  where
-    good : (n : ℕ) → n < total_lines geo → (a.is_bad n ≡ false) × (a.is_weak n ≡ false)
-    good n on =
-        let was = layout.intact n (subst (λ c. n < c) (sym layout.lines) on) in (
-          was.0,
-          elim (cases_lt n (meta_lines geo)) as (λ _. a.is_weak n ≡ false) [ inl below ↦ strong n below | inr behind ↦ was.1 behind ],
-        )
-
-    not_past : (n : ℕ) → total_lines geo ≤ n → lines n → ⊥
-    not_past n past at = omega (arith, past, there n at)
+-- work on lines leaves metadata good that is strong
+pub has_layout-others : (geo : Geometry) (lines : ℕ → Type 0) (a b : Medium) → HasLayout geo a → AreStrong a (meta_lines geo) → WritesBackOthers lines a b → HasLayout geo b
+has_layout-others geo lines a b layout strong x = record { valid = layout.valid; lines = x.count ∙ layout.lines; good = λ n below. x.stays_good n (layout.good n below) (strong n below) }

@@ -8,7 +8,7 @@ use Rattle.nvm_model.specs.Storage.{Block}
 use Rattle.block_device.specs.Images.{IsEither}
 use Rattle.word_tables.specs.declared.geometry.Geometry.{Geometry}
 use Rattle.script_text.specs.Action.{Action}
-use Rattle.script_text.specs.Action.Action.{BRead, BWrite, BAtomic, BMulti, BDiscard, BDiscardIf, BExists, BScar, VLoad, VStore, VSync, VRanges, VPSync, VDiscard, VDiscardIf, VExists, Cut, CutIn, Restart}
+use Rattle.script_text.specs.Action.Action.{BRead, BWrite, BAtomic, BMulti, BDiscard, BDiscardIf, BExists, BScar, VLoad, VStore, VSync, VRanges, VPSync, VDiscard, VDiscardIf, VExists, PoisonBlock, PoisonVolume, WeakenVolume, ClearVolume, Cut, CutIn, Restart}
 use Rattle.reply_text.specs.declared.reply.Why.{Why}
 use Rattle.reply_text.specs.Answer.{Answer}
 use Rattle.machine_host.specs.declared.mode.Mode.{Mode}
@@ -20,6 +20,7 @@ use Rattle.machine_host.specs.Meaning.BlocksLeft.{Same, Either, Mixed}
 use Rattle.machine_host.specs.Meaning.VolumeLeft.{Kept, PartStored, PartSynced, AllOrNone, PageByPage}
 use Rattle.machine_host.specs.OnBlocks as on_blocks
 use Rattle.machine_host.specs.OnVolume as on_volume
+use Rattle.machine_host.specs.OnMedia as on_media
 use Rattle.machine_host.specs.OnPower as on_power
 
 abbrev pub meaning : Action → Meaning
@@ -39,6 +40,10 @@ meaning (VPSync address len) = on_volume.vpsync address len
 meaning (VDiscard page count) = on_volume.vdiscard page count
 meaning (VDiscardIf page count) = on_volume.vdiscardif page count
 meaning (VExists page) = on_volume.vexists page
+meaning (PoisonBlock block line) = on_media.poison_block block line
+meaning (PoisonVolume offset) = on_media.poison_volume offset
+meaning (WeakenVolume offset) = on_media.weaken_volume offset
+meaning (ClearVolume offset) = on_media.clear_volume offset
 meaning Cut = on_power.cut
 meaning (CutIn calls) = on_power.cut_in calls
 meaning (Restart choice) = on_power.restart choice

@@ -1,5 +1,6 @@
 -- How faults of the layers below are answered, and what want of memory leaves.
-use Rattle.std.specs.Prelude.{◌≡◌, ◌⊎◌, Option, Some, None, Result, Ok, Err}
+use Rattle.std.specs.Prelude.{◌≡◌, ◌⊎◌, ◌+◌, ℕ, List, Result, Ok, Err}
+use Rattle.line_device.specs.Medium.{Medium, WritesBack}
 use Rattle.line_device.specs.Panel.{Start}
 use Rattle.line_device.specs.Device.{Device, Restarted, Waited}
 use Rattle.line_device.specs.declared.line.Choice.{Choice}
@@ -7,7 +8,11 @@ use Rattle.machine_host.specs.declared.mode.Mode.{Mode}
 use Rattle.machine_host.specs.declared.mode.Mode.TheVariants as modes
 use Rattle.script_text.specs.Action.{Action}
 use Rattle.reply_text.specs.Answer.{Answer}
-use Rattle.reply_text.specs.Answer.Answer.{DeviceFailed, PowerLost}
+use Rattle.reply_text.specs.Answer.Answer.{DeviceFailed, DoneBad, PowerLost}
+use Rattle.nvm_model.specs.Blocks.{bad_block_lines}
+use Rattle.nvm_model.specs.Page.{Page, bad_lines}
+use Rattle.block_device.specs.Object.{BlocksState, blocks_of}
+use Rattle.pm_volume.specs.Object.{VolumeState, VolumeHolds}
 use Rattle.block_device.specs.declared.fault.BlockFault.{BlockFault}
 use Rattle.block_device.specs.Refusals.{block_says}
 use Rattle.line_words.specs.Told.{Told}
@@ -20,6 +25,8 @@ use Rattle.machine_host.specs.OnVolume.{volume_answer}
 use Rattle.pm_volume.specs.declared.fault.VolumeFault.{VolumeFault}
 use Rattle.pm_volume.specs.Refusals.{volume_says}
 use Rattle.machine_host.specs.Commands.{meaning}
+use Rattle.machine_host.specs.Meaning.{Starved}
+use Rattle.machine_host.specs.Meaning.Starved.{Untouched, WrittenBack, Unmounted}
 use Rattle.machine_host.specs.Interrupted.{interrupted_answer, interrupted_mode}
 use Rattle.machine_host.specs.Restarting.{RestartMayLeave, restarted}
 use Rattle.machine_host.specs.Costs.{Opens}
@@ -39,14 +46,14 @@ pub record LeftUnmounted (choice : Choice) (host after : HostState) (old new : D
   pub unsettled : after ≡ record host { mode = modes.Unsettled }
   pub stands : (h : Machine) → Stands host old h → StandsUnmounted choice start h after new
 
--- What a command that ran out of memory leaves of host and device: all as it was, but that a restart may have been refused, or
--- done without a mount.
-abbrev pub LeavesStarved : Option Choice → HostState → HostState → Device → Device → Type 0
-LeavesStarved None host after old new = (after ≡ host) × (new ≡ old)
-LeavesStarved (Some choice) host after old new = (after ≡ host) × ((new ≡ old) ⊎ Waited old new) ⊎ LeftUnmounted choice host after old new
+-- What a command that ran out of memory leaves of host and device, by its row.
+abbrev pub LeavesStarved : Starved → HostState → HostState → Device → Device → Type 0
+LeavesStarved Untouched host after old new = (after ≡ host) × (new ≡ old)
+LeavesStarved WrittenBack host after old new = (after ≡ host) × WritesBack old.medium new.medium × (new.panel ≡ old.panel)
+LeavesStarved (Unmounted choice) host after old new = (after ≡ host) × ((new ≡ old) ⊎ Waited old new) ⊎ LeftUnmounted choice host after old new
 
 abbrev pub Leaves : Action → HostState → HostState → Device → Device → Type 0
-Leaves action = LeavesStarved (meaning action).remounts
+Leaves action = LeavesStarved (meaning action).starved
 
 -- the mode after a call whose fault told this, and what it is answered; no call on blocks or volume wants memory
 abbrev pub told_mode : {R : Type 0} → Mode → Told R → Mode
@@ -81,7 +88,13 @@ abbrev pub answer_after : {T E R : Type 0} → (E → Told R) → (R → Answer)
 answer_after says answer good (Ok x) = good
 answer_after says answer good (Err f) = told_answer answer (says f)
 
--- what a restart is answered after a mount that was not done, and the mode
+-- what a restart is answered after a mount that was done: how many lines of blocks and volume are bad
+pub record CountsBad (b : BlocksState) (v : VolumeState) (m : Medium) (answer : Answer) : Type 0 where
+  pub bad : ℕ
+  pub told : answer ≡ DoneBad bad
+  pub count : (pages : List Page) → VolumeHolds v m pages → bad ≡ bad_block_lines (blocks_of b m) + bad_lines pages
+
+-- what it is answered after one that was not done, and the mode
 abbrev pub unmounted_answer : MountFault → Answer
 unmounted_answer (mount.Meta line) = DeviceFailed
 unmounted_answer (mount.Layout place) = DeviceFailed

@@ -4,6 +4,7 @@ pub mod Machine
 pub mod Meaning
 pub mod OnBlocks
 pub mod OnVolume
+pub mod OnMedia
 pub mod OnPower
 pub mod Commands
 pub mod Interrupted
@@ -19,3 +20,4 @@ pub mod Rows
 pub mod BlockRows
 pub mod CutRows
 pub mod VolumeRows
+pub mod MediaRows

@@ -1,9 +1,10 @@
 -- The machine that a script speaks to: its state, and what may come of a command.
-use Rattle.std.specs.Prelude.{ℕ, Bool, List, Option}
+use Rattle.std.specs.Prelude.{◌+◌, ℕ, Bool, List, Option}
 use Rattle.line_device.specs.declared.line.Choice.{Choice}
 use Rattle.line_device.specs.declared.order.Order.{Order}
 use Rattle.word_tables.specs.declared.geometry.Geometry.{Geometry}
-use Rattle.nvm_model.specs.Page.{Page}
+use Rattle.nvm_model.specs.Blocks.{bad_block_lines}
+use Rattle.nvm_model.specs.Page.{Page, bad_lines}
 use Rattle.nvm_model.specs.Storage.{Block, File, Mapping, Event}
 use Rattle.script_text.specs.Action.{Action}
 use Rattle.reply_text.specs.Answer.{Answer}
@@ -23,6 +24,10 @@ pub record Machine : Type 0 where
   pub interrupted : Option Action
   pub cut_armed : Bool
   pub fail_armed : Bool
+
+-- how many lines of its blocks and pages are bad
+abbrev pub bad_of : Machine → ℕ
+bad_of h = bad_block_lines h.blocks + bad_lines h.volume
 
 -- What comes of a command: an answer and a state, where it is refused or needs no counted call of the device; the same of work
 -- on the device, which may be interrupted; an order to the device; a cut of the power; or a restart, whose state the medium decides.

@@ -46,9 +46,15 @@ pub data VolumeLeft : Type 0 where
   AllOrNone : VolumeLeft
   PageByPage : VolumeLeft
 
+-- what want of memory leaves: all as it was; lines that were written back; or a restart that was refused, or done with no mount
+pub data Starved : Type 0 where
+  Untouched : Starved
+  WrittenBack : Starved
+  Unmounted : Choice → Starved
+
 -- A command: the mode that it needs, the places that the host looks at before anything else does, all that refuses it, what
--- comes of it where nothing does, what it makes of blocks and volume, what an interruption may leave of them, whether it mounts
--- the device anew, what it may spend, and the room of its reply.
+-- comes of it where nothing does, what it makes of blocks and volume, what an interruption may leave of them and want of memory
+-- of all, what it may spend, and the room of its reply.
 pub record Meaning : Type 0 where
   pub needs : Needs
   pub checked : Geometry → Option Why
@@ -58,7 +64,7 @@ pub record Meaning : Type 0 where
   pub volume : Geometry → List Page → List Page
   pub blocks_left : BlocksLeft
   pub volume_left : Geometry → VolumeLeft
-  pub remounts : Option Choice
+  pub starved : Starved
   pub spends : Machine → Spending
   pub room : ℕ
 
@@ -77,7 +83,7 @@ quiet needs checked comes = record {
   volume = λ geo pages. pages;
   blocks_left = Same;
   volume_left = λ geo. Kept;
-  remounts = None;
+  starved = Untouched;
   spends = λ h. no_spending;
   room = 64;
 }

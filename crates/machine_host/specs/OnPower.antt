@@ -8,6 +8,7 @@ use Rattle.machine_host.specs.Costs.{mount_calls, mount_persists}
 use Rattle.machine_host.specs.Machine.Fate.{Orders, Cuts, Restarts}
 use Rattle.machine_host.specs.Meaning.{Meaning, anywhere, quiet}
 use Rattle.machine_host.specs.Meaning.Needs.{Powered, Unpowered}
+use Rattle.machine_host.specs.Meaning.Starved.{Unmounted}
 
 abbrev pub cut : Meaning
 cut = quiet Powered anywhere (λ h. Cuts (record h { mode = modes.Off; cut_armed = false; fail_armed = false }))
@@ -18,6 +19,6 @@ cut_in calls = quiet Powered (λ geo. if calls == 0 then Some because.Range else
 
 abbrev pub restart : Choice → Meaning
 restart choice = record (quiet Unpowered anywhere (λ h. Restarts choice)) {
-  remounts = Some choice;
+  starved = Unmounted choice;
   spends = λ h. record { calls = mount_calls; persists = mount_persists };
 }

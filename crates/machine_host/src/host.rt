@@ -1,6 +1,7 @@
 // The host: it refuses a command, or performs it on the device and answers it by one line.
 mod blocks;
 mod commands;
+mod media;
 mod power;
 mod refusals;
 mod settling;
@@ -59,7 +60,6 @@ impl Host {
     ghost use Rattle.recovery.specs.Mounting.{Finds, IsOfLogs, mount_outcome};
     ghost use Rattle.machine_host.specs.Machine.{Machine};
     ghost use Rattle.machine_host.specs.Stands.{HostServes, IsFlushed, MetadataStands, Stands, Steps};
-    ghost use Rattle.machine_host.specs.Lines.{HasGoodData};
     ghost use Rattle.machine_host.specs.Restarting.{reading};
     ghost use Rattle.machine_host.specs.Costs.{mount_calls, mount_persists};
     ghost use Rattle.machine_host.specs.Faults.{Leaves};
@@ -82,12 +82,10 @@ impl Host {
         ensures presence { EachImage (volume_area (geometry_told (D.state device.old).medium)) (D.state device.new).medium
             (IsReached (volume_area (geometry_told (D.state device.old).medium)) (D.state device.old).medium) }
         ensures metadata { IfOk result (λ host. MetadataStands host.geometry (D.state device.new).medium []) }
-        ensures serves { HasGoodData (geometry_told (D.state device.old).medium) (D.state device.old).medium
-            → IfOk result (λ host. HostServes host (D.state device.new)) }
+        ensures serves { IfOk result (λ host. HostServes host (D.state device.new)) }
 
         // Where each word had one value, host and device stand for the state that is read there.
         ensures stands { (image : Image) → Depicts (D.state device.old).medium image
-            → HasGoodData (geometry_told (D.state device.old).medium) (D.state device.old).medium
             → IfOk result (λ host. Stands host (D.state device.new) (record (reading (geometry_told (D.state device.old).medium) image) {
               cut_armed = (D.state device.new).panel.cut_armed;
               fail_armed = (D.state device.new).panel.fail_armed;

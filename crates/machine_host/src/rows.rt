@@ -2,12 +2,14 @@ ghost use Rattle.machine_host.specs.Rows.{Rows};
 ghost use Rattle.machine_host.specs.BlockRows.{BlockRows};
 ghost use Rattle.machine_host.specs.CutRows.{CutRows, CutRuns};
 ghost use Rattle.machine_host.specs.VolumeRows.{VolumeRows, VolumeRuns};
+ghost use Rattle.machine_host.specs.MediaRows.{MediaRows};
 
 /// What the machine writes for the worked scripts.
 pub fn worked_scripts()
     ensures volume { Rows }
     ensures blocks { BlockRows }
     ensures pages { VolumeRows }
+    ensures errors { MediaRows }
 {}
 
 /// What it writes for those with cuts and with blocks that are written together, and what it may write after a cut.

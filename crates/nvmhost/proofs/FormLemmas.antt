@@ -12,36 +12,22 @@ use Rattle.host_io.specs.Writing.{WritesAll}
 use Rattle.host_io.specs.declared.images.ImageCounts.{ImageCounts}
 use Rattle.host_io.specs.declared.sink.WriteFault.{WriteFault}
 use Rattle.host_io.specs.declared.sink.WriteFault.TheVariants as write
-use Rattle.image_file.specs.Devices.{image_of, medium_of, told_values, told_word}
-use Rattle.image_file.specs.Text.{IsImageLine}
 use Rattle.line_device.specs.Device.{Device}
-use Rattle.line_device.specs.History.{newest}
 use Rattle.line_device.specs.Medium.{IsSound, last_image}
 use Rattle.line_device.specs.Panel.{KeepsPower, Panel, SetsUp, after_disarm}
 use Rattle.line_device.specs.declared.line.LineState.{LineState}
 use Rattle.line_device.specs.declared.line.LineState.TheVariants.{Healthy, Weak, Bad}
 use Rattle.word_tables.specs.declared.geometry.Geometry.{Geometry}
-use Rattle.word_tables.specs.Bounds.{IsValid}
-use Rattle.word_tables.specs.Layout.{volume_line}
-use Rattle.block_device.specs.Images.{EachReads}
-use Rattle.block_device.specs.Reading.{states_read}
-use Rattle.block_device.proofs.GoodLemmas.{no_bad_block_lines}
-use Rattle.block_map.specs.States.{IsMap}
-use Rattle.nvm_model.proofs.PageLemmas.{bad_lines-none}
-use Rattle.pm_volume.specs.Images.{EachReadsPages}
-use Rattle.pm_volume.specs.Presence.{presence_read}
 use Rattle.recovery.specs.Findings.{first_finding, geometry_told}
 use Rattle.machine_host.specs.declared.mode.Mode.TheVariants as modes
-use Rattle.machine_host.specs.Commands.{MayLeaveBlocks, MayLeaveVolume}
-use Rattle.machine_host.specs.Machine.{Machine}
+use Rattle.machine_host.specs.Machine.{Machine, bad_of}
+use Rattle.machine_host.specs.Lines.{HasLayout}
 use Rattle.machine_host.specs.Restarting.{reading}
 use Rattle.machine_host.specs.Settling.{Settled}
 use Rattle.machine_host.specs.Stands.{HostServes, HostState, Stands}
-use Rattle.machine_host.proofs.MountLemmas.{found_map}
-use Rattle.machine_host.proofs.MountedLemmas.{layout_found}
 use Rattle.machine_host.proofs.RunLemmas.{tells_then}
 use Rattle.nvmhost.specs.Ending.{numbered_line, of_write}
-use Rattle.nvmhost.specs.Forms.{FailsToCreate, IsCaused, IsUnwritten, Outcome, bad_of, checked_text, created_text}
+use Rattle.nvmhost.specs.Forms.{FailsToCreate, IsCaused, IsUnwritten, Outcome, checked_text, created_text}
 use Rattle.nvmhost.specs.Opening.{CountsOpening, IsReady, StaysClosed, opened, opening}
 use Rattle.nvmhost.specs.Reading.{ReadsScript}
 use Rattle.nvmhost.specs.Running.{Performs}
@@ -52,8 +38,7 @@ use Rattle.nvmhost.specs.declared.ending.Ending.{Ending}
 use Rattle.nvmhost.specs.declared.ending.Ending.TheVariants.{Usage, Write}
 use Rattle.nvmhost.proofs.AgainLemmas.{is_read_again}
 use Rattle.nvmhost.proofs.BytesLemmas.{appends-none}
-use Rattle.nvmhost.proofs.OpenLemmas.{good_of_image}
-use Rattle.nvmhost.proofs.RestLemmas.{good_served, rests-settled, stands-read_out}
+use Rattle.nvmhost.proofs.RestLemmas.{rests-settled, stands-read_out}
 use Rattle.nvmhost.proofs.RunLemmas.{all_lines, halts-unstored, is_run}
 use Rattle.nvmhost.proofs.StoreLemmas.{last-write_back}
 
@@ -128,31 +113,16 @@ unreplaced name geo fault old new wrote memory others failed is_failed counts de
     by_fault write.Failed memory rose = inr (rose refl, others)
     by_fault write.Memory memory rose = inl (memory refl)
 
--- no line of an image that is opened is bad
-pub none_bad : (lines : List LineState) → AllByRecursion IsImageLine lines → first_finding (medium_of lines) ≡ None → bad_of (opened lines) ≡ 0
+-- what `check` is answered, where the host counted the bad lines of what was opened
+pub checked_ready : (name : List ℕ) (held : Option Held) (host : HostState) (old new : Device) (ready : IsReady name held host old new) (count bad : ℕ) → count ≡ new.medium.count
+    → ((h : Machine) → Stands host new h → bad ≡ bad_of h) → codes "ok " ++ decimal count ++ numbered_line (codes " bad ") bad ≡ checked_text ready.lines
+checked_ready name held host old new ready count bad is counted =
+    ap₂ (λ n bad. codes "ok " ++ decimal n ++ numbered_line (codes " bad ") bad) (is ∙ ready.count) (counted ready.begin ready.stands ∙ ap (λ (h : Machine). bad_of h) ready.begins.state)
+
+-- a host that opened an image is on
+pub on_ready : (name : List ℕ) (held : Option Held) (host : HostState) (old new : Device) → IsReady name held host old new → host.mode ≡ modes.On
 unfolding reading
-none_bad lines all right =
-    let m = medium_of lines in
-    let geo = geometry_told m in
-    let layout = layout_found m right (λ n _ _. good_of_image lines all n) in
-    let is_map = subst (λ word. IsMap (states_read geo word)) words (found_map m right) in
-    let blocks = no_bad_block_lines geo (image_of lines).is_bad (image_of lines).word layout.valid is_map (λ n _. (good_of_image lines all n).0) in
-    let pages = bad_lines-none (volume_line geo) (image_of lines) (presence_read geo (image_of lines).word) (λ n _. (good_of_image lines all (volume_line geo n)).0) in
-    omega (arith, blocks, pages)
-  where
-    by_line : (line : Option LineState) (w : ℕ) → newest (told_values line w) ≡ told_word line w
-    by_line None w = refl
-    by_line (Some (Healthy bytes)) w = refl
-    by_line (Some (Weak bytes)) w = refl
-    by_line (Some Bad) w = refl
-
-    words : last_image (medium_of lines) ≡ (image_of lines).word
-    words = λ i p. by_line (slice_get lines (p / 8)) (p % 8) i
-
--- what `check` is answered then
-pub checked_none : (lines : List LineState) (count : ℕ) → AllByRecursion IsImageLine lines → first_finding (medium_of lines) ≡ None → count ≡ length lines
-    → codes "ok " ++ decimal count ++ numbered_line (codes " bad ") 0 ≡ checked_text lines
-checked_none lines count all right is = ap₂ (λ n bad. codes "ok " ++ decimal n ++ numbered_line (codes " bad ") bad) is (sym (none_bad lines all right))
+on_ready name held host old new ready = ready.stands.mode ∙ ap (λ (h : Machine). h.mode) ready.begins.state
 
 -- what is held, held on for a while
 keeps-then : (which : List ℕ → Type 0) (a b c : Option Held) → KeepsHeld (λ _. ⊤) a b → KeepsHeld which b c → KeepsHeld which a c
@@ -188,12 +158,9 @@ pub run_over : (from to : List ℕ) (host after settled : HostState) (script : S
 run_over from to host after settled script opened_as ran rest held counted (Ok x) old new ready reads performs settles on sound kept counts stores =
     let says = performs.says ready.begin ready.stands in
     let comes = settles says.end says.outcome.stands in
-    let good = good_served settled rest on comes.serves in
     let done = stores.outcome in
     let image = done.3 in
-    let still = comes.stands.mode in
     let stands = comes.stands.device in
-    let whole = stands.whole (sym still ∙ on) in
     record {
       lines = ready.lines;
       there = ready.held_there;
@@ -230,9 +197,7 @@ run_over from to host after settled script opened_as ran rest held counted (Ok x
           text = subst (λ t. IfSome new.held (λ look. look to ≡ Some t)) image.is done.4;
           others = keeps-then (λ other. other ≢ to) old.held held new.held kept done.5;
         };
-        again = is_read_again comes.next rest.medium image.lines (subst IsValid comes.stands.geometry comes.serves.layout.valid) sound good image.right.whole image.last stands.metadata
-            (subst (λ i. EachReads comes.next.geometry rest.medium (MayLeaveBlocks i comes.next.blocks)) whole stands.blocks)
-            (subst (λ i. EachReadsPages comes.next.geometry rest.medium (MayLeaveVolume comes.next.geometry i comes.next.volume)) whole stands.volume) whole;
+        again = is_read_again comes.next rest.medium image.lines (subst (λ g. HasLayout g rest.medium) comes.stands.geometry comes.serves.layout) sound image.last stands.metadata stands.blocks stands.volume;
       };
       fetches = stores.fetches ∙ counts.fetches;
       replaces = done.1 ∙ ap raised counts.replaces;

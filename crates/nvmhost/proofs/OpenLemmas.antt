@@ -1,11 +1,10 @@
 -- An image that is opened, and one that is not.
-use Rattle.std.proofs.Common.{◌≡◌, ℕ, zero, suc, ◌/◌, false, List, [], ◌∷◌, Option, None, refl, sym, ap, subst, ◌∙◌, arith}
-use Rattle.std.specs.List.{AllByRecursion}
+use Rattle.std.proofs.Common.{◌≡◌, ℕ, ◌/◌, ◌%◌, List, slice_get, Option, Some, None, refl, sym, ap, subst, ◌∙◌, arith}
 use Rattle.host_io.specs.Images.{Held}
-use Rattle.image_file.specs.Devices.{image_of, medium_of}
-use Rattle.image_file.specs.Text.{IsImageLine}
-use Rattle.image_file.proofs.ShownLemmas.{depicted}
-use Rattle.line_device.specs.History.{IsIn, newest}
+use Rattle.image_file.specs.Devices.{image_of, medium_of, told_values}
+use Rattle.line_device.specs.History.{newest}
+use Rattle.line_device.specs.Word.{word_at}
+use Rattle.line_words.specs.Words.{IsOnly}
 use Rattle.line_device.proofs.HistoryLemmas.{is_in-one}
 use Rattle.line_device.specs.Device.{Device}
 use Rattle.line_device.specs.Medium.{Medium}
@@ -21,19 +20,15 @@ use Rattle.recovery.specs.Findings.{first_finding, geometry_told}
 use Rattle.nvmhost.specs.Opening.{IsHeld, IsReady}
 use Rattle.nvmhost.proofs.TellLemmas.{tells_opening}
 
--- the lines of an image are healthy, and each word has one value
-pub good_of_image : (lines : List LineState) → AllByRecursion IsImageLine lines → (n : ℕ) → ((medium_of lines).is_bad n ≡ false) × ((medium_of lines).is_weak n ≡ false)
-good_of_image [] all n = (refl, refl)
-good_of_image (Healthy bytes ∷ lines) all zero = (refl, refl)
-good_of_image (Weak bytes ∷ lines) all zero = absurd all.0
-good_of_image (Bad ∷ lines) all zero = absurd all.0
-good_of_image (line ∷ lines) all (suc n) = good_of_image lines all.1 n
-
-pub flushed_of_image : (lines : List LineState) → AllByRecursion IsImageLine lines → IsFlushed (medium_of lines)
-flushed_of_image lines all p there v at =
-    let is = (depicted lines).words p (there, (good_of_image lines all (p / 8)).0) in
-    let here = is_in-one v _ (subst (IsIn v) is at) in
-    here ∙ sym (ap newest is)
+-- each word of an image has one value
+pub flushed_of_image : (lines : List LineState) → IsFlushed (medium_of lines)
+flushed_of_image lines p there = by_line (slice_get lines (p / 8)) (p % 8)
+  where
+    by_line : (line : Option LineState) (w : ℕ) → IsOnly (newest (told_values line w)) (told_values line w)
+    by_line None w v at = absurd at
+    by_line (Some (Healthy bytes)) w v at = is_in-one v (word_at bytes w) at
+    by_line (Some (Weak bytes)) w v at = is_in-one v (word_at bytes w) at
+    by_line (Some Bad) w v at = absurd at
 
 -- set up and mounted
 pub opens-mounted : (end : Outcome) (p q r : Panel) → SetsUp went p q → Runs mount_calls mount_persists end q r → Opens p r

@@ -6,9 +6,8 @@ use Rattle.line_device.specs.Panel.{ArmsNothing, Panel, SetsUp, Outcome, Start, 
 use Rattle.line_device.specs.Panel.Outcome.{went}
 use Rattle.line_device.specs.Device.{Device}
 use Rattle.line_words.proofs.FrameLemmas.{outside-write_back}
-use Rattle.image_file.specs.Devices.{AreLinesGood}
 use Rattle.image_file.specs.Text.{FitImage}
-use Rattle.word_tables.specs.Layout.{meta_lines, volume_line}
+use Rattle.word_tables.specs.Layout.{volume_line}
 use Rattle.block_device.proofs.ReachLemmas.{each_reads-write_back}
 use Rattle.pm_volume.proofs.StandingLemmas.{each_pages-kept, images-kept, line_kept-write_back}
 use Rattle.machine_host.specs.declared.mode.Mode.{Mode}
@@ -19,7 +18,6 @@ use Rattle.machine_host.specs.Settling.{Asks, LeftUnsettled, SettlesTo}
 use Rattle.machine_host.specs.Stands.{DeviceStands, HostServes, HostState}
 use Rattle.machine_host.specs.Telling.{bumped_by}
 use Rattle.machine_host.proofs.MetadataLemmas.{metadata-outside}
-use Rattle.machine_host.proofs.MountLemmas.{all_intact}
 use Rattle.machine_host.proofs.RemountLemmas.{stays_off}
 use Rattle.nvmhost.specs.Whole.{GoesToRest}
 use Rattle.nvmhost.proofs.AgainLemmas.{fit_image}
@@ -86,11 +84,6 @@ rests-settled mode h next starts end old rest new comes asks restarts sets =
 -- A host that is on may have its device read out.
 pub fit_served : (host : HostState) (d : Device) → HostServes host d → FitImage d.medium.count
 fit_served host d serves = subst FitImage (sym serves.layout.lines) (fit_image host.geometry serves.layout.valid)
-
-pub good_served : (host : HostState) (d : Device) → host.mode ≡ modes.On → HostServes host d → AreLinesGood d.medium
-good_served host d on serves =
-    let mounted = serves.mounted on in
-    all_intact host.geometry d.medium serves.layout (subst (λ g. (n : ℕ) → n < meta_lines g → d.medium.is_weak n ≡ false) mounted.volume_geometry mounted.volume_serves.strong)
 
 -- It stands for the same state then.
 pub stands-read_out : (h : Machine) (old new : Device) → DeviceStands old h → WritesBack old.medium new.medium → SetsUp went old.panel new.panel → new.panel.power ≡ old.panel.power

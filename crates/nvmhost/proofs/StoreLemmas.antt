@@ -1,7 +1,7 @@
 -- Lines that are read out, and an image that is stored.
 use Rattle.std.proofs.Common.{◌≡◌, ℕ, ◌+◌, ◌*◌, List, sym, ap, ◌∙◌}
 use Rattle.image_file.specs.declared.Image.{Image}
-use Rattle.image_file.specs.Devices.{AreLinesGood, IsLastImage}
+use Rattle.image_file.specs.Devices.{IsLastImage}
 use Rattle.image_file.specs.Text.{FitImage, image_text, snapshot_of}
 use Rattle.image_file.proofs.ShownLemmas.{snapshot_last}
 use Rattle.line_device.specs.Medium.{Medium, Shows, WritesBack}
@@ -11,11 +11,11 @@ use Rattle.line_device.proofs.WriteBackLemmas.{newest-write_back}
 use Rattle.nvmhost.specs.Storing.{AreLast}
 
 -- the text of the lines that were read out
-pub are_last : (m : Medium) (image : Image) (text : List ℕ) → FitImage m.count → AreLinesGood m → image.unit ≡ 8 → IsLastImage m image.lines.items → text ≡ image_text (snapshot_of image) → AreLast m text
-are_last m image text fit good unit last is = record {
+pub are_last : (m : Medium) (image : Image) (text : List ℕ) → FitImage m.count → image.unit ≡ 8 → IsLastImage m image.lines.items → text ≡ image_text (snapshot_of image) → AreLast m text
+are_last m image text fit unit last is = record {
   lines = image.lines.items;
   last = last;
-  right = snapshot_last m image.lines.items fit good last;
+  right = snapshot_last m image.lines.items fit last;
   is = is ∙ ap (λ u. image_text (record { unit = u; lines = image.lines.items })) unit;
 }
 

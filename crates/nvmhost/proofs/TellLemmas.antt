@@ -5,13 +5,15 @@ use Rattle.line_device.proofs.PanelLemmas.{arms_nothing-refl}
 use Rattle.line_device.specs.Device.{Device}
 use Rattle.line_device.specs.declared.line.Choice.{Choice}
 use Rattle.script_text.specs.Action.{Action}
-use Rattle.script_text.specs.Action.Action.{Restart}
 use Rattle.machine_host.specs.Machine.{Machine}
 use Rattle.machine_host.specs.Run.{Transcript, followed_by}
 use Rattle.machine_host.specs.Telling.{Tells}
 use Rattle.machine_host.specs.Stands.{HostState}
 use Rattle.machine_host.specs.Costs.{Opens}
-use Rattle.machine_host.specs.Faults.{Leaves, LeftUnmounted}
+use Rattle.machine_host.specs.Commands.{meaning}
+use Rattle.machine_host.specs.Faults.{Leaves, LeavesStarved, LeftUnmounted}
+use Rattle.machine_host.specs.Meaning.{Starved}
+use Rattle.machine_host.specs.Meaning.Starved.{Untouched, WrittenBack, Unmounted}
 use Rattle.machine_host.proofs.RunLemmas.{tells_then}
 use Rattle.nvmhost.specs.Whole.{TellsFirst, GoesUnanswered}
 use Rattle.nvmhost.specs.Opening.{opening}
@@ -99,10 +101,12 @@ unanswered-unmounted choice host state old new left =
       disarms = opens.orders.disarms ∙ ap (λ c. c.disarms) counts;
     }
 
--- a command that had no memory for its answer
-pub unanswered-left : (action : Action) (host after : HostState) (old new : Device) → Leaves action host after old new → GoesUnanswered old.panel new.panel
-unanswered-left (Restart choice) host after old new (inl (same, inl is)) = subst (λ (d : Device). GoesUnanswered old.panel d.panel) (sym is) (unanswered-none old.panel)
-unanswered-left (Restart choice) host after old new (inl (same, inr waits)) =
+-- what was left where memory ran out, by its row
+unanswered-starved : (starved : Starved) (host after : HostState) (old new : Device) → LeavesStarved starved host after old new → GoesUnanswered old.panel new.panel
+unanswered-starved Untouched host after old new left = subst (λ (d : Device). GoesUnanswered old.panel d.panel) (sym left.1) (unanswered-none old.panel)
+unanswered-starved WrittenBack host after old new left = subst (GoesUnanswered old.panel) (sym left.2) (unanswered-none old.panel)
+unanswered-starved (Unmounted choice) host after old new (inl (same, inl is)) = subst (λ (d : Device). GoesUnanswered old.panel d.panel) (sym is) (unanswered-none old.panel)
+unanswered-starved (Unmounted choice) host after old new (inl (same, inr waits)) =
     let refused = waits.panel in
     let counts = refused.counts in
     record {
@@ -122,5 +126,8 @@ unanswered-left (Restart choice) host after old new (inl (same, inr waits)) =
       evicts = ap (λ c. c.evicts) counts;
       disarms = ap (λ c. c.disarms) counts;
     }
-unanswered-left (Restart choice) host after old new (inr left) = unanswered-unmounted choice host after old new left
-unanswered-left _ host after old new left = subst (λ (d : Device). GoesUnanswered old.panel d.panel) (sym left.1) (unanswered-none old.panel)
+unanswered-starved (Unmounted choice) host after old new (inr left) = unanswered-unmounted choice host after old new left
+
+-- a command that had no memory for its answer
+pub unanswered-left : (action : Action) (host after : HostState) (old new : Device) → Leaves action host after old new → GoesUnanswered old.panel new.panel
+unanswered-left action host after old new left = unanswered-starved (meaning action).starved host after old new left

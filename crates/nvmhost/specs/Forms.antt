@@ -10,11 +10,9 @@ use Rattle.image_file.specs.Devices.{medium_of}
 use Rattle.image_file.specs.Text.{fresh_snapshot}
 use Rattle.line_device.specs.declared.line.LineState.{LineState}
 use Rattle.machine_host.specs.Costs.{Opens}
-use Rattle.machine_host.specs.Machine.{Machine}
+use Rattle.machine_host.specs.Machine.{Machine, bad_of}
 use Rattle.machine_host.specs.Run.{Transcript, followed_by}
 use Rattle.machine_host.specs.Telling.{Tells}
-use Rattle.nvm_model.specs.Blocks.{bad_block_lines}
-use Rattle.nvm_model.specs.Page.{bad_lines}
 use Rattle.recovery.specs.Findings.{first_finding}
 use Rattle.reply_text.specs.Answer.{reply_text}
 use Rattle.script_text.specs.Script.{lines_of}
@@ -32,9 +30,6 @@ use Rattle.nvmhost.specs.declared.ending.Ending.TheVariants as endings
 -- what `new` writes, and what `check` does of the state that it read
 abbrev pub created_text : Geometry → List ℕ
 created_text geo = numbered_line (codes "ok ") (total_lines geo)
-
-abbrev pub bad_of : Machine → ℕ
-bad_of h = bad_block_lines h.blocks + bad_lines h.volume
 
 abbrev pub checked_text : List LineState → List ℕ
 checked_text lines = codes "ok " ++ decimal (length lines) ++ numbered_line (codes " bad ") (bad_of (opened lines))

@@ -13,7 +13,7 @@ mod tests;
 mod top;
 
 use host_io::{FileImages, StdinSource, StdoutSink};
-use line_device::Plain;
+use line_module::Module;
 use std::env;
 use std::process::ExitCode;
 use top::nvmhost;
@@ -28,7 +28,7 @@ fn main(rt: HostRuntime) -> ExitCode {
     let Ok(words) = words else {
         return ExitCode::from(6);
     };
-    let mut device = Plain::new(alloc);
+    let mut device = Module::new(alloc);
     let mut images = FileImages::new(&rt);
     let mut script = StdinSource::new(&rt);
     let mut replies = StdoutSink::new(&rt);

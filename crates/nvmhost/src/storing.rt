@@ -1,6 +1,5 @@
 // Storing an image in place of the one that is held under a name.
 ghost use Rattle.std.specs.Prelude.{◌≡◌, IfOk};
-ghost use Rattle.image_file.specs.Devices.{AreLinesGood};
 ghost use Rattle.image_file.specs.Text.{FitImage, fresh_snapshot, image_text};
 ghost use Rattle.word_tables.specs.Bounds.{IsValid};
 ghost use Rattle.nvmhost.specs.Storing.{ReadsOut, Stores};
@@ -20,7 +19,6 @@ pub fn store<D: LineDevice, F: Images>(
     images: &mut F,
 ) -> Result<(), Ending>
     requires fit { FitImage (D.state device.old).medium.count }
-    requires good { AreLinesGood (D.state device.old).medium }
     ensures { Stores name.now result (F.held images.old) (F.held images.new) (F.count images.old) (F.count images.new)
         (D.state device.old) (D.state device.new) }
 {
@@ -31,7 +29,6 @@ pub fn store<D: LineDevice, F: Images>(
 // The list of lines is let go once it is written.
 fn text_of<D: LineDevice>(alloc: Global, device: &mut D) -> Result<Bytes, Ending>
     requires fit { FitImage (D.state device.old).medium.count }
-    requires good { AreLinesGood (D.state device.old).medium }
     ensures { ReadsOut result (D.state device.old) (D.state device.new) }
 {
     let image = image_file::extract(alloc, device)?;

@@ -2,7 +2,8 @@
 
 use crate::top::nvmhost;
 use host_io::{MemImages, MemSink, MemSource};
-use line_device::{Choice, LineDevice, LineState, Order, Plain};
+use line_device::{Choice, LineDevice, LineState, Order};
+use line_module::Module;
 use nvm_base::{Bytes, Words};
 use std::alloc::{AllocError, Global};
 use std::test::Fail;
@@ -45,20 +46,21 @@ fn call<D: LineDevice>(
     Ok(nvmhost(alloc, &list, device, images, script, replies))
 }
 
-// The status of a call over a plain device, and what it wrote.
+// The status of a call over a module whose script is a text so many times, and what it wrote.
 fn outcome(
     alloc: Global,
     words: &str,
     images: &mut MemImages,
     script: &str,
+    times: u64,
 ) -> Result<(u8, MemSink), AllocError> {
-    let bytes = repeated(alloc, script, 1, "")?;
+    let bytes = repeated(alloc, script, times, "")?;
     let mut source = MemSource::new(bytes, 65536, Words::new(alloc));
     let mut sink = MemSink::new(alloc, Words::new(alloc));
     let status = call(
         alloc,
         words,
-        &mut Plain::new(alloc),
+        &mut Module::new(alloc),
         images,
         &mut source,
         &mut sink,
@@ -69,7 +71,7 @@ fn outcome(
 // A fresh image of 8 blocks, 2 pages of the volume and 32 pages of files, under the name img.
 fn fresh(alloc: Global) -> Result<MemImages, AllocError> {
     let mut images = MemImages::new(alloc, Words::new(alloc));
-    outcome(alloc, "new img 8 2 32", &mut images, "")?;
+    outcome(alloc, "new img 8 2 32", &mut images, "", 1)?;
     Ok(images)
 }
 
@@ -101,10 +103,10 @@ fn replies_of<D: LineDevice>(
 #[test]
 fn a_script_gets_its_replies_whatever_pieces_it_comes_in(rt: HostRuntime) -> Result<(), Fail> {
     let alloc = rt.alloc();
-    for (script, replies) in stories::STORIES {
-        let sink = replies_of(alloc, &mut Plain::new(alloc), script, 1)?;
+    for &(script, replies) in &stories::STORIES {
+        let sink = replies_of(alloc, &mut Module::new(alloc), script, 1)?;
         assert!(rt; sink.written() == replies.as_bytes(), "{script}");
-        let mut recorder = Recorder::new(alloc, Plain::new(alloc));
+        let mut recorder = Recorder::new(alloc, Module::new(alloc));
         let sink = replies_of(alloc, &mut recorder, script, 65536)?;
         assert!(rt; sink.written() == replies.as_bytes(), "{script}");
     }
@@ -114,7 +116,7 @@ fn a_script_gets_its_replies_whatever_pieces_it_comes_in(rt: HostRuntime) -> Res
 #[test]
 fn a_recorder_tells_what_the_script_asked_for(rt: HostRuntime) -> Result<(), Fail> {
     let alloc = rt.alloc();
-    let mut device = Recorder::new(alloc, Plain::new(alloc));
+    let mut device = Recorder::new(alloc, Module::new(alloc));
     replies_of(alloc, &mut device, stories::TWO_RESTARTS, 7)?;
     assert_eq!(rt; device.last(), Some(Order::Cut(2)));
     let starts = device.starts();
@@ -133,31 +135,30 @@ fn a_recorder_tells_what_the_script_asked_for(rt: HostRuntime) -> Result<(), Fai
     Ok(())
 }
 
+// Runs over one image, one after the other, the first of which ends without power: words, script, and what is written.
+const WITHOUT_POWER: [(&str, &str, &str); 3] = [
+    (
+        "run img img",
+        "bwrite 1 07*512\nvstore 0 01\nvstore 0 02\ncut\n",
+        "ok\nok\nok\nok\n",
+    ),
+    (
+        "run img out",
+        "vload 0 2\nbread 1 1\nbread 0 1\n",
+        "data 02,00\ndata 07*512\ndata 00*512\n",
+    ),
+    ("check out", "", "ok 5056 bad 0\n"),
+];
+
 #[test]
 fn a_run_that_ends_without_power_keeps_the_last_values(rt: HostRuntime) -> Result<(), Fail> {
     let alloc = rt.alloc();
     let mut images = fresh(alloc)?;
-    let (status, _) = outcome(
-        alloc,
-        "run img img",
-        &mut images,
-        "bwrite 1 07*512\nvstore 0 01\nvstore 0 02\ncut\n",
-    )?;
-    assert_eq!(rt; status, 0);
-    let (status, sink) = outcome(
-        alloc,
-        "run img out",
-        &mut images,
-        "vload 0 2\nbread 1 1\nbread 0 1\n",
-    )?;
-    assert_eq!(rt; status, 0);
-    assert_eq!(rt;
-        sink.written(),
-        b"data 02,00\ndata 07*512\ndata 00*512\n".as_slice()
-    );
-    let (status, sink) = outcome(alloc, "check out", &mut images, "")?;
-    assert_eq!(rt; status, 0);
-    assert_eq!(rt; sink.written(), b"ok 5056 bad 0\n".as_slice());
+    for &(words, script, wanted) in &WITHOUT_POWER {
+        let (status, sink) = outcome(alloc, words, &mut images, script, 1)?;
+        assert_eq!(rt; status, 0, "{words}");
+        assert_eq!(rt; sink.written(), wanted.as_bytes(), "{words}");
+    }
     Ok(())
 }
 
@@ -165,72 +166,59 @@ fn a_run_that_ends_without_power_keeps_the_last_values(rt: HostRuntime) -> Resul
 fn an_empty_script_leaves_the_image_as_it_was(rt: HostRuntime) -> Result<(), Fail> {
     let alloc = rt.alloc();
     let mut images = fresh(alloc)?;
-    let (status, sink) = outcome(alloc, "run img out", &mut images, "")?;
+    let (status, sink) = outcome(alloc, "run img out", &mut images, "", 1)?;
     assert_eq!(rt; (status, sink.written().len()), (0, 0));
     let same = images.get("out") == images.get("img");
     assert!(rt; same);
     Ok(())
 }
 
+// Five commands; and runs of so many times these, with the bytes that are written.
+const PART: &str = "vstore 4090 01*9\nbwrite 3 05*1024\nvdiscard 1 1\nvsync 0 64\nbdiscard 4 1\n";
+
+const THREE_RUNS_AND_ONE: [(&str, u64, usize); 4] = [
+    ("run img a", 200, 3000),
+    ("run a b", 200, 3000),
+    ("run b three", 200, 3000),
+    ("run img once", 600, 9000),
+];
+
 #[test]
 fn three_runs_over_one_image_leave_what_one_run_leaves(rt: HostRuntime) -> Result<(), Fail> {
     let alloc = rt.alloc();
-    let part = "vstore 4090 01*9\nbwrite 3 05*1024\nvdiscard 1 1\nvsync 0 64\nbdiscard 4 1\n";
     let mut images = fresh(alloc)?;
-    for words in ["run img a", "run a b", "run b three"] {
-        let mut source = MemSource::new(repeated(alloc, part, 200, "")?, 65536, Words::new(alloc));
-        let mut sink = MemSink::new(alloc, Words::new(alloc));
-        let mut device = Plain::new(alloc);
-        let status = call(
-            alloc,
-            words,
-            &mut device,
-            &mut images,
-            &mut source,
-            &mut sink,
-        )?;
+    for &(words, times, written) in &THREE_RUNS_AND_ONE {
+        let (status, sink) = outcome(alloc, words, &mut images, PART, times)?;
         assert_eq!(rt; status, 0, "{words}");
-        assert_eq!(rt; sink.written().len(), 3000);
+        assert_eq!(rt; sink.written().len(), written, "{words}");
     }
-    let mut source = MemSource::new(repeated(alloc, part, 600, "")?, 65536, Words::new(alloc));
-    let mut sink = MemSink::new(alloc, Words::new(alloc));
-    let mut device = Plain::new(alloc);
-    let status = call(
-        alloc,
-        "run img once",
-        &mut device,
-        &mut images,
-        &mut source,
-        &mut sink,
-    )?;
-    assert_eq!(rt; status, 0);
     let same = images.get("once") == images.get("three");
     assert!(rt; same);
     Ok(())
 }
 
+const USAGE: &str = "usage: new IMAGE BLOCKS VPAGES FPAGES, run IN OUT, check IN, bench SEED N\n";
+
+const NO_FORM: [&str; 10] = [
+    "",
+    "new img 12 2 32",
+    "new img 8 2",
+    "new img 8 257 32",
+    "run 8 2 32",
+    "run img",
+    "run img out more",
+    "check",
+    "check -img",
+    "bench 1 1",
+];
+
 #[test]
 fn words_that_are_no_form_get_the_usage_line(rt: HostRuntime) -> Result<(), Fail> {
     let alloc = rt.alloc();
-    for words in [
-        "",
-        "new img 12 2 32",
-        "new img 8 2",
-        "new img 8 257 32",
-        "run 8 2 32",
-        "run img",
-        "run img out more",
-        "check",
-        "check -img",
-        "bench 1 1",
-    ] {
-        let (status, sink) = outcome(alloc, words, &mut fresh(alloc)?, "vload 0 1\n")?;
+    for words in &NO_FORM {
+        let (status, sink) = outcome(alloc, words, &mut fresh(alloc)?, "vload 0 1\n", 1)?;
         assert_eq!(rt; status, 2, "{words}");
-        assert_eq!(rt;
-            sink.written(),
-            b"usage: new IMAGE BLOCKS VPAGES FPAGES, run IN OUT, check IN, bench SEED N\n".as_slice(),
-            "{words}"
-        );
+        assert_eq!(rt; sink.written(), USAGE.as_bytes(), "{words}");
     }
     Ok(())
 }

@@ -145,7 +145,7 @@ fn check<D: LineDevice, F: Images, K: Sink>(
         (world (D.state device.old) (F.held images.old) (F.count images.old) left reads (K.written replies.old) (K.count replies.old))
         (world (D.state device.new) (F.held images.new) (F.count images.new) left reads (K.written replies.new) (K.count replies.new)) }
 {
-    open(alloc, name, device, images)?;
-    // No image that is opened has a bad line.
-    Ok(tell(checked(alloc, device.lines(), 0), replies)?)
+    let host = open(alloc, name, device, images)?;
+    let bad = host.bad_lines(device);
+    Ok(tell(checked(alloc, device.lines(), bad), replies)?)
 }

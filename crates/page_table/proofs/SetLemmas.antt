@@ -8,7 +8,7 @@ use Rattle.page_table.specs.Pages.{IsOn, IsTable, MayTake, TableState, unit_of, 
 
 module _ (pages : List (Option ℕ)) (entry : ℕ) (page : Option ℕ) where
   -- a page that is on a unit afterwards is the one that changed, or was there before
-  on_after : (e unit : ℕ) → IsOn (set pages entry page) e unit → ((e ≡ entry) × (page ≡ Some unit)) ⊎ ((e ≢ entry) × IsOn pages e unit)
+  pub on_after : (e unit : ℕ) → IsOn (set pages entry page) e unit → ((e ≡ entry) × (page ≡ Some unit)) ⊎ ((e ≢ entry) × IsOn pages e unit)
   on_after e unit on =
       let size = length-set pages entry page in
       let within : e < length pages = omega (arith, slice_get_within (set pages entry page) e (Some unit) on) in

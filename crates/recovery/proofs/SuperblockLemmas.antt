@@ -60,7 +60,7 @@ pub some_lines : (geo : Geometry) → 1 ≤ total_lines geo
 unfolding total_lines
 some_lines geo = omega arith
 
-some_meta : (geo : Geometry) → 0 < meta_lines geo
+pub some_meta : (geo : Geometry) → 0 < meta_lines geo
 unfolding first_line
 some_meta geo = omega arith
 

@@ -3,7 +3,7 @@ use Rattle.std.specs.Prelude.{ℕ, ◌+◌, ◌^◌, ◌<◌, List, [], ◌∷�
 use Rattle.nvm_base.specs.Data.{data_text}
 use Rattle.nvm_base.specs.declared.units.Span.{Span}
 use Rattle.reply_text.specs.declared.reply.Why.{Why}
-use Rattle.reply_text.specs.declared.reply.Why.TheVariants.{Syntax, Off, On, Recover, Range, Length, Limit, Overlap, Address}
+use Rattle.reply_text.specs.declared.reply.Why.TheVariants.{Syntax, Off, On, Recover, Range, Length, Limit, Overlap, Address, Nothing, NotPoisoned}
 use Rattle.reply_text.specs.declared.reply.Reply.{Reply}
 use Rattle.reply_text.specs.declared.reply.Reply.TheVariants as reply
 
@@ -49,6 +49,8 @@ why_text Length = codes "length"
 why_text Limit = codes "limit"
 why_text Overlap = codes "overlap"
 why_text Address = codes "address"
+why_text Nothing = codes "nothing"
+why_text NotPoisoned = codes "notpoisoned"
 
 -- a range behind its offset: where it begins, and its length
 abbrev pub range_text : ℕ → Span → List ℕ

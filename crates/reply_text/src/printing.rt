@@ -138,5 +138,7 @@ fn word_of(why: Why) -> &'static [u8]
         Why::Limit => b"limit",
         Why::Overlap => b"overlap",
         Why::Address => b"address",
+        Why::Nothing => b"nothing",
+        Why::NotPoisoned => b"notpoisoned",
     }
 }

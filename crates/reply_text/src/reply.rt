@@ -12,6 +12,9 @@ pub enum Why {
     Limit,
     Overlap,
     Address,
+    /// The place holds no line.
+    Nothing,
+    NotPoisoned,
 }
 
 /// What a command is answered.

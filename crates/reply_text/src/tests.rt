@@ -59,6 +59,8 @@ fn each_refusal_has_its_word(rt: HostRuntime) -> Result<(), AllocError> {
         (Why::Limit, "refused limit\n"),
         (Why::Overlap, "refused overlap\n"),
         (Why::Address, "refused address\n"),
+        (Why::Nothing, "refused nothing\n"),
+        (Why::NotPoisoned, "refused notpoisoned\n"),
     ] {
         let mut out = Bytes::new(rt.alloc());
         print(&Reply::Refused(why), &mut out)?;

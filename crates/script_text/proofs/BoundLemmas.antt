@@ -9,10 +9,10 @@ use Rattle.std.proofs.lemmas.List.Elements.{All-nil, All-cons}
 use Rattle.nvm_base.specs.Data.{data_of, data_within}
 use Rattle.script_text.proofs.DataLemmas.{data_of-some, data_within-ok}
 use Rattle.script_text.specs.Action.{Action, action_of}
-use Rattle.script_text.specs.Action.Action.{BRead, BWrite, BDiscard, BDiscardIf, BExists, BScar, BAtomic, BMulti, VLoad, VStore, VSync, VRanges, VPSync, VDiscard, VDiscardIf, VExists, Cut, CutIn, Restart}
-use Rattle.script_text.specs.Script.{of_numbers, of_data, bare_action, number_action, span_action, data_action, with_span, spans_of, spans_action, with_range, ranges_of, fitting, ranges_action, cut_action, restart_action, power_action, volume_action, plain_action, command_action, is_comment, asked, words_input}
+use Rattle.script_text.specs.Action.Action.{BRead, BWrite, BDiscard, BDiscardIf, BExists, BScar, BAtomic, BMulti, VLoad, VStore, VSync, VRanges, VPSync, VDiscard, VDiscardIf, VExists, PoisonBlock, PoisonVolume, WeakenVolume, ClearVolume, Cut, CutIn, Restart}
+use Rattle.script_text.specs.Script.{of_numbers, of_data, bare_action, number_action, span_action, data_action, with_span, spans_of, spans_action, with_range, ranges_of, fitting, ranges_action, cut_action, restart_action, in_volume_action, poison_action, power_action, media_action, volume_action, plain_action, command_action, is_comment, asked, words_input}
 use Rattle.script_text.specs.Script.Input.{Skipped, Asked}
-use Rattle.line_device.specs.declared.line.Choice.TheVariants.{Firsts, Lasts}
+use Rattle.line_device.specs.declared.line.Choice.TheVariants.{Firsts, Lasts, Seed}
 use Rattle.script_text.specs.declared.parsing.LineFault.{LineFault}
 use Rattle.script_text.specs.declared.command.Command.{Command}
 use Rattle.script_text.specs.Parsing.{InBounds, IsSmall, IsSmallRange, Parses}
@@ -184,13 +184,30 @@ cut_action-bounds (x ∷ words) action e = go (bytes_eq x (codes "in")) e
 
 restart_action-bounds : (words : List (List ℕ)) (action : Action) → restart_action words ≡ Some action → InBounds action
 restart_action-bounds [] action e = absurd (cc)
-restart_action-bounds (x ∷ []) action e = go (bytes_eq x (codes "none")) (bytes_eq x (codes "all")) e
+restart_action-bounds (x ∷ words) action e = go (bytes_eq x (codes "none")) (bytes_eq x (codes "all")) (bytes_eq x (codes "seed")) e
   where
-    go : (none all : Bool) → (if none then Some (Restart Firsts) else (if all then Some (Restart Lasts) else None)) ≡ Some action → InBounds action
-    go true all e = let same : Restart Firsts ≡ action = cc in subst InBounds same tt
-    go false true e = let same : Restart Lasts ≡ action = cc in subst InBounds same tt
+    go : (none all seed : Bool) → (if none then bare_action (Restart Firsts) words else (if all then bare_action (Restart Lasts) words else (if seed then number_action (λ n. Restart (Seed n)) words else None))) ≡ Some action → InBounds action
+    go true all seed e = bare_action-bounds (Restart Firsts) tt words action e
+    go false true seed e = bare_action-bounds (Restart Lasts) tt words action e
+    go false false true e = number_action-bounds (λ n. Restart (Seed n)) (λ a p. p) words action e
+    go false false false e = absurd (cc)
+
+in_volume_action-bounds : (make : ℕ → Action) → ((a : ℕ) → a < 2 ^ 32 → InBounds (make a)) → (words : List (List ℕ)) (action : Action) → in_volume_action make words ≡ Some action → InBounds action
+in_volume_action-bounds make small [] action e = absurd (cc)
+in_volume_action-bounds make small (x ∷ words) action e = go (bytes_eq x (codes "volume")) e
+  where
+    go : (b : Bool) → (if b then number_action make words else None) ≡ Some action → InBounds action
+    go true e = number_action-bounds make small words action e
+    go false e = absurd (cc)
+
+poison_action-bounds : (words : List (List ℕ)) (action : Action) → poison_action words ≡ Some action → InBounds action
+poison_action-bounds [] action e = absurd (cc)
+poison_action-bounds (x ∷ words) action e = go (bytes_eq x (codes "block")) (bytes_eq x (codes "volume")) e
+  where
+    go : (block volume : Bool) → (if block then span_action PoisonBlock words else (if volume then number_action PoisonVolume words else None)) ≡ Some action → InBounds action
+    go true volume e = span_action-bounds PoisonBlock (λ a b p q. (p, q)) words action e
+    go false true e = number_action-bounds PoisonVolume (λ a p. p) words action e
     go false false e = absurd (cc)
-restart_action-bounds (x ∷ y ∷ more) action e = absurd (cc)
 
 power_action-bounds : (name : List ℕ) (words : List (List ℕ)) (action : Action) → power_action name words ≡ Some action → InBounds action
 power_action-bounds name words action e = go (bytes_eq name (codes "cut")) (bytes_eq name (codes "restart")) e
@@ -200,12 +217,21 @@ power_action-bounds name words action e = go (bytes_eq name (codes "cut")) (byte
     go false true e = restart_action-bounds words action e
     go false false e = absurd (cc)
 
+media_action-bounds : (name : List ℕ) (words : List (List ℕ)) (action : Action) → media_action name words ≡ Some action → InBounds action
+media_action-bounds name words action e = go (bytes_eq name (codes "poison")) (bytes_eq name (codes "weaken")) (bytes_eq name (codes "clear")) e
+  where
+    go : (poison weaken clear : Bool) → (if poison then poison_action words else (if weaken then in_volume_action WeakenVolume words else (if clear then in_volume_action ClearVolume words else power_action name words))) ≡ Some action → InBounds action
+    go true weaken clear e = poison_action-bounds words action e
+    go false true clear e = in_volume_action-bounds WeakenVolume (λ a p. p) words action e
+    go false false true e = in_volume_action-bounds ClearVolume (λ a p. p) words action e
+    go false false false e = power_action-bounds name words action e
+
 volume_action-bounds : (name : List ℕ) (words : List (List ℕ)) (action : Action) → volume_action name words ≡ Some action → InBounds action
 volume_action-bounds name words action e =
     go (bytes_eq name (codes "vload")) (bytes_eq name (codes "vsync")) (bytes_eq name (codes "vpsync")) (bytes_eq name (codes "vdiscard"))
     (bytes_eq name (codes "vdiscardif")) (bytes_eq name (codes "vexists")) (bytes_eq name (codes "vranges")) e
   where
-    go : (load sync address discard hint exists ranges : Bool) → (if load then span_action VLoad words else (if sync then span_action VSync words else (if address then span_action VPSync words else (if discard then span_action VDiscard words else (if hint then span_action VDiscardIf words else (if exists then number_action VExists words else (if ranges then bare_action VRanges words else power_action name words))))))) ≡ Some action → InBounds action
+    go : (load sync address discard hint exists ranges : Bool) → (if load then span_action VLoad words else (if sync then span_action VSync words else (if address then span_action VPSync words else (if discard then span_action VDiscard words else (if hint then span_action VDiscardIf words else (if exists then number_action VExists words else (if ranges then bare_action VRanges words else media_action name words))))))) ≡ Some action → InBounds action
     go true sync address discard hint exists ranges e = span_action-bounds VLoad (λ a b p q. (p, q)) words action e
     go false true address discard hint exists ranges e = span_action-bounds VSync (λ a b p q. (p, q)) words action e
     go false false true discard hint exists ranges e = span_action-bounds VPSync (λ a b p q. (p, q)) words action e
@@ -213,7 +239,7 @@ volume_action-bounds name words action e =
     go false false false false true exists ranges e = span_action-bounds VDiscardIf (λ a b p q. (p, q)) words action e
     go false false false false false true ranges e = number_action-bounds VExists (λ a p. p) words action e
     go false false false false false false true e = bare_action-bounds VRanges tt words action e
-    go false false false false false false false e = power_action-bounds name words action e
+    go false false false false false false false e = media_action-bounds name words action e
 
 plain_action-bounds : (name : List ℕ) (words : List (List ℕ)) (action : Action) → plain_action name words ≡ Some action → InBounds action
 plain_action-bounds name words action e =

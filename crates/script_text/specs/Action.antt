@@ -22,6 +22,10 @@ pub data Action : Type 0 where
   VDiscard : ℕ → ℕ → Action
   VDiscardIf : ℕ → ℕ → Action
   VExists : ℕ → Action
+  PoisonBlock : ℕ → ℕ → Action
+  PoisonVolume : ℕ → Action
+  WeakenVolume : ℕ → Action
+  ClearVolume : ℕ → Action
   Cut : Action
   CutIn : ℕ → Action
   Restart : Choice → Action
@@ -44,6 +48,10 @@ action_of (command.VPSync address len) = VPSync address len
 action_of (command.VDiscard page count) = VDiscard page count
 action_of (command.VDiscardIf page count) = VDiscardIf page count
 action_of (command.VExists page) = VExists page
+action_of (command.PoisonBlock block line) = PoisonBlock block line
+action_of (command.PoisonVolume offset) = PoisonVolume offset
+action_of (command.WeakenVolume offset) = WeakenVolume offset
+action_of (command.ClearVolume offset) = ClearVolume offset
 action_of command.Cut = Cut
 action_of (command.CutIn calls) = CutIn calls
 action_of (command.Restart choice) = Restart choice

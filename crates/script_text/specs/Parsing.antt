@@ -2,11 +2,13 @@
 use Rattle.std.specs.Prelude.{◌≡◌, ◌⊎◌, ℕ, ◌<◌, ◌≤◌, ◌^◌, List, [], ◌∷◌, length, Option, Some, None, Result, Ok, Err, codes, All, option_map, sum_by}
 use Rattle.nvm_base.specs.declared.units.Span.{Span}
 use Rattle.nvm_base.specs.Stock.{Stock}
+use Rattle.line_device.specs.declared.line.Choice.{Choice}
+use Rattle.line_device.specs.declared.line.Choice.TheVariants.{Firsts, Lasts, Seed}
 use Rattle.script_text.specs.declared.command.Command.{Command}
 use Rattle.script_text.specs.declared.parsing.LineFault.{LineFault}
 use Rattle.script_text.specs.declared.parsing.LineFault.TheVariants.{Syntax, Memory}
 use Rattle.script_text.specs.Action.{Action, action_of}
-use Rattle.script_text.specs.Action.Action.{BRead, BWrite, BDiscard, BDiscardIf, BExists, BScar, BAtomic, BMulti, VLoad, VStore, VSync, VRanges, VPSync, VDiscard, VDiscardIf, VExists, Cut, CutIn, Restart}
+use Rattle.script_text.specs.Action.Action.{BRead, BWrite, BDiscard, BDiscardIf, BExists, BScar, BAtomic, BMulti, VLoad, VStore, VSync, VRanges, VPSync, VDiscard, VDiscardIf, VExists, PoisonBlock, PoisonVolume, WeakenVolume, ClearVolume, Cut, CutIn, Restart}
 use Rattle.std.specs.Borrow.{Bor}
 use Rattle.script_text.specs.Script.{Input, fitting, ranges_of, spans_of, with_range, words_of}
 use Rattle.script_text.specs.Script.Input.{Skipped, Malformed, Asked}
@@ -53,6 +55,12 @@ IsSmall span = (span.start < 2 ^ 32) × (span.len < 2 ^ 32)
 abbrev pub IsSmallRange : Span → Type 0
 IsSmallRange range = (range.start < 2 ^ 32) × (1 ≤ range.len) × (range.len ≤ 65536)
 
+-- a seed is below 2 ^ 32
+abbrev pub IsSmallChoice : Choice → Type 0
+IsSmallChoice Firsts = Unit {0}
+IsSmallChoice Lasts = Unit {0}
+IsSmallChoice (Seed n) = n < 2 ^ 32
+
 -- numbers are below 2 ^ 32, DATA is 1 to 65,536 bytes, of pairs there is one, and ranges have as many bytes as they are long
 abbrev pub InBounds : Action → Type 0
 InBounds (BRead block count) = (block < 2 ^ 32) × (count < 2 ^ 32)
@@ -72,9 +80,13 @@ InBounds (VPSync address len) = (address < 2 ^ 32) × (len < 2 ^ 32)
 InBounds (VDiscard page count) = (page < 2 ^ 32) × (count < 2 ^ 32)
 InBounds (VDiscardIf page count) = (page < 2 ^ 32) × (count < 2 ^ 32)
 InBounds (VExists page) = page < 2 ^ 32
+InBounds (PoisonBlock block line) = (block < 2 ^ 32) × (line < 2 ^ 32)
+InBounds (PoisonVolume offset) = offset < 2 ^ 32
+InBounds (WeakenVolume offset) = offset < 2 ^ 32
+InBounds (ClearVolume offset) = offset < 2 ^ 32
 InBounds Cut = Unit {0}
 InBounds (CutIn calls) = calls < 2 ^ 32
-InBounds (Restart choice) = Unit {0}
+InBounds (Restart choice) = IsSmallChoice choice
 
 -- the word where it is the only one
 abbrev pub one_of : List (List ℕ) → Option (List ℕ)

@@ -6,9 +6,9 @@ use Rattle.std.specs.Io.BufRead.{strip_last}
 use Rattle.nvm_base.specs.declared.units.Span.{Span}
 use Rattle.nvm_base.specs.Numbers.{number_of}
 use Rattle.nvm_base.specs.Data.{data_of, data_within}
-use Rattle.line_device.specs.declared.line.Choice.TheVariants.{Firsts, Lasts}
+use Rattle.line_device.specs.declared.line.Choice.TheVariants.{Firsts, Lasts, Seed}
 use Rattle.script_text.specs.Action.{Action}
-use Rattle.script_text.specs.Action.Action.{BRead, BWrite, BDiscard, BDiscardIf, BExists, BScar, BAtomic, BMulti, VLoad, VStore, VSync, VRanges, VPSync, VDiscard, VDiscardIf, VExists, Cut, CutIn, Restart}
+use Rattle.script_text.specs.Action.Action.{BRead, BWrite, BDiscard, BDiscardIf, BExists, BScar, BAtomic, BMulti, VLoad, VStore, VSync, VRanges, VPSync, VDiscard, VDiscardIf, VExists, PoisonBlock, PoisonVolume, WeakenVolume, ClearVolume, Cut, CutIn, Restart}
 
 -- a line: nothing to do, no command, or what it asks for
 pub data Input : Type 0 where
@@ -101,16 +101,35 @@ cut_action [] = Some Cut
 cut_action (word ∷ words) = if bytes_eq word (codes "in") then number_action CutIn words else None
 
 abbrev pub restart_action : List (List ℕ) → Option Action
-restart_action (choice ∷ []) =
-    if bytes_eq choice (codes "none") then Some (Restart Firsts) else (if bytes_eq choice (codes "all") then Some (Restart Lasts) else None)
-restart_action _ = None
+restart_action [] = None
+restart_action (word ∷ words) =
+    if bytes_eq word (codes "none") then bare_action (Restart Firsts) words
+    else (if bytes_eq word (codes "all") then bare_action (Restart Lasts) words
+    else (if bytes_eq word (codes "seed") then number_action (λ n. Restart (Seed n)) words else None))
+
+-- an action on a byte of the volume
+abbrev pub in_volume_action : (ℕ → Action) → List (List ℕ) → Option Action
+in_volume_action make [] = None
+in_volume_action make (word ∷ words) = if bytes_eq word (codes "volume") then number_action make words else None
+
+abbrev pub poison_action : List (List ℕ) → Option Action
+poison_action [] = None
+poison_action (word ∷ words) =
+    if bytes_eq word (codes "block") then span_action PoisonBlock words
+    else (if bytes_eq word (codes "volume") then number_action PoisonVolume words else None)
 
 -- What a command's name and words ask for, None where they are no command: of those on the power, of these and those on
--- the volume that bring no list, of all that bring no list, of all.
+-- bad and weak lines, of these and those on the volume that bring no list, of all that bring no list, of all.
 abbrev pub power_action : List ℕ → List (List ℕ) → Option Action
 power_action name words =
     if bytes_eq name (codes "cut") then cut_action words
     else (if bytes_eq name (codes "restart") then restart_action words else None)
+
+abbrev pub media_action : List ℕ → List (List ℕ) → Option Action
+media_action name words =
+    if bytes_eq name (codes "poison") then poison_action words
+    else (if bytes_eq name (codes "weaken") then in_volume_action WeakenVolume words
+    else (if bytes_eq name (codes "clear") then in_volume_action ClearVolume words else power_action name words))
 
 abbrev pub volume_action : List ℕ → List (List ℕ) → Option Action
 volume_action name words =
@@ -120,7 +139,7 @@ volume_action name words =
     else (if bytes_eq name (codes "vdiscard") then span_action VDiscard words
     else (if bytes_eq name (codes "vdiscardif") then span_action VDiscardIf words
     else (if bytes_eq name (codes "vexists") then number_action VExists words
-    else (if bytes_eq name (codes "vranges") then bare_action VRanges words else power_action name words))))))
+    else (if bytes_eq name (codes "vranges") then bare_action VRanges words else media_action name words))))))
 
 abbrev pub plain_action : List ℕ → List (List ℕ) → Option Action
 plain_action name words =

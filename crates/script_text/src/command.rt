@@ -1,15 +1,16 @@
-ghost use Rattle.std.specs.Prelude.{◌≡◌, ℕ, List, IfErr, codes, option_map};
-ghost use Rattle.script_text.specs.Action.{Action, action_of};
-ghost use Rattle.script_text.specs.Action.Action.{BAtomic, BMulti, BScar, BWrite, Restart, VStore};
+ghost use Rattle.std.specs.Prelude.{◌≡◌, IfErr, option_map};
+ghost use Rattle.script_text.specs.Action.{action_of};
+ghost use Rattle.script_text.specs.Action.Action.{BAtomic, BMulti, BScar, BWrite, VStore};
 ghost use Rattle.script_text.specs.Parsing.{IsLong, ParsesAs};
-ghost use Rattle.script_text.specs.Script.{bare_action, command_action, cut_action, data_action, number_action, plain_action, power_action, ranges_action, restart_action, span_action, spans_action, volume_action, words_of};
+ghost use Rattle.script_text.specs.Script.{command_action, data_action, plain_action, ranges_action, spans_action, volume_action, words_of};
 
 use crate::LineFault;
+use crate::media::read_media;
+use crate::operands::{read_bare, read_data, read_only, read_span};
 use crate::ranges::read_ranges;
 use crate::spans::read_spans;
-use crate::words::{next_word, only_word, two_words};
 use line_device::Choice;
-use nvm_base::{Bytes, MOST, Spans, TextFault, read_bytes, read_number};
+use nvm_base::{Bytes, Spans};
 use std::alloc::Global;
 
 /// A command of a script. Blocks and pages of the volume are numbered and counted; offsets and lengths are in bytes of the
@@ -34,6 +35,14 @@ pub enum Command {
     VDiscard { page: u64, count: u64 },
     VDiscardIf { page: u64, count: u64 },
     VExists { page: u64 },
+    /// A line of a block goes bad.
+    PoisonBlock { block: u64, line: u64 },
+    /// The line of that byte of the volume goes bad.
+    PoisonVolume { offset: u64 },
+    /// The line of that byte goes bad when it is next made durable.
+    WeakenVolume { offset: u64 },
+    /// The bad line of that byte becomes zeros.
+    ClearVolume { offset: u64 },
     Cut,
     CutIn { calls: u64 },
     Restart { choice: Choice },
@@ -96,20 +105,7 @@ fn read_volume(name: &[u8], words: &[u8]) -> Option<Command>
     } else if name == b"vranges".as_slice() {
         read_bare(Command::VRanges, words)
     } else {
-        read_power(name, words)
-    }
-}
-
-// A command on the power.
-fn read_power(name: &[u8], words: &[u8]) -> Option<Command>
-    ensures { option_map action_of result ≡ power_action name.now (words_of words.now) }
-{
-    if name == b"cut".as_slice() {
-        read_cut(words)
-    } else if name == b"restart".as_slice() {
-        read_choice(words).map(|choice| Command::Restart { choice })
-    } else {
-        None
+        read_media(name, words)
     }
 }
 
@@ -155,70 +151,5 @@ fn read_multi(alloc: Global, words: &[u8]) -> Result<Command, LineFault>
     match read_ranges(alloc, words) {
         Ok((ranges, bytes)) => Ok(Command::BMulti { ranges, bytes }),
         Err(fault) => Err(fault),
-    }
-}
-
-// A number and DATA.
-fn read_data(alloc: Global, words: &[u8]) -> Result<(u64, Bytes), LineFault>
-    ensures { (make : ℕ → List ℕ → Action) → ParsesAs (λ p. make p.0 p.1.items) (data_action make (words_of words.now)) result }
-{
-    let Some((number, text)) = two_words(words) else {
-        return Err(LineFault::Syntax);
-    };
-    let Some(number) = read_number(number) else {
-        return Err(LineFault::Syntax);
-    };
-    match read_bytes(alloc, text, MOST) {
-        Ok(bytes) => Ok((number, bytes)),
-        Err(TextFault::Bad | TextFault::TooLong) => Err(LineFault::Syntax),
-        Err(TextFault::Memory) => Err(LineFault::Memory),
-    }
-}
-
-fn read_span(words: &[u8]) -> Option<(u64, u64)>
-    ensures { (make : ℕ → ℕ → Action)
-        → option_map (λ p. make p.0 p.1) result ≡ span_action make (words_of words.now) }
-{
-    let (start, len) = two_words(words)?;
-    Some((read_number(start)?, read_number(len)?))
-}
-
-// The command, where no word is left.
-fn read_bare(command: Command, words: &[u8]) -> Option<Command>
-    ensures { option_map action_of result ≡ bare_action (action_of command) (words_of words.now) }
-{
-    next_word(words).is_none().then_some(command)
-}
-
-fn read_only(words: &[u8]) -> Option<u64>
-    ensures { (make : ℕ → Action) → option_map make result ≡ number_action make (words_of words.now) }
-{
-    read_number(only_word(words)?)
-}
-
-// Nothing, or `in` and a number.
-fn read_cut(words: &[u8]) -> Option<Command>
-    ensures { option_map action_of result ≡ cut_action (words_of words.now) }
-{
-    let Some((word, rest)) = next_word(words) else {
-        return Some(Command::Cut);
-    };
-    if word == b"in".as_slice() {
-        read_only(rest).map(|calls| Command::CutIn { calls })
-    } else {
-        None
-    }
-}
-
-fn read_choice(words: &[u8]) -> Option<Choice>
-    ensures { option_map Restart result ≡ restart_action (words_of words.now) }
-{
-    let word = only_word(words)?;
-    if word == b"none".as_slice() {
-        Some(Choice::Firsts)
-    } else if word == b"all".as_slice() {
-        Some(Choice::Lasts)
-    } else {
-        None
     }
 }

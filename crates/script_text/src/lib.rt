@@ -3,7 +3,10 @@
 
 mod command;
 mod lines;
+mod media;
+mod operands;
 mod parsing;
+mod power;
 mod ranges;
 mod rows;
 mod spans;

@@ -63,12 +63,12 @@ marked m line (Kept weak words) stands = ap (λ b. if b then None else Some NotP
 
 -- what a byte that is there refuses, by its line
 module _ (s : VolumeState) (m : Medium) (offset : ℕ) (pages : List Page) (holds : VolumeHolds s m pages) where
-  pub is_nothing : offset < 4096 * s.geo.vpages → volume_place s.geo s.present true (offset / 64) ≡ None → place_refusal s pages offset ≡ Some Nothing
+  pub is_nothing : offset < 4096 * s.geo.vpages → volume_place s.geo s.present true (offset / 64) ≡ None → place_refusal s.geo pages offset ≡ Some Nothing
   is_nothing below none =
       ap (λ b. if b then Some Range else cell_refusal (cell_of pages (offset / 64))) (lt-leb (4096 * s.geo.vpages) offset below)
       ∙ ap cell_refusal (no_cell s m pages holds (offset / 64) none)
 
-  pub is_there : (line : ℕ) → offset < 4096 * s.geo.vpages → volume_place s.geo s.present true (offset / 64) ≡ Some line → place_refusal s pages offset ≡ None
+  pub is_there : (line : ℕ) → offset < 4096 * s.geo.vpages → volume_place s.geo s.present true (offset / 64) ≡ Some line → place_refusal s.geo pages offset ≡ None
   is_there line below at =
       ap (λ b. if b then Some Range else cell_refusal (cell_of pages (offset / 64))) (lt-leb (4096 * s.geo.vpages) offset below)
       ∙ ap cell_refusal (a_cell s m pages holds (offset / 64) line at).1
@@ -76,17 +76,17 @@ module _ (s : VolumeState) (m : Medium) (offset : ℕ) (pages : List Page) (hold
 -- so a search for the line tells
 module _ (s : VolumeState) (m : Medium) (offset : ℕ) (pages : List Page) (holds : VolumeHolds s m pages) where
   pub told_nothing : offset < 4096 * s.geo.vpages → volume_place s.geo s.present true (offset / 64) ≡ None
-      → Checks {T = LineNo} place_says (place_refusal s pages offset) (Err place.Nothing)
+      → Checks {T = LineNo} place_says (place_refusal s.geo pages offset) (Err place.Nothing)
   told_nothing below none =
       subst (λ (o : Option ScrubRefusal). Checks {T = LineNo} place_says o (Err place.Nothing)) (sym (is_nothing s m offset pages holds below none)) refl
 
   pub told_there : (line : ℕ) (found : LineNo) → offset < 4096 * s.geo.vpages → volume_place s.geo s.present true (offset / 64) ≡ Some line
-      → Checks place_says (place_refusal s pages offset) (Ok found)
+      → Checks place_says (place_refusal s.geo pages offset) (Ok found)
   told_there line found below at = subst (λ (o : Option ScrubRefusal). Checks place_says o (Ok found)) (sym (is_there s m offset pages holds line below at)) tt
 
 -- a clear is refused where there is no line
-pub clear_nowhere : (s : VolumeState) (pages : List Page) (offset : ℕ) (why : PlaceFault) (fault : ScrubFault) → Checks {T = LineNo} place_says (place_refusal s pages offset) (Err why)
-    → scrub_says fault ≡ place_says why → Checks {T = LineNo} scrub_says (clear_refusal s pages offset) (Err fault)
+pub clear_nowhere : (s : VolumeState) (pages : List Page) (offset : ℕ) (why : PlaceFault) (fault : ScrubFault) → Checks {T = LineNo} place_says (place_refusal s.geo pages offset) (Err why)
+    → scrub_says fault ≡ place_says why → Checks {T = LineNo} scrub_says (clear_refusal s.geo pages offset) (Err fault)
 clear_nowhere s pages offset why fault told same = by_cases (nat_le (4096 * s.geo.vpages) offset) (cell_of pages (offset / 64)) told
   where
     by_cases : (b : Bool) (o : Option Cell) → Checks {T = LineNo} place_says (if b then Some Range else cell_refusal o) (Err why)
@@ -97,7 +97,7 @@ clear_nowhere s pages offset why fault told same = by_cases (nat_le (4096 * s.ge
 
 -- where there is one it goes by its mark
 module _ (s : VolumeState) (m : Medium) (offset line : ℕ) (pages : List Page) (serves : VolumeServes s m) (holds : VolumeHolds s m pages) (at : volume_place s.geo s.present true (offset / 64) ≡ Some line) where
-  by_mark : clear_refusal s pages offset ≡ (if m.is_bad line then None else Some NotPoisoned)
+  by_mark : clear_refusal s.geo pages offset ≡ (if m.is_bad line then None else Some NotPoisoned)
   by_mark =
       let there = (placed s.geo s.present true (offset / 64) line at).0 in
       let below = in_volume s.geo serves.valid s.present (offset / 64) true serves.all there in
@@ -106,11 +106,11 @@ module _ (s : VolumeState) (m : Medium) (offset line : ℕ) (pages : List Page) 
       ∙ ap line_refusal cell.1
       ∙ marked m line cell.0 cell.2
 
-  pub told_healthy : m.is_bad line ≡ false → Checks {T = LineNo} scrub_says (clear_refusal s pages offset) (Err fault.NotPoisoned)
+  pub told_healthy : m.is_bad line ≡ false → Checks {T = LineNo} scrub_says (clear_refusal s.geo pages offset) (Err fault.NotPoisoned)
   told_healthy good =
       subst (λ (o : Option ScrubRefusal). Checks {T = LineNo} scrub_says o (Err fault.NotPoisoned))
       (sym (by_mark ∙ ap (λ b. if b then None else Some NotPoisoned) good)) refl
 
-  pub told_bad : (found : LineNo) → m.is_bad line ≡ true → Checks scrub_says (clear_refusal s pages offset) (Ok found)
+  pub told_bad : (found : LineNo) → m.is_bad line ≡ true → Checks scrub_says (clear_refusal s.geo pages offset) (Ok found)
   told_bad found bad =
       subst (λ (o : Option ScrubRefusal). Checks scrub_says o (Ok found)) (sym (by_mark ∙ ap (λ b. if b then None else Some NotPoisoned) bad)) tt

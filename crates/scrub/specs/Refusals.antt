@@ -9,7 +9,7 @@ use Rattle.nvm_model.specs.Cell.Cell.{Bad, Kept}
 use Rattle.nvm_model.specs.Page.{Page, cell_of}
 use Rattle.nvm_model.specs.Storage.{Block}
 use Rattle.nvm_model.specs.Storage.Block.{Absent, Data, Scarred}
-use Rattle.pm_volume.specs.Object.{VolumeState}
+use Rattle.word_tables.specs.declared.geometry.Geometry.{Geometry}
 use Rattle.scrub.specs.declared.fault.PlaceFault.{PlaceFault}
 use Rattle.scrub.specs.declared.fault.PlaceFault.TheVariants as place
 use Rattle.scrub.specs.declared.fault.ScrubFault.{ScrubFault}
@@ -51,8 +51,8 @@ unit_refusal Scarred = Some Nothing
 unit_refusal (Data lines) = None
 
 -- the place of a byte of the volume
-abbrev pub place_refusal : VolumeState → List Page → ℕ → Option ScrubRefusal
-place_refusal s pages offset = if nat_le (4096 * s.geo.vpages) offset then Some Range else cell_refusal (cell_of pages (offset / 64))
+abbrev pub place_refusal : Geometry → List Page → ℕ → Option ScrubRefusal
+place_refusal geo pages offset = if nat_le (4096 * geo.vpages) offset then Some Range else cell_refusal (cell_of pages (offset / 64))
 
 -- the place of a line, 0 to 7, of one of so many blocks
 abbrev pub block_refusal : ℕ → List Block → ℕ → ℕ → Option ScrubRefusal
@@ -65,5 +65,5 @@ line_refusal (Some Bad) = None
 line_refusal (Some (Kept weak words)) = Some NotPoisoned
 
 -- the line of a byte of the volume
-abbrev pub clear_refusal : VolumeState → List Page → ℕ → Option ScrubRefusal
-clear_refusal s pages offset = if nat_le (4096 * s.geo.vpages) offset then Some Range else line_refusal (cell_of pages (offset / 64))
+abbrev pub clear_refusal : Geometry → List Page → ℕ → Option ScrubRefusal
+clear_refusal geo pages offset = if nat_le (4096 * geo.vpages) offset then Some Range else line_refusal (cell_of pages (offset / 64))

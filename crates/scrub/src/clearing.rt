@@ -24,7 +24,7 @@ pub fn clear_volume<L: Lines>(dev: &mut L, volume: &Volume, offset: u64) -> Resu
     requires serves { VolumeServes volume.now (L.state dev.old).medium }
     requires on { IsTrue (L.state dev.old).panel.power }
     ensures refused { (pages : List Page) → VolumeHolds volume.now (L.state dev.old).medium pages
-        → Answers scrub_says (clear_refusal volume.now pages offset) result }
+        → Answers scrub_says (clear_refusal volume.now.geo pages offset) result }
     ensures untouched { OnRefused scrub_says result (dev.new ≡ dev.old) }
     ensures ok { OnOk result ((pages : List Page) → VolumeHolds volume.now (L.state dev.old).medium pages
         → VolumeHolds volume.now (L.state dev.new).medium (change_line clear_cell (offset / 64) pages)) }
@@ -46,7 +46,7 @@ pub fn clear_volume<L: Lines>(dev: &mut L, volume: &Volume, offset: u64) -> Resu
 fn bad_line_at<L: Lines>(dev: &L, volume: &Volume, offset: u64) -> Result<LineNo, ScrubFault>
     requires serves { VolumeServes volume.now (L.state dev.now).medium }
     ensures refused { (pages : List Page) → VolumeHolds volume.now (L.state dev.now).medium pages
-        → Checks scrub_says (clear_refusal volume.now pages offset) result }
+        → Checks scrub_says (clear_refusal volume.now.geo pages offset) result }
     ensures went { outcome_by scrub_says result ≡ went }
     ensures place { IfOk result (λ line. volume_place volume.now.geo volume.now.present true (offset / 64) ≡ Some line.0) }
     ensures bad { IfOk result (λ line. (L.state dev.now).medium.is_bad line.0 ≡ true) }

@@ -18,7 +18,7 @@ use pm_volume::Volume;
 pub fn line_of_byte(volume: &Volume, offset: u64) -> Result<LineNo, PlaceFault>
     requires { length volume.now.present ≡ volume.now.geo.vpages }
     ensures refused { (m : Medium) (pages : List Page) → VolumeHolds volume.now m pages
-        → Checks place_says (place_refusal volume.now pages offset) result }
+        → Checks place_says (place_refusal volume.now.geo pages offset) result }
     ensures place { IfOk result (λ line. volume_place volume.now.geo volume.now.present true (offset / 64) ≡ Some line.0) }
 {
     if offset >= PAGE * volume.count() {

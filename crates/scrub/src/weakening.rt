@@ -19,7 +19,7 @@ use pm_volume::Volume;
 pub fn weaken_volume<L: Lines>(dev: &mut L, volume: &Volume, offset: u64) -> Result<(), WeakenFault>
     requires serves { VolumeServes volume.now (L.state dev.old).medium }
     ensures refused { (pages : List Page) → VolumeHolds volume.now (L.state dev.old).medium pages
-        → Answers weaken_says (place_refusal volume.now pages offset) result }
+        → Answers weaken_says (place_refusal volume.now.geo pages offset) result }
     ensures untouched { OnRefused weaken_says result (dev.new ≡ dev.old) }
     ensures ok { OnOk result ((pages : List Page) → VolumeHolds volume.now (L.state dev.old).medium pages
         → VolumeHolds volume.now (L.state dev.new).medium (change_line weaken_cell (offset / 64) pages)) }

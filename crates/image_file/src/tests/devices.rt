@@ -1,8 +1,8 @@
 // An image that goes to a device and comes back.
 
 use super::SMALL;
-use crate::{extract, fresh, install};
-use line_device::{LineState, Lines, Plain};
+use crate::{Image, extract, fresh, install};
+use line_device::{LineList, LineState, Lines, Plain};
 use nvm_base::LineNo;
 use std::test::*;
 
@@ -34,5 +34,21 @@ fn lines_go_to_a_device_and_come_back_as_last_stored(rt: HostRuntime) -> Result<
         };
         assert_eq!(rt; *is, line, "line {n}");
     }
+    Ok(())
+}
+
+#[test]
+fn weak_and_bad_lines_go_to_a_device_and_come_back(rt: HostRuntime) -> Result<(), Fail> {
+    let told = [
+        LineState::Bad,
+        LineState::Weak([3; 64]),
+        LineState::Healthy([4; 64]),
+    ];
+    let mut lines = LineList::new(rt.alloc());
+    lines.extend(&told)?;
+    let mut device = Plain::new(rt.alloc());
+    install(&mut device, &Image { unit: 8, lines })?;
+    let after = extract(rt.alloc(), &mut device)?;
+    assert_eq!(rt; after.lines.as_slice(), told.as_slice());
     Ok(())
 }

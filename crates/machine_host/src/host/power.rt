@@ -3,10 +3,12 @@ ghost use Rattle.std.specs.Prelude.{◌≡◌, ◌≢◌, ◌⊎◌, ◌≤◌, 
 ghost use Rattle.machine_host.specs.declared.mode.Mode.TheVariants.{On, Off, Unsettled};
 ghost use Rattle.script_text.specs.Action.Action.{Cut, CutIn, Restart};
 ghost use Rattle.reply_text.specs.Answer.{answer_of};
-ghost use Rattle.reply_text.specs.Answer.Answer.{DeviceFailed, DoneBad};
+ghost use Rattle.reply_text.specs.Answer.Answer.{DeviceFailed};
+ghost use Rattle.block_device.specs.Object.{BlocksServe};
+ghost use Rattle.pm_volume.specs.Object.{VolumeServes};
 ghost use Rattle.recovery.specs.declared.fault.MountFault.TheVariants.{Memory};
 ghost use Rattle.machine_host.specs.Stands.{HostServes};
-ghost use Rattle.machine_host.specs.Faults.{unmounted_answer, unmounted_mode};
+ghost use Rattle.machine_host.specs.Faults.{CountsBad, unmounted_answer, unmounted_mode};
 ghost use Rattle.machine_host.specs.Interrupted.{interrupted_answer, interrupted_mode};
 ghost use Rattle.machine_host.specs.Responding.{Answered, Responds};
 
@@ -16,6 +18,7 @@ use line_device::{Choice, LineDevice};
 use line_words::Interruption;
 use recovery::{MountFault, Mounted};
 use reply_text::Reply;
+use scrub::bad_count;
 use std::alloc::AllocError;
 
 impl Host {
@@ -50,19 +53,22 @@ impl Host {
     {
         device.restart(choice)?;
         match recovery::mount(self.alloc, device) {
-            Ok(mounted) => Ok(self.mounted(mounted)),
+            Ok(mounted) => Ok(self.mounted(device, mounted)),
             Err(fault) => self.unmounted(fault),
         }
     }
 
-    // What a restart is answered where the device is mounted. One of other sizes is not the host's.
-    fn mounted(&mut self, mounted: Mounted) -> Reply
+    // What a restart is answered where the device is mounted: how many lines are bad. One of other sizes is not the host's.
+    fn mounted<D: LineDevice>(&mut self, device: &D, mounted: Mounted) -> Reply
+        requires blocks { BlocksServe mounted.blocks (D.state device.now).medium }
+        requires volume { VolumeServes mounted.volume (D.state device.now).medium }
         ensures { ((mounted.geo ≡ self.old.geometry) × (self.new ≡ record self.old { mode = On; blocks = mounted.blocks; volume = mounted.volume })
-            × (answer_of result ≡ DoneBad 0))
+            × CountsBad mounted.blocks mounted.volume (D.state device.now).medium (answer_of result))
             ⊎ ((mounted.geo ≢ self.old.geometry) × (self.new ≡ record self.old { mode = Unsettled }) × (answer_of result ≡ DeviceFailed)) }
     {
+        let bad = bad_count(device, &mounted.blocks, &mounted.volume);
         if self.take(mounted) {
-            Reply::DoneBad(0)
+            Reply::DoneBad(bad)
         } else {
             self.interrupt(Interruption::Failed)
         }

@@ -66,6 +66,10 @@ fn place_refusal(geo: Geometry, command: &Command) -> Option<Why>
         | Command::VDiscard { .. }
         | Command::VDiscardIf { .. }
         | Command::VExists { .. }
+        | Command::PoisonBlock { .. }
+        | Command::PoisonVolume { .. }
+        | Command::WeakenVolume { .. }
+        | Command::ClearVolume { .. }
         | Command::Cut
         | Command::Restart { .. } => None,
     }

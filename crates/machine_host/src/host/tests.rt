@@ -8,6 +8,7 @@ use line_device::{LineDevice, Order, Plain};
 use nvm_base::Bytes;
 use script_text::parse;
 use std::alloc::{AllocError, Global};
+use std::process::Abort;
 use std::test::Fail;
 use word_tables::Geometry;
 
@@ -55,171 +56,158 @@ fn arm(host: &Host, device: &mut Plain, order: Order)
     }
 }
 
-// Settles the host.
-fn rest(host: &mut Host, device: &mut Plain) -> Result<(), AllocError>
+// What is done in a story: a script's line, a cut or a failure that is armed, or the end of a run.
+#[derive(Clone, Copy, Debug)]
+enum Act {
+    Line(&'static str),
+    Arm(Order),
+    Settle,
+}
+
+// What is done, the reply to it, and the mode after it.
+type Step = (Act, &'static str, Mode);
+
+// Does it, and appends the reply.
+fn perform(
+    host: &mut Host,
+    device: &mut Plain,
+    alloc: Global,
+    act: Act,
+    out: &mut Bytes,
+) -> Result<(), AllocError>
     requires { GoesOn host.old (device_of device.old) }
     ensures { OnOk result (GoesOn host.new (device_of device.new)) }
 {
-    host.settle(device)
+    match act {
+        Act::Line(line) => tell(host, device, alloc, line, out),
+        Act::Arm(order) => {
+            arm(host, device, order);
+            Ok(())
+        }
+        Act::Settle => host.settle(device),
+    }
 }
 
-#[test]
-fn what_was_synced_outlives_a_cut(rt: HostRuntime) -> Result<(), Fail> {
-    let (mut host, mut device) = set_up(rt.alloc())?;
-    let mut out = Bytes::new(rt.alloc());
-    tell(
-        &mut host,
-        &mut device,
-        rt.alloc(),
-        "vstore 60 aa*8",
-        &mut out,
-    )?;
-    tell(&mut host, &mut device, rt.alloc(), "vsync 0 64", &mut out)?;
-    tell(&mut host, &mut device, rt.alloc(), "vload 58 12", &mut out)?;
-    tell(&mut host, &mut device, rt.alloc(), "vload 8192 1", &mut out)?;
-    tell(&mut host, &mut device, rt.alloc(), "restart all", &mut out)?;
-    tell(&mut host, &mut device, rt.alloc(), "cut", &mut out)?;
-    assert_eq!(rt; host.mode(), Mode::Off);
-    tell(&mut host, &mut device, rt.alloc(), "vload 58 12", &mut out)?;
-    tell(&mut host, &mut device, rt.alloc(), "restart none", &mut out)?;
-    assert_eq!(rt; host.mode(), Mode::On);
-    tell(&mut host, &mut device, rt.alloc(), "vload 58 12", &mut out)?;
-    assert_eq!(rt;
-        out.as_slice(),
-        b"ok\nok\ndata 00*2,aa*8,00*2\nrefused range\nrefused on\nok\nrefused off\nok bad 0\ndata 00*2,aa*4,00*6\n".as_slice()
-    );
+// Goes through a story on a fresh device.
+fn follow(rt: &impl Abort, alloc: Global, story: &[Step]) -> Result<(), Fail> {
+    let (mut host, mut device) = set_up(alloc)?;
+    for (act, reply, mode) in story {
+        let mut out = Bytes::new(alloc);
+        perform(&mut host, &mut device, alloc, *act, &mut out)?;
+        assert!(rt; out.as_slice() == reply.as_bytes(), "{reply}");
+        assert_eq!(rt; host.mode(), *mode);
+    }
     Ok(())
 }
 
-#[test]
-fn an_armed_cut_takes_the_power_in_a_sync(rt: HostRuntime) -> Result<(), Fail> {
-    let (mut host, mut device) = set_up(rt.alloc())?;
-    let mut out = Bytes::new(rt.alloc());
-    tell(
-        &mut host,
-        &mut device,
-        rt.alloc(),
-        "vstore 60 aa*8",
-        &mut out,
-    )?;
-    tell(&mut host, &mut device, rt.alloc(), "cut in 2", &mut out)?;
-    tell(&mut host, &mut device, rt.alloc(), "vsync 60 8", &mut out)?;
-    assert_eq!(rt; host.mode(), Mode::Off);
-    tell(&mut host, &mut device, rt.alloc(), "vload 60 8", &mut out)?;
-    tell(&mut host, &mut device, rt.alloc(), "restart none", &mut out)?;
-    tell(&mut host, &mut device, rt.alloc(), "vload 60 8", &mut out)?;
-    assert_eq!(rt;
-        out.as_slice(),
-        b"ok\nok\npower lost\nrefused off\nok bad 0\ndata aa*4,00*4\n".as_slice()
-    );
-    Ok(())
-}
+// What was synced outlives a cut.
+const SYNCED: [Step; 9] = [
+    (Act::Line("vstore 60 aa*8"), "ok\n", Mode::On),
+    (Act::Line("vsync 0 64"), "ok\n", Mode::On),
+    (Act::Line("vload 58 12"), "data 00*2,aa*8,00*2\n", Mode::On),
+    (Act::Line("vload 8192 1"), "refused range\n", Mode::On),
+    (Act::Line("restart all"), "refused on\n", Mode::On),
+    (Act::Line("cut"), "ok\n", Mode::Off),
+    (Act::Line("vload 58 12"), "refused off\n", Mode::Off),
+    (Act::Line("restart none"), "ok bad 0\n", Mode::On),
+    (Act::Line("vload 58 12"), "data 00*2,aa*4,00*6\n", Mode::On),
+];
+
+// An armed cut takes the power in a sync.
+const CUT_IN_A_SYNC: [Step; 6] = [
+    (Act::Line("vstore 60 aa*8"), "ok\n", Mode::On),
+    (Act::Line("cut in 2"), "ok\n", Mode::On),
+    (Act::Line("vsync 60 8"), "power lost\n", Mode::Off),
+    (Act::Line("vload 60 8"), "refused off\n", Mode::Off),
+    (Act::Line("restart none"), "ok bad 0\n", Mode::On),
+    (Act::Line("vload 60 8"), "data aa*4,00*4\n", Mode::On),
+];
+
+// A cut disarms the one to come.
+const CUT_BEFORE_ANOTHER: [Step; 7] = [
+    (Act::Line("cut in 0"), "refused range\n", Mode::On),
+    (Act::Line("cut in 3"), "ok\n", Mode::On),
+    (Act::Line("cut"), "ok\n", Mode::Off),
+    (Act::Line("cut in 3"), "refused off\n", Mode::Off),
+    (Act::Line("restart none"), "ok bad 0\n", Mode::On),
+    (Act::Line("bwrite 7 aa*512"), "ok\n", Mode::On),
+    (Act::Line("bread 7 1"), "data aa*512\n", Mode::On),
+];
+
+// A restart that is cut can be done again.
+const CUT_RESTART: [Step; 7] = [
+    (Act::Line("batomic 2 aa*1024"), "ok\n", Mode::On),
+    (Act::Line("cut"), "ok\n", Mode::Off),
+    (Act::Arm(Order::Cut(9)), "", Mode::Off),
+    (Act::Line("restart none"), "power lost\n", Mode::Off),
+    (Act::Line("bread 2 2"), "refused off\n", Mode::Off),
+    (Act::Line("restart all"), "ok bad 0\n", Mode::On),
+    (Act::Line("bread 2 2"), "data aa*1024\n", Mode::On),
+];
+
+// After a failed call only a cut is done.
+const FAILED_CALL: [Step; 9] = [
+    (Act::Line("vstore 0 00"), "ok\n", Mode::On),
+    (Act::Arm(Order::Fail(2)), "", Mode::On),
+    (
+        Act::Line("vstore 60 aa*8"),
+        "refused device\n",
+        Mode::Unsettled,
+    ),
+    (
+        Act::Line("vload 60 8"),
+        "refused recover\n",
+        Mode::Unsettled,
+    ),
+    (Act::Line("restart all"), "refused on\n", Mode::Unsettled),
+    (Act::Line("cut in 1"), "ok\n", Mode::Unsettled),
+    (Act::Line("cut"), "ok\n", Mode::Off),
+    (Act::Line("restart all"), "ok bad 0\n", Mode::On),
+    (Act::Line("vload 60 8"), "data aa*4,00*4\n", Mode::On),
+];
+
+// A settled host can be read, whatever its mode was.
+const SETTLED: [Step; 9] = [
+    (Act::Line("vstore 60 aa*8"), "ok\n", Mode::On),
+    (Act::Settle, "", Mode::On),
+    (Act::Line("cut"), "ok\n", Mode::Off),
+    (Act::Settle, "", Mode::On),
+    (Act::Line("vload 58 12"), "data 00*2,aa*8,00*2\n", Mode::On),
+    (Act::Arm(Order::Fail(2)), "", Mode::On),
+    (
+        Act::Line("vstore 60 bb*8"),
+        "refused device\n",
+        Mode::Unsettled,
+    ),
+    (Act::Settle, "", Mode::On),
+    (
+        Act::Line("vload 58 12"),
+        "data 00*2,bb*4,aa*4,00*2\n",
+        Mode::On,
+    ),
+];
+
+// A weak line goes bad by its sync, and stays bad over a clear that is cut.
+const WORN_AND_CLEARED: [Step; 9] = [
+    (Act::Line("vstore 0 05"), "ok\n", Mode::On),
+    (Act::Line("weaken volume 0"), "ok\n", Mode::On),
+    (Act::Line("vsync 0 1"), "ok\n", Mode::On),
+    (Act::Line("vload 0 1"), "poison volume 0 64\n", Mode::On),
+    (Act::Line("cut in 1"), "ok\n", Mode::On),
+    (Act::Line("clear volume 0"), "power lost\n", Mode::Off),
+    (Act::Line("restart all"), "ok bad 1\n", Mode::On),
+    (Act::Line("clear volume 0"), "ok\n", Mode::On),
+    (Act::Line("vload 0 1"), "data 00\n", Mode::On),
+];
 
 #[test]
-fn a_cut_disarms_the_one_to_come(rt: HostRuntime) -> Result<(), Fail> {
-    let (mut host, mut device) = set_up(rt.alloc())?;
-    let mut out = Bytes::new(rt.alloc());
-    tell(&mut host, &mut device, rt.alloc(), "cut in 0", &mut out)?;
-    tell(&mut host, &mut device, rt.alloc(), "cut in 3", &mut out)?;
-    assert_eq!(rt; host.mode(), Mode::On);
-    tell(&mut host, &mut device, rt.alloc(), "cut", &mut out)?;
-    tell(&mut host, &mut device, rt.alloc(), "cut in 3", &mut out)?;
-    tell(&mut host, &mut device, rt.alloc(), "restart none", &mut out)?;
-    tell(
-        &mut host,
-        &mut device,
-        rt.alloc(),
-        "bwrite 7 aa*512",
-        &mut out,
-    )?;
-    tell(&mut host, &mut device, rt.alloc(), "bread 7 1", &mut out)?;
-    assert_eq!(rt;
-        out.as_slice(),
-        b"refused range\nok\nok\nrefused off\nok bad 0\nok\ndata aa*512\n".as_slice()
-    );
-    Ok(())
-}
-
-#[test]
-fn a_restart_that_is_cut_can_be_done_again(rt: HostRuntime) -> Result<(), Fail> {
-    let (mut host, mut device) = set_up(rt.alloc())?;
-    let mut out = Bytes::new(rt.alloc());
-    tell(
-        &mut host,
-        &mut device,
-        rt.alloc(),
-        "batomic 2 aa*1024",
-        &mut out,
-    )?;
-    tell(&mut host, &mut device, rt.alloc(), "cut", &mut out)?;
-    arm(&host, &mut device, Order::Cut(9));
-    tell(&mut host, &mut device, rt.alloc(), "restart none", &mut out)?;
-    assert_eq!(rt; host.mode(), Mode::Off);
-    tell(&mut host, &mut device, rt.alloc(), "bread 2 2", &mut out)?;
-    tell(&mut host, &mut device, rt.alloc(), "restart all", &mut out)?;
-    tell(&mut host, &mut device, rt.alloc(), "bread 2 2", &mut out)?;
-    assert_eq!(rt;
-        out.as_slice(),
-        b"ok\nok\npower lost\nrefused off\nok bad 0\ndata aa*1024\n".as_slice()
-    );
-    Ok(())
-}
-
-#[test]
-fn after_a_failed_call_only_a_cut_is_done(rt: HostRuntime) -> Result<(), Fail> {
-    let (mut host, mut device) = set_up(rt.alloc())?;
-    let mut out = Bytes::new(rt.alloc());
-    tell(&mut host, &mut device, rt.alloc(), "vstore 0 00", &mut out)?;
-    arm(&host, &mut device, Order::Fail(2));
-    tell(
-        &mut host,
-        &mut device,
-        rt.alloc(),
-        "vstore 60 aa*8",
-        &mut out,
-    )?;
-    assert_eq!(rt; host.mode(), Mode::Unsettled);
-    tell(&mut host, &mut device, rt.alloc(), "vload 60 8", &mut out)?;
-    tell(&mut host, &mut device, rt.alloc(), "restart all", &mut out)?;
-    tell(&mut host, &mut device, rt.alloc(), "cut in 1", &mut out)?;
-    tell(&mut host, &mut device, rt.alloc(), "cut", &mut out)?;
-    tell(&mut host, &mut device, rt.alloc(), "restart all", &mut out)?;
-    tell(&mut host, &mut device, rt.alloc(), "vload 60 8", &mut out)?;
-    assert_eq!(rt;
-        out.as_slice(),
-        b"ok\nrefused device\nrefused recover\nrefused on\nok\nok\nok bad 0\ndata aa*4,00*4\n".as_slice()
-    );
-    Ok(())
-}
-
-#[test]
-fn a_settled_host_can_be_read_whatever_its_mode_was(rt: HostRuntime) -> Result<(), Fail> {
-    let (mut host, mut device) = set_up(rt.alloc())?;
-    let mut out = Bytes::new(rt.alloc());
-    tell(
-        &mut host,
-        &mut device,
-        rt.alloc(),
-        "vstore 60 aa*8",
-        &mut out,
-    )?;
-    rest(&mut host, &mut device)?;
-    tell(&mut host, &mut device, rt.alloc(), "cut", &mut out)?;
-    rest(&mut host, &mut device)?;
-    tell(&mut host, &mut device, rt.alloc(), "vload 58 12", &mut out)?;
-    arm(&host, &mut device, Order::Fail(2));
-    tell(
-        &mut host,
-        &mut device,
-        rt.alloc(),
-        "vstore 60 bb*8",
-        &mut out,
-    )?;
-    rest(&mut host, &mut device)?;
-    tell(&mut host, &mut device, rt.alloc(), "vload 58 12", &mut out)?;
-    assert_eq!(rt;
-        out.as_slice(),
-        b"ok\nok\ndata 00*2,aa*8,00*2\nrefused device\ndata 00*2,bb*4,aa*4,00*2\n".as_slice()
-    );
+fn each_step_of_a_story_has_its_reply(rt: HostRuntime) -> Result<(), Fail> {
+    follow(&rt, rt.alloc(), &SYNCED)?;
+    follow(&rt, rt.alloc(), &CUT_IN_A_SYNC)?;
+    follow(&rt, rt.alloc(), &CUT_BEFORE_ANOTHER)?;
+    follow(&rt, rt.alloc(), &CUT_RESTART)?;
+    follow(&rt, rt.alloc(), &FAILED_CALL)?;
+    follow(&rt, rt.alloc(), &SETTLED)?;
+    follow(&rt, rt.alloc(), &WORN_AND_CLEARED)?;
     Ok(())
 }

@@ -20,17 +20,41 @@ struct Trial {
     cut: u64,
 }
 
-// One in which nothing fails.
-const fn trying(words: &'static str, lines: u64) -> Trial {
-    Trial {
-        words,
-        lines,
-        read: 0,
-        write: 0,
-        image: 0,
-        cut: 0,
-    }
-}
+// Those in which nothing fails.
+const RUN: Trial = Trial {
+    words: "run img out",
+    lines: 8,
+    read: 0,
+    write: 0,
+    image: 0,
+    cut: 0,
+};
+
+const LONG: Trial = Trial {
+    lines: 5 * 4370,
+    ..RUN
+};
+
+const NO_IMAGE: Trial = Trial {
+    words: "run none out",
+    ..RUN
+};
+
+const CHECK: Trial = Trial {
+    words: "check img",
+    lines: 0,
+    ..RUN
+};
+
+const CHECK_NO_IMAGE: Trial = Trial {
+    words: "check none",
+    ..CHECK
+};
+
+const NEW: Trial = Trial {
+    words: "new other 8 2 32",
+    ..CHECK
+};
 
 // The trial's status, what was written, and whether the image is held under its own name as it was.
 fn outcome(alloc: Global, trial: &Trial) -> Result<(u8, MemSink, bool), AllocError> {
@@ -54,62 +78,60 @@ fn outcome(alloc: Global, trial: &Trial) -> Result<(u8, MemSink, bool), AllocErr
     Ok((status, sink, kept))
 }
 
+// Each with its status, how many replies there are, and the line behind them. A write is made once 65,536 bytes wait, which
+// are 4,370 replies of 15 bytes.
+const TRIALS: [(Trial, u8, u64, &str); 20] = [
+    (RUN, 0, 8, ""),
+    (Trial { read: 1, ..RUN }, 4, 0, "error read\n"),
+    // The first piece ends inside the fourth line.
+    (Trial { read: 2, ..RUN }, 4, 0, "error read\n"),
+    (Trial { write: 1, ..RUN }, 5, 0, ""),
+    (Trial { write: 5, ..LONG }, 5, 4 * 4370, ""),
+    (Trial { cut: 1, ..RUN }, 8, 0, "error device\n"),
+    (Trial { cut: 20, ..RUN }, 8, 0, "error device\n"),
+    (Trial { image: 1, ..RUN }, 4, 0, "error read\n"),
+    // The image was not replaced, once all was written.
+    (Trial { image: 2, ..RUN }, 5, 8, ""),
+    (NO_IMAGE, 4, 0, "error read\n"),
+    // Where the status's line can't be written either, the status stays.
+    (
+        Trial {
+            read: 1,
+            write: 1,
+            ..RUN
+        },
+        4,
+        0,
+        "",
+    ),
+    (
+        Trial {
+            write: 1,
+            cut: 1,
+            ..RUN
+        },
+        8,
+        0,
+        "",
+    ),
+    (CHECK, 0, 0, "ok 5056 bad 0\n"),
+    (CHECK_NO_IMAGE, 4, 0, "error read\n"),
+    (Trial { image: 1, ..CHECK }, 4, 0, "error read\n"),
+    (Trial { write: 1, ..CHECK }, 5, 0, ""),
+    (Trial { cut: 3, ..CHECK }, 8, 0, "error device\n"),
+    (NEW, 0, 0, "ok 5056\n"),
+    (Trial { write: 1, ..NEW }, 5, 0, ""),
+    // The line comes before the image.
+    (Trial { image: 1, ..NEW }, 5, 0, "ok 5056\n"),
+];
+
 #[test]
 fn a_call_that_ends_early_says_why(rt: HostRuntime) -> Result<(), Fail> {
     let alloc = rt.alloc();
-    let run = trying("run img out", 8);
-    let long = trying("run img out", 5 * 4370);
-    let check = trying("check img", 0);
-    let new = trying("new other 8 2 32", 0);
-    // Each with its status, how many replies there are, and the line behind them. A write is made once 65,536 bytes wait, which
-    // are 4,370 replies of 15 bytes.
-    for (trial, status, replies, line) in [
-        (run, 0, 8, ""),
-        (Trial { read: 1, ..run }, 4, 0, "error read\n"),
-        // The first piece ends inside the fourth line.
-        (Trial { read: 2, ..run }, 4, 0, "error read\n"),
-        (Trial { write: 1, ..run }, 5, 0, ""),
-        (Trial { write: 5, ..long }, 5, 4 * 4370, ""),
-        (Trial { cut: 1, ..run }, 8, 0, "error device\n"),
-        (Trial { cut: 20, ..run }, 8, 0, "error device\n"),
-        (Trial { image: 1, ..run }, 4, 0, "error read\n"),
-        // The image was not replaced, once all was written.
-        (Trial { image: 2, ..run }, 5, 8, ""),
-        (trying("run none out", 8), 4, 0, "error read\n"),
-        // Where the status's line can't be written either, the status stays.
-        (
-            Trial {
-                read: 1,
-                write: 1,
-                ..run
-            },
-            4,
-            0,
-            "",
-        ),
-        (
-            Trial {
-                write: 1,
-                cut: 1,
-                ..run
-            },
-            8,
-            0,
-            "",
-        ),
-        (check, 0, 0, "ok 5056 bad 0\n"),
-        (trying("check none", 0), 4, 0, "error read\n"),
-        (Trial { image: 1, ..check }, 4, 0, "error read\n"),
-        (Trial { write: 1, ..check }, 5, 0, ""),
-        (Trial { cut: 3, ..check }, 8, 0, "error device\n"),
-        (new, 0, 0, "ok 5056\n"),
-        (Trial { write: 1, ..new }, 5, 0, ""),
-        // The line comes before the image.
-        (Trial { image: 1, ..new }, 5, 0, "ok 5056\n"),
-    ] {
-        let (ended, sink, kept) = outcome(alloc, &trial)?;
-        assert_eq!(rt; ended, status, "{line}");
-        let written = repeated(alloc, "refused syntax\n", replies, line)?;
+    for (trial, status, replies, line) in &TRIALS {
+        let (ended, sink, kept) = outcome(alloc, trial)?;
+        assert_eq!(rt; ended, *status, "{line}");
+        let written = repeated(alloc, "refused syntax\n", *replies, line)?;
         assert_eq!(rt; sink.written(), written.as_slice());
         assert!(rt; kept);
     }

@@ -56,36 +56,39 @@ fn set_count(bytes: &mut [u8]) {
     }
 }
 
+// Each change with what is said.
+const CHANGES: [(Change, &str); 19] = [
+    (Change::Byte(0, 0), "error image 0\n"),
+    (Change::Byte(8, 9), "error image 8\n"),
+    (Change::TwoWords(0, 0, 0), "error layout 0\n"),
+    (Change::Byte(24, 3), "error image 24\n"),
+    (Change::Byte(24, 2), "error image 25\n"),
+    (Change::Byte(24 + 65 * 3, 1), "error layout 24\n"),
+    (Change::Cut(16), "error image 16\n"),
+    (Change::Cut(328_663), "error image 328600\n"),
+    (Change::More, "error image 328664\n"),
+    (Change::Word(2, 9), "error layout 2\n"),
+    (Change::LineLess, "error layout 6\n"),
+    (Change::Word(8, 2), "error layout 8\n"),
+    (Change::TwoWords(8, 1, 0), "error layout 9\n"),
+    (Change::Word(144, 74), "error layout 144\n"),
+    (Change::TwoWords(144, 2, 2), "error layout 145\n"),
+    (Change::TwoWords(144, 74, 2), "error layout 144\n"),
+    (Change::Word(152, 2), "error layout 152\n"),
+    (Change::Word(673, 2), "error layout 673\n"),
+    (Change::Word(674, 2), "ok 5056 bad 0\n"),
+];
+
 #[test]
 fn a_changed_image_is_told_by_its_first_wrong_place(rt: HostRuntime) -> Result<(), Fail> {
     let alloc = rt.alloc();
-    for (change, line) in [
-        (Change::Byte(0, 0), "error image 0\n"),
-        (Change::Byte(8, 9), "error image 8\n"),
-        (Change::TwoWords(0, 0, 0), "error layout 0\n"),
-        (Change::Byte(24, 3), "error image 24\n"),
-        (Change::Byte(24, 2), "error image 24\n"),
-        (Change::Byte(24 + 65 * 3, 1), "error image 219\n"),
-        (Change::Cut(16), "error image 16\n"),
-        (Change::Cut(328_663), "error image 328600\n"),
-        (Change::More, "error image 328664\n"),
-        (Change::Word(2, 9), "error layout 2\n"),
-        (Change::LineLess, "error layout 6\n"),
-        (Change::Word(8, 2), "error layout 8\n"),
-        (Change::TwoWords(8, 1, 0), "error layout 9\n"),
-        (Change::Word(144, 74), "error layout 144\n"),
-        (Change::TwoWords(144, 2, 2), "error layout 145\n"),
-        (Change::TwoWords(144, 74, 2), "error layout 144\n"),
-        (Change::Word(152, 2), "error layout 152\n"),
-        (Change::Word(673, 2), "error layout 673\n"),
-        (Change::Word(674, 2), "ok 5056 bad 0\n"),
-    ] {
+    for &(change, line) in &CHANGES {
         let mut images = fresh(alloc)?;
         let mut bytes = Bytes::new(alloc);
         bytes.extend(images.get("img").unwrap_or(&[]))?;
         apply(change, &mut bytes)?;
         images.put("img", bytes.as_slice())?;
-        let (status, sink) = outcome(alloc, "check img", &mut images, "")?;
+        let (status, sink) = outcome(alloc, "check img", &mut images, "", 1)?;
         let wanted = if line.starts_with("ok") { 0 } else { 3 };
         assert_eq!(rt; status, wanted, "{line}");
         assert_eq!(rt; sink.written(), line.as_bytes(), "{line}");

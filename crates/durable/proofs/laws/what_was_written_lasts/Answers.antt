@@ -1,4 +1,4 @@
-use Rattle.durable.proofs.WrittenLemmas.{synced, synced_by_address, written, written_together}
+use Rattle.durable.proofs.WrittenLemmas.{cleared, synced, synced_by_address, written, written_together}
 use Rattle.durable.proofs.laws.what_was_written_lasts.Goals as goal
 
 pub returns-clause-write : goal.returns-clause-write
@@ -12,3 +12,6 @@ returns-clause-synced c = synced
 
 pub returns-clause-by_address : goal.returns-clause-by_address
 returns-clause-by_address c = synced_by_address
+
+pub returns-clause-cleared : goal.returns-clause-cleared
+returns-clause-cleared c = cleared

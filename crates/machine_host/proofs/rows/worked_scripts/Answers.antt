@@ -5,9 +5,9 @@ use Rattle.line_device.specs.Word.{word_from, byte_over, word_over, reaches}
 use Rattle.nvm_base.specs.Numbers.{number_of}
 use Rattle.nvm_base.specs.Data.{runs_of, data_within, data_text}
 use Rattle.word_tables.specs.Layout.{size, first_line, total_lines, volume_line}
-use Rattle.nvm_model.specs.Page.{fill, put, persist, discard, first_bad_line, first_uncovered_line, look, read_pages}
+use Rattle.nvm_model.specs.Page.{change_line, fill, put, persist, discard, first_bad_line, first_uncovered_line, look, read_pages}
 use Rattle.pm_volume.specs.Presence.{words_read}
-use Rattle.nvm_model.specs.Blocks.{write, change, look_blocks}
+use Rattle.nvm_model.specs.Blocks.{write, change, look_blocks, lose}
 use Rattle.word_log.specs.Replay.{listed}
 use Rattle.block_device.specs.Reading.{states_read, blocks_read}
 use Rattle.reply_text.specs.Answer.{answer_line}
@@ -58,4 +58,23 @@ returns-clause-pages c = record {
   refusals_of_addresses = refl;
   most_that_a_load_asks_for = refl;
   synced_page_kept = refl;
+}
+
+pub returns-clause-errors : goal.returns-clause-errors
+unfolding digits word_from byte_over word_over reaches number_of runs_of data_within data_text change_line fill put persist discard first_bad_line first_uncovered_line look read_pages words_read answer_line lines_of words_of command_action line_input refusal size first_line total_lines volume_line reading write change look_blocks lose states_read blocks_read listed
+returns-clause-errors c = record {
+  bad_line_of_the_volume = refl;
+  bad_line_of_a_block = refl;
+  value_between_kept_by_a_seed = refl;
+  one_word_kept_and_one_lost = refl;
+  weak_line_until_its_sync = refl;
+  weak_line_cut_before_its_sync = refl;
+  cleared_line = refl;
+  no_such_line = refl;
+  scar_has_no_lines = refl;
+  lowest_bad_line_named = refl;
+  sync_refused_whole = refl;
+  store_over_half_a_bad_line = refl;
+  bad_lines_counted = refl;
+  discarded_with_its_bad_line = refl;
 }

@@ -4,7 +4,7 @@ use Rattle.nvmhost.specs.Running.{Performs}
 use Rattle.nvmhost.specs.World.{world}
 use Rattle.nvmhost.specs.declared.ending.Ending.TheVariants.{Memory}
 use Rattle.nvmhost.proofs.FormLemmas.{run_over, served_settled}
-use Rattle.nvmhost.proofs.RestLemmas.{fit_served, good_served, rests-unsettled}
+use Rattle.nvmhost.proofs.RestLemmas.{fit_served, rests-unsettled}
 use Rattle.nvmhost.proofs.RunLemmas.{halts-unperformed, halts-unread, halts-unstored}
 use Rattle.nvmhost.proofs.top.run.Goals as goal
 
@@ -38,8 +38,8 @@ returns-in_err-settle g c =
     rw (p.1, p.2) (inr (halts-unstored c.args.from.now c.args.to.now Memory c.in_ok-host.host c.run_script.new.host c.in_ok-text.text (g.D.Lines.state c.open.new.device) ran old new opened.ready c.in_ok-text.ensures.reads performs
     (rests-unsettled c.run_script.new.host c.settle.new.self ran new.device c.in_err-settle.ensures.memory) tt (inl opened.counts.replaces) opened.counts.fetches (inl opened.held)))
 
-pub store-requires-clause-fit : goal.store-requires-clause-fit
-store-requires-clause-fit g c =
+pub store-requires : goal.store-requires
+store-requires g c =
     let ran = g.D.Lines.state c.run_script.new.device in
     let opened = g.D.Lines.state c.open.new.device in
     let written = g.K.Sink.written c.args.replies.now in
@@ -47,18 +47,7 @@ store-requires-clause-fit g c =
     let performs = subst (λ script. Performs c.in_ok-host.host c.run_script.new.host script (Ok tt) written done opened ran) c.as_slice.ensures c.in_ok-run_script.ensures.performs in
     let serves = served_settled c.args.from.now (g.F.Images.held c.args.images.now) c.in_ok-host.host c.run_script.new.host c.settle.new.self c.in_ok-text.text.items written done (g.D.Lines.state c.args.device.now) opened ran
     (g.D.Lines.state c.settle.new.device) c.in_ok-host.ensures.ready performs c.in_ok-settle.ensures.settled in
-    fit_served c.settle.new.self (g.D.Lines.state c.settle.new.device) serves
-
-pub store-requires-clause-good : goal.store-requires-clause-good
-store-requires-clause-good g c =
-    let ran = g.D.Lines.state c.run_script.new.device in
-    let opened = g.D.Lines.state c.open.new.device in
-    let written = g.K.Sink.written c.args.replies.now in
-    let done = g.K.Sink.written c.run_script.new.replies in
-    let performs = subst (λ script. Performs c.in_ok-host.host c.run_script.new.host script (Ok tt) written done opened ran) c.as_slice.ensures c.in_ok-run_script.ensures.performs in
-    let serves = served_settled c.args.from.now (g.F.Images.held c.args.images.now) c.in_ok-host.host c.run_script.new.host c.settle.new.self c.in_ok-text.text.items written done (g.D.Lines.state c.args.device.now) opened ran
-    (g.D.Lines.state c.settle.new.device) c.in_ok-host.ensures.ready performs c.in_ok-settle.ensures.settled in
-    good_served c.settle.new.self (g.D.Lines.state c.settle.new.device) c.in_ok-settle.ensures.on serves
+    record { fit = fit_served c.settle.new.self (g.D.Lines.state c.settle.new.device) serves }
 
 pub returns : goal.returns
 returns g c =

@@ -1,7 +1,6 @@
 use Rattle.std.proofs.Common.{[], refl, sym, subst, ◌∙◌}
 use Rattle.recovery.specs.Mounting.{IsInOrder}
 use Rattle.machine_host.specs.Stands.{MetadataStands}
-use Rattle.machine_host.specs.Lines.{HasGoodData}
 use Rattle.machine_host.proofs.MountLemmas.{durable_flushed, layout_mounted, metadata_mounted}
 use Rattle.machine_host.proofs.MountedLemmas.{stands_found}
 use Rattle.machine_host.proofs.host.Host.mount.Goals as goal
@@ -15,12 +14,11 @@ returns-clause-metadata g c =
     (metadata_mounted old new c.requires.some c.requires.flushed x.finds x.outside (subst (λ geo. IsInOrder geo new) x.ok.0 x.order))
 
 pub returns-clause-serves : goal.returns-clause-serves
-returns-clause-serves g c = λ good.
-    let old = (g.D.Lines.state c.args.device.now).medium in
+returns-clause-serves g c =
     let new = (g.D.Lines.state c.mount.new.dev).medium in
     let x = c.in_ok-mounted.ensures in
     record {
-      layout = layout_mounted c.in_ok-mounted.mounted.geo _ old new x.order x.outside (subst (λ geo. HasGoodData geo old) (sym x.ok.0) good);
+      layout = layout_mounted c.in_ok-mounted.mounted.geo new x.order;
       power = x.runs.cause.0 ∙ c.requires.on;
       mounted = λ _. record {
         geometry = x.ok.1 ∙ sym x.ok.0;
@@ -33,9 +31,9 @@ returns-clause-serves g c = λ good.
     }
 
 pub returns-clause-stands : goal.returns-clause-stands
-returns-clause-stands g c = λ image shows good.
+returns-clause-stands g c = λ image shows.
     let old = (g.D.Lines.state c.args.device.now) in
     let new = (g.D.Lines.state c.mount.new.dev) in
     let x = c.in_ok-mounted.ensures in
-    stands_found _ old new image (g.met.D.Lines.sound c.args.device.now) c.requires.flushed x.finds shows good x.ok.0 refl x.ok.2 x.ok.4 x.outside (returns-clause-metadata g c)
-    (returns-clause-serves g c good)
+    stands_found _ old new image (g.met.D.Lines.sound c.args.device.now) c.requires.flushed x.finds shows x.ok.0 refl x.ok.2 x.ok.4 x.outside (returns-clause-metadata g c)
+    (returns-clause-serves g c)

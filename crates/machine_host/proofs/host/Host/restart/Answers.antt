@@ -3,7 +3,8 @@ use Rattle.std.proofs.lemmas.Result.{err_from_is_err_and}
 use Rattle.reply_text.specs.Answer.{answer_of}
 use Rattle.machine_host.proofs.MountLemmas.{durable_flushed, flushed-restarted, line_zero, mount_within}
 use Rattle.machine_host.proofs.RestartAnswerLemmas.{restart_mounted, restart_unmounted}
-use Rattle.machine_host.proofs.RestartLemmas.{layout-restarted, serves_waited}
+use Rattle.machine_host.proofs.BackLemmas.{layout-restarted}
+use Rattle.machine_host.proofs.RestartLemmas.{serves_waited}
 use Rattle.machine_host.proofs.host.Host.restart.Goals as goal
 
 pub returns-in_err-restart : goal.returns-in_err-restart
@@ -14,6 +15,10 @@ returns-in_err-restart g c =
 pub mount-requires-clause-some : goal.mount-requires-clause-some
 mount-requires-clause-some g c =
     line_zero c.args.self.now.geometry _ (layout-restarted c.args.self.now.geometry c.args.choice _ _ c.requires.serves.layout c.in_ok-restart.ensures.1.lines)
+
+pub mounted-requires-clause-blocks : goal.mounted-requires-clause-blocks
+mounted-requires-clause-blocks g c =
+    c.in-Ok.ensures.serves (durable_flushed _ (flushed-restarted c.args.choice _ _ (g.met.D.Lines.sound c.args.device.now) c.in_ok-restart.ensures.1.lines))
 
 pub returns-in-Ok : goal.returns-in-Ok
 returns-in-Ok g c =

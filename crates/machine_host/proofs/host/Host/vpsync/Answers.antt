@@ -1,10 +1,10 @@
 use Rattle.std.proofs.Common.{refl, sym, ap, subst, ◌∙◌}
 use Rattle.pm_volume.specs.Costs.{lines_there_at}
-use Rattle.pm_volume.specs.Refusals.{physical_offset, physical_refusal}
-use Rattle.machine_host.specs.OnVolume.{persist_at}
+use Rattle.pm_volume.specs.Refusals.{physical_offset, physical_refusal, volume_says}
+use Rattle.machine_host.specs.OnVolume.{volume_answer, persist_at}
 use Rattle.machine_host.specs.Stands.{HostState}
 use Rattle.script_text.specs.Action.Action.{VPSync}
-use Rattle.machine_host.proofs.VolumeCallLemmas.{counted_seen, no_bad_lines, physical_images, physical_ok, same_volume, settled_was, volume_called, volume_pages, volume_sizes, work_answered}
+use Rattle.machine_host.proofs.VolumeCallLemmas.{volume_part, counted_seen, no_bad_lines, physical_images, physical_ok, same_volume, settled_was, volume_called, volume_pages, volume_sizes, work_answered}
 use Rattle.machine_host.proofs.VolumeFateLemmas.{fate_vpsync}
 use Rattle.std.proofs.Common.{OnOk}
 use Rattle.pm_volume.specs.Object.{VolumeHolds}
@@ -18,7 +18,7 @@ returns g c =
     let old = g.D.Lines.state c.args.device.now in
     let new = g.D.Lines.state c.physical_sync-call.new.dev in
     let v = host.volume in
-    work_answered now host _ _ c.physical_sync-call.result _ _ old _ c.self.view_is c.volume_answer.ensures.state c.requires.on c.requires.serves (VPSync c.args.address c.args.len)
+    work_answered volume_says volume_answer volume_part now host _ _ c.physical_sync-call.result _ _ old _ c.self.view_is c.volume_answer.ensures.state c.requires.on c.requires.serves (VPSync c.args.address c.args.len)
     (λ h stands.
     let few = counted_seen now host old h c.self.view_is c.requires.on c.requires.serves stands (λ geo there. lines_there_at geo there (physical_offset geo c.args.address c.args.len) c.args.len) in
     (few, few)) (λ h bs same. same)

@@ -1,10 +1,11 @@
 use Rattle.std.proofs.Common.{length, refl, sym, ◌∙◌}
 use Rattle.nvm_model.specs.Page.{fill, put}
 use Rattle.pm_volume.specs.Costs.{store_calls, store_persists}
-use Rattle.pm_volume.specs.Refusals.{store_refusal}
+use Rattle.pm_volume.specs.Refusals.{store_refusal, volume_says}
+use Rattle.machine_host.specs.OnVolume.{volume_answer}
 use Rattle.machine_host.specs.Stands.{HostState}
 use Rattle.script_text.specs.Action.Action.{VStore}
-use Rattle.machine_host.proofs.VolumeCallLemmas.{no_bad_lines, no_bad_meta, of_pages, counted_seen, volume_called, volume_pages, volume_sizes, work_answered}
+use Rattle.machine_host.proofs.VolumeCallLemmas.{volume_part, no_bad_lines, no_bad_meta, of_pages, counted_seen, volume_called, volume_pages, volume_sizes, work_answered}
 use Rattle.machine_host.proofs.VolumeFateLemmas.{fate_vstore}
 use Rattle.machine_host.proofs.host.Host.vstore.Goals as goal
 
@@ -16,7 +17,7 @@ returns g c =
     let old = g.D.Lines.state c.args.device.now in
     let v = host.volume in
     let len = length c.args.bytes.now in
-    work_answered now host _ _ c.store-call.result _ _ old _ c.self.view_is c.volume_answer.ensures.state c.requires.on c.requires.serves (VStore c.args.offset c.args.bytes.now)
+    work_answered volume_says volume_answer volume_part now host _ _ c.store-call.result _ _ old _ c.self.view_is c.volume_answer.ensures.state c.requires.on c.requires.serves (VStore c.args.offset c.args.bytes.now)
     (λ h stands.
     let seen = counted_seen now host old h c.self.view_is c.requires.on c.requires.serves stands in
     (seen (λ geo there. store_calls there c.args.offset len), seen (λ geo there. store_persists there c.args.offset len))) (λ h bs same. same)

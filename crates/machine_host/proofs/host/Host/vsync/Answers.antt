@@ -1,10 +1,11 @@
 use Rattle.std.proofs.Common.{refl, sym, ap, ◌∙◌}
 use Rattle.nvm_model.specs.Page.{persist}
 use Rattle.pm_volume.specs.Costs.{lines_there}
-use Rattle.pm_volume.specs.Refusals.{sync_refusal}
+use Rattle.pm_volume.specs.Refusals.{sync_refusal, volume_says}
+use Rattle.machine_host.specs.OnVolume.{volume_answer}
 use Rattle.machine_host.specs.Stands.{HostState}
 use Rattle.script_text.specs.Action.Action.{VSync}
-use Rattle.machine_host.proofs.VolumeCallLemmas.{counted_seen, no_bad_lines, of_pages, same_volume, settled_was, volume_called, volume_pages, volume_sizes, work_answered}
+use Rattle.machine_host.proofs.VolumeCallLemmas.{volume_part, counted_seen, no_bad_lines, of_pages, same_volume, settled_was, volume_called, volume_pages, volume_sizes, work_answered}
 use Rattle.machine_host.proofs.VolumeFateLemmas.{fate_vsync}
 use Rattle.machine_host.proofs.host.Host.vsync.Goals as goal
 
@@ -15,7 +16,7 @@ returns g c =
     let host : HostState = record { geometry = c.self.inside.geometry; mode = c.self.inside.mode; blocks = c.self.inside.blocks; volume = c.self.inside.volume } in
     let old = g.D.Lines.state c.args.device.now in
     let v = host.volume in
-    work_answered now host _ _ c.sync-call.result _ _ old _ c.self.view_is c.volume_answer.ensures.state c.requires.on c.requires.serves (VSync c.args.offset c.args.len)
+    work_answered volume_says volume_answer volume_part now host _ _ c.sync-call.result _ _ old _ c.self.view_is c.volume_answer.ensures.state c.requires.on c.requires.serves (VSync c.args.offset c.args.len)
     (λ h stands.
     let few = counted_seen now host old h c.self.view_is c.requires.on c.requires.serves stands (λ geo there. lines_there geo there c.args.offset c.args.len) in
     (few, few)) (λ h bs same. same)

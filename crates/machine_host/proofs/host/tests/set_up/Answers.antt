@@ -47,7 +47,7 @@ pub returns : goal.returns
 returns c =
     let fresh = c.in_ok-format.ensures.ok in
     record {
-      serves = c.in_ok-host.ensures.serves (λ n behind there. (fresh.good n, fresh.strong n));
+      serves = c.in_ok-host.ensures.serves;
       state = _;
-      stands = c.in_ok-host.ensures.stands (now _) (depicted _ fresh) (λ n behind there. (fresh.good n, fresh.strong n));
+      stands = c.in_ok-host.ensures.stands (now _) (depicted _ fresh);
     }

@@ -1,0 +1,8 @@
+use Rattle.durable.proofs.NamingLemmas.{names_line, names_obstacle}
+use Rattle.durable.proofs.laws.reads_name_what_is_lost.Goals as goal
+
+pub returns-clause-volume : goal.returns-clause-volume
+returns-clause-volume c = names_line
+
+pub returns-clause-blocks : goal.returns-clause-blocks
+returns-clause-blocks c = names_obstacle

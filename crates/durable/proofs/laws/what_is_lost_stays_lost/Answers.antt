@@ -1,0 +1,14 @@
+use Rattle.durable.proofs.LostLemmas.{poisoned, poisoned_block, stays_lost, worn_out}
+use Rattle.durable.proofs.laws.what_is_lost_stays_lost.Goals as goal
+
+pub returns-clause-poisoned : goal.returns-clause-poisoned
+returns-clause-poisoned c = poisoned
+
+pub returns-clause-of_a_block : goal.returns-clause-of_a_block
+returns-clause-of_a_block c = poisoned_block
+
+pub returns-clause-worn_out : goal.returns-clause-worn_out
+returns-clause-worn_out c = worn_out
+
+pub returns-clause-stays : goal.returns-clause-stays
+returns-clause-stays c = stays_lost

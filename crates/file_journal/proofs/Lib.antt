@@ -1,0 +1,13 @@
+pub mod AreaLemmas
+pub mod ChangeLemmas
+pub mod CheckLemmas
+pub mod CommitLemmas
+pub mod FillLemmas
+pub mod HoldLemmas
+pub mod HoleLemmas
+pub mod MountLemmas
+pub mod ReplaceLemmas
+pub mod RunLemmas
+pub mod StepLemmas
+pub mod SwitchLemmas
+pub mod WordLemmas

@@ -1,0 +1,10 @@
+pub mod Area
+pub mod Tables
+pub mod Changes
+pub mod Switches
+pub mod Holds
+pub mod Object
+pub mod Images
+pub mod Reading
+pub mod Refusals
+pub mod Mounting

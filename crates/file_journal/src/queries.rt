@@ -1,0 +1,60 @@
+// What is known of files without the device.
+ghost use Rattle.std.specs.Prelude.{◌≡◌, ◌↔◌, ◌<◌, ℕ, IfSome, IsNone, IsTrue};
+ghost use Rattle.inode_table.specs.Slots.{IsNamed, inode_of, pages_at};
+ghost use Rattle.page_table.specs.Pages.{used_pages};
+ghost use Rattle.file_journal.specs.Tables.{AreTables, unit_at};
+
+use crate::Journal;
+use nvm_base::Name;
+use word_tables::Geometry;
+
+impl Journal {
+    /// Whether nothing stopped the last call. A journal that is not settled has to be mounted again.
+    pub fn settled(&self) -> bool
+        ensures { result ≡ self.now.settled }
+    {
+        self.settled
+    }
+
+    pub fn geometry(&self) -> Geometry
+        ensures { result ≡ self.now.geo }
+    {
+        self.geo
+    }
+
+    /// The inode of the file of that name.
+    pub fn find(&self, name: &Name) -> Option<u64>
+        ensures value { result ≡ inode_of name.now self.now.tables.files }
+        ensures named { IfSome result (λ inode. IsNamed self.now.tables.files inode name.now) }
+        ensures within { IfSome result (λ inode. inode < 64) }
+        ensures none { IsNone result ↔ ((inode : ℕ) → IsNamed self.now.tables.files inode name.now → ⊥) }
+    {
+        self.inodes.find(name)
+    }
+
+    /// How many pages an inode has; 0 where it is free.
+    pub fn pages(&self, inode: u64) -> u64
+        requires { inode < 64 }
+        ensures { result ≡ pages_at self.now.tables.files inode }
+    {
+        self.inodes.pages(inode)
+    }
+
+    /// The unit of a page: None where it is a hole, past the page count, or a free inode's.
+    pub fn unit(&self, inode: u64, page: u64) -> Option<u64>
+        requires inode { inode < 64 }
+        requires page { page < 256 }
+        ensures unit { result ≡ unit_at self.now.tables inode page }
+        ensures tables { AreTables self.now.geo.fpages self.now.tables }
+    {
+        self.table.get(inode, page)
+    }
+
+    /// How many pages are no holes.
+    pub fn used(&self) -> u64
+        ensures used { result ≡ used_pages self.now.tables.pages }
+        ensures tables { AreTables self.now.geo.fpages self.now.tables }
+    {
+        self.table.used()
+    }
+}

@@ -1,0 +1,152 @@
+-- What the lines of a device stand for once the power came back.
+use Rattle.std.proofs.Common.{◌≡◌, inl, inr, ℕ, ◌+◌, ◌*◌, ◌/◌, ◌<◌, Bool, List, length, None, Result, Err, refl, sym, ap, subst, ◌∙◌, arith}
+use Rattle.std.specs.Prelude.{IfErr}
+use Rattle.line_device.specs.Medium.{Medium, Survivors, IsHealthy, IsSound, last_image}
+use Rattle.line_device.specs.Panel.{Image}
+use Rattle.line_device.specs.Panel.Outcome.{went}
+use Rattle.line_device.specs.Device.{Depicts}
+use Rattle.line_device.specs.declared.line.Choice.{Choice}
+use Rattle.line_words.specs.declared.interruption.Interruption.{Interruption}
+use Rattle.line_words.specs.Ending.{ended}
+use Rattle.line_words.specs.Words.{WritesBackOutside}
+use Rattle.word_tables.specs.declared.geometry.Geometry.{Geometry}
+use Rattle.word_log.specs.Area.{IsOf}
+use Rattle.nvm_model.specs.Page.{Page, is_present, presence_of, read_pages, bad_lines, PagesStand, KeepsPages}
+use Rattle.nvm_model.specs.Blocks.{bad_block_lines}
+use Rattle.nvm_model.proofs.PageLemmas.{length-read_pages, presence_of-read_pages}
+use Rattle.nvm_model.proofs.RestartLemmas.{stand-restarted}
+use Rattle.pm_volume.specs.Area.{volume_area}
+use Rattle.pm_volume.specs.Images.{ReadsPages, EachReadsPages}
+use Rattle.pm_volume.specs.Object.{VolumeState, VolumeHolds}
+use Rattle.pm_volume.specs.Presence.{presence_read, presence_words}
+use Rattle.pm_volume.proofs.AreaLemmas.{area_in_metadata}
+use Rattle.pm_volume.proofs.StandingLemmas.{each_pages-reached, each_pages-then, line_of_volume, presence_read-replays, reads_same}
+use Rattle.std.proofs.lemmas.List.{length-map}
+use Rattle.line_device.specs.History.{IsIn}
+use Rattle.line_device.proofs.HistoryLemmas.{is_in-one}
+use Rattle.word_log.specs.Replay.{Replays}
+use Rattle.word_log.specs.Rest.{EachImage, IsImageOn, IsReached}
+use Rattle.word_tables.specs.Layout.{volume_line}
+use Rattle.block_device.specs.Object.{BlocksState, blocks_of}
+use Rattle.block_device.specs.Reading.{blocks_read}
+use Rattle.block_device.specs.Images.{AreReadable, EachReads}
+use Rattle.block_device.proofs.ImageLemmas.{each_reads-then}
+use Rattle.block_device.proofs.RestartLemmas.{block_image-last, blocks_read-restarted, each_reads-restarted}
+use Rattle.recovery.specs.Findings.{geometry_told, early_finding, first_finding}
+use Rattle.recovery.specs.Mounting.{Finds, IsOfLogs}
+use Rattle.recovery.specs.declared.fault.MountFault.{MountFault}
+use Rattle.script_text.specs.Action.Action.{Restart}
+use Rattle.reply_text.specs.Answer.{Answer}
+use Rattle.reply_text.specs.Answer.Answer.{DoneBad}
+use Rattle.machine_host.specs.declared.mode.Mode.{Mode}
+use Rattle.machine_host.specs.declared.mode.Mode.TheVariants as modes
+use Rattle.machine_host.specs.Machine.{Machine}
+use Rattle.machine_host.specs.Machine.Fate.{Restarts}
+use Rattle.machine_host.specs.Commands.{MayLeaveBlocks, MayLeaveVolume, spending}
+use Rattle.machine_host.specs.Interrupted.{interrupted_answer, interrupted_mode}
+use Rattle.machine_host.specs.Restarting.{RestartMayLeave, reading, restarted}
+use Rattle.machine_host.specs.Costs.{Spending, mount_calls, mount_persists}
+use Rattle.machine_host.specs.Run.{with_start, worked}
+use Rattle.machine_host.specs.Telling.{Tells}
+use Rattle.machine_host.specs.Lines.{HasLayout}
+use Rattle.machine_host.specs.Stands.{HostState, HostServes, MetadataStands, DeviceStands, Stands, AreMounted, Comes, is_powered}
+use Rattle.machine_host.specs.Faults.{StandsUnmounted}
+use Rattle.machine_host.proofs.VolumeLemmas.{has_layout-outside, line_there}
+use Rattle.machine_host.proofs.ElsewhereLemmas.{area_of_volume, range_kept, volume_within}
+use Rattle.machine_host.proofs.MetadataLemmas.{metadata-outside, metadata-restarted, nothing_bad}
+use Rattle.machine_host.proofs.TellingLemmas.{interrupts, never_on, power_struck, struck, tells_interrupted, tells_work}
+use Rattle.machine_host.proofs.DepictedLemmas.{blocks_depicted, holds_depicted, reads_remounted}
+use Rattle.machine_host.proofs.MountLemmas.{StopsMount, IsTold, first_not_area, is_told, nothing_wrong_there, only_stops, volume_image-last}
+
+-- the layout stays
+pub layout-restarted : (geo : Geometry) (choice : Choice) (old new : Medium) → HasLayout geo old → Survivors choice old new → HasLayout geo new
+layout-restarted geo choice old new layout x = record {
+  valid = layout.valid;
+  lines = x.count ∙ layout.lines;
+  good = λ n below. x.bad n ∙ layout.good n below;
+}
+
+-- What comes back with the power: lines that each kept one value of a word stand for what is read there.
+module _ (h : Machine) (choice : Choice) (old mid : Medium) (image : Image) (was : HasLayout h.geometry old) (metadata_was : MetadataStands h.geometry old h.bad_meta)
+    (blocks_were : EachReads h.geometry old (MayLeaveBlocks h.interrupted h.blocks)) (volume_was : EachReadsPages h.geometry old (MayLeaveVolume h.geometry h.interrupted h.volume))
+    (left : Survivors choice old mid) (shows : Depicts mid image) (sound_old : IsSound old) (sound : IsSound mid) where
+  abbrev geo : Geometry
+  geo = h.geometry
+
+  pub layout_back : HasLayout geo mid
+  layout_back = layout-restarted geo choice old mid was left
+
+  pub metadata_back : MetadataStands geo mid h.bad_meta
+  metadata_back = metadata-restarted geo h.bad_meta old mid metadata_was choice sound_old was left
+
+  pub told_back : IsTold geo mid
+  told_back = is_told geo mid h.bad_meta layout_back metadata_back sound
+
+  pub readable_back : AreReadable geo mid
+  readable_back =
+      each_reads-restarted geo was.valid choice old mid (λ _. Unit {0}) sound_old was.lines left
+      (each_reads-then geo old (MayLeaveBlocks h.interrupted h.blocks) (λ _. Unit {0}) (λ bs x. tt) blocks_were)
+
+  -- the start is an image of what was before
+  start_was : IsImageOn (volume_area geo) old image.word
+  start_was p of =
+      let on : p / 8 < old.count = subst (λ c. p / 8 < c) (sym was.lines) (volume_within geo (p / 8) (area_of_volume geo p was.valid of)) in
+      let healthy : IsHealthy old (p / 8) = (on, was.good (p / 8) (area_in_metadata geo was.valid p of)) in
+      let back : IsHealthy mid (p / 8) = (subst (λ c. p / 8 < c) (sym left.count) on, left.bad (p / 8) ∙ healthy.1) in
+      let word = left.words p healthy in
+      let same : image.word p ≡ word.0 = cc (word.1.one, shows.words p back) in
+      subst (λ v. IsIn v (old.history p)) (sym same) word.1.was
+
+  -- and the only one of what is after
+  start_is : (word : ℕ → ℕ) → IsImageOn (volume_area geo) mid word → (p : ℕ) → IsOf (volume_area geo) p → word p ≡ image.word p
+  start_is word is p of =
+      let on : p / 8 < mid.count = subst (λ c. p / 8 < c) (sym layout_back.lines) (volume_within geo (p / 8) (area_of_volume geo p was.valid of)) in
+      is_in-one (word p) (image.word p) (subst (IsIn (word p)) (shows.words p (on, layout_back.good (p / 8) (area_in_metadata geo was.valid p of))) (is p of))
+
+  pages_were : ReadsPages geo old (MayLeaveVolume geo h.interrupted h.volume) image.word
+  pages_were = volume_was image.word start_was
+
+  abbrev there : List Bool
+  there = presence_read geo image.word
+
+  all_there : length (presence_of pages_were.pages) ≡ geo.vpages
+  all_there = length-map pages_were.pages is_present ∙ pages_were.all
+
+  there_is : there ≡ presence_of pages_were.pages
+  there_is = presence_read-replays geo image.word (presence_of pages_were.pages) all_there pages_were.replays
+
+  -- the pages that the machine reads
+  abbrev pub pages_back : List Page
+  pages_back = read_pages (volume_line geo) image there
+
+  pages_kept : KeepsPages choice (volume_line geo) image pages_were.pages × PagesStand (volume_line geo) mid pages_back
+  pages_kept =
+      subst (λ t. KeepsPages choice (volume_line geo) image pages_were.pages × PagesStand (volume_line geo) mid (read_pages (volume_line geo) image t)) (sym there_is)
+      (stand-restarted choice old mid image (volume_line geo) pages_were.pages pages_were.stand
+      (λ n cell is. line_there geo old n was.lines (line_of_volume geo pages_were.pages n cell pages_were.all is)) left shows)
+
+  all_back : length pages_back ≡ geo.vpages
+  all_back = length-read_pages (volume_line geo) image there ∙ ap length there_is ∙ all_there
+
+  -- each image reads as these
+  pub replays_back : (word : ℕ → ℕ) → IsImageOn (volume_area geo) mid word → Replays (volume_area geo) word (presence_words geo (presence_of pages_back))
+  replays_back word is =
+      subst (λ t. Replays (volume_area geo) word (presence_words geo t)) (sym (presence_of-read_pages (volume_line geo) image there ∙ there_is))
+      (reads_same geo word image.word (presence_of pages_were.pages) was.valid (start_is word is) pages_were.replays)
+
+  pub each_back : EachReadsPages geo mid (λ pages. pages ≡ pages_back)
+  each_back word is = record { pages = pages_back; is = refl; all = all_back; replays = replays_back word is; stand = pages_kept.1 }
+
+  -- nothing is wrong with them
+  pub nothing_back : first_finding mid ≡ None
+  nothing_back = nothing_wrong_there geo mid layout_back told_back sound readable_back (each_pages-then geo mid (λ pages. pages ≡ pages_back) (λ _. Unit {0}) (λ _ _. tt) each_back)
+
+  -- and they are what a restart may leave
+  pub kept_back : RestartMayLeave choice image h
+  kept_back = record {
+    blocks = blocks_read-restarted geo was.valid choice old mid image (MayLeaveBlocks h.interrupted h.blocks) was.lines left shows blocks_were;
+    left = pages_were.pages;
+    may = pages_were.is;
+    there = sym there_is;
+    volume = pages_kept.0;
+  }

@@ -1,0 +1,180 @@
+-- What host and device stand for once a line was marked: bad or weak from now on, with no counted call.
+use Rattle.std.proofs.Common.{◌≡◌, ◌⊎◌, ℕ, ◌+◌, ◌*◌, ◌/◌, ◌<◌, ◌≤◌, false, Option, Some, None, option_map, Result, Ok, Err, OnOk, List, refl, sym, ap, subst, ◌∙◌, arith}
+use Rattle.std.specs.Prelude.{IfErr}
+use Rattle.line_device.specs.History.{WordWritesBack}
+use Rattle.line_device.specs.Medium.{Medium}
+use Rattle.line_device.specs.Panel.{Runs}
+use Rattle.line_device.specs.Panel.Outcome.{went}
+use Rattle.line_device.specs.Device.{Device}
+use Rattle.line_device.proofs.PanelLemmas.{runs-refl}
+use Rattle.line_words.specs.Told.{Told, Answers, OnRefused, refusal_of}
+use Rattle.line_words.specs.Told.Told.{Refuses, Stops, Starves}
+use Rattle.word_tables.specs.declared.geometry.Geometry.{Geometry}
+use Rattle.word_tables.specs.Layout.{meta_lines}
+use Rattle.nvm_model.specs.Page.{Page}
+use Rattle.nvm_model.specs.Storage.{Block}
+use Rattle.block_device.specs.Area.{IsBlockLine}
+use Rattle.block_device.specs.Images.{EachReads}
+use Rattle.block_device.specs.Object.{BlocksServe, HasGoodMetadata, blocks_of}
+use Rattle.block_device.proofs.ImageLemmas.{served_reads}
+use Rattle.block_device.proofs.ReadLemmas.{Stays}
+use Rattle.block_device.proofs.ServesLemmas.{serves-stays}
+use Rattle.pm_volume.specs.Area.{IsOfVolume}
+use Rattle.pm_volume.specs.Images.{EachReadsPages}
+use Rattle.pm_volume.specs.Object.{VolumeHolds, VolumeServes}
+use Rattle.pm_volume.proofs.StandingLemmas.{LineKept, served_pages}
+use Rattle.recovery.proofs.SuperblockLemmas.{some_meta}
+use Rattle.scrub.specs.Others.{WritesBackBut}
+use Rattle.reply_text.specs.Answer.{Answer}
+use Rattle.reply_text.specs.Answer.Answer.{Done}
+use Rattle.script_text.specs.Action.{Action}
+use Rattle.machine_host.specs.declared.mode.Mode.TheVariants as modes
+use Rattle.machine_host.specs.Machine.{Machine}
+use Rattle.machine_host.specs.Machine.Fate.{Gives}
+use Rattle.machine_host.specs.Commands.{MayLeaveBlocks, unless_refused}
+use Rattle.machine_host.specs.Faults.{answer_after, told_answer}
+use Rattle.machine_host.specs.Interrupted.{stop_in}
+use Rattle.machine_host.specs.Lines.{HasLayout}
+use Rattle.machine_host.specs.Run.{answered}
+use Rattle.machine_host.specs.Telling.{Tells}
+use Rattle.machine_host.specs.Stands.{HostState, HostServes, MetadataStands, AreMounted, Stands, Comes}
+use Rattle.machine_host.proofs.ElsewhereLemmas.{pages_elsewhere, stays_of_kept, volume_holds_elsewhere, volume_serves_elsewhere}
+use Rattle.machine_host.proofs.MetadataLemmas.{metadata-kept}
+use Rattle.machine_host.proofs.StepLemmas.{blocks_elsewhere, is_whole, stands_done, whole_pages}
+use Rattle.machine_host.proofs.TellingLemmas.{tells_nothing}
+
+-- the call was refused, and nothing stopped it
+abbrev pub IsRefusal : {R : Type 0} → Told R → Type 0
+IsRefusal (Refuses why) = Unit {0}
+IsRefusal (Stops by) = ⊥
+IsRefusal Starves = ⊥
+
+pub answers_told : {E R : Type 0} (says : E → Told R) (f : E) (why : Option R) → Answers {T = Unit {0}} says why (Err f) → refusal_of (says f) ≡ why
+answers_told says f None refused = refused
+answers_told says f (Some w) refused = refused
+
+-- a line apart from those that were marked is only written back
+pub kept-but : (lines : ℕ → Type 0) (old new : Medium) (line : ℕ) → (lines line → ⊥) → WritesBackBut lines old new → LineKept old new line
+kept-but lines old new line apart x = record {
+  bad = x.bad line apart;
+  weak = x.weak line apart;
+  words = λ p at. subst (λ n. WordWritesBack (old.is_weak n) (old.history p) (new.history p)) at (x.word_write_back p (λ of. apart (subst lines at of)));
+}
+
+-- A mark is made, or refused for its line.
+pub comes_of_marking : {E R : Type 0} (says : E → Told R) (answer : R → Answer) → ((w : R) → stop_in (answer w) ≡ None) → (host : HostState) (old new : Device) (h to : Machine) (action : Action) (r : Result (Unit {0}) E) (why : Option R)
+    → Stands host old h → new.panel ≡ old.panel → Answers says why r → IfErr r (λ f. IsRefusal (says f)) → OnRefused says r (new ≡ old) → OnOk r (Stands host new to)
+    → Comes h action (unless_refused h (option_map answer why) (Gives Done to)) (answer_after says answer Done r) host old new
+comes_of_marking says answer quiet host old new h to action (Ok x) None stands panel refused told untouched ok = record {
+  said = answered Done;
+  next = to;
+  answers = refl;
+  takes = (refl, refl);
+  tells = subst (λ p. Tells (answered Done) old.panel p) (sym panel) (tells_nothing Done refl old.panel);
+  stands = ok;
+}
+comes_of_marking says answer quiet host old new h to action (Ok x) (Some w) stands panel refused told untouched ok = absurd refused
+comes_of_marking {R = R} says answer quiet host old new h to action (Err f) why stands panel refused told untouched ok =
+    by_told (says f) told why (answers_told says f why refused) (λ none. untouched (λ e. none e))
+  where
+    by_told : (t : Told R) → IsRefusal t → (why : Option R) → refusal_of t ≡ why → ((refusal_of t ≡ None → ⊥) → new ≡ old)
+        → Comes h action (unless_refused h (option_map answer why) (Gives Done to)) (told_answer answer t) host old new
+    by_told (Refuses w) is why reason same =
+        subst (λ d. Comes h action (unless_refused h (option_map answer why) (Gives Done to)) (answer w) host old d) (sym (same (λ e. cc e)))
+        (subst (λ o. Comes h action (unless_refused h (option_map answer o) (Gives Done to)) (answer w) host old old) reason (record {
+          said = answered (answer w);
+          next = h;
+          answers = refl;
+          takes = (refl, refl);
+          tells = tells_nothing (answer w) (quiet w) old.panel;
+          stands = stands;
+        }))
+    by_told (Stops by) is why reason same = absurd is
+    by_told Starves is why reason same = absurd is
+
+-- Lines behind the metadata were marked, while the host was on.
+module _ (host : HostState) (old new : Device) (serves : HostServes host old) (on : host.mode ≡ modes.On) (panel : new.panel ≡ old.panel)
+    (lines : ℕ → Type 0) (behind : (n : ℕ) → lines n → meta_lines host.geometry ≤ n) (x : WritesBackBut lines old.medium new.medium) where
+  abbrev geo : Geometry
+  geo = host.geometry
+
+  mounted : AreMounted geo host.blocks host.volume old.medium
+  mounted = serves.mounted on
+
+  metadata_line : (n : ℕ) → n < meta_lines geo → LineKept old.medium new.medium n
+  metadata_line n below = kept-but lines old.medium new.medium n (λ of. let far = behind n of in omega (arith, far, below)) x
+
+  layout_marked : HasLayout geo new.medium
+  layout_marked = record { valid = serves.layout.valid; lines = x.count ∙ serves.layout.lines; good = λ n below. (metadata_line n below).bad ∙ serves.layout.good n below }
+
+  strong_marked : (g : Geometry) → g ≡ geo → (n : ℕ) → n < meta_lines g → new.medium.is_weak n ≡ false
+  strong_marked g same n below =
+      let there = subst (λ k. n < meta_lines k) same below in
+      (metadata_line n there).weak ∙ mounted.serves.strong n (subst (λ k. n < meta_lines k) (sym mounted.geometry) there)
+
+  goes_on : AreMounted geo host.blocks host.volume new.medium → HostServes host new
+  goes_on now = record { layout = layout_marked; power = ap (λ p. p.power) panel ∙ serves.power; mounted = λ _. now }
+
+  metadata_marked : (h : Machine) → Stands host old h → MetadataStands h.geometry new.medium h.bad_meta
+  metadata_marked h stands =
+      metadata-kept h.geometry h.bad_meta old.medium new.medium stands.device.metadata x.count
+      (λ n below. metadata_line n (subst (λ g. n < meta_lines g) (sym stands.geometry) below)) (some_meta h.geometry)
+
+  nothing_run : Runs 0 0 went old.panel new.panel
+  nothing_run = subst (λ p. Runs 0 0 went old.panel p) (sym panel) (runs-refl old.panel)
+
+  -- lines of blocks
+  module _ (apart : (n : ℕ) → IsOfVolume geo n → lines n → ⊥) (served : BlocksServe host.blocks new.medium) where
+    volume_line_kept : (n : ℕ) → IsOfVolume geo n → LineKept old.medium new.medium n
+    volume_line_kept n of = kept-but lines old.medium new.medium n (apart n of) x
+
+    pub blocks_marked_serve : HostServes host new
+    blocks_marked_serve = goes_on (record {
+      geometry = mounted.geometry;
+      settled = mounted.settled;
+      serves = served;
+      volume_geometry = mounted.volume_geometry;
+      volume_settled = mounted.volume_settled;
+      volume_serves = volume_serves_elsewhere geo old.medium new.medium serves.layout.valid volume_line_kept host.volume mounted.volume_geometry
+          (strong_marked host.volume.geo mounted.volume_geometry) x.count mounted.volume_serves;
+    })
+
+    pub blocks_marked : (h : Machine) (action : Action) (f : List Block → List Block) → Stands host old h → blocks_of host.blocks new.medium ≡ f (blocks_of host.blocks old.medium)
+        → Stands host new (record h { blocks = f h.blocks })
+    blocks_marked h action f stands is =
+        let seen = is ∙ ap f (stands.blocks on) in
+        let good = subst (λ g. HasGoodMetadata g new.medium) (sym mounted.geometry) layout_marked.good in
+        let reads : EachReads h.geometry new.medium (λ bs. bs ≡ f h.blocks) =
+        subst (λ g. EachReads g new.medium (λ bs. bs ≡ f h.blocks)) (mounted.geometry ∙ stands.geometry)
+        (subst (λ to. EachReads host.blocks.geo new.medium (λ bs. bs ≡ to)) seen (served_reads host.blocks new.medium good served)) in
+        let pages : EachReadsPages h.geometry new.medium (λ x. x ≡ h.volume) =
+        subst (λ g. EachReadsPages g new.medium (λ x. x ≡ h.volume)) stands.geometry
+        (pages_elsewhere geo old.medium new.medium serves.layout.valid volume_line_kept (λ x. x ≡ h.volume)
+        (subst (λ g. EachReadsPages g old.medium (λ x. x ≡ h.volume)) (sym stands.geometry) (whole_pages host old h stands (is_whole host old h stands on)))) in
+        let holds = volume_holds_elsewhere geo old.medium new.medium serves.layout.valid volume_line_kept host.volume h.volume mounted.volume_geometry mounted.volume_serves.all (stands.volume on) in
+        stands_done host host old new h action stands on 0 0 (omega arith) (omega arith) refl (f h.blocks) h.volume on nothing_run (metadata_marked h stands) reads seen pages holds
+
+  -- lines of the volume
+  module _ (apart : (n : ℕ) → IsBlockLine geo n → lines n → ⊥) (served : VolumeServes host.volume new.medium) where
+    block_line_stays : (n : ℕ) → IsBlockLine geo n → Stays old.medium new.medium n
+    block_line_stays n of = stays_of_kept old.medium new.medium n (kept-but lines old.medium new.medium n (apart n of) x)
+
+    pub volume_marked_serves : HostServes host new
+    volume_marked_serves = goes_on (record {
+      geometry = mounted.geometry;
+      settled = mounted.settled;
+      serves = serves-stays host.blocks old.medium new.medium (λ n of. block_line_stays n (subst (λ g. IsBlockLine g n) mounted.geometry of))
+          (strong_marked host.blocks.geo mounted.geometry) x.count mounted.serves;
+      volume_geometry = mounted.volume_geometry;
+      volume_settled = mounted.volume_settled;
+      volume_serves = served;
+    })
+
+    pub volume_marked : (h : Machine) (action : Action) (pages : List Page) → Stands host old h → VolumeHolds host.volume new.medium pages → Stands host new (record h { volume = pages })
+    volume_marked h action pages stands holds =
+        let kept = blocks_elsewhere host old new h stands serves block_line_stays in
+        let whole = is_whole host old h stands on in
+        let each : EachReadsPages h.geometry new.medium (λ x. x ≡ pages) =
+        subst (λ g. EachReadsPages g new.medium (λ x. x ≡ pages)) (mounted.volume_geometry ∙ stands.geometry) (served_pages host.volume new.medium pages served holds) in
+        stands_done host host old new h action stands on 0 0 (omega arith) (omega arith) refl h.blocks pages on nothing_run (metadata_marked h stands)
+        (subst (λ interrupted. EachReads h.geometry new.medium (MayLeaveBlocks interrupted h.blocks)) whole kept.0) (kept.1 on) each holds

@@ -1,0 +1,50 @@
+// What stands behind a command's name.
+ghost use Rattle.std.specs.Prelude.{◌≡◌, ℕ, List, option_map};
+ghost use Rattle.script_text.specs.Action.{Action, action_of};
+ghost use Rattle.script_text.specs.Parsing.{ParsesAs};
+ghost use Rattle.script_text.specs.Script.{bare_action, data_action, number_action, span_action, words_of};
+
+use crate::words::{next_word, only_word, two_words};
+use crate::{Command, LineFault};
+use nvm_base::{Bytes, MOST, TextFault, read_bytes, read_number};
+use std::alloc::Global;
+
+// A number and DATA.
+pub(crate) fn read_data(alloc: Global, words: &[u8]) -> Result<(u64, Bytes), LineFault>
+    ensures { (make : ℕ → List ℕ → Action) → ParsesAs (λ p. make p.0 p.1.items) (data_action make (words_of words.now)) result }
+{
+    let Some((number, text)) = two_words(words) else {
+        return Err(LineFault::Syntax);
+    };
+    let Some(number) = read_number(number) else {
+        return Err(LineFault::Syntax);
+    };
+    match read_bytes(alloc, text, MOST) {
+        Ok(bytes) => Ok((number, bytes)),
+        Err(TextFault::Bad | TextFault::TooLong) => Err(LineFault::Syntax),
+        Err(TextFault::Memory) => Err(LineFault::Memory),
+    }
+}
+
+// Two numbers.
+pub(crate) fn read_span(words: &[u8]) -> Option<(u64, u64)>
+    ensures { (make : ℕ → ℕ → Action)
+        → option_map (λ p. make p.0 p.1) result ≡ span_action make (words_of words.now) }
+{
+    let (start, len) = two_words(words)?;
+    Some((read_number(start)?, read_number(len)?))
+}
+
+// The command, where no word is left.
+pub(crate) fn read_bare(command: Command, words: &[u8]) -> Option<Command>
+    ensures { option_map action_of result ≡ bare_action (action_of command) (words_of words.now) }
+{
+    next_word(words).is_none().then_some(command)
+}
+
+// The number, where it stands alone.
+pub(crate) fn read_only(words: &[u8]) -> Option<u64>
+    ensures { (make : ℕ → Action) → option_map make result ≡ number_action make (words_of words.now) }
+{
+    read_number(only_word(words)?)
+}
