@@ -13,9 +13,8 @@ use std::alloc::Global;
 use std::test::Fail;
 use word_tables::Geometry;
 
-mod atomic;
 mod cuts;
-mod refusals;
+mod stories;
 
 const SMALL: Geometry = Geometry {
     blocks: 8,
@@ -114,18 +113,27 @@ fn spoil<L: Lines>(blocks: &Blocks, dev: &mut L, line: u64)
     }
 }
 
-// The first byte of a block whose bytes are all the same.
-fn byte_of<L: Lines>(blocks: &mut Blocks, dev: &mut L, block: u64) -> Result<u8, BlockFault>
-    requires { IsTrue blocks.old.settled → BlocksServe blocks.old (L.state dev.old).medium }
-    ensures { IsTrue blocks.new.settled → BlocksServe blocks.new (L.state dev.new).medium }
-{
-    if !blocks.settled() || !dev.power() {
-        return Err(BlockFault::Device);
-    }
-    let mut out = [0xee; 512];
-    blocks.read_into(dev, block, &mut out)?;
-    Ok(the_byte(&out))
+// What is done with blocks; bytes are so many of one value.
+#[derive(Clone, Copy)]
+enum Act {
+    Count,
+    Read(u64),
+    Exists(u64),
+    Write(u64, usize, u8),
+    AtOnce(u64, usize, u8),
+    // Two blocks together, each with a byte of its own.
+    Pair([u64; 2], [u8; 2]),
+    Discard(Span),
+    // Absent one after the other.
+    Hint(Span),
+    Scar(&'static [Span]),
+    // A media error takes a line of the device, or of a block.
+    Spoil(u64),
+    SpoilIn(u64, u64),
 }
+
+// What it gives: the byte of a block that is read, 1 for a block that is there, and else 0.
+type Told = Result<u64, BlockFault>;
 
 // The byte that these are, 0xee where they differ.
 fn the_byte(bytes: &[u8; 512]) -> u8 {
@@ -137,139 +145,145 @@ fn the_byte(bytes: &[u8; 512]) -> u8 {
     bytes[0]
 }
 
-fn write<L: Lines>(
-    blocks: &mut Blocks,
-    dev: &mut L,
-    block: u64,
-    bytes: &[u8],
-) -> Result<(), BlockFault>
+fn read<L: Lines>(blocks: &mut Blocks, dev: &mut L, block: u64) -> Told
     requires { IsTrue blocks.old.settled → BlocksServe blocks.old (L.state dev.old).medium }
     ensures { IsTrue blocks.new.settled → BlocksServe blocks.new (L.state dev.new).medium }
 {
     if !blocks.settled() || !dev.power() {
         return Err(BlockFault::Device);
     }
-    blocks.write(dev, block, bytes)
+    let mut out = [0xee; 512];
+    blocks.read_into(dev, block, &mut out)?;
+    Ok(the_byte(&out) as u64)
 }
 
-fn discard<L: Lines>(blocks: &mut Blocks, dev: &mut L, span: Span) -> Result<(), BlockFault>
+fn write<L: Lines>(blocks: &mut Blocks, dev: &mut L, block: u64, bytes: &[u8]) -> Told
     requires { IsTrue blocks.old.settled → BlocksServe blocks.old (L.state dev.old).medium }
     ensures { IsTrue blocks.new.settled → BlocksServe blocks.new (L.state dev.new).medium }
 {
     if !blocks.settled() || !dev.power() {
         return Err(BlockFault::Device);
     }
-    blocks.discard_now(dev, span)
+    blocks.write(dev, block, bytes)?;
+    Ok(0)
 }
 
-// Absent one after the other.
-fn hint<L: Lines>(blocks: &mut Blocks, dev: &mut L, span: Span) -> Result<(), BlockFault>
+fn write_at_once<L: Lines>(blocks: &mut Blocks, dev: &mut L, block: u64, bytes: &[u8]) -> Told
     requires { IsTrue blocks.old.settled → BlocksServe blocks.old (L.state dev.old).medium }
     ensures { IsTrue blocks.new.settled → BlocksServe blocks.new (L.state dev.new).medium }
 {
     if !blocks.settled() || !dev.power() {
         return Err(BlockFault::Device);
     }
-    blocks.discard_hint(dev, span)
+    blocks.atomic_write(dev, block, bytes)?;
+    Ok(0)
 }
 
-fn scar<L: Lines>(blocks: &mut Blocks, dev: &mut L, spans: &[Span]) -> Result<(), BlockFault>
+fn write_pair<L: Lines>(blocks: &mut Blocks, dev: &mut L, places: [u64; 2], told: [u8; 2]) -> Told
+    requires { IsTrue blocks.old.settled → BlocksServe blocks.old (L.state dev.old).medium }
+    ensures { IsTrue blocks.new.settled → BlocksServe blocks.new (L.state dev.new).medium }
+{
+    if !blocks.settled() || !dev.power() {
+        return Err(BlockFault::Device);
+    }
+    let mut bytes = [told[0]; 1024];
+    for k in 512..1024_usize {
+        bytes[k] = told[1];
+    }
+    let ranges = [
+        Span {
+            start: places[0],
+            len: 512,
+        },
+        Span {
+            start: places[1],
+            len: 512,
+        },
+    ];
+    blocks.atomic_multiwrite(dev, &ranges, &bytes)?;
+    Ok(0)
+}
+
+fn discard<L: Lines>(blocks: &mut Blocks, dev: &mut L, span: Span) -> Told
+    requires { IsTrue blocks.old.settled → BlocksServe blocks.old (L.state dev.old).medium }
+    ensures { IsTrue blocks.new.settled → BlocksServe blocks.new (L.state dev.new).medium }
+{
+    if !blocks.settled() || !dev.power() {
+        return Err(BlockFault::Device);
+    }
+    blocks.discard_now(dev, span)?;
+    Ok(0)
+}
+
+fn hint<L: Lines>(blocks: &mut Blocks, dev: &mut L, span: Span) -> Told
+    requires { IsTrue blocks.old.settled → BlocksServe blocks.old (L.state dev.old).medium }
+    ensures { IsTrue blocks.new.settled → BlocksServe blocks.new (L.state dev.new).medium }
+{
+    if !blocks.settled() || !dev.power() {
+        return Err(BlockFault::Device);
+    }
+    blocks.discard_hint(dev, span)?;
+    Ok(0)
+}
+
+fn scar<L: Lines>(blocks: &mut Blocks, dev: &mut L, spans: &[Span]) -> Told
     requires { IsTrue blocks.old.settled → BlocksServe blocks.old (L.state dev.old).medium }
     ensures { IsTrue blocks.new.settled → BlocksServe blocks.new (L.state dev.new).medium }
 {
     if !blocks.settled() || !dev.power() || spans.is_empty() {
         return Err(BlockFault::Device);
     }
-    blocks.scar(dev, spans)
+    blocks.scar(dev, spans)?;
+    Ok(0)
 }
 
-#[test]
-fn blocks_are_written_scarred_and_discarded(rt: HostRuntime) -> Result<(), Fail> {
-    let mut device = fresh(rt.alloc(), SMALL_LINES)?;
-    let mut blocks = start(rt.alloc(), &mut device, Choice::Firsts, SMALL)?;
-    assert_eq!(rt; byte_of(&mut blocks, &mut device, 7), Ok(0));
-    assert_eq!(rt; blocks.exists(1), Ok(false));
-    write(&mut blocks, &mut device, 1, &[0xaa; 512])?;
-    assert_eq!(rt; byte_of(&mut blocks, &mut device, 1), Ok(0xaa));
-    assert_eq!(rt; blocks.exists(1), Ok(true));
-    scar(&mut blocks, &mut device, &[Span { start: 1, len: 2 }])?;
-    assert_eq!(rt;
-        byte_of(&mut blocks, &mut device, 1),
-        Err(BlockFault::Scarred(1))
-    );
-    assert_eq!(rt; blocks.exists(2), Ok(true));
-    hint(&mut blocks, &mut device, Span { start: 2, len: 2 })?;
-    assert_eq!(rt; blocks.exists(2), Ok(false));
-    assert_eq!(rt; blocks.exists(1), Ok(true));
-    discard(&mut blocks, &mut device, Span { start: 0, len: 2 })?;
-    assert_eq!(rt; byte_of(&mut blocks, &mut device, 1), Ok(0));
-    assert_eq!(rt; blocks.exists(1), Ok(false));
-    Ok(())
+fn line_in(blocks: &Blocks, block: u64, line: u64) -> u64 {
+    if block >= blocks.count() {
+        return u64::MAX;
+    }
+    match blocks.line_of(block) {
+        Some(first) => first.0.saturating_add(line),
+        None => u64::MAX,
+    }
 }
 
-#[test]
-fn a_bad_line_of_a_block_is_told_and_written_over(rt: HostRuntime) -> Result<(), Fail> {
-    let mut device = fresh(rt.alloc(), SMALL_LINES)?;
-    let mut blocks = start(rt.alloc(), &mut device, Choice::Firsts, SMALL)?;
-    write(&mut blocks, &mut device, 3, &[7; 512])?;
-    let line = blocks.line_of(3).ok_or("on no unit")?;
-    spoil(&blocks, &mut device, line.0.saturating_add(5));
-    assert_eq!(rt;
-        byte_of(&mut blocks, &mut device, 3),
-        Err(BlockFault::Poison(3, 5))
-    );
-    write(&mut blocks, &mut device, 3, &[8; 512])?;
-    assert_eq!(rt; byte_of(&mut blocks, &mut device, 3), Ok(8));
-    Ok(())
-}
-
-// Writes a block, or takes it away: call k of many. Gives the byte that it has then.
-fn change_one<L: Lines>(blocks: &mut Blocks, dev: &mut L, k: u8) -> Result<u8, BlockFault>
+fn perform<L: Lines>(blocks: &mut Blocks, dev: &mut L, alloc: Global, act: Act) -> Told
     requires { IsTrue blocks.old.settled → BlocksServe blocks.old (L.state dev.old).medium }
     ensures { IsTrue blocks.new.settled → BlocksServe blocks.new (L.state dev.new).medium }
 {
-    let start = block_of(k) as u64;
-    if k % 3 == 0 {
-        discard(blocks, dev, Span { start, len: 1 })?;
-        Ok(0)
-    } else {
-        write(blocks, dev, start, &[k; 512])?;
-        Ok(k)
+    match act {
+        Act::Count => Ok(blocks.count()),
+        Act::Read(block) => read(blocks, dev, block),
+        Act::Exists(block) => Ok(u64::from(blocks.exists(block)?)),
+        Act::Write(block, len, byte) => write(
+            blocks,
+            dev,
+            block,
+            many(alloc, len, byte)?.as_slice(),
+        ),
+        Act::AtOnce(block, len, byte) => {
+            write_at_once(blocks, dev, block, many(alloc, len, byte)?.as_slice())
+        }
+        Act::Pair(places, told) => write_pair(blocks, dev, places, told),
+        Act::Discard(span) => discard(blocks, dev, span),
+        Act::Hint(span) => hint(blocks, dev, span),
+        Act::Scar(spans) => scar(blocks, dev, spans),
+        Act::Spoil(line) => {
+            spoil(blocks, dev, line);
+            Ok(0)
+        }
+        Act::SpoilIn(block, line) => {
+            let line = line_in(blocks, block, line);
+            spoil(blocks, dev, line);
+            Ok(0)
+        }
     }
 }
 
-// The block that call k changes.
-fn block_of(k: u8) -> usize
-    ensures { result < 8 }
-{
-    k as usize * 5 % 8
-}
-
-#[test]
-fn units_come_round_again(rt: HostRuntime) -> Result<(), Fail> {
-    let mut device = fresh(rt.alloc(), SMALL_LINES)?;
-    let mut blocks = start(rt.alloc(), &mut device, Choice::Firsts, SMALL)?;
-    let mut told = [0; 8];
-    for k in 0..200_u8 {
-        told[block_of(k)] = change_one(&mut blocks, &mut device, k)?;
+// So many bytes of one value.
+fn many(alloc: Global, len: usize, byte: u8) -> Result<Vec<u8, Global>, BlockFault> {
+    match vec![in alloc; byte; len] {
+        Ok(bytes) => Ok(bytes),
+        Err(_) => Err(BlockFault::Device),
     }
-    let mut blocks = start(rt.alloc(), &mut device, Choice::Firsts, SMALL)?;
-    for block in 0..8_usize {
-        let byte = byte_of(&mut blocks, &mut device, block as u64);
-        assert_eq!(rt; byte, Ok(told[block]), "of {block}");
-    }
-    Ok(())
-}
-
-#[test]
-fn the_smallest_device_and_the_largest_have_their_last_block(rt: HostRuntime) -> Result<(), Fail> {
-    for (geo, lines) in [(SMALL, SMALL_LINES), (LARGE, LARGE_LINES)] {
-        let mut device = fresh(rt.alloc(), lines)?;
-        let mut blocks = start(rt.alloc(), &mut device, Choice::Lasts, geo)?;
-        assert_eq!(rt; blocks.count(), geo.blocks);
-        write(&mut blocks, &mut device, geo.blocks - 1, &[9; 512])?;
-        assert_eq!(rt; blocks.exists(geo.blocks - 1), Ok(true));
-        assert_eq!(rt; blocks.exists(geo.blocks), Err(BlockFault::Range));
-    }
-    Ok(())
 }

@@ -1,57 +1,105 @@
 // Writes behind fuses of 0, 1, 2 .. calls, until one ends with Ok.
 ghost use Rattle.std.specs.Prelude.{IfOk, IsTrue};
-ghost use Rattle.line_device.specs.Plain.{device_of};
 ghost use Rattle.test_devices.specs.Fuse.{fused};
+ghost use Rattle.line_device.specs.Plain.{device_of};
 ghost use Rattle.block_device.specs.Object.{BlocksServe};
 
-use super::{SMALL, SMALL_LINES, byte_of, fresh, open, start, write};
+use super::{Act, SMALL, SMALL_LINES, Told, fresh, open, perform, read, start};
 use crate::{BlockFault, Blocks, MountFault};
 use line_device::{Choice, LineDevice, Plain};
 use std::alloc::Global;
 use std::test::Fail;
 use test_devices::Fuse;
 
-// Writes two blocks behind a fuse of so many calls.
-fn write_behind<D: LineDevice>(
+// Performs an act behind a fuse of so many calls.
+fn perform_behind<D: LineDevice>(
     blocks: &mut Blocks,
     dev: D,
     calls: u64,
-) -> (Result<(), BlockFault>, Fuse<D>)
+    alloc: Global,
+    act: Act,
+) -> (Told, Fuse<D>)
     requires { IsTrue blocks.old.settled → BlocksServe blocks.old (D.state dev).medium }
 {
     let mut fuse = Fuse::new(dev, calls);
-    let answer = write(blocks, &mut fuse, 6, &[4; 1024]);
+    let answer = perform(blocks, &mut fuse, alloc, act);
     (answer, fuse)
 }
 
 // Takes a plain device behind a fuse through a cut, and mounts its blocks.
-pub(super) fn start_fused(
-    alloc: Global,
-    dev: &mut Fuse<Plain>,
-    choice: Choice,
-) -> Result<Blocks, MountFault>
+fn start_fused(alloc: Global, dev: &mut Fuse<Plain>, choice: Choice) -> Result<Blocks, MountFault>
     ensures { IfOk result (λ blocks. IsTrue blocks.settled → BlocksServe blocks (fused device_of dev.new).medium) }
 {
     open(alloc, dev, choice, SMALL)
 }
+
+// An act on a fresh device, and another one behind a fuse, which changes two blocks.
+#[derive(Clone, Copy)]
+struct Trial {
+    before: Act,
+    during: Act,
+    blocks: [u64; 2],
+}
+
+// Whether the act behind a fuse of so many calls ended with Ok, and what the two blocks have after a restart.
+fn outcome(
+    alloc: Global,
+    trial: &Trial,
+    choice: Choice,
+    calls: u64,
+) -> Result<(bool, [u64; 2]), Fail> {
+    let mut device = fresh(alloc, SMALL_LINES)?;
+    let mut blocks = start(alloc, &mut device, choice, SMALL)?;
+    perform(&mut blocks, &mut device, alloc, trial.before)?;
+    let (answer, mut fuse) = perform_behind(&mut blocks, device, calls, alloc, trial.during);
+    let done = answer.is_ok();
+    if blocks.settled() != done || !done && answer != Err(BlockFault::PowerLost) {
+        return Err(Fail::from("the answer"));
+    }
+    let mut blocks = start_fused(alloc, &mut fuse, choice)?;
+    let first = read(&mut blocks, &mut fuse, trial.blocks[0])?;
+    let second = read(&mut blocks, &mut fuse, trial.blocks[1])?;
+    Ok((done, [first, second]))
+}
+
+const WRITTEN: Trial = Trial {
+    before: Act::Write(6, 1024, 3),
+    during: Act::Write(6, 1024, 4),
+    blocks: [6, 7],
+};
 
 #[test]
 fn a_cut_write_leaves_old_blocks_or_new_ones(rt: HostRuntime) -> Result<(), Fail> {
     for choice in [Choice::Firsts, Choice::Lasts] {
         let mut done = false;
         for calls in 0..200_u64 {
-            let mut device = fresh(rt.alloc(), SMALL_LINES)?;
-            let mut blocks = start(rt.alloc(), &mut device, choice, SMALL)?;
-            write(&mut blocks, &mut device, 6, &[3; 1024])?;
-            let (answer, mut fuse) = write_behind(&mut blocks, device, calls);
-            done = answer.is_ok();
-            assert!(rt; done || answer == Err(BlockFault::PowerLost));
-            assert!(rt; blocks.settled() == done);
-            let mut blocks = start_fused(rt.alloc(), &mut fuse, choice)?;
-            let first = byte_of(&mut blocks, &mut fuse, 6)?;
-            let second = byte_of(&mut blocks, &mut fuse, 7)?;
-            assert!(rt; first == 4 || first == 3 && second == 3 && !done);
-            assert!(rt; second == 4 || second == 3 && !done);
+            let (ended, bytes) = outcome(rt.alloc(), &WRITTEN, choice, calls)?;
+            done = ended;
+            assert!(rt; bytes[0] == 4 || bytes[0] == 3 && bytes[1] == 3 && !done);
+            assert!(rt; bytes[1] == 4 || bytes[1] == 3 && !done);
+            if done {
+                break;
+            }
+        }
+        assert!(rt; done);
+    }
+    Ok(())
+}
+
+const TOGETHER: Trial = Trial {
+    before: Act::Write(6, 512, 3),
+    during: Act::Pair([6, 1], [4, 5]),
+    blocks: [6, 1],
+};
+
+#[test]
+fn a_cut_leaves_all_old_blocks_or_all_new_ones(rt: HostRuntime) -> Result<(), Fail> {
+    for choice in [Choice::Firsts, Choice::Lasts] {
+        let mut done = false;
+        for calls in 0..200_u64 {
+            let (ended, bytes) = outcome(rt.alloc(), &TOGETHER, choice, calls)?;
+            done = ended;
+            assert!(rt; bytes == [4, 5] || bytes == [3, 0] && !done);
             if done {
                 break;
             }

@@ -1,7 +1,10 @@
 use Rattle.std.proofs.Common.{IsTrue}
 use Rattle.line_device.specs.Plain.{device_of}
 use Rattle.block_device.specs.Object.{BlocksServe}
-use Rattle.block_device.proofs.tests.refusals.bytes_are_refused_by_range_then_length.Given as goal
+use Rattle.block_device.proofs.tests.stories.units_come_round_again.Given as goal
+
+abbrev pub invariant-loop-k : goal.invariant-loop-k
+invariant-loop-k g l = IsTrue l.blocks.settled → BlocksServe l.blocks (device_of l.device).medium
 
 abbrev pub invariant-loop-block : goal.invariant-loop-block
 invariant-loop-block g l = IsTrue l.blocks.settled → BlocksServe l.blocks (device_of l.device).medium
