@@ -128,10 +128,10 @@ const TRIALS: [(Trial, u8, u64, &str); 20] = [
 #[test]
 fn a_call_that_ends_early_says_why(rt: HostRuntime) -> Result<(), Fail> {
     let alloc = rt.alloc();
-    for (trial, status, replies, line) in &TRIALS {
-        let (ended, sink, kept) = outcome(alloc, trial)?;
-        assert_eq!(rt; ended, *status, "{line}");
-        let written = repeated(alloc, "refused syntax\n", *replies, line)?;
+    for &(trial, status, replies, line) in &TRIALS {
+        let (ended, sink, kept) = outcome(alloc, &trial)?;
+        assert_eq!(rt; ended, status, "{line}");
+        let written = repeated(alloc, "refused syntax\n", replies, line)?;
         assert_eq!(rt; sink.written(), written.as_slice());
         assert!(rt; kept);
     }
