@@ -1,62 +1,38 @@
 -- What the lines of a device stand for once the power came back.
-use Rattle.std.proofs.Common.{◌≡◌, inl, inr, ℕ, ◌+◌, ◌*◌, ◌/◌, ◌<◌, Bool, List, length, None, Result, Err, refl, sym, ap, subst, ◌∙◌, arith}
-use Rattle.std.specs.Prelude.{IfErr}
-use Rattle.line_device.specs.Medium.{Medium, Survivors, IsHealthy, IsSound, last_image}
+use Rattle.std.proofs.Common.{◌≡◌, ℕ, ◌/◌, ◌<◌, Bool, List, length, None, refl, sym, ap, subst, ◌∙◌}
+use Rattle.line_device.specs.Medium.{Medium, Survivors, IsHealthy, IsSound}
 use Rattle.line_device.specs.Panel.{Image}
-use Rattle.line_device.specs.Panel.Outcome.{went}
 use Rattle.line_device.specs.Device.{Depicts}
 use Rattle.line_device.specs.declared.line.Choice.{Choice}
-use Rattle.line_words.specs.declared.interruption.Interruption.{Interruption}
-use Rattle.line_words.specs.Ending.{ended}
-use Rattle.line_words.specs.Words.{WritesBackOutside}
 use Rattle.word_tables.specs.declared.geometry.Geometry.{Geometry}
 use Rattle.word_log.specs.Area.{IsOf}
-use Rattle.nvm_model.specs.Page.{Page, is_present, presence_of, read_pages, bad_lines, PagesStand, KeepsPages}
-use Rattle.nvm_model.specs.Blocks.{bad_block_lines}
+use Rattle.nvm_model.specs.Page.{Page, is_present, presence_of, read_pages, PagesStand, KeepsPages}
 use Rattle.nvm_model.proofs.PageLemmas.{length-read_pages, presence_of-read_pages}
 use Rattle.nvm_model.proofs.RestartLemmas.{stand-restarted}
 use Rattle.pm_volume.specs.Area.{volume_area}
 use Rattle.pm_volume.specs.Images.{ReadsPages, EachReadsPages}
-use Rattle.pm_volume.specs.Object.{VolumeState, VolumeHolds}
 use Rattle.pm_volume.specs.Presence.{presence_read, presence_words}
 use Rattle.pm_volume.proofs.AreaLemmas.{area_in_metadata}
-use Rattle.pm_volume.proofs.StandingLemmas.{each_pages-reached, each_pages-then, line_of_volume, presence_read-replays, reads_same}
+use Rattle.pm_volume.proofs.StandingLemmas.{each_pages-then, line_of_volume, presence_read-replays, reads_same}
 use Rattle.std.proofs.lemmas.List.{length-map}
 use Rattle.line_device.specs.History.{IsIn}
 use Rattle.line_device.proofs.HistoryLemmas.{is_in-one}
 use Rattle.word_log.specs.Replay.{Replays}
-use Rattle.word_log.specs.Rest.{EachImage, IsImageOn, IsReached}
+use Rattle.word_log.specs.Rest.{IsImageOn}
 use Rattle.word_tables.specs.Layout.{volume_line}
-use Rattle.block_device.specs.Object.{BlocksState, blocks_of}
-use Rattle.block_device.specs.Reading.{blocks_read}
 use Rattle.block_device.specs.Images.{AreReadable, EachReads}
 use Rattle.block_device.proofs.ImageLemmas.{each_reads-then}
-use Rattle.block_device.proofs.RestartLemmas.{block_image-last, blocks_read-restarted, each_reads-restarted}
-use Rattle.recovery.specs.Findings.{geometry_told, early_finding, first_finding}
-use Rattle.recovery.specs.Mounting.{Finds, IsOfLogs}
-use Rattle.recovery.specs.declared.fault.MountFault.{MountFault}
-use Rattle.script_text.specs.Action.Action.{Restart}
-use Rattle.reply_text.specs.Answer.{Answer}
-use Rattle.reply_text.specs.Answer.Answer.{DoneBad}
-use Rattle.machine_host.specs.declared.mode.Mode.{Mode}
-use Rattle.machine_host.specs.declared.mode.Mode.TheVariants as modes
+use Rattle.block_device.proofs.RestartLemmas.{blocks_read-restarted, each_reads-restarted}
+use Rattle.recovery.specs.Findings.{first_finding}
 use Rattle.machine_host.specs.Machine.{Machine}
-use Rattle.machine_host.specs.Machine.Fate.{Restarts}
-use Rattle.machine_host.specs.Commands.{MayLeaveBlocks, MayLeaveVolume, spending}
-use Rattle.machine_host.specs.Interrupted.{interrupted_answer, interrupted_mode}
-use Rattle.machine_host.specs.Restarting.{RestartMayLeave, reading, restarted}
-use Rattle.machine_host.specs.Costs.{Spending, mount_calls, mount_persists}
-use Rattle.machine_host.specs.Run.{with_start, worked}
-use Rattle.machine_host.specs.Telling.{Tells}
+use Rattle.machine_host.specs.Commands.{MayLeaveBlocks, MayLeaveVolume}
+use Rattle.machine_host.specs.Restarting.{RestartMayLeave}
 use Rattle.machine_host.specs.Lines.{HasLayout}
-use Rattle.machine_host.specs.Stands.{HostState, HostServes, MetadataStands, DeviceStands, Stands, AreMounted, Comes, is_powered}
-use Rattle.machine_host.specs.Faults.{StandsUnmounted}
-use Rattle.machine_host.proofs.VolumeLemmas.{has_layout-outside, line_there}
-use Rattle.machine_host.proofs.ElsewhereLemmas.{area_of_volume, range_kept, volume_within}
-use Rattle.machine_host.proofs.MetadataLemmas.{metadata-outside, metadata-restarted, nothing_bad}
-use Rattle.machine_host.proofs.TellingLemmas.{interrupts, never_on, power_struck, struck, tells_interrupted, tells_work}
-use Rattle.machine_host.proofs.DepictedLemmas.{blocks_depicted, holds_depicted, reads_remounted}
-use Rattle.machine_host.proofs.MountLemmas.{StopsMount, IsTold, first_not_area, is_told, nothing_wrong_there, only_stops, volume_image-last}
+use Rattle.machine_host.specs.Stands.{MetadataStands}
+use Rattle.machine_host.proofs.VolumeLemmas.{line_there}
+use Rattle.machine_host.proofs.ElsewhereLemmas.{area_of_volume, volume_within}
+use Rattle.machine_host.proofs.MetadataLemmas.{metadata-restarted}
+use Rattle.machine_host.proofs.MountLemmas.{IsTold, is_told, nothing_wrong_there}
 
 -- the layout stays
 pub layout-restarted : (geo : Geometry) (choice : Choice) (old new : Medium) → HasLayout geo old → Survivors choice old new → HasLayout geo new

@@ -6,7 +6,6 @@ use Rattle.line_device.specs.Medium.{Medium, WritesBack}
 use Rattle.line_device.specs.Device.{Device}
 use Rattle.line_device.proofs.HistoryLemmas.{is_in-part}
 use Rattle.line_words.specs.Words.{WritesBackOutside, WritesBackBeside}
-use Rattle.line_words.proofs.FrameLemmas.{outside-write_back}
 use Rattle.word_tables.specs.declared.geometry.Geometry.{Geometry}
 use Rattle.word_tables.specs.Bounds.{IsValid}
 use Rattle.word_tables.specs.Layout.{volume_log, presence, first_range, second_range, first_line, size, meta_lines, total_lines, volume_line, HasLine}
@@ -15,8 +14,8 @@ use Rattle.word_log.specs.Area.{IsOf}
 use Rattle.word_log.specs.Rest.{IsImageOn}
 use Rattle.nvm_model.specs.Lines.{AreStrong}
 use Rattle.nvm_model.specs.Page.{Page}
-use Rattle.block_device.specs.Area.{block_area, IsBlockLine, IsBlockPlace}
-use Rattle.block_device.specs.Object.{BlocksState, BlocksServe, blocks_of}
+use Rattle.block_device.specs.Area.{block_area, IsBlockLine}
+use Rattle.block_device.specs.Object.{BlocksState}
 use Rattle.block_device.proofs.ReadLemmas.{Stays}
 use Rattle.block_device.proofs.PlaceLemmas.{area_is_block}
 use Rattle.block_device.proofs.ServesLemmas.{serves-stays, serves-write_back}

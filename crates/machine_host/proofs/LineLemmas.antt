@@ -1,5 +1,5 @@
 -- The commands that mark a line, and the one that clears it, by what their calls say.
-use Rattle.std.proofs.Common.{◌≡◌, ◌⊎◌, inl, inr, ℕ, ◌+◌, ◌*◌, ◌/◌, ◌<◌, ◌≤◌, ◌||◌, if◌then◌else◌, Bool, true, false, nat_le, nat_lt, Option, Some, None, option_map, Result, Ok, Err, OnOk, List, refl, sym, ap, ap₂, subst, ◌∙◌, arith}
+use Rattle.std.proofs.Common.{◌≡◌, ◌⊎◌, inr, ℕ, ◌*◌, ◌/◌, ◌<◌, ◌≤◌, ◌||◌, if◌then◌else◌, Bool, true, false, nat_le, nat_lt, Option, Some, None, option_map, Result, Ok, Err, OnOk, List, refl, sym, ap, ap₂, subst, ◌∙◌, arith}
 use Rattle.std.specs.Prelude.{IfErr}
 use Rattle.std.proofs.lemmas.Bool.Decides.{nat_tests}
 use Rattle.line_device.specs.Medium.{Medium}
@@ -9,14 +9,13 @@ use Rattle.line_device.proofs.WriteBackLemmas.{write_back-refl}
 use Rattle.line_words.specs.Told.{Told, Answers, OnRefused, OnWorked, outcome_by, refusal_of}
 use Rattle.line_words.specs.Told.Told.{Refuses, Stops, Starves}
 use Rattle.word_tables.specs.declared.geometry.Geometry.{Geometry}
-use Rattle.word_tables.specs.Bounds.{IsValid}
 use Rattle.word_tables.specs.Layout.{blocks, first_line, size, meta_lines, volume_line, HasLine}
 use Rattle.nvm_model.specs.Blocks.{first_there, lose, nth}
 use Rattle.nvm_model.specs.Cell.{Cell, clear_cell, lose_cell, weaken_cell}
 use Rattle.nvm_model.specs.Page.{Page, cell_of, change_line}
 use Rattle.nvm_model.specs.Storage.{Block}
 use Rattle.block_device.specs.Area.{IsBlockLine}
-use Rattle.block_device.specs.Object.{BlocksState, BlocksServe, blocks_of}
+use Rattle.block_device.specs.Object.{BlocksServe, blocks_of}
 use Rattle.block_device.proofs.PlaceLemmas.{named_is_data}
 use Rattle.pm_volume.specs.Area.{IsOfVolume}
 use Rattle.page_lines.specs.Turns.{WritesBackOthers}

@@ -1,5 +1,5 @@
 -- What host and device stand for once a line was marked: bad or weak from now on, with no counted call.
-use Rattle.std.proofs.Common.{◌≡◌, ◌⊎◌, ℕ, ◌+◌, ◌*◌, ◌/◌, ◌<◌, ◌≤◌, false, Option, Some, None, option_map, Result, Ok, Err, OnOk, List, refl, sym, ap, subst, ◌∙◌, arith}
+use Rattle.std.proofs.Common.{◌≡◌, ℕ, ◌<◌, ◌≤◌, false, Option, Some, None, option_map, Result, Ok, Err, OnOk, List, refl, sym, ap, subst, ◌∙◌, arith}
 use Rattle.std.specs.Prelude.{IfErr}
 use Rattle.line_device.specs.History.{WordWritesBack}
 use Rattle.line_device.specs.Medium.{Medium}

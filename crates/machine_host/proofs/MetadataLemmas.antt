@@ -1,5 +1,5 @@
 -- The metadata stays what it stands for, while other lines are worked on and where the power comes back.
-use Rattle.std.proofs.Common.{◌≡◌, ℕ, ◌+◌, ◌<◌, Bool, zero, suc, false, cond, List, [], ◌∷◌, refl, sym, ◌∙◌, ap, ap₂, subst, arith}
+use Rattle.std.proofs.Common.{◌≡◌, ℕ, ◌+◌, ◌<◌, Bool, zero, suc, false, cond, List, [], ◌∷◌, refl, sym, ◌∙◌, ap, ap₂, arith}
 use Rattle.std.specs.Prelude.{filter}
 use Rattle.std.specs.List.{range_with_len}
 use Rattle.line_device.specs.Medium.{Medium, IsSound, Survivors}
@@ -11,7 +11,7 @@ use Rattle.pm_volume.proofs.StandingLemmas.{LineKept}
 use Rattle.recovery.specs.Fresh.{HasSuperblock}
 use Rattle.machine_host.proofs.ElsewhereLemmas.{kept-others}
 use Rattle.word_tables.specs.declared.geometry.Geometry.{Geometry}
-use Rattle.word_tables.specs.Layout.{first_line, meta_lines, total_lines}
+use Rattle.word_tables.specs.Layout.{meta_lines, total_lines}
 use Rattle.block_device.specs.Object.{HasGoodMetadata}
 use Rattle.recovery.proofs.SuperblockLemmas.{superblock-outside, superblock-beside, superblock-restarted}
 use Rattle.machine_host.specs.Lines.{HasLayout}

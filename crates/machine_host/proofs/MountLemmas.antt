@@ -1,8 +1,8 @@
 -- What a mount finds, and what it leaves.
-use Rattle.std.proofs.Common.{◌≡◌, ℕ, ◌/◌, ◌<◌, ◌≤◌, false, Option, Some, None, option_map, List, [], map, Result, Ok, Err, inl, inr, refl, sym, ap, subst, ◌∙◌, arith}
+use Rattle.std.proofs.Common.{◌≡◌, ℕ, ◌/◌, ◌<◌, ◌≤◌, Option, Some, None, option_map, List, [], map, Result, Ok, Err, inl, inr, refl, sym, ap, subst, ◌∙◌, arith}
 use Rattle.std.specs.Prelude.{IfErr}
 use Rattle.std.proofs.Math.Nat.{min-le_right}
-use Rattle.std.proofs.lemmas.Bool.{cases_Bool, cases_lt}
+use Rattle.std.proofs.lemmas.Bool.{cases_Bool}
 use Rattle.line_device.specs.History.{newest, IsIn}
 use Rattle.line_device.specs.Medium.{Medium, IsSound, Survivors, last_image}
 use Rattle.line_device.specs.Panel.{Panel, Outcome, Runs}
@@ -12,15 +12,12 @@ use Rattle.line_device.proofs.PanelLemmas.{runs_within}
 use Rattle.line_words.specs.Words.{IsOnly, WritesBackOutside}
 use Rattle.word_tables.specs.declared.geometry.Geometry.{Geometry}
 use Rattle.word_tables.specs.Bounds.{IsValid}
-use Rattle.word_tables.specs.Layout.{meta_lines}
 use Rattle.word_tables.specs.Words.{place, of_block}
 use Rattle.word_log.specs.Replay.{first_wrong}
 use Rattle.block_map.specs.States.{IsMap, word_of}
 use Rattle.block_map.specs.Wrong as table
 use Rattle.nvm_model.specs.Blocks.{first_there}
-use Rattle.nvm_model.specs.Lines.{IsIntact}
 use Rattle.block_device.specs.Area.{block_area, IsBlockLine}
-use Rattle.block_device.specs.Object.{HasStrongMetadata}
 use Rattle.block_device.specs.Reading.{states_read}
 use Rattle.block_device.specs.Images.{AreReadable}
 use Rattle.block_device.specs.Mounting.{wrong_place}

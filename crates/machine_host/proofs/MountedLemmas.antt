@@ -1,11 +1,10 @@
 -- What host and device stand for once the device is mounted.
-use Rattle.std.proofs.Common.{◌≡◌, ◌≤◌, false, None, List, [], inl, inr, refl, sym, ap, subst, ◌∙◌, arith}
-use Rattle.std.proofs.lemmas.Bool.{cases_lt}
+use Rattle.std.proofs.Common.{◌≡◌, None, List, [], refl, sym, ap, subst, ◌∙◌}
 use Rattle.line_device.specs.Medium.{Medium, IsSound, last_image}
 use Rattle.line_device.specs.Panel.{Image}
 use Rattle.line_device.specs.Device.{Device, Depicts}
 use Rattle.line_words.specs.Words.{WritesBackOutside}
-use Rattle.word_tables.specs.Layout.{meta_lines, volume_line}
+use Rattle.word_tables.specs.Layout.{volume_line}
 use Rattle.word_log.specs.Replay as log
 use Rattle.nvm_model.specs.Page.{Page, read_pages}
 use Rattle.block_device.specs.Area.{block_area}

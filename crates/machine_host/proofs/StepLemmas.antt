@@ -1,5 +1,5 @@
 -- What a host and its device stand for, after what is done to the device.
-use Rattle.std.proofs.Common.{◌≡◌, ℕ, ◌/◌, ◌≤◌, inl, inr, true, false, Some, None, option_map, Result, Ok, Err, OnErr, List, refl, sym, ap, subst, ◌∙◌, arith}
+use Rattle.std.proofs.Common.{◌≡◌, ℕ, ◌≤◌, inl, inr, true, false, Some, None, option_map, Result, Ok, Err, OnErr, List, refl, sym, ap, subst, ◌∙◌, arith}
 use Rattle.line_device.specs.Medium.{Medium, WritesBack}
 use Rattle.line_device.proofs.WriteBackLemmas.{write_back-refl}
 use Rattle.line_device.specs.Panel.{Runs, after_arm_cut, after_power_off}

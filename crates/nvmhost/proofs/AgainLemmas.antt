@@ -1,6 +1,6 @@
 -- The image of a device that stands for a state is read again as what that state keeps.
-use Rattle.std.proofs.Common.{◌≡◌, ℕ, ◌+◌, ◌/◌, ◌%◌, ◌<◌, ◌≤◌, ◌&&◌, Bool, true, false, nat_lt, Option, Some, None, List, [], ◌∷◌, slice_get, inl, inr, refl, sym, ap, subst, ◌∙◌, arith}
-use Rattle.std.proofs.lemmas.Bool.{cases_Bool, cases_lt, false≢true, lt-ltb, le-ltb}
+use Rattle.std.proofs.Common.{◌≡◌, ℕ, ◌/◌, ◌%◌, ◌<◌, ◌≤◌, ◌&&◌, Bool, true, false, nat_lt, Option, None, List, [], ◌∷◌, slice_get, inl, inr, refl, sym, ap, subst, ◌∙◌, arith}
+use Rattle.std.proofs.lemmas.Bool.{cases_Bool, cases_lt, lt-ltb, le-ltb}
 use Rattle.std.proofs.lemmas.Option.{slice_get_past}
 use Rattle.image_file.specs.Devices.{DepictsLast, IsLastImage, image_of, is_told_bad, is_told_weak, medium_of, told_values}
 use Rattle.image_file.specs.Text.{FitImage}

@@ -1,8 +1,7 @@
 -- What a form does or fails at, as a whole.
-use Rattle.std.proofs.Common.{◌≡◌, ◌⊎◌, inl, inr, ℕ, ◌≤◌, ◌≢◌, ◌/◌, ◌%◌, List, [], ◌++◌, length, take, drop, Option, Some, None, Result, Ok, Err, refl, sym, ap, ap₂, subst, ◌∙◌, append-nil, arith}
+use Rattle.std.proofs.Common.{◌≡◌, ◌⊎◌, inl, inr, ℕ, ◌≤◌, ◌≢◌, List, [], ◌++◌, take, drop, Option, Some, None, Result, Ok, Err, refl, sym, ap, ap₂, subst, ◌∙◌, append-nil, arith}
 use Rattle.std.proofs.lemmas.List.{take-append-drop}
 use Rattle.std.specs.Prelude.{⊤, codes, decimal, IfOk, IfSome, MatchResult}
-use Rattle.std.specs.List.{AllByRecursion, slice_get}
 use Rattle.std.specs.Io.KnownBytes.{Appends}
 use Rattle.nvm_base.specs.Counts.{Rose, raised}
 use Rattle.nvm_base.specs.Stock.{Stock}
@@ -13,12 +12,9 @@ use Rattle.host_io.specs.declared.images.ImageCounts.{ImageCounts}
 use Rattle.host_io.specs.declared.sink.WriteFault.{WriteFault}
 use Rattle.host_io.specs.declared.sink.WriteFault.TheVariants as write
 use Rattle.line_device.specs.Device.{Device}
-use Rattle.line_device.specs.Medium.{IsSound, last_image}
+use Rattle.line_device.specs.Medium.{IsSound}
 use Rattle.line_device.specs.Panel.{KeepsPower, Panel, SetsUp, after_disarm}
-use Rattle.line_device.specs.declared.line.LineState.{LineState}
-use Rattle.line_device.specs.declared.line.LineState.TheVariants.{Healthy, Weak, Bad}
 use Rattle.word_tables.specs.declared.geometry.Geometry.{Geometry}
-use Rattle.recovery.specs.Findings.{first_finding, geometry_told}
 use Rattle.machine_host.specs.declared.mode.Mode.TheVariants as modes
 use Rattle.machine_host.specs.Machine.{Machine, bad_of}
 use Rattle.machine_host.specs.Lines.{HasLayout}

@@ -1,5 +1,5 @@
 -- A run that is over: host and device are brought to rest, and the device is read out.
-use Rattle.std.proofs.Common.{◌≡◌, ℕ, ◌+◌, ◌/◌, ◌<◌, ◌≤◌, false, List, [], ◌∷◌, length, sym, ap, subst, ◌∙◌, arith}
+use Rattle.std.proofs.Common.{◌≡◌, ℕ, ◌+◌, ◌/◌, ◌≤◌, false, List, [], ◌∷◌, length, sym, ap, subst, ◌∙◌, arith}
 use Rattle.std.proofs.lemmas.Bool.{false≢true}
 use Rattle.line_device.specs.Medium.{WritesBack}
 use Rattle.line_device.specs.Panel.{ArmsNothing, Panel, SetsUp, Outcome, Start, after_disarm}

@@ -1,5 +1,5 @@
 -- What each form of the words does, and how it fails.
-use Rattle.std.specs.Prelude.{◌≡◌, ◌⊎◌, ◌+◌, ◌<◌, ◌≤◌, ◌++◌, ℕ, List, [], length, codes, decimal, Option, None, IfSome, Result, MatchResult, ⊤}
+use Rattle.std.specs.Prelude.{◌≡◌, ◌⊎◌, ◌<◌, ◌≤◌, ◌++◌, ℕ, List, [], length, codes, decimal, Option, None, IfSome, Result, MatchResult, ⊤}
 use Rattle.std.specs.Io.KnownBytes.{Appends, Consumes, IsAtEnd}
 use Rattle.nvm_base.specs.Counts.{Rose, raised}
 use Rattle.command_line.specs.Words.{Form}

@@ -3,14 +3,12 @@ use Rattle.nvm_model.specs.Cell.{weaken_cell}
 use Rattle.scrub.specs.Refusals.{weaken_says}
 use Rattle.scrub.specs.declared.fault.WeakenFault.{WeakenFault}
 use Rattle.reply_text.specs.declared.reply.Why.TheVariants as because
-use Rattle.reply_text.specs.Answer.{Answer}
 use Rattle.reply_text.specs.Answer.Answer.{Done, Refused}
 use Rattle.script_text.specs.Action.Action.{WeakenVolume}
 use Rattle.machine_host.specs.Faults.{told_answer}
 use Rattle.machine_host.specs.OnMedia.{line_answer}
 use Rattle.machine_host.specs.Responding.{Answered}
 use Rattle.machine_host.specs.Stands.{HostState, HostServes}
-use Rattle.machine_host.proofs.CallLemmas.{on_refused-then}
 use Rattle.machine_host.proofs.ElsewhereLemmas.{serves_ordered}
 use Rattle.machine_host.proofs.LineLemmas.{fate_weaken, volume_line_answered}
 use Rattle.machine_host.proofs.MediaLemmas.{IsRefusal}
