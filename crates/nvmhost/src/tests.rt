@@ -136,7 +136,7 @@ fn a_recorder_tells_what_the_script_asked_for(rt: HostRuntime) -> Result<(), Fai
 }
 
 // Runs over one image, one after the other, the first of which ends without power: words, script, and what is written.
-const WITHOUT_POWER: [(&str, &str, &str); 3] = [
+static WITHOUT_POWER: [(&str, &str, &str); 3] = [
     (
         "run img img",
         "bwrite 1 07*512\nvstore 0 01\nvstore 0 02\ncut\n",
@@ -176,7 +176,7 @@ fn an_empty_script_leaves_the_image_as_it_was(rt: HostRuntime) -> Result<(), Fai
 // Five commands; and runs of so many times these, with the bytes that are written.
 const PART: &str = "vstore 4090 01*9\nbwrite 3 05*1024\nvdiscard 1 1\nvsync 0 64\nbdiscard 4 1\n";
 
-const THREE_RUNS_AND_ONE: [(&str, u64, usize); 4] = [
+static THREE_RUNS_AND_ONE: [(&str, u64, usize); 4] = [
     ("run img a", 200, 3000),
     ("run a b", 200, 3000),
     ("run b three", 200, 3000),
@@ -199,7 +199,7 @@ fn three_runs_over_one_image_leave_what_one_run_leaves(rt: HostRuntime) -> Resul
 
 const USAGE: &str = "usage: new IMAGE BLOCKS VPAGES FPAGES, run IN OUT, check IN, bench SEED N\n";
 
-const NO_FORM: [&str; 10] = [
+static NO_FORM: [&str; 10] = [
     "",
     "new img 12 2 32",
     "new img 8 2",

@@ -80,7 +80,7 @@ fn outcome(alloc: Global, trial: &Trial) -> Result<(u8, MemSink, bool), AllocErr
 
 // Each with its status, how many replies there are, and the line behind them. A write is made once 65,536 bytes wait, which
 // are 4,370 replies of 15 bytes.
-const TRIALS: [(Trial, u8, u64, &str); 20] = [
+static TRIALS: [(Trial, u8, u64, &str); 20] = [
     (RUN, 0, 8, ""),
     (Trial { read: 1, ..RUN }, 4, 0, "error read\n"),
     // The first piece ends inside the fourth line.

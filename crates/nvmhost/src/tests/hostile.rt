@@ -57,7 +57,7 @@ fn set_count(bytes: &mut [u8]) {
 }
 
 // Each change with what is said.
-const CHANGES: [(Change, &str); 19] = [
+static CHANGES: [(Change, &str); 19] = [
     (Change::Byte(0, 0), "error image 0\n"),
     (Change::Byte(8, 9), "error image 8\n"),
     (Change::TwoWords(0, 0, 0), "error layout 0\n"),

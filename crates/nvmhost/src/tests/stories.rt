@@ -5,7 +5,7 @@ pub const TWO_RESTARTS: &str =
     "vstore 0 07*8\ncut\nrestart none\ncut in 2\nvstore 60 aa*8\nrestart all\nvload 60 8\n";
 
 /// Each script with its replies.
-pub const STORIES: [(&str, &str); 22] = [
+pub static STORIES: [(&str, &str); 22] = [
     // What is not synced may be lost, or kept.
     (
         "vstore 0 07*8\ncut\nrestart none\nvload 0 8\n",
