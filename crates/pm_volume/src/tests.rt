@@ -1,8 +1,6 @@
 // Stories of a volume of four pages on a plain device, told by what a caller sees.
-ghost use Rattle.std.specs.Prelude.{◌≡◌, ◌≤◌, IfOk, IsTrue};
-ghost use Rattle.line_device.specs.Plain.{device_of};
+ghost use Rattle.std.specs.Prelude.{◌≡◌, IfOk, IsTrue};
 ghost use Rattle.nvm_model.specs.Lines.{AreStrong};
-ghost use Rattle.word_tables.specs.Bounds.{IsValid};
 ghost use Rattle.word_tables.specs.Layout.{meta_lines, total_lines};
 ghost use Rattle.pm_volume.specs.Object.{VolumeServes};
 
@@ -10,12 +8,10 @@ use crate::{MountFault, Volume, VolumeFault};
 use line_device::{Choice, LineDevice, Lines, Plain, ResetFault};
 use nvm_base::{LineNo, Span};
 use std::alloc::{AllocError, Global};
-use std::test::Fail;
-use test_devices::Fuse;
 use word_tables::Geometry;
 
-mod bad_lines;
-mod refusals;
+mod cuts;
+mod stories;
 
 const SMALL: Geometry = Geometry {
     blocks: 8,
@@ -78,53 +74,66 @@ fn weaken<L: Lines>(dev: &mut L, line: u64) -> Result<(), AllocError> {
     Ok(())
 }
 
-fn store<L: Lines>(
-    volume: &mut Volume,
-    dev: &mut L,
-    offset: u64,
-    bytes: &[u8],
-) -> Result<(), VolumeFault>
-    requires { IsTrue volume.old.settled → VolumeServes volume.old (L.state dev.old).medium }
-    ensures { IsTrue volume.new.settled → VolumeServes volume.new (L.state dev.new).medium }
-{
-    if !volume.settled() || !dev.power() {
-        return Err(VolumeFault::Device);
-    }
-    volume.store(dev, offset, bytes)
+// What is done with the volume, by places and lengths; bytes are so many of one value.
+#[derive(Clone, Copy)]
+enum Act {
+    Store(u64, usize, u8),
+    Byte(u64),
+    Exists(u64),
+    Discard(u64, u64),
+    Sync(u64, u64),
+    PhysicalSync(u64, u64),
 }
 
-fn discard<L: Lines>(volume: &mut Volume, dev: &mut L, pages: Span) -> Result<(), VolumeFault>
+// What it gives: the byte that is read, 1 for a page that is there, and else 0.
+type Told = Result<u64, VolumeFault>;
+
+fn store<L: Lines>(volume: &mut Volume, dev: &mut L, offset: u64, bytes: &[u8]) -> Told
     requires { IsTrue volume.old.settled → VolumeServes volume.old (L.state dev.old).medium }
     ensures { IsTrue volume.new.settled → VolumeServes volume.new (L.state dev.new).medium }
 {
     if !volume.settled() || !dev.power() {
         return Err(VolumeFault::Device);
     }
-    volume.discard_now(dev, pages)
+    volume.store(dev, offset, bytes)?;
+    Ok(0)
 }
 
-fn sync<L: Lines>(volume: &mut Volume, dev: &mut L, span: Span) -> Result<(), VolumeFault>
+fn discard<L: Lines>(volume: &mut Volume, dev: &mut L, pages: Span) -> Told
     requires { IsTrue volume.old.settled → VolumeServes volume.old (L.state dev.old).medium }
     ensures { IsTrue volume.new.settled → VolumeServes volume.new (L.state dev.new).medium }
 {
     if !volume.settled() || !dev.power() {
         return Err(VolumeFault::Device);
     }
-    volume.sync(dev, span)
+    volume.discard_now(dev, pages)?;
+    Ok(0)
 }
 
-fn physical_sync<L: Lines>(volume: &mut Volume, dev: &mut L, span: Span) -> Result<(), VolumeFault>
+fn sync<L: Lines>(volume: &mut Volume, dev: &mut L, span: Span) -> Told
     requires { IsTrue volume.old.settled → VolumeServes volume.old (L.state dev.old).medium }
     ensures { IsTrue volume.new.settled → VolumeServes volume.new (L.state dev.new).medium }
 {
     if !volume.settled() || !dev.power() {
         return Err(VolumeFault::Device);
     }
-    volume.physical_sync(dev, span)
+    volume.sync(dev, span)?;
+    Ok(0)
+}
+
+fn physical_sync<L: Lines>(volume: &mut Volume, dev: &mut L, span: Span) -> Told
+    requires { IsTrue volume.old.settled → VolumeServes volume.old (L.state dev.old).medium }
+    ensures { IsTrue volume.new.settled → VolumeServes volume.new (L.state dev.new).medium }
+{
+    if !volume.settled() || !dev.power() {
+        return Err(VolumeFault::Device);
+    }
+    volume.physical_sync(dev, span)?;
+    Ok(0)
 }
 
 // The byte at an offset.
-fn byte_at<L: Lines>(volume: &mut Volume, dev: &mut L, offset: u64) -> Result<u8, VolumeFault>
+fn byte_at<L: Lines>(volume: &mut Volume, dev: &mut L, offset: u64) -> Told
     requires { IsTrue volume.old.settled → VolumeServes volume.old (L.state dev.old).medium }
     ensures { IsTrue volume.new.settled → VolumeServes volume.new (L.state dev.new).medium }
 {
@@ -133,55 +142,24 @@ fn byte_at<L: Lines>(volume: &mut Volume, dev: &mut L, offset: u64) -> Result<u8
     }
     let mut out = [0xee; 1];
     volume.load_into(dev, offset, &mut out)?;
-    Ok(out[0])
+    Ok(out[0] as u64)
 }
 
-#[test]
-fn a_store_fills_both_pages_that_it_touches_or_none(rt: HostRuntime) -> Result<(), Fail> {
-    for choice in [Choice::Firsts, Choice::Lasts] {
-        let mut done = false;
-        // 128 calls clear the lines of both pages.
-        for calls in 126..160_u64 {
-            let mut device = fresh(rt.alloc())?;
-            let mut volume = open(rt.alloc(), &mut device, choice)?;
-            let mut fuse = Fuse::new(device, calls);
-            let answer = store(&mut volume, &mut fuse, 4064, &[4; 64]);
-            done = answer.is_ok();
-            assert!(rt; done || answer == Err(VolumeFault::PowerLost));
-            assert!(rt; volume.settled() == done);
-            let mut volume = open(rt.alloc(), &mut fuse, choice)?;
-            let both = volume.exists(1)?;
-            assert!(rt; volume.exists(0)? == both && (both || !done));
-            let byte = byte_at(&mut volume, &mut fuse, 4095)?;
-            assert!(rt; byte == 0 || byte == 4 && both);
-            if done {
-                break;
-            }
-        }
-        assert!(rt; done);
-    }
-    Ok(())
+// So many bytes of one value; no act here has more.
+fn many(bytes: &[u8; 4098], len: usize) -> Result<&[u8], VolumeFault> {
+    bytes.get(..len).ok_or(VolumeFault::Device)
 }
 
-#[test]
-fn three_pages_go_together(rt: HostRuntime) -> Result<(), Fail> {
-    let mut done = false;
-    for calls in 0..100_u64 {
-        let mut device = fresh(rt.alloc())?;
-        let mut volume = open(rt.alloc(), &mut device, Choice::Lasts)?;
-        store(&mut volume, &mut device, 4095, &[7; 4098])?;
-        let mut fuse = Fuse::new(device, calls);
-        let answer = discard(&mut volume, &mut fuse, Span { start: 0, len: 3 });
-        done = answer.is_ok();
-        let volume = open(rt.alloc(), &mut fuse, Choice::Lasts)?;
-        let there = volume.exists(0)?;
-        assert!(rt; volume.exists(1)? == there && volume.exists(2)? == there);
-        assert!(rt; !there || !done);
-        assert_eq!(rt; volume.exists(4), Err(VolumeFault::Range));
-        if done {
-            break;
-        }
+fn perform<L: Lines>(volume: &mut Volume, dev: &mut L, act: Act) -> Told
+    requires { IsTrue volume.old.settled → VolumeServes volume.old (L.state dev.old).medium }
+    ensures { IsTrue volume.new.settled → VolumeServes volume.new (L.state dev.new).medium }
+{
+    match act {
+        Act::Store(start, len, byte) => store(volume, dev, start, many(&[byte; 4098], len)?),
+        Act::Byte(offset) => byte_at(volume, dev, offset),
+        Act::Exists(page) => Ok(u64::from(volume.exists(page)?)),
+        Act::Discard(start, len) => discard(volume, dev, Span { start, len }),
+        Act::Sync(start, len) => sync(volume, dev, Span { start, len }),
+        Act::PhysicalSync(start, len) => physical_sync(volume, dev, Span { start, len }),
     }
-    assert!(rt; done);
-    Ok(())
 }
