@@ -6,6 +6,8 @@ use nvm_base::LineNo;
 use std::alloc::{AllocError, Global};
 use std::test::Fail;
 
+mod stories;
+
 fn new(alloc: Global, lines: u64) -> Result<Module, Fail> {
     let mut device = Module::new(alloc);
     if lines == 0 || lines > 118_016 {
@@ -75,18 +77,19 @@ fn kept(alloc: Global, weak: bool, stores: u8, choice: Choice) -> Result<u8, Fai
     Ok(byte(&device, 1, 0))
 }
 
+static STORES: [(bool, u8, Choice, u8); 7] = [
+    (false, 15, Choice::Firsts, 0),
+    (false, 16, Choice::Firsts, 15),
+    (false, 16, Choice::Lasts, 16),
+    (true, 15, Choice::Firsts, 0),
+    (true, 16, Choice::Firsts, 0),
+    (true, 40, Choice::Firsts, 0),
+    (true, 40, Choice::Lasts, 40),
+];
+
 #[test]
 fn a_word_has_sixteen_values_at_most(rt: HostRuntime) -> Result<(), Fail> {
-    let rows = [
-        (false, 15, Choice::Firsts, 0),
-        (false, 16, Choice::Firsts, 15),
-        (false, 16, Choice::Lasts, 16),
-        (true, 15, Choice::Firsts, 0),
-        (true, 16, Choice::Firsts, 0),
-        (true, 40, Choice::Firsts, 0),
-        (true, 40, Choice::Lasts, 40),
-    ];
-    for (weak, stores, choice, value) in rows {
+    for &(weak, stores, choice, value) in &STORES {
         assert_eq!(rt;
             kept(rt.alloc(), weak, stores, choice)?,
             value,
@@ -117,85 +120,5 @@ fn kept_of_1025(alloc: Global, weak: bool) -> Result<(u64, u8), Fail> {
 fn the_oldest_of_1024_dirty_lines_makes_room_for_one_more(rt: HostRuntime) -> Result<(), Fail> {
     assert_eq!(rt; kept_of_1025(rt.alloc(), false)?, (1, 1));
     assert_eq!(rt; kept_of_1025(rt.alloc(), true)?, (0, 0));
-    Ok(())
-}
-
-#[test]
-fn an_eviction_writes_back_the_oldest_lines_and_no_weak_one(rt: HostRuntime) -> Result<(), Fail> {
-    for (weak, evicted, rows) in [
-        (false, 2, [7, 0, 7]),
-        (true, 1, [7, 0, 0]),
-        (true, 9, [7, 7, 0]),
-    ] {
-        let mut device = new(rt.alloc(), 3)?;
-        if weak {
-            weaken(&mut device, 2)?;
-        }
-        for line in [2, 0, 1] {
-            store(&mut device, line, 3, 7)?;
-        }
-        device.evict(evicted);
-        cycle(&mut device, Choice::Firsts)?;
-        let bytes = [
-            byte(&device, 0, 3),
-            byte(&device, 1, 3),
-            byte(&device, 2, 3),
-        ];
-        assert_eq!(rt; bytes, rows, "{weak} {evicted}");
-    }
-    Ok(())
-}
-
-#[test]
-fn each_word_keeps_what_the_seed_picks_for_its_place(rt: HostRuntime) -> Result<(), Fail> {
-    let mut device = new(rt.alloc(), 2305)?;
-    store(&mut device, 2304, 0, 10)?;
-    store(&mut device, 2304, 0, 20)?;
-    cycle(&mut device, Choice::Seed(1))?;
-    assert_eq!(rt; byte(&device, 2304, 0), 10);
-
-    store(&mut device, 2304, 0, 30)?;
-    store(&mut device, 2304, 1, 30)?;
-    cycle(&mut device, Choice::Seed(2))?;
-    assert_eq!(rt; byte(&device, 2304, 0), 30);
-    assert_eq!(rt; byte(&device, 2304, 1), 0);
-    Ok(())
-}
-
-#[test]
-fn a_weak_line_works_until_it_is_persisted(rt: HostRuntime) -> Result<(), Fail> {
-    let mut device = new(rt.alloc(), 3)?;
-    store(&mut device, 1, 0, 5)?;
-    weaken(&mut device, 1)?;
-    store(&mut device, 1, 0, 6)?;
-    assert_eq!(rt; load(&mut device, 1), Ok(6));
-    cycle(&mut device, Choice::Firsts)?;
-    assert_eq!(rt; load(&mut device, 1), Ok(0));
-    store(&mut device, 1, 0, 8)?;
-    persist(&mut device, 1)?;
-    let poisoned = DeviceFault::Poisoned(LineNo(1));
-    assert_eq!(rt; load(&mut device, 1), Err(poisoned));
-    assert_eq!(rt; store(&mut device, 1, 0, 9), Err(poisoned));
-    assert_eq!(rt; persist(&mut device, 1), Err(poisoned));
-    cycle(&mut device, Choice::Lasts)?;
-    assert_eq!(rt; byte(&device, 1, 0), 255);
-    assert!(rt; device.lines() == 3);
-    device.install(LineNo(1), &LineState::Weak([4; 64]))?;
-    assert_eq!(rt; load(&mut device, 1), Ok(4));
-    Ok(())
-}
-
-#[test]
-fn of_a_cut_and_a_failure_on_one_call_the_cut_comes_first(rt: HostRuntime) -> Result<(), Fail> {
-    let mut device = new(rt.alloc(), 3)?;
-    device.arm_cut(2);
-    device.arm_fail(2);
-    store(&mut device, 1, 0, 5)?;
-    assert_eq!(rt; store(&mut device, 1, 0, 6), Err(DeviceFault::PowerLost));
-    cycle(&mut device, Choice::Lasts)?;
-    assert_eq!(rt; load(&mut device, 1), Err(DeviceFault::Failed));
-    assert_eq!(rt; load(&mut device, 1), Ok(5));
-    let counts = device.counts();
-    assert_eq!(rt; [counts.cuts, counts.faults, counts.calls], [1, 1, 4]);
     Ok(())
 }
