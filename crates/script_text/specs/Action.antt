@@ -24,11 +24,14 @@ pub data Action : Type 0 where
   VExists : ℕ → Action
   PoisonBlock : ℕ → ℕ → Action
   PoisonVolume : ℕ → Action
+  PoisonMeta : ℕ → Action
   WeakenVolume : ℕ → Action
   ClearVolume : ℕ → Action
   Cut : Action
   CutIn : ℕ → Action
+  FailIn : ℕ → Action
   Restart : Choice → Action
+  Recover : Action
 
 -- what a command asks for
 abbrev pub action_of : Command → Action
@@ -50,8 +53,11 @@ action_of (command.VDiscardIf page count) = VDiscardIf page count
 action_of (command.VExists page) = VExists page
 action_of (command.PoisonBlock block line) = PoisonBlock block line
 action_of (command.PoisonVolume offset) = PoisonVolume offset
+action_of (command.PoisonMeta line) = PoisonMeta line
 action_of (command.WeakenVolume offset) = WeakenVolume offset
 action_of (command.ClearVolume offset) = ClearVolume offset
 action_of command.Cut = Cut
 action_of (command.CutIn calls) = CutIn calls
+action_of (command.FailIn calls) = FailIn calls
 action_of (command.Restart choice) = Restart choice
+action_of command.Recover = Recover

@@ -8,7 +8,7 @@ use Rattle.script_text.specs.declared.command.Command.{Command}
 use Rattle.script_text.specs.declared.parsing.LineFault.{LineFault}
 use Rattle.script_text.specs.declared.parsing.LineFault.TheVariants.{Syntax, Memory}
 use Rattle.script_text.specs.Action.{Action, action_of}
-use Rattle.script_text.specs.Action.Action.{BRead, BWrite, BDiscard, BDiscardIf, BExists, BScar, BAtomic, BMulti, VLoad, VStore, VSync, VRanges, VPSync, VDiscard, VDiscardIf, VExists, PoisonBlock, PoisonVolume, WeakenVolume, ClearVolume, Cut, CutIn, Restart}
+use Rattle.script_text.specs.Action.Action.{BRead, BWrite, BDiscard, BDiscardIf, BExists, BScar, BAtomic, BMulti, VLoad, VStore, VSync, VRanges, VPSync, VDiscard, VDiscardIf, VExists, PoisonBlock, PoisonVolume, PoisonMeta, WeakenVolume, ClearVolume, Cut, CutIn, FailIn, Restart, Recover}
 use Rattle.std.specs.Borrow.{Bor}
 use Rattle.script_text.specs.Script.{Input, fitting, ranges_of, spans_of, with_range, words_of}
 use Rattle.script_text.specs.Script.Input.{Skipped, Malformed, Asked}
@@ -82,11 +82,14 @@ InBounds (VDiscardIf page count) = (page < 2 ^ 32) × (count < 2 ^ 32)
 InBounds (VExists page) = page < 2 ^ 32
 InBounds (PoisonBlock block line) = (block < 2 ^ 32) × (line < 2 ^ 32)
 InBounds (PoisonVolume offset) = offset < 2 ^ 32
+InBounds (PoisonMeta line) = line < 2 ^ 32
 InBounds (WeakenVolume offset) = offset < 2 ^ 32
 InBounds (ClearVolume offset) = offset < 2 ^ 32
 InBounds Cut = Unit {0}
 InBounds (CutIn calls) = calls < 2 ^ 32
+InBounds (FailIn calls) = calls < 2 ^ 32
 InBounds (Restart choice) = IsSmallChoice choice
+InBounds Recover = Unit {0}
 
 -- the word where it is the only one
 abbrev pub one_of : List (List ℕ) → Option (List ℕ)

@@ -39,13 +39,19 @@ pub enum Command {
     PoisonBlock { block: u64, line: u64 },
     /// The line of that byte of the volume goes bad.
     PoisonVolume { offset: u64 },
+    /// That line of the metadata goes bad.
+    PoisonMeta { line: u64 },
     /// The line of that byte goes bad when it is next made durable.
     WeakenVolume { offset: u64 },
     /// The bad line of that byte becomes zeros.
     ClearVolume { offset: u64 },
     Cut,
     CutIn { calls: u64 },
+    /// A call of the device fails, after so many more.
+    FailIn { calls: u64 },
     Restart { choice: Choice },
+    /// The device is mounted again, with the power on.
+    Recover,
 }
 
 // The command of that name with those words after it.
