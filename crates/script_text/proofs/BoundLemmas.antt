@@ -9,8 +9,8 @@ use Rattle.std.proofs.lemmas.List.Elements.{All-nil, All-cons}
 use Rattle.nvm_base.specs.Data.{data_of, data_within}
 use Rattle.script_text.proofs.DataLemmas.{data_of-some, data_within-ok}
 use Rattle.script_text.specs.Action.{Action, action_of}
-use Rattle.script_text.specs.Action.Action.{BRead, BWrite, BDiscard, BDiscardIf, BExists, BScar, BAtomic, BMulti, VLoad, VStore, VSync, VRanges, VPSync, VDiscard, VDiscardIf, VExists, PoisonBlock, PoisonVolume, WeakenVolume, ClearVolume, Cut, CutIn, Restart}
-use Rattle.script_text.specs.Script.{of_numbers, of_data, bare_action, number_action, span_action, data_action, with_span, spans_of, spans_action, with_range, ranges_of, fitting, ranges_action, cut_action, restart_action, in_volume_action, poison_action, power_action, media_action, volume_action, plain_action, command_action, is_comment, asked, words_input}
+use Rattle.script_text.specs.Action.Action.{BRead, BWrite, BDiscard, BDiscardIf, BExists, BScar, BAtomic, BMulti, VLoad, VStore, VSync, VRanges, VPSync, VDiscard, VDiscardIf, VExists, PoisonBlock, PoisonVolume, PoisonMeta, WeakenVolume, ClearVolume, Cut, CutIn, FailIn, Restart, Recover}
+use Rattle.script_text.specs.Script.{of_numbers, of_data, bare_action, number_action, span_action, data_action, with_span, spans_of, spans_action, with_range, ranges_of, fitting, ranges_action, cut_action, fail_action, restart_action, in_volume_action, poison_action, power_action, media_action, volume_action, plain_action, command_action, is_comment, asked, words_input}
 use Rattle.script_text.specs.Script.Input.{Skipped, Asked}
 use Rattle.line_device.specs.declared.line.Choice.TheVariants.{Firsts, Lasts, Seed}
 use Rattle.script_text.specs.declared.parsing.LineFault.{LineFault}
@@ -182,6 +182,14 @@ cut_action-bounds (x ∷ words) action e = go (bytes_eq x (codes "in")) e
     go true e = number_action-bounds CutIn (λ a p. p) words action e
     go false e = absurd (cc)
 
+fail_action-bounds : (words : List (List ℕ)) (action : Action) → fail_action words ≡ Some action → InBounds action
+fail_action-bounds [] action e = absurd (cc)
+fail_action-bounds (x ∷ words) action e = go (bytes_eq x (codes "in")) e
+  where
+    go : (b : Bool) → (if b then number_action FailIn words else None) ≡ Some action → InBounds action
+    go true e = number_action-bounds FailIn (λ a p. p) words action e
+    go false e = absurd (cc)
+
 restart_action-bounds : (words : List (List ℕ)) (action : Action) → restart_action words ≡ Some action → InBounds action
 restart_action-bounds [] action e = absurd (cc)
 restart_action-bounds (x ∷ words) action e = go (bytes_eq x (codes "none")) (bytes_eq x (codes "all")) (bytes_eq x (codes "seed")) e
@@ -202,20 +210,23 @@ in_volume_action-bounds make small (x ∷ words) action e = go (bytes_eq x (code
 
 poison_action-bounds : (words : List (List ℕ)) (action : Action) → poison_action words ≡ Some action → InBounds action
 poison_action-bounds [] action e = absurd (cc)
-poison_action-bounds (x ∷ words) action e = go (bytes_eq x (codes "block")) (bytes_eq x (codes "volume")) e
+poison_action-bounds (x ∷ words) action e = go (bytes_eq x (codes "block")) (bytes_eq x (codes "volume")) (bytes_eq x (codes "meta")) e
   where
-    go : (block volume : Bool) → (if block then span_action PoisonBlock words else (if volume then number_action PoisonVolume words else None)) ≡ Some action → InBounds action
-    go true volume e = span_action-bounds PoisonBlock (λ a b p q. (p, q)) words action e
-    go false true e = number_action-bounds PoisonVolume (λ a p. p) words action e
-    go false false e = absurd (cc)
+    go : (block volume meta : Bool) → (if block then span_action PoisonBlock words else (if volume then number_action PoisonVolume words else (if meta then number_action PoisonMeta words else None))) ≡ Some action → InBounds action
+    go true volume meta e = span_action-bounds PoisonBlock (λ a b p q. (p, q)) words action e
+    go false true meta e = number_action-bounds PoisonVolume (λ a p. p) words action e
+    go false false true e = number_action-bounds PoisonMeta (λ a p. p) words action e
+    go false false false e = absurd (cc)
 
 power_action-bounds : (name : List ℕ) (words : List (List ℕ)) (action : Action) → power_action name words ≡ Some action → InBounds action
-power_action-bounds name words action e = go (bytes_eq name (codes "cut")) (bytes_eq name (codes "restart")) e
+power_action-bounds name words action e = go (bytes_eq name (codes "cut")) (bytes_eq name (codes "fail")) (bytes_eq name (codes "restart")) (bytes_eq name (codes "recover")) e
   where
-    go : (cut restart : Bool) → (if cut then cut_action words else (if restart then restart_action words else None)) ≡ Some action → InBounds action
-    go true restart e = cut_action-bounds words action e
-    go false true e = restart_action-bounds words action e
-    go false false e = absurd (cc)
+    go : (cut fail restart recover : Bool) → (if cut then cut_action words else (if fail then fail_action words else (if restart then restart_action words else (if recover then bare_action Recover words else None)))) ≡ Some action → InBounds action
+    go true fail restart recover e = cut_action-bounds words action e
+    go false true restart recover e = fail_action-bounds words action e
+    go false false true recover e = restart_action-bounds words action e
+    go false false false true e = bare_action-bounds Recover tt words action e
+    go false false false false e = absurd (cc)
 
 media_action-bounds : (name : List ℕ) (words : List (List ℕ)) (action : Action) → media_action name words ≡ Some action → InBounds action
 media_action-bounds name words action e = go (bytes_eq name (codes "poison")) (bytes_eq name (codes "weaken")) (bytes_eq name (codes "clear")) e

@@ -1,7 +1,7 @@
 -- Worked lines: what they ask for.
 use Rattle.std.specs.Prelude.{◌≡◌, ℕ, [], ◌∷◌, ◌++◌, replicate, codes}
 use Rattle.nvm_base.specs.declared.units.Span.{Span}
-use Rattle.script_text.specs.Action.Action.{BAtomic, BMulti, VRanges, VPSync, VDiscard, VDiscardIf, VExists, PoisonBlock, PoisonVolume, WeakenVolume, ClearVolume, Cut, CutIn, Restart}
+use Rattle.script_text.specs.Action.Action.{BAtomic, BMulti, VRanges, VPSync, VDiscard, VDiscardIf, VExists, PoisonBlock, PoisonVolume, PoisonMeta, WeakenVolume, ClearVolume, Cut, CutIn, FailIn, Restart, Recover}
 use Rattle.line_device.specs.declared.line.Choice.TheVariants.{Firsts, Seed}
 use Rattle.script_text.specs.Script.{line_input}
 use Rattle.script_text.specs.Script.Input.{Malformed, Asked}
@@ -29,10 +29,13 @@ pub record LineRows : Type 0 where
   pub page_without_a_number : line_input (codes "vexists") ≡ Malformed
   pub line_of_a_block_poisoned : line_input (codes "poison block 3 7") ≡ Asked (PoisonBlock 3 7)
   pub line_of_the_volume_poisoned : line_input (codes "poison volume 4032") ≡ Asked (PoisonVolume 4032)
+  pub line_of_the_metadata_poisoned : line_input (codes "poison meta 2303") ≡ Asked (PoisonMeta 2303)
   pub line_weakened : line_input (codes "weaken volume 64") ≡ Asked (WeakenVolume 64)
   pub line_cleared : line_input (codes "clear volume 65535") ≡ Asked (ClearVolume 65535)
   pub block_without_a_line : line_input (codes "poison block 3") ≡ Malformed
   pub offset_and_a_length : line_input (codes "poison volume 0 64") ≡ Malformed
+  pub metadata_without_a_line : line_input (codes "poison meta") ≡ Malformed
+  pub two_lines_of_the_metadata : line_input (codes "poison meta 1 2") ≡ Malformed
   pub poison_of_no_place : line_input (codes "poison 0") ≡ Malformed
   pub block_weakened : line_input (codes "weaken block 3 7") ≡ Malformed
   pub block_cleared : line_input (codes "clear block 3 7") ≡ Malformed
@@ -42,6 +45,13 @@ pub record LineRows : Type 0 where
   pub cut_without_a_number : line_input (codes "cut in") ≡ Malformed
   pub cut_at_another_word : line_input (codes "cut on 5") ≡ Malformed
   pub cut_in_two_numbers : line_input (codes "cut in 5 6") ≡ Malformed
+  pub failure_later : line_input (codes "fail in 5") ≡ Asked (FailIn 5)
+  pub failure_at_the_largest_number : line_input (codes "fail in 4294967295") ≡ Asked (FailIn 4294967295)
+  pub failure_at_a_larger_number : line_input (codes "fail in 4294967296") ≡ Malformed
+  pub failure_at_once : line_input (codes "fail") ≡ Malformed
+  pub failure_without_a_number : line_input (codes "fail in") ≡ Malformed
+  pub failure_without_its_word : line_input (codes "fail 1") ≡ Malformed
+  pub failure_in_two_numbers : line_input (codes "fail in 1 2") ≡ Malformed
   pub restart_of_first_values : line_input (codes "restart none") ≡ Asked (Restart Firsts)
   pub restart_by_a_seed : line_input (codes "restart seed 5") ≡ Asked (Restart (Seed 5))
   pub restart_by_the_largest_seed : line_input (codes "restart seed 4294967295") ≡ Asked (Restart (Seed 4294967295))
@@ -49,3 +59,5 @@ pub record LineRows : Type 0 where
   pub restart_without_a_seed : line_input (codes "restart seed") ≡ Malformed
   pub restart_by_two_seeds : line_input (codes "restart seed 1 2") ≡ Malformed
   pub restart_all_by_a_seed : line_input (codes "restart all 1") ≡ Malformed
+  pub recovery : line_input (codes "recover") ≡ Asked Recover
+  pub recovery_and_a_number : line_input (codes "recover 1") ≡ Malformed

@@ -8,7 +8,7 @@ use Rattle.nvm_base.specs.Numbers.{number_of}
 use Rattle.nvm_base.specs.Data.{data_of, data_within}
 use Rattle.line_device.specs.declared.line.Choice.TheVariants.{Firsts, Lasts, Seed}
 use Rattle.script_text.specs.Action.{Action}
-use Rattle.script_text.specs.Action.Action.{BRead, BWrite, BDiscard, BDiscardIf, BExists, BScar, BAtomic, BMulti, VLoad, VStore, VSync, VRanges, VPSync, VDiscard, VDiscardIf, VExists, PoisonBlock, PoisonVolume, WeakenVolume, ClearVolume, Cut, CutIn, Restart}
+use Rattle.script_text.specs.Action.Action.{BRead, BWrite, BDiscard, BDiscardIf, BExists, BScar, BAtomic, BMulti, VLoad, VStore, VSync, VRanges, VPSync, VDiscard, VDiscardIf, VExists, PoisonBlock, PoisonVolume, PoisonMeta, WeakenVolume, ClearVolume, Cut, CutIn, FailIn, Restart, Recover}
 
 -- a line: nothing to do, no command, or what it asks for
 pub data Input : Type 0 where
@@ -100,6 +100,10 @@ abbrev pub cut_action : List (List ℕ) → Option Action
 cut_action [] = Some Cut
 cut_action (word ∷ words) = if bytes_eq word (codes "in") then number_action CutIn words else None
 
+abbrev pub fail_action : List (List ℕ) → Option Action
+fail_action [] = None
+fail_action (word ∷ words) = if bytes_eq word (codes "in") then number_action FailIn words else None
+
 abbrev pub restart_action : List (List ℕ) → Option Action
 restart_action [] = None
 restart_action (word ∷ words) =
@@ -116,14 +120,17 @@ abbrev pub poison_action : List (List ℕ) → Option Action
 poison_action [] = None
 poison_action (word ∷ words) =
     if bytes_eq word (codes "block") then span_action PoisonBlock words
-    else (if bytes_eq word (codes "volume") then number_action PoisonVolume words else None)
+    else (if bytes_eq word (codes "volume") then number_action PoisonVolume words
+    else (if bytes_eq word (codes "meta") then number_action PoisonMeta words else None))
 
 -- What a command's name and words ask for, None where they are no command: of those on the power, of these and those on
 -- bad and weak lines, of these and those on the volume that bring no list, of all that bring no list, of all.
 abbrev pub power_action : List ℕ → List (List ℕ) → Option Action
 power_action name words =
     if bytes_eq name (codes "cut") then cut_action words
-    else (if bytes_eq name (codes "restart") then restart_action words else None)
+    else (if bytes_eq name (codes "fail") then fail_action words
+    else (if bytes_eq name (codes "restart") then restart_action words
+    else (if bytes_eq name (codes "recover") then bare_action Recover words else None)))
 
 abbrev pub media_action : List ℕ → List (List ℕ) → Option Action
 media_action name words =

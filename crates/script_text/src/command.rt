@@ -47,10 +47,10 @@ pub enum Command {
     ClearVolume { offset: u64 },
     Cut,
     CutIn { calls: u64 },
-    /// A call of the device fails, after so many more.
+    /// The device's call of that number from then on fails.
     FailIn { calls: u64 },
     Restart { choice: Choice },
-    /// The device is mounted again, with the power on.
+    /// A mount of the device with its power left on.
     Recover,
 }
 

@@ -23,7 +23,7 @@ pub(crate) fn read_media(name: &[u8], words: &[u8]) -> Option<Command>
     }
 }
 
-// `block` with its number and a line in it, or `volume` and an offset.
+// `block` with its number and a line in it, `volume` and an offset, or `meta` and a line.
 fn read_poison(words: &[u8]) -> Option<Command>
     ensures { option_map action_of result ≡ poison_action (words_of words.now) }
 {
@@ -32,6 +32,8 @@ fn read_poison(words: &[u8]) -> Option<Command>
         read_span(rest).map(|(block, line)| Command::PoisonBlock { block, line })
     } else if word == b"volume".as_slice() {
         read_only(rest).map(|offset| Command::PoisonVolume { offset })
+    } else if word == b"meta".as_slice() {
+        read_only(rest).map(|line| Command::PoisonMeta { line })
     } else {
         None
     }

@@ -1,7 +1,7 @@
-// Commands on the power.
+// Commands on the power, and on failures of the device.
 ghost use Rattle.std.specs.Prelude.{◌≡◌, option_map};
 ghost use Rattle.script_text.specs.Action.{action_of};
-ghost use Rattle.script_text.specs.Script.{cut_action, power_action, restart_action, words_of};
+ghost use Rattle.script_text.specs.Script.{cut_action, fail_action, power_action, restart_action, words_of};
 
 use crate::Command;
 use crate::operands::{read_bare, read_only};
@@ -13,8 +13,12 @@ pub(crate) fn read_power(name: &[u8], words: &[u8]) -> Option<Command>
 {
     if name == b"cut".as_slice() {
         read_cut(words)
+    } else if name == b"fail".as_slice() {
+        read_fail(words)
     } else if name == b"restart".as_slice() {
         read_restart(words)
+    } else if name == b"recover".as_slice() {
+        read_bare(Command::Recover, words)
     } else {
         None
     }
@@ -29,6 +33,18 @@ fn read_cut(words: &[u8]) -> Option<Command>
     };
     if word == b"in".as_slice() {
         read_only(rest).map(|calls| Command::CutIn { calls })
+    } else {
+        None
+    }
+}
+
+// `in` and a number.
+fn read_fail(words: &[u8]) -> Option<Command>
+    ensures { option_map action_of result ≡ fail_action (words_of words.now) }
+{
+    let (word, rest) = next_word(words)?;
+    if word == b"in".as_slice() {
+        read_only(rest).map(|calls| Command::FailIn { calls })
     } else {
         None
     }
