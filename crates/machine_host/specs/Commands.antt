@@ -1,5 +1,5 @@
 -- The table of commands: a row each, and what follows from the rows.
-use Rattle.std.specs.Prelude.{◌≡◌, ◌⊎◌, ℕ, List, Option, Some, None}
+use Rattle.std.specs.Prelude.{◌≡◌, ◌⊎◌, ℕ, List, Option, Some, None, option_map}
 use Rattle.nvm_model.specs.Blocks.{first_there, IsMixed}
 use Rattle.nvm_model.specs.Interrupted.{MayStore, MaySync}
 use Rattle.nvm_model.specs.Numbered.{AreMixed}
@@ -8,9 +8,9 @@ use Rattle.nvm_model.specs.Storage.{Block}
 use Rattle.block_device.specs.Images.{IsEither}
 use Rattle.word_tables.specs.declared.geometry.Geometry.{Geometry}
 use Rattle.script_text.specs.Action.{Action}
-use Rattle.script_text.specs.Action.Action.{BRead, BWrite, BAtomic, BMulti, BDiscard, BDiscardIf, BExists, BScar, VLoad, VStore, VSync, VRanges, VPSync, VDiscard, VDiscardIf, VExists, PoisonBlock, PoisonVolume, WeakenVolume, ClearVolume, Cut, CutIn, Restart}
-use Rattle.reply_text.specs.declared.reply.Why.{Why}
+use Rattle.script_text.specs.Action.Action.{BRead, BWrite, BAtomic, BMulti, BDiscard, BDiscardIf, BExists, BScar, VLoad, VStore, VSync, VRanges, VPSync, VDiscard, VDiscardIf, VExists, PoisonBlock, PoisonVolume, PoisonMeta, WeakenVolume, ClearVolume, Cut, CutIn, FailIn, Restart, Recover}
 use Rattle.reply_text.specs.Answer.{Answer}
+use Rattle.reply_text.specs.Answer.Answer.{Refused}
 use Rattle.machine_host.specs.declared.mode.Mode.{Mode}
 use Rattle.machine_host.specs.Costs.{Spending}
 use Rattle.machine_host.specs.Machine.{Machine, Fate}
@@ -42,19 +42,22 @@ meaning (VDiscardIf page count) = on_volume.vdiscardif page count
 meaning (VExists page) = on_volume.vexists page
 meaning (PoisonBlock block line) = on_media.poison_block block line
 meaning (PoisonVolume offset) = on_media.poison_volume offset
+meaning (PoisonMeta line) = on_media.poison_meta line
 meaning (WeakenVolume offset) = on_media.weaken_volume offset
 meaning (ClearVolume offset) = on_media.clear_volume offset
 meaning Cut = on_power.cut
 meaning (CutIn calls) = on_power.cut_in calls
+meaning (FailIn calls) = on_power.fail_in calls
 meaning (Restart choice) = on_power.restart choice
+meaning Recover = on_power.recover
 
 -- what a command is answered where it is refused, None where it is done
 unfoldable pub refusal : Machine → Action → Option Answer
-refusal h action = first_reason (mode_refusal h.mode (meaning action).needs) h.bad_meta ((meaning action).reasons h)
+refusal h action = first_reason (mode_refusal h.mode h.bad_meta (meaning action).needs) h.bad_meta ((meaning action).reasons h)
 
--- what the host finds itself, by its mode and sizes, before it asks a part of storage
-unfoldable pub early_refusal : Mode → Geometry → Action → Option Why
-early_refusal mode geo action = first_there (mode_refusal mode (meaning action).needs) ((meaning action).checked geo)
+-- what the host finds itself, by its mode, the bad lines of metadata and its sizes, before it asks a part of storage
+unfoldable pub early_refusal : Mode → List ℕ → Geometry → Action → Option Answer
+early_refusal mode bad_meta geo action = first_there (mode_refusal mode bad_meta (meaning action).needs) (option_map Refused ((meaning action).checked geo))
 
 -- what comes of a command; a refusal changes nothing
 abbrev pub unless_refused : Machine → Option Answer → Fate → Fate

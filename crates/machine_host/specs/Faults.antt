@@ -8,7 +8,7 @@ use Rattle.machine_host.specs.declared.mode.Mode.{Mode}
 use Rattle.machine_host.specs.declared.mode.Mode.TheVariants as modes
 use Rattle.script_text.specs.Action.{Action}
 use Rattle.reply_text.specs.Answer.{Answer}
-use Rattle.reply_text.specs.Answer.Answer.{DeviceFailed, DoneBad, PowerLost}
+use Rattle.reply_text.specs.Answer.Answer.{DeviceFailed, DoneBad, PowerLost, Stopped}
 use Rattle.nvm_model.specs.Blocks.{bad_block_lines}
 use Rattle.nvm_model.specs.Page.{Page, bad_lines}
 use Rattle.block_device.specs.Object.{BlocksState, blocks_of}
@@ -26,7 +26,7 @@ use Rattle.pm_volume.specs.declared.fault.VolumeFault.{VolumeFault}
 use Rattle.pm_volume.specs.Refusals.{volume_says}
 use Rattle.machine_host.specs.Commands.{meaning}
 use Rattle.machine_host.specs.Meaning.{Starved}
-use Rattle.machine_host.specs.Meaning.Starved.{Untouched, WrittenBack, Unmounted}
+use Rattle.machine_host.specs.Meaning.Starved.{Untouched, WrittenBack, Unmounted, Unrecovered}
 use Rattle.machine_host.specs.Interrupted.{interrupted_answer, interrupted_mode}
 use Rattle.machine_host.specs.Restarting.{RestartMayLeave, restarted}
 use Rattle.machine_host.specs.Costs.{Opens}
@@ -46,11 +46,18 @@ pub record LeftUnmounted (choice : Choice) (host after : HostState) (old new : D
   pub unsettled : after ≡ record host { mode = modes.Unsettled }
   pub stands : (h : Machine) → Stands host old h → StandsUnmounted choice start h after new
 
+-- A recovery that had no memory to mount the blocks: host and device stand for what they did.
+pub record LeftUnrecovered (host after : HostState) (old new : Device) : Type 0 where
+  pub same : after ≡ host
+  pub opens : Opens old.panel new.panel
+  pub stands : (h : Machine) → Stands host old h → Stands host new h
+
 -- What a command that ran out of memory leaves of host and device, by its row.
 abbrev pub LeavesStarved : Starved → HostState → HostState → Device → Device → Type 0
 LeavesStarved Untouched host after old new = (after ≡ host) × (new ≡ old)
 LeavesStarved WrittenBack host after old new = (after ≡ host) × WritesBack old.medium new.medium × (new.panel ≡ old.panel)
 LeavesStarved (Unmounted choice) host after old new = (after ≡ host) × ((new ≡ old) ⊎ Waited old new) ⊎ LeftUnmounted choice host after old new
+LeavesStarved Unrecovered host after old new = LeftUnrecovered host after old new
 
 abbrev pub Leaves : Action → HostState → HostState → Device → Device → Type 0
 Leaves action = LeavesStarved (meaning action).starved
@@ -88,7 +95,7 @@ abbrev pub answer_after : {T E R : Type 0} → (E → Told R) → (R → Answer)
 answer_after says answer good (Ok x) = good
 answer_after says answer good (Err f) = told_answer answer (says f)
 
--- what a restart is answered after a mount that was done: how many lines of blocks and volume are bad
+-- what a restart or a recovery is answered after a mount that was done: how many lines of blocks and volume are bad
 pub record CountsBad (b : BlocksState) (v : VolumeState) (m : Medium) (answer : Answer) : Type 0 where
   pub bad : ℕ
   pub told : answer ≡ DoneBad bad
@@ -96,14 +103,14 @@ pub record CountsBad (b : BlocksState) (v : VolumeState) (m : Medium) (answer : 
 
 -- what it is answered after one that was not done, and the mode
 abbrev pub unmounted_answer : MountFault → Answer
-unmounted_answer (mount.Meta line) = DeviceFailed
+unmounted_answer (mount.Meta line) = Stopped line.0
 unmounted_answer (mount.Layout place) = DeviceFailed
 unmounted_answer mount.Device = DeviceFailed
 unmounted_answer mount.PowerLost = PowerLost
 unmounted_answer mount.Memory = DeviceFailed
 
 abbrev pub unmounted_mode : MountFault → Mode
-unmounted_mode (mount.Meta line) = modes.Unsettled
+unmounted_mode (mount.Meta line) = modes.Stopped
 unmounted_mode (mount.Layout place) = modes.Unsettled
 unmounted_mode mount.Device = modes.Unsettled
 unmounted_mode mount.PowerLost = modes.Off

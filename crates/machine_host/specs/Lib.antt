@@ -9,6 +9,7 @@ pub mod OnPower
 pub mod Commands
 pub mod Interrupted
 pub mod Restarting
+pub mod Recovering
 pub mod Run
 pub mod Performing
 pub mod Telling
@@ -21,3 +22,4 @@ pub mod BlockRows
 pub mod CutRows
 pub mod VolumeRows
 pub mod MediaRows
+pub mod FailureRows

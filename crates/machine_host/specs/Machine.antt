@@ -30,10 +30,12 @@ abbrev pub bad_of : Machine → ℕ
 bad_of h = bad_block_lines h.blocks + bad_lines h.volume
 
 -- What comes of a command: an answer and a state, where it is refused or needs no counted call of the device; the same of work
--- on the device, which may be interrupted; an order to the device; a cut of the power; or a restart, whose state the medium decides.
+-- on the device, which may be interrupted; an order to the device; a cut of the power; or a restart or a recovery, whose state
+-- the medium decides.
 pub data Fate : Type 0 where
   Gives : Answer → Machine → Fate
   Works : Answer → Machine → Fate
   Orders : Order → Machine → Fate
   Cuts : Machine → Fate
   Restarts : Choice → Fate
+  Recovers : Fate

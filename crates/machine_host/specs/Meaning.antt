@@ -11,14 +11,11 @@ use Rattle.reply_text.specs.Answer.{Answer}
 use Rattle.reply_text.specs.Answer.Answer.{Refused, RefusedMeta}
 use Rattle.machine_host.specs.declared.mode.Mode.{Mode}
 use Rattle.machine_host.specs.declared.mode.Mode.TheVariants as modes
+use Rattle.machine_host.specs.declared.needs.Needs.{Needs}
+use Rattle.machine_host.specs.declared.needs.Needs.TheVariants.{Usable, Anytime, Powered, Unpowered, Failed}
+use Rattle.machine_host.specs.Lines.{lowest}
 use Rattle.machine_host.specs.Costs.{Spending, no_spending}
 use Rattle.machine_host.specs.Machine.{Machine, Fate}
-
--- in which modes a command is done: in On; while the power is on; while it is off
-pub data Needs : Type 0 where
-  Usable : Needs
-  Powered : Needs
-  Unpowered : Needs
 
 -- Why a command is refused that its mode allows, kind by kind: what it names is missing, there or in use; the places that it
 -- names; there is no room; it would change metadata, of which a line is bad; something of it can't be read.
@@ -46,11 +43,13 @@ pub data VolumeLeft : Type 0 where
   AllOrNone : VolumeLeft
   PageByPage : VolumeLeft
 
--- what want of memory leaves: all as it was; lines that were written back; or a restart that was refused, or done with no mount
+-- what want of memory leaves: all as it was; lines that were written back; a restart that was refused, or done with no mount;
+-- or a recovery that mounted nothing
 pub data Starved : Type 0 where
   Untouched : Starved
   WrittenBack : Starved
   Unmounted : Choice → Starved
+  Unrecovered : Starved
 
 -- A command: the mode that it needs, the places that the host looks at before anything else does, all that refuses it, what
 -- comes of it where nothing does, what it makes of blocks and volume, what an interruption may leave of them and want of memory
@@ -92,17 +91,28 @@ quiet needs checked comes = record {
 abbrev pub anywhere : Geometry → Option Why
 anywhere geo = None
 
--- why a mode refuses what needs another
-abbrev pub mode_refusal : Mode → Needs → Option Why
-mode_refusal modes.On Usable = None
-mode_refusal modes.On Powered = None
-mode_refusal modes.On Unpowered = Some because.On
-mode_refusal modes.Off Usable = Some because.Off
-mode_refusal modes.Off Powered = Some because.Off
-mode_refusal modes.Off Unpowered = None
-mode_refusal modes.Unsettled Usable = Some because.Recover
-mode_refusal modes.Unsettled Powered = None
-mode_refusal modes.Unsettled Unpowered = Some because.On
+-- why a mode refuses what needs another, while these lines of metadata are bad
+abbrev pub mode_refusal : Mode → List ℕ → Needs → Option Answer
+mode_refusal modes.On bad_meta Usable = None
+mode_refusal modes.On bad_meta Anytime = None
+mode_refusal modes.On bad_meta Powered = None
+mode_refusal modes.On bad_meta Unpowered = Some (Refused because.On)
+mode_refusal modes.On bad_meta Failed = Some (Refused because.On)
+mode_refusal modes.Off bad_meta Usable = Some (Refused because.Off)
+mode_refusal modes.Off bad_meta Anytime = None
+mode_refusal modes.Off bad_meta Powered = Some (Refused because.Off)
+mode_refusal modes.Off bad_meta Unpowered = None
+mode_refusal modes.Off bad_meta Failed = Some (Refused because.Off)
+mode_refusal modes.Unsettled bad_meta Usable = Some (Refused because.Recover)
+mode_refusal modes.Unsettled bad_meta Anytime = None
+mode_refusal modes.Unsettled bad_meta Powered = None
+mode_refusal modes.Unsettled bad_meta Unpowered = Some (Refused because.On)
+mode_refusal modes.Unsettled bad_meta Failed = None
+mode_refusal modes.Stopped bad_meta Usable = Some (RefusedMeta (lowest bad_meta))
+mode_refusal modes.Stopped bad_meta Anytime = None
+mode_refusal modes.Stopped bad_meta Powered = None
+mode_refusal modes.Stopped bad_meta Unpowered = Some (Refused because.On)
+mode_refusal modes.Stopped bad_meta Failed = Some (RefusedMeta (lowest bad_meta))
 
 -- the lowest bad line of metadata refuses what would change it
 abbrev pub metadata_refusal : Bool → List ℕ → Option Answer
@@ -111,9 +121,9 @@ metadata_refusal true [] = None
 metadata_refusal true (line ∷ lines) = Some (RefusedMeta line)
 
 -- The first reason: the mode, and then kind by kind.
-abbrev pub first_reason : Option Why → List ℕ → Reasons → Option Answer
+abbrev pub first_reason : Option Answer → List ℕ → Reasons → Option Answer
 first_reason mode bad_meta r =
-    first_there (option_map Refused mode)
+    first_there mode
     (first_there r.named (first_there r.places (first_there r.full (first_there (metadata_refusal r.changes_metadata bad_meta) r.unreadable))))
 
 -- what is wrong with a span of something of this size: past its end, and else empty

@@ -15,7 +15,7 @@ use Rattle.reply_text.specs.Answer.Answer.{Done, Bytes, Yes, No, Scarred, Poison
 use Rattle.machine_host.specs.Machine.Fate.{Gives, Works}
 use Rattle.machine_host.specs.Meaning.{BlocksLeft, Meaning, anywhere, most_refusal, no_reasons, placed, quiet}
 use Rattle.machine_host.specs.Meaning.BlocksLeft.{Either, Mixed}
-use Rattle.machine_host.specs.Meaning.Needs.{Usable}
+use Rattle.machine_host.specs.declared.needs.Needs.TheVariants.{Usable}
 
 -- how a refusal by the blocks is answered
 abbrev pub refusal_answer : Refusal → Answer

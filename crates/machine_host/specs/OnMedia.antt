@@ -1,8 +1,9 @@
 -- Media errors: lines that go bad or weak, and bad lines that are made good again.
-use Rattle.std.specs.Prelude.{◌/◌, ℕ, Option, option_map}
+use Rattle.std.specs.Prelude.{◌/◌, ◌==◌, ℕ, List, [], ◌∷◌, Option, Some, None, option_map, nat_lt, if◌then◌else◌}
 use Rattle.nvm_model.specs.Blocks.{lose}
 use Rattle.nvm_model.specs.Cell.{Cell, clear_cell, lose_cell, weaken_cell}
 use Rattle.nvm_model.specs.Page.{change_line}
+use Rattle.word_tables.specs.Layout.{meta_lines}
 use Rattle.scrub.specs.Refusals.{ScrubRefusal, block_refusal, clear_refusal, place_refusal}
 use Rattle.scrub.specs.Refusals.ScrubRefusal.{Range, Nothing, NotPoisoned}
 use Rattle.reply_text.specs.declared.reply.Why.TheVariants as because
@@ -11,7 +12,7 @@ use Rattle.reply_text.specs.Answer.Answer.{Done, Refused}
 use Rattle.machine_host.specs.Machine.{Machine}
 use Rattle.machine_host.specs.Machine.Fate.{Gives, Works}
 use Rattle.machine_host.specs.Meaning.{Meaning, anywhere, no_reasons, quiet}
-use Rattle.machine_host.specs.Meaning.Needs.{Usable}
+use Rattle.machine_host.specs.declared.needs.Needs.TheVariants.{Usable, Anytime}
 use Rattle.machine_host.specs.Meaning.Starved.{WrittenBack}
 use Rattle.machine_host.specs.Meaning.VolumeLeft.{AllOrNone}
 
@@ -37,6 +38,17 @@ marking_volume mark offset =
 
 abbrev pub poison_volume : ℕ → Meaning
 poison_volume offset = marking_volume lose_cell offset
+
+-- lines, rising, with one more where it is not among them
+abbrev pub with_line : ℕ → List ℕ → List ℕ
+with_line line [] = line ∷ []
+with_line line (next ∷ lines) =
+    if nat_lt line next then line ∷ next ∷ lines else (if line == next then next ∷ lines else next ∷ with_line line lines)
+
+-- a line of metadata, in each mode
+abbrev pub poison_meta : ℕ → Meaning
+poison_meta line =
+    quiet Anytime (λ geo. if nat_lt line (meta_lines geo) then None else Some because.Range) (λ h. Gives Done (record h { bad_meta = with_line line h.bad_meta }))
 
 abbrev pub weaken_volume : ℕ → Meaning
 weaken_volume offset = record (marking_volume weaken_cell offset) { starved = WrittenBack }

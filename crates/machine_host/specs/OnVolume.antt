@@ -14,7 +14,7 @@ use Rattle.reply_text.specs.Answer.Answer.{Done, Bytes, Ranges, Yes, No, PoisonV
 use Rattle.machine_host.specs.Costs.{lines_persisted}
 use Rattle.machine_host.specs.Machine.Fate.{Gives, Works}
 use Rattle.machine_host.specs.Meaning.{Meaning, VolumeLeft, anywhere, most_refusal, no_reasons, placed, quiet}
-use Rattle.machine_host.specs.Meaning.Needs.{Usable}
+use Rattle.machine_host.specs.declared.needs.Needs.TheVariants.{Usable}
 use Rattle.machine_host.specs.Meaning.VolumeLeft.{PartStored, PartSynced, AllOrNone, PageByPage}
 
 -- how a refusal by the volume is answered

@@ -1,4 +1,4 @@
--- Runs that nothing interrupts: what the machine writes, given what each restart left.
+-- Runs that nothing interrupts: what the machine writes, given what each restart left. There is nothing to recover from in them.
 use Rattle.std.specs.Prelude.{◌≡◌, List, [], ◌∷◌}
 use Rattle.line_device.specs.Panel.{Start}
 use Rattle.reply_text.specs.declared.reply.Why.TheVariants.{Syntax}
@@ -7,8 +7,8 @@ use Rattle.script_text.specs.Script.{Input}
 use Rattle.script_text.specs.Script.Input.{Skipped, Malformed, Asked}
 use Rattle.machine_host.specs.Machine.{Machine}
 use Rattle.machine_host.specs.Commands.{fate, spending}
-use Rattle.machine_host.specs.Machine.Fate.{Gives, Works, Orders, Cuts, Restarts}
-use Rattle.machine_host.specs.Restarting.{RestartMayLeave, restarted, restart_answer}
+use Rattle.machine_host.specs.Machine.Fate.{Gives, Works, Orders, Cuts, Restarts, Recovers}
+use Rattle.machine_host.specs.Restarting.{RestartMayLeave, mounted_answer, restarted}
 use Rattle.machine_host.specs.Run.{Transcript, answered, followed_by, silence, with_cut, with_order, with_start, worked}
 
 -- what was said, and the state after it
@@ -20,7 +20,7 @@ pub record Performance : Type 0 where
 abbrev pub after : Transcript → Performance → Performance
 after said rest = record { said = followed_by said rest.said; state = rest.state }
 
--- Each restart that is done takes the next start; with none left the machine stops there.
+-- Each restart that is done takes the next start; with none left the machine stops there, and so it does at a recovery.
 abbrev pub perform : Machine → List Input → List Start → Performance
 perform h [] starts = record { said = silence; state = h }
 perform h (Skipped ∷ inputs) starts = perform h inputs starts
@@ -32,8 +32,9 @@ perform h (Asked action ∷ inputs) starts = elim (fate h action) [
   | Cuts next ↦ after (with_cut Done) (perform next inputs starts)
   | Restarts choice ↦ elim starts [
     | [] ↦ record { said = silence; state = h }
-    | start ∷ others ↦ after (with_start (spending h action) start (restart_answer h start.image)) (perform (restarted h start.image) inputs others)
+    | start ∷ others ↦ after (with_start (spending h action) start (mounted_answer (restarted h start.image))) (perform (restarted h start.image) inputs others)
   ]
+  | Recovers ↦ record { said = silence; state = h }
 ]
 
 -- The starts are as many as the script needs, and each is what its command may leave.
@@ -50,4 +51,5 @@ Allows h (Asked action ∷ inputs) starts = elim (fate h action) as (λ _. Type 
     | [] ↦ ⊥
     | start ∷ others ↦ (start.choice ≡ choice) × RestartMayLeave choice start.image h × Allows (restarted h start.image) inputs others
   ]
+  | Recovers ↦ ⊥
 ]

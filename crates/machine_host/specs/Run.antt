@@ -12,9 +12,10 @@ use Rattle.script_text.specs.Script.Input.{Skipped, Malformed, Asked}
 use Rattle.machine_host.specs.Costs.{Spending, no_spending, spent_with}
 use Rattle.machine_host.specs.Machine.{Machine, Fate}
 use Rattle.machine_host.specs.Commands.{fate, spending, while_interrupted}
-use Rattle.machine_host.specs.Machine.Fate.{Gives, Works, Orders, Cuts, Restarts}
+use Rattle.machine_host.specs.Machine.Fate.{Gives, Works, Orders, Cuts, Restarts, Recovers}
 use Rattle.machine_host.specs.Interrupted.{Interrupts, interrupted_answer}
-use Rattle.machine_host.specs.Restarting.{RestartMayLeave, restarted, restart_answer}
+use Rattle.machine_host.specs.Restarting.{RestartMayLeave, mounted_answer, restarted}
+use Rattle.machine_host.specs.Recovering.{RecoveryMayLeave}
 
 -- It came to this answer and this state, or was interrupted in that one.
 abbrev pub Ends : Answer → Machine → Machine → Answer → Machine → Type 0
@@ -69,7 +70,10 @@ Takes h action (Orders order to) said next = (said ≡ with_order order Done) ×
 Takes h action (Cuts to) said next = (said ≡ with_cut Done) × (next ≡ to)
 Takes h action (Restarts choice) said next =
     (start : Start) × (answer : Answer) × (said ≡ with_start (spending h action) start answer) × (start.choice ≡ choice) × RestartMayLeave choice start.image h
-    × Ends (restart_answer h start.image) (restarted h start.image) (restarted h start.image) answer next
+    × Ends (mounted_answer (restarted h start.image)) (restarted h start.image) (restarted h start.image) answer next
+Takes h action Recovers said next =
+    (answer : Answer) × (said ≡ worked (spending h action) answer)
+    × (((answer ≡ mounted_answer next) × RecoveryMayLeave h next) ⊎ ((by : Interruption) × (answer ≡ interrupted_answer by) × Interrupts by h next))
 
 -- what comes of an input
 abbrev pub Hears : Machine → Input → Transcript → Machine → Type 0

@@ -1,13 +1,13 @@
 -- Bringing host and device to rest, so that the device can be read: what it comes to, and what it asks of the device.
-use Rattle.std.specs.Prelude.{◌≡◌, ◌+◌, ◌≤◌, false, List, [], ◌∷◌, length, Result, Ok, Err}
+use Rattle.std.specs.Prelude.{◌≡◌, ◌+◌, ◌≤◌, Bool, true, false, List, [], ◌∷◌, length, Result, Ok, Err}
 use Rattle.line_device.specs.Panel.{Panel, Start, told}
 use Rattle.line_device.specs.Device.{Device}
 use Rattle.line_device.specs.declared.line.Choice.TheVariants.{Lasts}
 use Rattle.machine_host.specs.declared.mode.Mode.{Mode}
 use Rattle.machine_host.specs.declared.mode.Mode.TheVariants as modes
 use Rattle.machine_host.specs.Machine.{Machine}
-use Rattle.machine_host.specs.Commands.{MayLeaveBlocks, MayLeaveVolume}
-use Rattle.machine_host.specs.Restarting.{RestartMayLeave, holding, restarted}
+use Rattle.machine_host.specs.Restarting.{RestartMayLeave, restarted}
+use Rattle.machine_host.specs.Recovering.{RecoveryMayLeave}
 use Rattle.machine_host.specs.Costs.{mount_calls, mount_persists}
 use Rattle.machine_host.specs.Telling.{bumped_by}
 use Rattle.machine_host.specs.Stands.{HostState, HostServes, Stands}
@@ -16,29 +16,25 @@ use Rattle.machine_host.specs.Stands.{HostState, HostServes, Stands}
 abbrev pub disarmed : Machine → Machine
 disarmed h = record h { cut_armed = false; fail_armed = false }
 
--- The state after a mount while the power stayed on: blocks and volume are as an interrupted action may have left them.
-pub record IsRemounted (h next : Machine) : Type 0 where
-  pub blocks : MayLeaveBlocks h.interrupted h.blocks next.blocks
-  pub volume : MayLeaveVolume h.geometry h.interrupted h.volume next.volume
-  pub state : next ≡ holding h.geometry next.blocks next.volume
-
--- What it comes to, by the mode. Where the host was on, only what is armed ends. Where the power was off it comes back, and
--- each word keeps its last value; one restart was told. Where a call had failed, the device is mounted anew.
+-- What it comes to, by the mode. Where the host was on, or stopped, only what is armed ends. Where the power was off it comes
+-- back, and each word keeps its last value; one restart was told. Where a call had failed, the device is mounted anew.
 abbrev pub SettlesTo : Mode → Machine → List Start → Machine → Type 0
 SettlesTo modes.On h starts next = (starts ≡ []) × (next ≡ disarmed h)
 SettlesTo modes.Off h starts next =
     (start : Start) × (starts ≡ start ∷ []) × (start.choice ≡ Lasts) × RestartMayLeave Lasts start.image h
     × (next ≡ restarted (disarmed h) start.image)
-SettlesTo modes.Unsettled h starts next = (starts ≡ []) × IsRemounted h next
+SettlesTo modes.Unsettled h starts next = (starts ≡ []) × RecoveryMayLeave (disarmed h) next
+SettlesTo modes.Stopped h starts next = (starts ≡ []) × (next ≡ disarmed h)
 
--- The state in which it leaves a device that it could not mount: nothing is armed, and it may be tried again. A mounted host
--- is never left so.
+-- The state in which it leaves a device that it could not mount: nothing is armed, and it may be tried again. A host that is on
+-- or stopped is never left so.
 abbrev pub LeavesUnmounted : Mode → Machine → List Start → Machine → Type 0
 LeavesUnmounted modes.On h starts next = ⊥
 LeavesUnmounted modes.Off h starts next =
     (start : Start) × (starts ≡ start ∷ []) × (start.choice ≡ Lasts) × RestartMayLeave Lasts start.image h
     × (next ≡ record (restarted (disarmed h) start.image) { mode = modes.Unsettled })
 LeavesUnmounted modes.Unsettled h starts next = (starts ≡ []) × (next ≡ disarmed h)
+LeavesUnmounted modes.Stopped h starts next = ⊥
 
 -- the host may go on, and stands with its device for some state
 pub record GoesOn (host : HostState) (d : Device) : Type 0 where
@@ -86,12 +82,19 @@ pub record StaysUnmounted (host after : HostState) (old new : Device) : Type 0 w
   pub restarts : new.panel.counts.restarts ≡ old.panel.counts.restarts
   pub stands : (h : Machine) → Stands host old h → Stands after new (disarmed h)
 
--- There was no memory for a settling: the host was not on and is not, and at most one restart was done, or refused.
+-- whether a mount is to come before anything else is done
+abbrev pub is_down : Mode → Bool
+is_down modes.On = false
+is_down modes.Off = true
+is_down modes.Unsettled = true
+is_down modes.Stopped = false
+
+-- There was no memory for a settling: a mount was to come and is to come, and at most one restart was done, or refused.
 pub record LeftUnsettled (host after : HostState) (old : Device) (quiet : Panel) (new : Device) : Type 0 where
   pub starts : List Start
   pub few : length starts ≤ 1
-  pub was_not_on : host.mode ≡ modes.On → ⊥
-  pub is_not_on : after.mode ≡ modes.On → ⊥
+  pub was_down : is_down host.mode ≡ true
+  pub stays_down : is_down after.mode ≡ true
   pub serves : HostServes after new
   pub asks : Asks starts quiet new.panel
   pub restarts : bumped_by starts quiet.counts.restarts ≤ new.panel.counts.restarts
@@ -99,9 +102,9 @@ pub record LeftUnsettled (host after : HostState) (old : Device) (quiet : Panel)
   pub stands : (h : Machine) → Stands host old h → after.mode ≡ modes.Unsettled
       → (next : Machine) × LeavesUnmounted host.mode h starts next × Stands after new next
 
--- the state was settled, and the host is on
+-- the state was settled, and the host is on or stopped
 abbrev pub IsSettled : HostState → HostState → Device → Device → Type 0
-IsSettled host after old new = (after.mode ≡ modes.On) × ((h : Machine) → Stands host old h → Settled h after old.panel new)
+IsSettled host after old new = (is_down after.mode ≡ false) × ((h : Machine) → Stands host old h → Settled h after old.panel new)
 
 -- what a mount promises of its answer, of a device on which nothing is armed; and what a restart and a mount do
 abbrev pub MountsAnew : {E : Type 0} → Result (Unit {0}) E → HostState → HostState → Device → Device → Type 0

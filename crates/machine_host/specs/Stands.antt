@@ -1,14 +1,11 @@
 -- When a host and its device stand for a state of the machine, and what one step is.
-use Rattle.std.specs.Prelude.{◌≡◌, ◌/◌, ◌<◌, ◌++◌, ℕ, Bool, true, false, IsTrue, List, [], ◌∷◌, filter, None}
-use Rattle.std.specs.List.{range_with_len}
+use Rattle.std.specs.Prelude.{◌≡◌, ◌≢◌, ◌/◌, ◌<◌, ◌++◌, ℕ, Bool, true, false, IsTrue, List, [], ◌∷◌, None}
 use Rattle.line_device.specs.Medium.{Medium, last_image}
 use Rattle.line_device.specs.Device.{Device}
 use Rattle.line_words.specs.Words.{IsOnly}
 use Rattle.word_tables.specs.declared.geometry.Geometry.{Geometry}
-use Rattle.word_tables.specs.Layout.{meta_lines, total_lines}
-use Rattle.block_device.specs.Object.{BlocksState, BlocksServe, HasStrongMetadata, blocks_of}
+use Rattle.block_device.specs.Object.{BlocksState, BlocksServe, blocks_of}
 use Rattle.block_device.specs.Images.{EachReads}
-use Rattle.recovery.specs.Fresh.{HasSuperblock}
 use Rattle.script_text.specs.Action.{Action}
 use Rattle.reply_text.specs.Answer.{Answer, answer_line}
 use Rattle.machine_host.specs.declared.mode.Mode.{Mode}
@@ -17,7 +14,7 @@ use Rattle.machine_host.specs.Machine.{Machine, Fate}
 use Rattle.machine_host.specs.Commands.{MayLeaveBlocks, MayLeaveVolume, fate}
 use Rattle.machine_host.specs.Run.{Transcript, Takes}
 use Rattle.machine_host.specs.Telling.{Tells}
-use Rattle.machine_host.specs.Lines.{HasLayout}
+use Rattle.machine_host.specs.Lines.{HasLayout, MetadataStands, bad_metadata}
 use Rattle.pm_volume.specs.Images.{EachReadsPages}
 use Rattle.pm_volume.specs.Object.{VolumeState, VolumeHolds, VolumeServes}
 
@@ -33,6 +30,7 @@ abbrev pub is_powered : Mode → Bool
 is_powered modes.On = true
 is_powered modes.Off = false
 is_powered modes.Unsettled = true
+is_powered modes.Stopped = true
 
 -- the mounted blocks and the volume are those of the device, ready for the next call
 pub record AreMounted (geo : Geometry) (b : BlocksState) (v : VolumeState) (m : Medium) : Type 0 where
@@ -43,35 +41,29 @@ pub record AreMounted (geo : Geometry) (b : BlocksState) (v : VolumeState) (m : 
   pub volume_settled : IsTrue v.settled
   pub volume_serves : VolumeServes v m
 
--- The host may command the device: it has the lines of the host's sizes, its power is off exactly in mode Off, and in mode On
--- blocks and volume are mounted.
+-- The host may command the device: it has the lines of the host's sizes, its power is off exactly in mode Off, in mode On
+-- blocks and volume are mounted, and in mode Stopped a line of metadata is bad.
 pub record HostServes (host : HostState) (d : Device) : Type 0 where
   pub layout : HasLayout host.geometry d.medium
   pub power : d.panel.power ≡ is_powered host.mode
   pub mounted : host.mode ≡ modes.On → AreMounted host.geometry host.blocks host.volume d.medium
+  pub stopped : host.mode ≡ modes.Stopped → bad_metadata host.geometry d.medium.is_bad ≢ []
 
 -- each word of the device has one value, as where the power just came back
 abbrev pub IsFlushed : Medium → Type 0
 IsFlushed m = (p : ℕ) → p / 8 < m.count → IsOnly (last_image m p) (m.history p)
 
--- The device has the lines of these sizes. Of those of metadata these are bad, none is weak, and the first one is the superblock
--- in each image, where it is not bad.
-pub record MetadataStands (geo : Geometry) (m : Medium) (bad_meta : List ℕ) : Type 0 where
-  pub lines : m.count ≡ total_lines geo
-  pub bad : filter m.is_bad (range_with_len 0 (meta_lines geo)) ≡ bad_meta
-  pub strong : HasStrongMetadata geo m
-  pub superblock : HasSuperblock geo m
-
--- The device stands for the state: its metadata, its blocks and pages in each image, and what is armed. Where an action was
--- interrupted, blocks and volume are as it may have left them. What is not built yet is not there.
+-- The device stands for the state: its metadata, its blocks and pages in each image, where no line of metadata is bad, and what
+-- is armed. Where an action was interrupted, blocks and volume are as it may have left them. What is not built yet is not there.
 pub record DeviceStands (d : Device) (h : Machine) : Type 0 where
   pub metadata : MetadataStands h.geometry d.medium h.bad_meta
-  pub blocks : EachReads h.geometry d.medium (MayLeaveBlocks h.interrupted h.blocks)
-  pub volume : EachReadsPages h.geometry d.medium (MayLeaveVolume h.geometry h.interrupted h.volume)
+  pub blocks : h.bad_meta ≡ [] → EachReads h.geometry d.medium (MayLeaveBlocks h.interrupted h.blocks)
+  pub volume : h.bad_meta ≡ [] → EachReadsPages h.geometry d.medium (MayLeaveVolume h.geometry h.interrupted h.volume)
   pub power : d.panel.power ≡ is_powered h.mode
   pub cut_armed : d.panel.cut_armed ≡ h.cut_armed
   pub fail_armed : d.panel.fail_armed ≡ h.fail_armed
   pub whole : h.mode ≡ modes.On → h.interrupted ≡ None
+  pub stopped : h.mode ≡ modes.Stopped → h.bad_meta ≢ []
 
 -- and the host is in its mode, and sees its blocks and pages
 pub record Stands (host : HostState) (d : Device) (h : Machine) : Type 0 where

@@ -59,7 +59,8 @@ impl Host {
     ghost use Rattle.recovery.specs.Findings.{geometry_told, early_finding, first_finding};
     ghost use Rattle.recovery.specs.Mounting.{Finds, IsOfLogs, mount_outcome};
     ghost use Rattle.machine_host.specs.Machine.{Machine};
-    ghost use Rattle.machine_host.specs.Stands.{HostServes, IsFlushed, MetadataStands, Stands, Steps};
+    ghost use Rattle.machine_host.specs.Lines.{MetadataStands};
+    ghost use Rattle.machine_host.specs.Stands.{HostServes, IsFlushed, Stands, Steps};
     ghost use Rattle.machine_host.specs.Restarting.{reading};
     ghost use Rattle.machine_host.specs.Costs.{mount_calls, mount_persists};
     ghost use Rattle.machine_host.specs.Faults.{Leaves};
@@ -125,8 +126,8 @@ impl Host {
             × Leaves (action_of command.now) self.old self.new (D.state device.old) (D.state device.new)) }
         ensures serves { HostServes self.new (D.state device.new) }
     {
-        if let Some(why) = self.refusal(command) {
-            return print(&Reply::Refused(why), out);
+        if let Some(reply) = self.refusal(device, command) {
+            return print(&reply, out);
         }
         // The room of the reply comes first: what was done is answered.
         out.reserve(longest_reply(command))?;

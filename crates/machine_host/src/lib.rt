@@ -3,6 +3,7 @@
 
 mod host;
 mod mode;
+mod needs;
 mod rows;
 
 pub use host::Host;

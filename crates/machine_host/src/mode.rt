@@ -4,6 +4,8 @@ pub enum Mode {
     On,
     /// The power is off: only a restart is done.
     Off,
-    /// A device call has failed: only a cut is done.
+    /// A device call has failed: only a recovery or a cut is done.
     Unsettled,
+    /// A mount found a line of metadata bad: only a cut is done.
+    Stopped,
 }

@@ -3,6 +3,7 @@ ghost use Rattle.std.specs.Prelude.{◌≡◌, None};
 ghost use Rattle.script_text.specs.Action.{action_of};
 ghost use Rattle.script_text.specs.Parsing.{InBounds};
 ghost use Rattle.machine_host.specs.Commands.{early_refusal, longest};
+ghost use Rattle.machine_host.specs.Lines.{bad_metadata};
 ghost use Rattle.machine_host.specs.Stands.{HostServes};
 ghost use Rattle.machine_host.specs.Responding.{Responds};
 
@@ -22,7 +23,29 @@ pub fn longest_reply(command: &Command) -> u64
         Command::BRead { count, .. } => 64 + 3 * (BLOCK * *count),
         Command::VLoad { len, .. } => 64 + 3 * *len,
         Command::VRanges => 133,
-        _ => 64,
+        Command::BWrite { .. }
+        | Command::BAtomic { .. }
+        | Command::BMulti { .. }
+        | Command::BDiscard { .. }
+        | Command::BDiscardIf { .. }
+        | Command::BExists { .. }
+        | Command::BScar { .. }
+        | Command::VStore { .. }
+        | Command::VSync { .. }
+        | Command::VPSync { .. }
+        | Command::VDiscard { .. }
+        | Command::VDiscardIf { .. }
+        | Command::VExists { .. }
+        | Command::PoisonBlock { .. }
+        | Command::PoisonVolume { .. }
+        | Command::PoisonMeta { .. }
+        | Command::WeakenVolume { .. }
+        | Command::ClearVolume { .. }
+        | Command::Cut
+        | Command::CutIn { .. }
+        | Command::FailIn { .. }
+        | Command::Restart { .. }
+        | Command::Recover => 64,
     }
 }
 
@@ -35,7 +58,8 @@ impl Host {
     ) -> Result<Reply, AllocError>
         requires serves { HostServes self.old (D.state device.old) }
         requires bounded { InBounds (action_of command.now) }
-        requires allowed { early_refusal self.old.mode self.old.geometry (action_of command.now) ≡ None }
+        requires allowed { early_refusal self.old.mode (bad_metadata self.old.geometry (D.state device.old).medium.is_bad)
+            self.old.geometry (action_of command.now) ≡ None }
         ensures { Responds (action_of command.now) result self.old self.new (D.state device.old) (D.state device.new) }
     {
         match command {
@@ -59,11 +83,14 @@ impl Host {
             Command::VExists { page } => Ok(self.vexists(device, *page)),
             Command::PoisonBlock { block, line } => Ok(self.poison_block(device, *block, *line)),
             Command::PoisonVolume { offset } => Ok(self.poison_volume(device, *offset)),
+            Command::PoisonMeta { line } => Ok(self.poison_meta(device, *line)),
             Command::WeakenVolume { offset } => self.weaken_volume(device, *offset),
             Command::ClearVolume { offset } => Ok(self.clear_volume(device, *offset)),
             Command::Cut => Ok(self.cut(device)),
             Command::CutIn { calls } => Ok(self.cut_in(device, *calls)),
+            Command::FailIn { calls } => Ok(self.fail_in(device, *calls)),
             Command::Restart { choice } => self.restart(device, *choice),
+            Command::Recover => self.recover(device),
         }
     }
 }

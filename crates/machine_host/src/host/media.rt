@@ -1,7 +1,8 @@
 // Media errors: lines that go bad or weak, and bad lines that are made good again.
-ghost use Rattle.std.specs.Prelude.{◌≡◌};
+ghost use Rattle.std.specs.Prelude.{◌≡◌, ◌<◌};
+ghost use Rattle.word_tables.specs.Layout.{meta_lines};
 ghost use Rattle.machine_host.specs.declared.mode.Mode.TheVariants.{On};
-ghost use Rattle.script_text.specs.Action.Action.{PoisonBlock, PoisonVolume, WeakenVolume, ClearVolume};
+ghost use Rattle.script_text.specs.Action.Action.{PoisonBlock, PoisonVolume, PoisonMeta, WeakenVolume, ClearVolume};
 ghost use Rattle.reply_text.specs.Answer.{answer_of};
 ghost use Rattle.reply_text.specs.Answer.Answer.{Done};
 ghost use Rattle.scrub.specs.Refusals.{place_says, scrub_says};
@@ -14,6 +15,7 @@ ghost use Rattle.machine_host.specs.Responding.{Answered, Responds};
 use super::Host;
 use line_device::LineDevice;
 use line_words::Interruption;
+use nvm_base::LineNo;
 use reply_text::{Reply, Why};
 use scrub::{PlaceFault, ScrubFault, WeakenFault, bad_count};
 use std::alloc::AllocError;
@@ -35,6 +37,15 @@ impl Host {
     {
         let call = scrub::poison_volume(device, &self.volume, offset);
         marked(call)
+    }
+
+    pub(super) fn poison_meta<D: LineDevice>(&self, device: &mut D, line: u64) -> Reply
+        requires serves { HostServes self.now (D.state device.old) }
+        requires within { line < meta_lines self.now.geometry }
+        ensures { Answered (PoisonMeta line) (answer_of result) self.now self.now (D.state device.old) (D.state device.new) }
+    {
+        device.poison(LineNo(line));
+        Reply::Done
     }
 
     pub(super) fn weaken_volume<D: LineDevice>(

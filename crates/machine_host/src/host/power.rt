@@ -1,9 +1,8 @@
-// Cuts and restarts, and what an interrupted command is answered.
-ghost use Rattle.std.specs.Prelude.{◌≡◌, ◌≢◌, ◌⊎◌, ◌≤◌, true, false, MatchResult};
+// Cuts, failures, restarts and recoveries, and what an interrupted command is answered.
+ghost use Rattle.std.specs.Prelude.{◌≡◌, ◌≤◌, MatchResult};
 ghost use Rattle.machine_host.specs.declared.mode.Mode.TheVariants.{On, Off, Unsettled};
-ghost use Rattle.script_text.specs.Action.Action.{Cut, CutIn, Restart};
+ghost use Rattle.script_text.specs.Action.Action.{Cut, CutIn, FailIn, Restart, Recover};
 ghost use Rattle.reply_text.specs.Answer.{answer_of};
-ghost use Rattle.reply_text.specs.Answer.Answer.{DeviceFailed};
 ghost use Rattle.block_device.specs.Object.{BlocksServe};
 ghost use Rattle.pm_volume.specs.Object.{VolumeServes};
 ghost use Rattle.recovery.specs.declared.fault.MountFault.TheVariants.{Memory};
@@ -34,11 +33,19 @@ impl Host {
 
     pub(super) fn cut_in<D: LineDevice>(&self, device: &mut D, calls: u64) -> Reply
         requires serves { HostServes self.now (D.state device.old) }
-        requires powered { self.now.mode ≡ Off → ⊥ }
         requires some { 1 ≤ calls }
         ensures { Answered (CutIn calls) (answer_of result) self.now self.now (D.state device.old) (D.state device.new) }
     {
         device.arm_cut(calls);
+        Reply::Done
+    }
+
+    pub(super) fn fail_in<D: LineDevice>(&self, device: &mut D, calls: u64) -> Reply
+        requires serves { HostServes self.now (D.state device.old) }
+        requires some { 1 ≤ calls }
+        ensures { Answered (FailIn calls) (answer_of result) self.now self.now (D.state device.old) (D.state device.new) }
+    {
+        device.arm_fail(calls);
         Reply::Done
     }
 
@@ -58,34 +65,37 @@ impl Host {
         }
     }
 
-    // What a restart is answered where the device is mounted: how many lines are bad. One of other sizes is not the host's.
-    fn mounted<D: LineDevice>(&mut self, device: &D, mounted: Mounted) -> Reply
-        requires blocks { BlocksServe mounted.blocks (D.state device.now).medium }
-        requires volume { VolumeServes mounted.volume (D.state device.now).medium }
-        ensures { ((mounted.geo ≡ self.old.geometry) × (self.new ≡ record self.old { mode = On; blocks = mounted.blocks; volume = mounted.volume })
-            × CountsBad mounted.blocks mounted.volume (D.state device.now).medium (answer_of result))
-            ⊎ ((mounted.geo ≢ self.old.geometry) × (self.new ≡ record self.old { mode = Unsettled }) × (answer_of result ≡ DeviceFailed)) }
+    // The power was not lost, so each word has all its values still.
+    pub(super) fn recover<D: LineDevice>(&mut self, device: &mut D) -> Result<Reply, AllocError>
+        requires serves { HostServes self.old (D.state device.old) }
+        requires unsettled { self.old.mode ≡ Unsettled }
+        ensures { Responds Recover result self.old self.new (D.state device.old) (D.state device.new) }
     {
-        let bad = bad_count(device, &mounted.blocks, &mounted.volume);
-        if self.take(mounted) {
-            Reply::DoneBad(bad)
-        } else {
-            self.interrupt(Interruption::Failed)
+        match recovery::mount(self.alloc, device) {
+            Ok(mounted) => Ok(self.mounted(device, mounted)),
+            Err(fault) => self.unmounted(fault),
         }
     }
 
-    // The host takes over what was mounted, unless its sizes are others.
-    pub(super) fn take(&mut self, mounted: Mounted) -> bool
-        ensures taken { result ≡ true → (mounted.geo ≡ self.old.geometry) × (self.new ≡ record self.old { mode = On; blocks = mounted.blocks; volume = mounted.volume }) }
-        ensures other { result ≡ false → (mounted.geo ≢ self.old.geometry) × (self.new ≡ self.old) }
+    // What it is answered where the device is mounted: how many lines are bad.
+    fn mounted<D: LineDevice>(&mut self, device: &D, mounted: Mounted) -> Reply
+        requires blocks { BlocksServe mounted.blocks (D.state device.now).medium }
+        requires volume { VolumeServes mounted.volume (D.state device.now).medium }
+        ensures state { self.new ≡ record self.old { mode = On; blocks = mounted.blocks; volume = mounted.volume } }
+        ensures answer { CountsBad mounted.blocks mounted.volume (D.state device.now).medium (answer_of result) }
     {
-        if mounted.geo != self.geometry {
-            return false;
-        }
+        let bad = bad_count(device, &mounted.blocks, &mounted.volume);
+        self.take(mounted);
+        Reply::DoneBad(bad)
+    }
+
+    // The host takes over what was mounted.
+    pub(super) fn take(&mut self, mounted: Mounted)
+        ensures { self.new ≡ record self.old { mode = On; blocks = mounted.blocks; volume = mounted.volume } }
+    {
         self.blocks = mounted.blocks;
         self.volume = mounted.volume;
         self.mode = Mode::On;
-        true
     }
 
     // What it is answered where the device could not be mounted, and the mode after it.
@@ -94,8 +104,12 @@ impl Host {
         ensures answer { MatchResult result (λ reply. (fault ≡ Memory → ⊥) × (answer_of reply ≡ unmounted_answer fault)) (λ _. fault ≡ Memory) }
     {
         match fault {
+            MountFault::Meta(line) => {
+                self.mode = Mode::Stopped;
+                Ok(Reply::Stopped(line.0))
+            }
             MountFault::PowerLost => Ok(self.interrupt(Interruption::PowerLost)),
-            MountFault::Device | MountFault::Meta(_) | MountFault::Layout(_) => {
+            MountFault::Device | MountFault::Layout(_) => {
                 Ok(self.interrupt(Interruption::Failed))
             }
             MountFault::Memory => {

@@ -1,15 +1,21 @@
 // Why a command is not done: the mode decides first, then the places that it names.
-ghost use Rattle.std.specs.Prelude.{◌≡◌, ◌<◌, ◌+◌, ◌^◌};
+ghost use Rattle.std.specs.Prelude.{◌≡◌, ◌<◌, ◌+◌, ◌^◌, option_map};
 ghost use Rattle.word_tables.specs.Bounds.{IsValid};
 ghost use Rattle.script_text.specs.Action.{action_of};
 ghost use Rattle.script_text.specs.Parsing.{InBounds};
+ghost use Rattle.reply_text.specs.Answer.{answer_of};
+ghost use Rattle.machine_host.specs.Lines.{bad_metadata, lowest};
+ghost use Rattle.machine_host.specs.Stands.{HostServes};
 ghost use Rattle.machine_host.specs.Meaning.{mode_refusal, most_refusal, span_refusal};
 ghost use Rattle.machine_host.specs.Commands.{early_refusal, meaning};
 
 use super::Host;
 use crate::Mode;
+use crate::needs::Needs;
+use line_device::LineDevice;
+use line_words::first_bad;
 use nvm_base::{MOST, PAGE};
-use reply_text::Why;
+use reply_text::{Reply, Why};
 use script_text::Command;
 use word_tables::Geometry;
 
@@ -18,28 +24,86 @@ const MOST_BLOCKS: u64 = 128;
 
 #[tactic(auto, unfolding(crate::specs::Commands::early_refusal))]
 impl Host {
-    pub(crate) fn refusal(&self, command: &Command) -> Option<Why>
-        requires valid { IsValid self.now.geometry }
+    // Why a command is not done, as far as the host finds that itself. It makes no counted call.
+    pub(crate) fn refusal<D: LineDevice>(&self, device: &D, command: &Command) -> Option<Reply>
+        requires serves { HostServes self.now (D.state device.now) }
         requires bounded { InBounds (action_of command.now) }
-        ensures { result ≡ early_refusal self.now.mode self.now.geometry (action_of command.now) }
+        ensures { option_map answer_of result ≡ early_refusal self.now.mode
+            (bad_metadata self.now.geometry (D.state device.now).medium.is_bad) self.now.geometry (action_of command.now) }
     {
-        match mode_refusal(self.mode, command) {
-            Some(why) => Some(why),
-            None => place_refusal(self.geometry, command),
+        match self.mode_refusal(device, needs(command)) {
+            Some(reply) => Some(reply),
+            None => match place_refusal(self.geometry, command) {
+                Some(why) => Some(Reply::Refused(why)),
+                None => None,
+            },
         }
+    }
+
+    // Why the mode refuses what needs another.
+    fn mode_refusal<D: LineDevice>(&self, device: &D, needs: Needs) -> Option<Reply>
+        requires serves { HostServes self.now (D.state device.now) }
+        ensures { option_map answer_of result ≡ mode_refusal self.now.mode
+            (bad_metadata self.now.geometry (D.state device.now).medium.is_bad) needs }
+    {
+        match (self.mode, needs) {
+            (_, Needs::Anytime)
+            | (Mode::On, Needs::Usable | Needs::Powered)
+            | (Mode::Off, Needs::Unpowered)
+            | (Mode::Unsettled, Needs::Powered | Needs::Failed)
+            | (Mode::Stopped, Needs::Powered) => None,
+            (Mode::On, Needs::Unpowered | Needs::Failed)
+            | (Mode::Unsettled | Mode::Stopped, Needs::Unpowered) => Some(Reply::Refused(Why::On)),
+            (Mode::Off, Needs::Usable | Needs::Powered | Needs::Failed) => {
+                Some(Reply::Refused(Why::Off))
+            }
+            (Mode::Unsettled, Needs::Usable) => Some(Reply::Refused(Why::Recover)),
+            (Mode::Stopped, Needs::Usable | Needs::Failed) => {
+                Some(Reply::RefusedMeta(self.lowest_bad(device)))
+            }
+        }
+    }
+
+    // The lowest bad line of metadata, 0 where there is none.
+    fn lowest_bad<D: LineDevice>(&self, device: &D) -> u64
+        requires serves { HostServes self.now (D.state device.now) }
+        ensures { result ≡ lowest (bad_metadata self.now.geometry (D.state device.now).medium.is_bad) }
+    {
+        first_bad(device, 0, self.geometry.meta_lines()).unwrap_or(0)
     }
 }
 
-fn mode_refusal(mode: Mode, command: &Command) -> Option<Why>
-    ensures { result ≡ mode_refusal mode (meaning (action_of command.now)).needs }
+// In which modes a command is done.
+fn needs(command: &Command) -> Needs
+    ensures { result ≡ (meaning (action_of command.now)).needs }
 {
-    match (mode, command) {
-        (Mode::On | Mode::Unsettled, Command::Restart { .. }) => Some(Why::On),
-        (Mode::On, _)
-        | (Mode::Off, Command::Restart { .. })
-        | (Mode::Unsettled, Command::Cut | Command::CutIn { .. }) => None,
-        (Mode::Off, _) => Some(Why::Off),
-        (Mode::Unsettled, _) => Some(Why::Recover),
+    match command {
+        Command::BRead { .. }
+        | Command::BWrite { .. }
+        | Command::BAtomic { .. }
+        | Command::BMulti { .. }
+        | Command::BDiscard { .. }
+        | Command::BDiscardIf { .. }
+        | Command::BExists { .. }
+        | Command::BScar { .. }
+        | Command::VLoad { .. }
+        | Command::VStore { .. }
+        | Command::VSync { .. }
+        | Command::VRanges
+        | Command::VPSync { .. }
+        | Command::VDiscard { .. }
+        | Command::VDiscardIf { .. }
+        | Command::VExists { .. }
+        | Command::PoisonBlock { .. }
+        | Command::PoisonVolume { .. }
+        | Command::WeakenVolume { .. }
+        | Command::ClearVolume { .. } => Needs::Usable,
+        Command::PoisonMeta { .. } | Command::CutIn { .. } | Command::FailIn { .. } => {
+            Needs::Anytime
+        }
+        Command::Cut => Needs::Powered,
+        Command::Restart { .. } => Needs::Unpowered,
+        Command::Recover => Needs::Failed,
     }
 }
 
@@ -51,7 +115,10 @@ fn place_refusal(geo: Geometry, command: &Command) -> Option<Why>
     match command {
         Command::BRead { block, count } => most_refusal(geo.blocks, *block, *count, MOST_BLOCKS),
         Command::VLoad { offset, len } => most_refusal(PAGE * geo.vpages, *offset, *len, MOST),
-        Command::CutIn { calls } => (*calls == 0).then_some(Why::Range),
+        Command::PoisonMeta { line } => (*line >= geo.meta_lines()).then_some(Why::Range),
+        Command::CutIn { calls } | Command::FailIn { calls } => {
+            (*calls == 0).then_some(Why::Range)
+        }
         Command::BWrite { .. }
         | Command::BAtomic { .. }
         | Command::BMulti { .. }
@@ -71,7 +138,8 @@ fn place_refusal(geo: Geometry, command: &Command) -> Option<Why>
         | Command::WeakenVolume { .. }
         | Command::ClearVolume { .. }
         | Command::Cut
-        | Command::Restart { .. } => None,
+        | Command::Restart { .. }
+        | Command::Recover => None,
     }
 }
 

@@ -1,11 +1,10 @@
 // Bringing host and device to rest.
-ghost use Rattle.std.specs.Prelude.{◌≡◌, OnOk, OnErr};
+ghost use Rattle.std.specs.Prelude.{◌≡◌, false, OnOk, OnErr};
 ghost use Rattle.line_device.specs.Panel.{after_disarm};
-ghost use Rattle.recovery.specs.declared.fault.MountFault.TheVariants.{Device, PowerLost};
-ghost use Rattle.machine_host.specs.declared.mode.Mode.TheVariants.{On, Off, Unsettled};
+ghost use Rattle.machine_host.specs.declared.mode.Mode.TheVariants.{Off, Unsettled};
 ghost use Rattle.machine_host.specs.Machine.{Machine};
 ghost use Rattle.machine_host.specs.Stands.{HostServes, Stands};
-ghost use Rattle.machine_host.specs.Settling.{IsQuiet, LeftUnsettled, MountsAnew, Settled, Settles};
+ghost use Rattle.machine_host.specs.Settling.{IsQuiet, LeftUnsettled, MountsAnew, Settled, Settles, is_down};
 
 use super::Host;
 use crate::Mode;
@@ -14,19 +13,19 @@ use recovery::MountFault;
 use std::alloc::AllocError;
 
 impl Host {
-    /// Brings the host into mode On, so that the device can be read: what is armed ends, the power comes back where it is
-    /// off, and a device that is not mounted is mounted. Only memory can be wanting.
+    /// Brings the host into mode On, or Stopped where a line of metadata is bad, so that the device can be read: what is armed
+    /// ends, the power comes back where it is off, and a device that is not mounted is mounted. Only memory can be wanting.
     pub fn settle<D: LineDevice>(&mut self, device: &mut D) -> Result<(), AllocError>
         requires serves { HostServes self.old (D.state device.old) }
         ensures settled { OnOk result ((h : Machine) → Stands self.old (D.state device.old) h
             → Settled h self.new (after_disarm (D.state device.old).panel) (D.state device.new)) }
-        ensures on { OnOk result (self.new.mode ≡ On) }
+        ensures up { OnOk result (is_down self.new.mode ≡ false) }
         ensures memory { OnErr result
             (LeftUnsettled self.old self.new (D.state device.old) (after_disarm (D.state device.old).panel) (D.state device.new)) }
     {
         device.disarm();
         match self.mode {
-            Mode::On => Ok(()),
+            Mode::On | Mode::Stopped => Ok(()),
             Mode::Off => self.bring_back(device),
             Mode::Unsettled => self.mount_anew(device),
         }
@@ -45,7 +44,7 @@ impl Host {
     }
 
     // The device is mounted while the power is on. Nothing can stop that, where nothing is armed. A device that stands for a
-    // state is refused for nothing but memory: it has the host's sizes, and nothing is wrong with it.
+    // state is refused for nothing but memory: no word of it is wrong.
     fn mount_anew<D: LineDevice>(&mut self, device: &mut D) -> Result<(), AllocError>
         requires serves { HostServes self.old (D.state device.old) }
         requires unsettled { self.old.mode ≡ Unsettled }
@@ -54,24 +53,15 @@ impl Host {
     {
         match recovery::mount(self.alloc, device) {
             Ok(mounted) => {
-                if self.take(mounted) {
-                    Ok(())
-                } else {
-                    Err(AllocError)
-                }
+                self.take(mounted);
+                Ok(())
             }
-            Err(fault) => Err(wanted(fault)),
+            Err(MountFault::Meta(_)) => {
+                self.mode = Mode::Stopped;
+                Ok(())
+            }
+            Err(MountFault::Memory | MountFault::Layout(_)) => Err(AllocError),
+            Err(MountFault::Device | MountFault::PowerLost) => unreachable!(),
         }
-    }
-}
-
-// What a mount that the device did not stop was refused for.
-fn wanted(fault: MountFault) -> AllocError
-    requires went { fault ≡ Device → ⊥ }
-    requires powered { fault ≡ PowerLost → ⊥ }
-{
-    match fault {
-        MountFault::Memory | MountFault::Meta(_) | MountFault::Layout(_) => AllocError,
-        MountFault::Device | MountFault::PowerLost => unreachable!(),
     }
 }
