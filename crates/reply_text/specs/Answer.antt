@@ -19,6 +19,7 @@ pub data Answer : Type 0 where
   PoisonVolume : ℕ → Answer
   DeviceFailed : Answer
   PowerLost : Answer
+  Stopped : ℕ → Answer
   Refused : Why → Answer
   RefusedMeta : ℕ → Answer
 
@@ -35,6 +36,7 @@ answer_of (reply.PoisonBlock block line) = PoisonBlock block line
 answer_of (reply.PoisonVolume offset) = PoisonVolume offset
 answer_of reply.DeviceFailed = DeviceFailed
 answer_of reply.PowerLost = PowerLost
+answer_of (reply.Stopped line) = Stopped line
 answer_of (reply.Refused why) = Refused why
 answer_of (reply.RefusedMeta line) = RefusedMeta line
 
@@ -74,6 +76,7 @@ answer_text (PoisonBlock block line) = codes "poison block " ++ decimal block ++
 answer_text (PoisonVolume offset) = codes "poison volume " ++ decimal offset ++ codes " 64"
 answer_text DeviceFailed = codes "refused device"
 answer_text PowerLost = codes "power lost"
+answer_text (Stopped line) = codes "stopped meta " ++ decimal line
 answer_text (Refused why) = codes "refused " ++ why_text why
 answer_text (RefusedMeta line) = codes "refused meta " ++ decimal line
 
@@ -99,5 +102,6 @@ IsPrintable (PoisonBlock block line) = Unit {0}
 IsPrintable (PoisonVolume offset) = Unit {0}
 IsPrintable DeviceFailed = Unit {0}
 IsPrintable PowerLost = Unit {0}
+IsPrintable (Stopped line) = Unit {0}
 IsPrintable (Refused why) = Unit {0}
 IsPrintable (RefusedMeta line) = Unit {0}

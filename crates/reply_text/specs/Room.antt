@@ -2,7 +2,7 @@
 use Rattle.std.specs.Prelude.{ℕ, ◌+◌, ◌*◌, ◌^◌, ◌<◌, length}
 use Rattle.nvm_base.specs.declared.units.Span.{Span}
 use Rattle.reply_text.specs.Answer.{Answer}
-use Rattle.reply_text.specs.Answer.Answer.{Done, DoneBad, Bytes, Ranges, Yes, No, Scarred, PoisonBlock, PoisonVolume, DeviceFailed, PowerLost, Refused, RefusedMeta}
+use Rattle.reply_text.specs.Answer.Answer.{Done, DoneBad, Bytes, Ranges, Yes, No, Scarred, PoisonBlock, PoisonVolume, DeviceFailed, PowerLost, Stopped, Refused, RefusedMeta}
 
 -- the most bytes of an answer's line: the most of its DATA or of its ranges, or of an answer that has neither
 abbrev pub most_of : Answer → ℕ
@@ -17,6 +17,7 @@ most_of (PoisonBlock block line) = 64
 most_of (PoisonVolume offset) = 64
 most_of DeviceFailed = 64
 most_of PowerLost = 64
+most_of (Stopped line) = 64
 most_of (Refused why) = 64
 most_of (RefusedMeta line) = 64
 

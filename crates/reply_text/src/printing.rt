@@ -55,6 +55,7 @@ fn print_text(reply: &Reply, out: &mut Bytes) -> Result<(), AllocError>
         Reply::PoisonVolume(offset) => print_volume_line(*offset, out),
         Reply::DeviceFailed => out.extend(b"refused device"),
         Reply::PowerLost => out.extend(b"power lost"),
+        Reply::Stopped(line) => print_counted(b"stopped meta ", *line, out),
         Reply::Refused(why) => {
             out.extend(b"refused ")?;
             out.extend(word_of(*why))

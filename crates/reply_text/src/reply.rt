@@ -37,6 +37,8 @@ pub enum Reply {
     /// A call of the device failed.
     DeviceFailed,
     PowerLost,
+    /// A mount ran through and found this line of metadata bad, the lowest one.
+    Stopped(u64),
     Refused(Why),
     /// This line of metadata is bad.
     RefusedMeta(u64),
