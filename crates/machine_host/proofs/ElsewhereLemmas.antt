@@ -1,11 +1,10 @@
 -- Volume and blocks lie apart: work on the one leaves the other.
 use Rattle.std.proofs.Common.{◌≡◌, ◌⊎◌, ℕ, ◌*◌, ◌/◌, ◌<◌, ◌≤◌, IsTrue, inl, inr, List, length, refl, sym, ◌∙◌, ap, subst, arith}
 use Rattle.std.proofs.lemmas.List.{length-map}
-use Rattle.line_device.specs.History.{WordWritesBack}
 use Rattle.line_device.specs.Medium.{Medium, WritesBack}
 use Rattle.line_device.specs.Device.{Device}
 use Rattle.line_device.proofs.HistoryLemmas.{is_in-part}
-use Rattle.line_words.specs.Words.{WritesBackOutside, WritesBackBeside}
+use Rattle.line_words.specs.Words.{WritesBackOutside}
 use Rattle.word_tables.specs.declared.geometry.Geometry.{Geometry}
 use Rattle.word_tables.specs.Bounds.{IsValid}
 use Rattle.word_tables.specs.Layout.{volume_log, presence, first_range, second_range, first_line, size, meta_lines, total_lines, volume_line, HasLine}
@@ -19,17 +18,16 @@ use Rattle.block_device.specs.Object.{BlocksState}
 use Rattle.block_device.proofs.ReadLemmas.{Stays}
 use Rattle.block_device.proofs.PlaceLemmas.{area_is_block}
 use Rattle.block_device.proofs.ServesLemmas.{serves-stays, serves-write_back}
-use Rattle.page_lines.specs.Turns.{WritesBackOthers}
 use Rattle.pm_volume.specs.Area.{IsOfVolume, IsVolumePlace, volume_area}
 use Rattle.pm_volume.specs.Images.{EachReadsPages}
 use Rattle.pm_volume.specs.Object.{VolumeState, VolumeHolds, VolumeServes}
 use Rattle.pm_volume.proofs.StandingLemmas.{LineKept, line_kept-write_back, pages-kept, each_pages-kept, images-kept, volume_serves-kept}
 use Rattle.recovery.specs.Mounting.{IsOfLogs}
 use Rattle.machine_host.specs.declared.mode.Mode.{Mode}
-use Rattle.machine_host.specs.declared.mode.Mode.TheVariants.{On}
-use Rattle.machine_host.specs.Lines.{HasLayout}
+use Rattle.machine_host.specs.declared.mode.Mode.TheVariants.{On, Stopped}
 use Rattle.machine_host.specs.Stands.{HostState, HostServes, AreMounted, is_powered}
-use Rattle.machine_host.proofs.VolumeLemmas.{has_layout-write_back, volume_behind}
+use Rattle.machine_host.proofs.LayoutLemmas.{kept-outside, layout-write_back, stays_bad}
+use Rattle.machine_host.proofs.VolumeLemmas.{volume_behind}
 
 -- no line of the volume is the blocks'
 pub volume_apart : (geo : Geometry) (n : ℕ) → IsValid geo → IsOfVolume geo n → IsBlockLine geo n → ⊥
@@ -88,39 +86,6 @@ range_not_logs geo n p valid lt at (inr of) =
     let behind = volume_behind geo n in
     elim of as (λ _. ⊥) [ inl log ↦ omega (arith, log, at, behind) | inr home ↦ omega (arith, home, at, behind) ]
 
--- the layout stays
-pub layout-beside : (geo : Geometry) (lines : ℕ → Type 0) (old new : Medium) → HasLayout geo old → WritesBackBeside lines old new → HasLayout geo new
-layout-beside geo lines old new layout x = record {
-  valid = layout.valid;
-  lines = x.count ∙ layout.lines;
-  good = λ n below. x.stays_good n (layout.good n below);
-}
-
--- Lines that are not worked on are kept: words of the volume by places, and beside lines.
-pub kept-outside : (inside : ℕ → Type 0) (old new : Medium) (line : ℕ) → ((p : ℕ) → p / 8 ≡ line → inside p → ⊥) → WritesBackOutside inside old new → LineKept old new line
-kept-outside inside old new line apart x = record {
-  bad = x.bad line;
-  weak = x.weak line;
-  words = λ p at. subst (λ n. WordWritesBack (old.is_weak n) (old.history p) (new.history p)) at (x.word_write_back p (apart p at));
-}
-
-pub kept-beside : (lines : ℕ → Type 0) (old new : Medium) (line : ℕ) → (lines line → ⊥) → WritesBackBeside lines old new → LineKept old new line
-kept-beside lines old new line apart x = record {
-  bad = x.bad line apart;
-  weak = x.weak line apart;
-  words = λ p at. subst (λ n. WordWritesBack (old.is_weak n) (old.history p) (new.history p)) at (x.word_write_back p (λ of. apart (subst lines at of)));
-}
-
-pub kept-others : (lines : ℕ → Type 0) (old new : Medium) (line : ℕ) → (lines line → ⊥) → WritesBackOthers lines old new → LineKept old new line
-kept-others lines old new line apart x = record {
-  bad = x.bad line apart;
-  weak = x.weak line apart;
-  words = λ p at. subst (λ n. WordWritesBack (old.is_weak n) (old.history p) (new.history p)) at (x.word_write_back p (λ of. apart (subst lines at of)));
-}
-
-pub stays_of_kept : (old new : Medium) (line : ℕ) → LineKept old new line → Stays old new line
-stays_of_kept old new line kept = record { bad = kept.bad; word_write_back = kept.words }
-
 -- a mount leaves the lines of pages, but for write-back
 pub range_kept : (geo : Geometry) (old new : Medium) → IsValid geo → WritesBackOutside (IsOfLogs geo) old new → (n : ℕ) → n < 64 * geo.vpages → LineKept old new (volume_line geo n)
 range_kept geo old new valid x n lt = kept-outside (IsOfLogs geo) old new (volume_line geo n) (λ p at of. range_not_logs geo n p valid lt at of) x
@@ -172,9 +137,10 @@ mounted-worked geo b v w old new stays strong count mounted same settled serves 
 
 -- an order to the device, or a cut, leaves its lines but for write-back
 pub serves_ordered : (host : HostState) (mode : Mode) (old new : Device) → HostServes host old → WritesBack old.medium new.medium → new.panel.power ≡ is_powered mode → (mode ≡ On → host.mode ≡ On)
-    → HostServes (record host { mode = mode }) new
-serves_ordered host mode old new serves w power was_on = record {
-  layout = has_layout-write_back host.geometry old.medium new.medium serves.layout w;
+    → (mode ≡ Stopped → host.mode ≡ Stopped) → HostServes (record host { mode = mode }) new
+serves_ordered host mode old new serves w power was_on was_stopped = record {
+  layout = layout-write_back host.geometry old.medium new.medium serves.layout w;
   power = power;
   mounted = λ on. mounted-write_back host.geometry host.blocks host.volume old.medium new.medium serves.layout.valid w (serves.mounted (was_on on));
+  stopped = λ stop. stays_bad host.geometry old.medium new.medium (λ n below. w.bad n) (serves.stopped (was_stopped stop));
 }

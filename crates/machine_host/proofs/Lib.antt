@@ -3,7 +3,8 @@ pub mod TellingLemmas
 pub mod RunLemmas
 pub mod RefusalLemmas
 pub mod CostLemmas
-pub mod MetadataLemmas
+pub mod LayoutLemmas
+mod BadLineLemmas
 pub mod ElsewhereLemmas
 pub mod StepLemmas
 pub mod CallLemmas

@@ -1,9 +1,10 @@
 -- What a host and its device stand for, after what is done to the device.
-use Rattle.std.proofs.Common.{◌≡◌, ℕ, ◌≤◌, inl, inr, true, false, Some, None, option_map, Result, Ok, Err, OnErr, List, refl, sym, ap, subst, ◌∙◌, arith}
+use Rattle.std.proofs.Common.{◌≡◌, ℕ, ◌≤◌, inl, inr, true, false, Some, None, option_map, Result, Ok, Err, OnErr, List, [], refl, sym, ap, subst, ◌∙◌, arith}
 use Rattle.line_device.specs.Medium.{Medium, WritesBack}
 use Rattle.line_device.proofs.WriteBackLemmas.{write_back-refl}
-use Rattle.line_device.specs.Panel.{Runs, after_arm_cut, after_power_off}
-use Rattle.line_device.specs.declared.order.Order.TheVariants.{Cut as ForCut}
+use Rattle.line_device.specs.Panel.{Runs, after_arm_cut, after_arm_fail, after_power_off}
+use Rattle.line_device.specs.declared.order.Order.{Order}
+use Rattle.line_device.specs.declared.order.Order.TheVariants.{Cut as ForCut, Fail as ForFailure}
 use Rattle.line_device.specs.Panel.Outcome.{went}
 use Rattle.line_device.specs.Device.{Device}
 use Rattle.line_words.specs.declared.interruption.Interruption.{Interruption}
@@ -21,10 +22,9 @@ use Rattle.pm_volume.specs.Images.{EachReadsPages}
 use Rattle.pm_volume.specs.Object.{VolumeHolds}
 use Rattle.pm_volume.proofs.StandingLemmas.{line_kept-write_back}
 use Rattle.script_text.specs.Action.{Action}
-use Rattle.script_text.specs.Action.Action.{Cut, CutIn}
+use Rattle.script_text.specs.Action.Action.{Cut, CutIn, FailIn}
 use Rattle.reply_text.specs.Answer.{Answer}
 use Rattle.reply_text.specs.Answer.Answer.{Done, Refused}
-use Rattle.reply_text.specs.declared.reply.Why.{Why}
 use Rattle.machine_host.specs.Machine.{Machine}
 use Rattle.machine_host.specs.Commands.{MayLeaveBlocks, MayLeaveVolume, early_refusal, fate, meaning, spending, unless_refused, while_interrupted}
 use Rattle.machine_host.specs.Machine.Fate.{Works, Orders, Cuts}
@@ -34,20 +34,22 @@ use Rattle.machine_host.specs.Telling.{Tells}
 use Rattle.machine_host.specs.declared.mode.Mode.TheVariants as modes
 use Rattle.machine_host.specs.Faults.{LeavesStarved}
 use Rattle.machine_host.specs.Meaning.{Starved, mode_refusal, no_reasons}
-use Rattle.machine_host.specs.Meaning.Starved.{Untouched, WrittenBack, Unmounted}
-use Rattle.machine_host.specs.Stands.{HostState, HostServes, MetadataStands, Stands, Comes, is_powered}
-use Rattle.machine_host.proofs.ElsewhereLemmas.{pages_elsewhere, stays_of_kept, volume_holds_elsewhere}
-use Rattle.machine_host.proofs.MetadataLemmas.{metadata-outside}
+use Rattle.machine_host.specs.Meaning.Starved.{Untouched, WrittenBack, Unmounted, Unrecovered}
+use Rattle.machine_host.specs.Lines.{MetadataStands, bad_metadata}
+use Rattle.machine_host.specs.Stands.{HostState, HostServes, Stands, Comes, is_powered}
+use Rattle.machine_host.proofs.CostLemmas.{opens-refl}
+use Rattle.machine_host.proofs.ElsewhereLemmas.{pages_elsewhere, volume_holds_elsewhere}
+use Rattle.machine_host.proofs.LayoutLemmas.{layout-write_back, metadata-then, stays_of_kept}
 use Rattle.machine_host.proofs.RefusalLemmas.{early_first, fate_placed}
-use Rattle.machine_host.proofs.TellingLemmas.{interrupts, never_on, power_struck, struck, tells_interrupted, tells_nothing, tells_work}
+use Rattle.machine_host.proofs.TellingLemmas.{interrupts, never_on, never_stops, power_struck, struck, tells_interrupted, tells_nothing, tells_work}
 
 -- of a state that is whole, what blocks and volume stand for
 module _ (host : HostState) (d : Device) (h : Machine) (stands : Stands host d h) where
-  pub whole_blocks : h.interrupted ≡ None → EachReads h.geometry d.medium (λ bs. bs ≡ h.blocks)
-  whole_blocks whole = subst (λ interrupted. EachReads h.geometry d.medium (MayLeaveBlocks interrupted h.blocks)) whole stands.device.blocks
+  pub whole_blocks : h.interrupted ≡ None → h.bad_meta ≡ [] → EachReads h.geometry d.medium (λ bs. bs ≡ h.blocks)
+  whole_blocks whole good = subst (λ interrupted. EachReads h.geometry d.medium (MayLeaveBlocks interrupted h.blocks)) whole (stands.device.blocks good)
 
-  pub whole_pages : h.interrupted ≡ None → EachReadsPages h.geometry d.medium (λ pages. pages ≡ h.volume)
-  whole_pages whole = subst (λ interrupted. EachReadsPages h.geometry d.medium (MayLeaveVolume h.geometry interrupted h.volume)) whole stands.device.volume
+  pub whole_pages : h.interrupted ≡ None → h.bad_meta ≡ [] → EachReadsPages h.geometry d.medium (λ pages. pages ≡ h.volume)
+  whole_pages whole good = subst (λ interrupted. EachReadsPages h.geometry d.medium (MayLeaveVolume h.geometry interrupted h.volume)) whole (stands.device.volume good)
 
   -- with the power on nothing is interrupted
   pub is_whole : host.mode ≡ modes.On → h.interrupted ≡ None
@@ -55,13 +57,14 @@ module _ (host : HostState) (d : Device) (h : Machine) (stands : Stands host d h
 
 -- blocks stay for what they are, while other lines are worked on
 pub blocks_elsewhere : (host : HostState) (old new : Device) (h : Machine) → Stands host old h → HostServes host old → ((n : ℕ) → IsBlockLine host.geometry n → Stays old.medium new.medium n)
-    → (EachReads h.geometry new.medium (MayLeaveBlocks h.interrupted h.blocks)) × (host.mode ≡ modes.On → blocks_of host.blocks new.medium ≡ h.blocks)
+    → (h.bad_meta ≡ [] → EachReads h.geometry new.medium (MayLeaveBlocks h.interrupted h.blocks)) × (host.mode ≡ modes.On → blocks_of host.blocks new.medium ≡ h.blocks)
 blocks_elsewhere host old new h stands serves stays =
     let geo = host.geometry in
     let P = MayLeaveBlocks h.interrupted h.blocks in (
-      subst (λ g. EachReads g new.medium P) stands.geometry
+      λ good.
+          subst (λ g. EachReads g new.medium P) stands.geometry
           (each_reads-stays geo old.medium new.medium P serves.layout.valid stays
-          (subst (λ g. EachReads g old.medium P) (sym stands.geometry) stands.device.blocks)),
+          (subst (λ g. EachReads g old.medium P) (sym stands.geometry) (stands.device.blocks good))),
       λ on.
           let mounted = serves.mounted on in
           blocks_of-stays host.blocks old.medium new.medium mounted.serves.valid (λ n of. stays n (subst (λ g. IsBlockLine g n) mounted.geometry of)) mounted.serves.all mounted.serves.is_map ∙ stands.blocks on,
@@ -69,12 +72,12 @@ blocks_elsewhere host old new h stands serves stays =
 
 -- the volume stays for what it is, where all is only written back
 module _ (host : HostState) (old new : Device) (h : Machine) (stands : Stands host old h) (serves : HostServes host old) (w : WritesBack old.medium new.medium) where
-  pub pages_written_back : EachReadsPages h.geometry new.medium (MayLeaveVolume h.geometry h.interrupted h.volume)
-  pages_written_back =
+  pub pages_written_back : h.bad_meta ≡ [] → EachReadsPages h.geometry new.medium (MayLeaveVolume h.geometry h.interrupted h.volume)
+  pages_written_back good =
       let P = MayLeaveVolume h.geometry h.interrupted h.volume in
       subst (λ g. EachReadsPages g new.medium P) stands.geometry
       (pages_elsewhere host.geometry old.medium new.medium serves.layout.valid (λ line of. line_kept-write_back old.medium new.medium line w) P
-      (subst (λ g. EachReadsPages g old.medium P) (sym stands.geometry) stands.device.volume))
+      (subst (λ g. EachReadsPages g old.medium P) (sym stands.geometry) (stands.device.volume good)))
 
   pub holds_written_back : host.mode ≡ modes.On → VolumeHolds host.volume new.medium h.volume
   holds_written_back on =
@@ -85,8 +88,8 @@ module _ (host : HostState) (old new : Device) (h : Machine) (stands : Stands ho
 -- what an interrupted action left on the device
 pub record DeviceLeft (h : Machine) (action : Action) (new : Medium) : Type 0 where
   pub metadata : MetadataStands h.geometry new h.bad_meta
-  pub blocks : EachReads h.geometry new (MayLeaveBlocks (Some action) h.blocks)
-  pub volume : EachReadsPages h.geometry new (MayLeaveVolume h.geometry (Some action) h.volume)
+  pub blocks : h.bad_meta ≡ [] → EachReads h.geometry new (MayLeaveBlocks (Some action) h.blocks)
+  pub volume : h.bad_meta ≡ [] → EachReadsPages h.geometry new (MayLeaveVolume h.geometry (Some action) h.volume)
 
 module _ (host after : HostState) (old new : Device) (h : Machine) (action : Action) (stands : Stands host old h) (on : host.mode ≡ modes.On)
     (calls persists : ℕ) (few : calls ≤ (spending h action).calls) (few_persists : persists ≤ (spending h action).persists) (same : after.geometry ≡ host.geometry) where
@@ -103,7 +106,8 @@ module _ (host after : HostState) (old new : Device) (h : Machine) (action : Act
 
   -- the state after it, where blocks and pages are these
   pub stands_done : (bs : List Block) (pages : List Page) → after.mode ≡ modes.On → Runs calls persists went old.panel new.panel → MetadataStands h.geometry new.medium h.bad_meta
-      → EachReads h.geometry new.medium (λ x. x ≡ bs) → blocks_of after.blocks new.medium ≡ bs → EachReadsPages h.geometry new.medium (λ x. x ≡ pages) → VolumeHolds after.volume new.medium pages
+      → (h.bad_meta ≡ [] → EachReads h.geometry new.medium (λ x. x ≡ bs)) → blocks_of after.blocks new.medium ≡ bs → (h.bad_meta ≡ [] → EachReadsPages h.geometry new.medium (λ x. x ≡ pages))
+      → VolumeHolds after.volume new.medium pages
       → Stands after new (record h { blocks = bs; volume = pages })
   stands_done bs pages mode runs metadata reads seen each holds =
       let whole = is_whole host old h stands on in
@@ -114,12 +118,13 @@ module _ (host after : HostState) (old new : Device) (h : Machine) (action : Act
         volume = λ _. holds;
         device = record {
           metadata = metadata;
-          blocks = subst (λ interrupted. EachReads h.geometry new.medium (MayLeaveBlocks interrupted bs)) (sym whole) reads;
-          volume = subst (λ interrupted. EachReadsPages h.geometry new.medium (MayLeaveVolume h.geometry interrupted pages)) (sym whole) each;
+          blocks = λ good. subst (λ interrupted. EachReads h.geometry new.medium (MayLeaveBlocks interrupted bs)) (sym whole) (reads good);
+          volume = λ good. subst (λ interrupted. EachReadsPages h.geometry new.medium (MayLeaveVolume h.geometry interrupted pages)) (sym whole) (each good);
           power = runs.cause.0 ∙ stands.device.power;
           cut_armed = runs.cause.2 ∙ stands.device.cut_armed;
           fail_armed = runs.cause.3 ∙ stands.device.fail_armed;
           whole = stands.device.whole;
+          stopped = stands.device.stopped;
         };
       }
 
@@ -149,6 +154,7 @@ module _ (host after : HostState) (old new : Device) (h : Machine) (action : Act
         cut_armed = refl;
         fail_armed = refl;
         whole = λ is_on. absurd (never_on by is_on);
+        stopped = λ stop. absurd (never_stops by stop);
       };
     };
   }
@@ -156,8 +162,8 @@ module _ (host after : HostState) (old new : Device) (h : Machine) (action : Act
 -- what stands while all is only written back, in another mode and with other flags
 written_back : (host : HostState) (old new : Device) (h next : Machine) → Stands host old h → HostServes host old → WritesBack old.medium new.medium → (next ≡ record h { mode = next.mode; cut_armed = next.cut_armed; fail_armed = next.fail_armed })
     → new.panel.power ≡ is_powered next.mode → new.panel.cut_armed ≡ next.cut_armed → new.panel.fail_armed ≡ next.fail_armed → (next.mode ≡ modes.On → h.mode ≡ modes.On)
-    → Stands (record host { mode = next.mode }) new next
-written_back host old new h next stands serves write_back is power cut fail mode =
+    → (next.mode ≡ modes.Stopped → h.mode ≡ modes.Stopped) → Stands (record host { mode = next.mode }) new next
+written_back host old new h next stands serves write_back is power cut fail mode stop =
     let kept = blocks_elsewhere host old new h stands serves (λ n of. stays_of_kept old.medium new.medium n (line_kept-write_back old.medium new.medium n write_back)) in
     subst (λ n. Stands (record host { mode = next.mode }) new n) (sym is) (record {
       geometry = stands.geometry;
@@ -165,13 +171,14 @@ written_back host old new h next stands serves write_back is power cut fail mode
       blocks = λ on. kept.1 (stands.mode ∙ mode on);
       volume = λ on. holds_written_back host old new h stands serves write_back (stands.mode ∙ mode on);
       device = record {
-        metadata = metadata-outside h.geometry h.bad_meta old.medium new.medium stands.device.metadata (λ _. ⊥) (outside-write_back (λ _. ⊥) old.medium new.medium write_back) (λ p below none. none);
+        metadata = metadata-then h.geometry old.medium new.medium h.bad_meta (layout-write_back h.geometry old.medium new.medium stands.device.metadata.layout write_back) (λ n below. write_back.bad n) stands.device.metadata;
         blocks = kept.0;
         volume = pages_written_back host old new h stands serves write_back;
         power = power;
         cut_armed = cut;
         fail_armed = fail;
         whole = λ on. stands.device.whole (mode on);
+        stopped = λ is. stands.device.stopped (stop is);
       };
     })
 
@@ -182,7 +189,7 @@ stands_ordered host old new h next stands serves write_back is power cut fail =
     let mode : next.mode ≡ h.mode = ap (λ n. n.mode) is in
     subst (λ (s : HostState). Stands s new next) (ap (λ m. record host { mode = m }) (mode ∙ sym stands.mode))
     (written_back host old new h next stands serves write_back (is ∙ ap (λ m. record h { mode = m; cut_armed = next.cut_armed; fail_armed = next.fail_armed }) (sym mode))
-    (power ∙ stands.device.power ∙ ap is_powered (sym mode)) cut fail (λ on. sym mode ∙ on))
+    (power ∙ stands.device.power ∙ ap is_powered (sym mode)) cut fail (λ on. sym mode ∙ on) (λ stop. sym mode ∙ stop))
 
 -- A cut comes to the state without power.
 pub comes_of_cut : (host : HostState) (old new : Device) (h : Machine) → Stands host old h → HostServes host old → WritesBack old.medium new.medium
@@ -209,44 +216,69 @@ comes_of_cut host old new h stands serves write_back panel =
         setups = omega arith;
         disarms = refl;
       });
-      stands = written_back host old new h next stands serves write_back refl (ap (λ p. p.power) panel) (ap (λ p. p.cut_armed) panel) (ap (λ p. p.fail_armed) panel) (λ on. cc);
+      stands = written_back host old new h next stands serves write_back refl (ap (λ p. p.power) panel) (ap (λ p. p.cut_armed) panel) (ap (λ p. p.fail_armed) panel) (λ on. cc) (λ stop. cc stop);
     }
 
--- An order to cut comes to the state where a cut is armed.
+-- An order to the device comes to the state where something is armed.
+comes_of_order : (host : HostState) (old new : Device) (h next : Machine) (action : Action) (order : Order) → Stands host old h → HostServes host old → WritesBack old.medium new.medium
+    → Tells (with_order order Done) old.panel new.panel → (next ≡ record h { cut_armed = next.cut_armed; fail_armed = next.fail_armed }) → new.panel.power ≡ old.panel.power
+    → new.panel.cut_armed ≡ next.cut_armed → new.panel.fail_armed ≡ next.fail_armed → Comes h action (Orders order next) Done host old new
+comes_of_order host old new h next action order stands serves write_back tells is power cut fail = record {
+  said = with_order order Done;
+  next = next;
+  answers = refl;
+  takes = (refl, refl);
+  tells = tells;
+  stands = stands_ordered host old new h next stands serves write_back is power cut fail;
+}
+
 pub comes_of_cut_in : (host : HostState) (old new : Device) (h : Machine) (calls : ℕ) → Stands host old h → HostServes host old → WritesBack old.medium new.medium
     → new.panel ≡ after_arm_cut old.panel calls → Comes h (CutIn calls) (Orders (ForCut calls) (record h { cut_armed = true })) Done host old new
 comes_of_cut_in host old new h calls stands serves write_back panel =
-    let next = record h { cut_armed = true } in
-    record {
-      said = with_order (ForCut calls) Done;
-      next = next;
-      answers = refl;
-      takes = (refl, refl);
-      tells = subst (Tells (with_order (ForCut calls) Done) old.panel) (sym panel) (record {
-        starts = refl;
-        restarts = refl;
-        orders = refl;
-        arms = refl;
-        offs = omega arith;
-        faults = omega arith;
-        cuts = omega arith;
-        calls = omega arith;
-        persists = omega arith;
-        evicts = refl;
-        setups = omega arith;
-        disarms = refl;
-      });
-      stands = subst (λ (s : HostState). Stands s new next) (ap (λ m. record host { mode = m }) (sym stands.mode))
-          (written_back host old new h next stands serves write_back refl (ap (λ p. p.power) panel ∙ stands.device.power) (ap (λ p. p.cut_armed) panel) (ap (λ p. p.fail_armed) panel ∙ stands.device.fail_armed) (λ on. on));
-    }
+    comes_of_order host old new h (record h { cut_armed = true }) (CutIn calls) (ForCut calls) stands serves write_back
+    (subst (Tells (with_order (ForCut calls) Done) old.panel) (sym panel) (record {
+      starts = refl;
+      restarts = refl;
+      orders = refl;
+      arms = refl;
+      offs = omega arith;
+      faults = omega arith;
+      cuts = omega arith;
+      calls = omega arith;
+      persists = omega arith;
+      evicts = refl;
+      setups = omega arith;
+      disarms = refl;
+    }))
+    refl (ap (λ p. p.power) panel) (ap (λ p. p.cut_armed) panel) (ap (λ p. p.fail_armed) panel ∙ stands.device.fail_armed)
+
+pub comes_of_fail_in : (host : HostState) (old new : Device) (h : Machine) (calls : ℕ) → Stands host old h → HostServes host old → WritesBack old.medium new.medium
+    → new.panel ≡ after_arm_fail old.panel calls → Comes h (FailIn calls) (Orders (ForFailure calls) (record h { fail_armed = true })) Done host old new
+comes_of_fail_in host old new h calls stands serves write_back panel =
+    comes_of_order host old new h (record h { fail_armed = true }) (FailIn calls) (ForFailure calls) stands serves write_back
+    (subst (Tells (with_order (ForFailure calls) Done) old.panel) (sym panel) (record {
+      starts = refl;
+      restarts = refl;
+      orders = refl;
+      arms = refl;
+      offs = omega arith;
+      faults = omega arith;
+      cuts = omega arith;
+      calls = omega arith;
+      persists = omega arith;
+      evicts = refl;
+      setups = omega arith;
+      disarms = refl;
+    }))
+    refl (ap (λ p. p.power) panel) (ap (λ p. p.cut_armed) panel ∙ stands.device.cut_armed) (ap (λ p. p.fail_armed) panel)
 
 -- What comes of a command where mode and places are right.
-pub comes_placed : (host after : HostState) (old new : Device) (h : Machine) (action : Action) (answer : Answer) → Stands host old h → mode_refusal host.mode (meaning action).needs ≡ None
+pub comes_placed : (host after : HostState) (old new : Device) (h : Machine) (action : Action) (answer : Answer) → Stands host old h → ((bad_meta : List ℕ) → mode_refusal host.mode bad_meta (meaning action).needs ≡ None)
     → (meaning action).reasons h ≡ record no_reasons { places = option_map Refused ((meaning action).checked h.geometry) } → (meaning action).checked host.geometry ≡ None
     → Comes h action ((meaning action).comes h) answer after old new → Comes h action (fate h action) answer after old new
 comes_placed host after old new h action answer stands mode reasons places =
     subst (λ f. Comes h action f answer after old new)
-    (sym (fate_placed h action (subst (λ m. mode_refusal m (meaning action).needs ≡ None) stands.mode mode) reasons
+    (sym (fate_placed h action (subst (λ m. mode_refusal m h.bad_meta (meaning action).needs ≡ None) stands.mode (mode h.bad_meta)) reasons
     (subst (λ geo. (meaning action).checked geo ≡ None) stands.geometry places)))
 
 -- what holds at an error
@@ -259,23 +291,28 @@ on_err-with P (Ok x) p q = tt
 on_err-with P (Err e) p q = (p, q)
 
 -- where all is as it was, a command that ran out of memory leaves what it may
-pub leaves_all : (starved : Starved) (host after : HostState) (old new : Device) → after ≡ host → new ≡ old → LeavesStarved starved host after old new
-leaves_all Untouched host after old new same is = (same, is)
-leaves_all WrittenBack host after old new same is = (same, subst (λ d. WritesBack old.medium d.medium) (sym is) (write_back-refl old.medium), ap (λ d. d.panel) is)
-leaves_all (Unmounted choice) host after old new same is = inl (same, inl is)
+pub leaves_all : (starved : Starved) (host : HostState) (d : Device) → LeavesStarved starved host host d d
+leaves_all Untouched host d = (refl, refl)
+leaves_all WrittenBack host d = (refl, write_back-refl d.medium, refl)
+leaves_all (Unmounted choice) host d = inl (refl, inl refl)
+leaves_all Unrecovered host d = record { same = refl; opens = opens-refl d.panel; stands = λ h stands. stands }
 
 -- A refusal comes to itself.
-pub comes_of_refusal : (host : HostState) (d : Device) (h : Machine) (action : Action) (why : Why) → Stands host d h
-    → early_refusal host.mode host.geometry action ≡ Some why → Comes h action (fate h action) (Refused why) host d d
-comes_of_refusal host d h action why stands is =
-    subst (λ r. Comes h action (unless_refused h r ((meaning action).comes h)) (Refused why) host d d) (sym (early_first h action why there)) (record {
-      said = answered (Refused why);
+pub comes_of_refusal : (host : HostState) (d : Device) (h : Machine) (action : Action) (answer : Answer) → Stands host d h
+    → early_refusal host.mode (bad_metadata host.geometry d.medium.is_bad) host.geometry action ≡ Some answer → Comes h action (fate h action) answer host d d
+comes_of_refusal host d h action answer stands is =
+    let first = early_first h action answer there in
+    subst (λ r. Comes h action (unless_refused h r ((meaning action).comes h)) answer host d d) (sym first.0) (record {
+      said = answered answer;
       next = h;
       answers = refl;
       takes = (refl, refl);
-      tells = tells_nothing (Refused why) refl d.panel;
+      tells = tells_nothing answer first.1 d.panel;
       stands = stands;
     })
   where
-    there : early_refusal h.mode h.geometry action ≡ Some why
-    there = sym (ap (λ m. early_refusal m host.geometry action) stands.mode ∙ ap (λ geo. early_refusal h.mode geo action) stands.geometry) ∙ is
+    there : early_refusal h.mode h.bad_meta h.geometry action ≡ Some answer
+    there =
+        sym (ap (λ m. early_refusal m (bad_metadata host.geometry d.medium.is_bad) host.geometry action) stands.mode
+        ∙ ap (λ geo. early_refusal h.mode (bad_metadata geo d.medium.is_bad) geo action) stands.geometry
+        ∙ ap (λ bad. early_refusal h.mode bad h.geometry action) stands.device.metadata.bad) ∙ is

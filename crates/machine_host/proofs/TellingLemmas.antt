@@ -52,6 +52,10 @@ pub never_on : (by : Interruption) → interrupted_mode by ≡ modes.On → ⊥
 never_on Failed on = cc on
 never_on PowerLost on = cc on
 
+pub never_stops : (by : Interruption) → interrupted_mode by ≡ modes.Stopped → ⊥
+never_stops Failed stop = cc stop
+never_stops PowerLost stop = cc stop
+
 -- what the panel tells of work that went well, or was interrupted, within what may be spent
 module _ (spent : Spending) (a b : ℕ) (few : a ≤ spent.calls) (few_persists : b ≤ spent.persists) (p q : Panel) where
   pub tells_work : (answer : Answer) → stop_in answer ≡ None → Runs a b went p q → Tells (worked spent answer) p q

@@ -1,0 +1,205 @@
+-- Which lines of metadata are bad: the lowest one, what a search for it finds, and one more.
+use Rattle.std.proofs.Common.{◌≡◌, ◌≢◌, inl, inr, ℕ, ◌+◌, ◌<◌, ◌≤◌, ◌==◌, Bool, zero, suc, true, false, cond, List, [], ◌∷◌, Option, Some, None, option_map, position, nat_lt, slice_index, refl, sym, ◌∙◌, ap, ap₂, subst, arith}
+use Rattle.std.specs.Prelude.{filter}
+use Rattle.std.specs.List.{range_with_len}
+use Rattle.std.proofs.lemmas.Bool.{cases_Bool, cases_lt, lt-ltb, le-ltb, ne_eqb, eq-eqb, false≢true}
+use Rattle.std.proofs.lemmas.Option.{same_Some}
+use Rattle.line_device.specs.Medium.{Medium, IsSound, WritesBack, last_image, poisoned, with_at}
+use Rattle.word_tables.specs.declared.geometry.Geometry.{Geometry}
+use Rattle.word_tables.specs.Layout.{meta_lines}
+use Rattle.word_log.specs.Mount.{Finding}
+use Rattle.word_log.specs.Mount.Finding.{bad_line, wrong_word}
+use Rattle.nvm_model.specs.Blocks.{first_there}
+use Rattle.block_device.specs.Object.{HasGoodMetadata}
+use Rattle.block_device.proofs.PositionLemmas.{first_below, none_below}
+use Rattle.recovery.specs.Findings.{geometry_told, superblock_finding, meta_finding, early_finding, inspection_finding, first_finding, wrong_log, wrong_table}
+use Rattle.recovery.proofs.FindingLemmas.{superblock_bad}
+use Rattle.recovery.proofs.SuperblockLemmas.{early_none, some_lines, some_meta, superblock_none, superblock-poisoned, superblock_told}
+use Rattle.machine_host.specs.Lines.{HasLayout, MetadataStands, bad_metadata, lowest}
+use Rattle.machine_host.specs.OnMedia.{with_line}
+use Rattle.machine_host.proofs.LayoutLemmas.{filter-same}
+
+-- the first of some numbers that pass
+pub record IsFirst (test : ℕ → Bool) (start len line : ℕ) : Type 0 where
+  pub from : start ≤ line
+  pub within : line < start + len
+  pub here : test line ≡ true
+  pub before : (k : ℕ) → start ≤ k → k < line → test k ≡ false
+
+head_of : (x y : ℕ) (xs ys : List ℕ) → x ∷ xs ≡ y ∷ ys → x ≡ y
+head_of x y xs ys is = ap (λ (ns : List ℕ). slice_index ns 0) is
+
+pub first_of : (test : ℕ → Bool) (start len line : ℕ) (lines : List ℕ) → filter test (range_with_len start len) ≡ line ∷ lines → IsFirst test start len line
+first_of test start zero line lines is = cc is
+first_of test start (suc len) line lines is = by_test (test start) refl is
+  where
+    rest : List ℕ
+    rest = filter test (range_with_len (start + 1) len)
+
+    by_test : (b : Bool) → test start ≡ b → cond b (start ∷ rest) rest ≡ line ∷ lines → IsFirst test start (suc len) line
+    by_test true e is =
+        let at = head_of start line rest lines is in
+        record { from = omega (arith, at); within = omega (arith, at); here = ap test (sym at) ∙ e; before = λ k from below. absurd (omega (arith, at, from, below)) }
+    by_test false e is =
+        let later = first_of test (start + 1) len line lines is in
+        record {
+          from = omega (arith, later.from);
+          within = omega (arith, later.within);
+          here = later.here;
+          before = λ k from below. elim (cases_lt start k) as (λ _. test k ≡ false) [
+            | inl past ↦ later.before k (omega (arith, past)) below
+            | inr up_to ↦ let at : start ≡ k = omega (arith, from, up_to) in ap test (sym at) ∙ e
+          ];
+        }
+
+-- where none passes, none of them does
+pub none_of : (test : ℕ → Bool) (start len : ℕ) → filter test (range_with_len start len) ≡ [] → (n : ℕ) → start ≤ n → n < start + len → test n ≡ false
+none_of test start zero is n from below = absurd (omega (arith, from, below))
+none_of test start (suc len) is n from below = by_test (test start) refl is
+  where
+    rest : List ℕ
+    rest = filter test (range_with_len (start + 1) len)
+
+    by_test : (b : Bool) → test start ≡ b → cond b (start ∷ rest) rest ≡ [] → test n ≡ false
+    by_test true e is = cc is
+    by_test false e is = elim (cases_lt start n) as (λ _. test n ≡ false) [
+      | inl past ↦ none_of test (start + 1) len is n (omega (arith, past)) (omega (arith, below))
+      | inr up_to ↦ let at : start ≡ n = omega (arith, from, up_to) in ap test (sym at) ∙ e
+    ]
+
+-- one more line is bad
+one_more : (test : ℕ → Bool) (line start len : ℕ) → start ≤ line → line < start + len
+    → filter (with_at test line true) (range_with_len start len) ≡ with_line line (filter test (range_with_len start len))
+one_more test line start zero from below = absurd (omega (arith, from, below))
+one_more test line start (suc len) from below = elim (cases_lt start line) as (λ _. more (start == line) (test start) ≡ with_line line (cond (test start) (start ∷ rest) rest)) [
+  | inl past ↦ ap (λ b. more b (test start)) (ne_eqb start line (λ e. omega (arith, past, e))) ∙ later past (test start)
+  | inr up_to ↦ let at : start ≡ line = omega (arith, from, up_to) in ap (λ b. more b (test start)) (eq-eqb start line at) ∙ here at (test start)
+]
+  where
+    rest : List ℕ
+    rest = filter test (range_with_len (start + 1) len)
+
+    abbrev more : Bool → Bool → List ℕ
+    more at was = let rest = filter (with_at test line true) (range_with_len (start + 1) len) in cond (cond at true was) (start ∷ rest) rest
+
+    -- behind it nothing changes
+    behind : start ≡ line → filter (with_at test line true) (range_with_len (start + 1) len) ≡ rest
+    behind at = same_from (start + 1) len (omega (arith, at))
+      where
+        same_from : (from len : ℕ) → line < from → filter (with_at test line true) (range_with_len from len) ≡ filter test (range_with_len from len)
+        same_from from zero past = refl
+        same_from from (suc len) past =
+            ap₂ (λ b (ns : List ℕ). cond b (from ∷ ns) ns) (ap (λ b. cond b true (test from)) (ne_eqb from line (λ e. omega (arith, past, e)))) (same_from (from + 1) len (omega (arith, past)))
+
+    front : start ≡ line → (lines : List ℕ) → rest ≡ lines → start ∷ lines ≡ with_line line lines
+    front at [] is = ap (λ n. n ∷ []) at
+    front at (next ∷ lines) is =
+        let first = first_of test (start + 1) len next lines is in
+        ap (λ n. n ∷ next ∷ lines) at
+        ∙ ap (λ b. cond b (line ∷ next ∷ lines) (cond (line == next) (next ∷ lines) (next ∷ with_line line lines))) (sym (lt-ltb line next (let from = first.from in omega (arith, at, from))))
+
+    here : start ≡ line → (was : Bool) → more true was ≡ with_line line (cond was (start ∷ rest) rest)
+    here at true =
+        ap (λ ns. start ∷ ns) (behind at)
+        ∙ ap (λ b. cond b (start ∷ rest) (start ∷ with_line line rest)) (sym (eq-eqb line start (sym at)))
+        ∙ ap (λ b. cond b (line ∷ start ∷ rest) (cond (line == start) (start ∷ rest) (start ∷ with_line line rest))) (sym (le-ltb line start (omega (arith, at))))
+    here at false = ap (λ ns. start ∷ ns) (behind at) ∙ front at rest refl
+
+    later : start < line → (was : Bool) → more false was ≡ with_line line (cond was (start ∷ rest) rest)
+    later past true =
+        ap (λ ns. start ∷ ns) (one_more test line (start + 1) len (omega (arith, past)) (omega (arith, below)))
+        ∙ ap (λ b. cond b (start ∷ rest) (start ∷ with_line line rest)) (sym (ne_eqb line start (λ e. omega (arith, past, e))))
+        ∙ ap (λ b. cond b (line ∷ start ∷ rest) (cond (line == start) (start ∷ rest) (start ∷ with_line line rest))) (sym (le-ltb line start (omega (arith, past))))
+    later past false = one_more test line (start + 1) len (omega (arith, past)) (omega (arith, below))
+
+-- the first line that a search finds
+abbrev pub head : List ℕ → Option ℕ
+head [] = None
+head (line ∷ lines) = Some line
+
+pub searched : (test : ℕ → Bool) (len : ℕ) → position test (range_with_len 0 len) ≡ head (filter test (range_with_len 0 len))
+searched test len = by_list (filter test (range_with_len 0 len)) refl
+  where
+    by_list : (lines : List ℕ) → filter test (range_with_len 0 len) ≡ lines → position test (range_with_len 0 len) ≡ head lines
+    by_list [] is = none_below test len (λ k below. none_of test 0 len is k (omega arith) (omega (arith, below)))
+    by_list (line ∷ lines) is =
+        let first = first_of test 0 len line lines is in
+        first_below test len line (let w = first.within in omega (arith, w)) (λ k below. first.before k (omega arith) below) first.here
+
+module _ (geo : Geometry) (m : Medium) where
+  -- where none is bad
+  pub good_lines : bad_metadata geo m.is_bad ≡ [] → HasGoodMetadata geo m
+  good_lines none n below = none_of m.is_bad 0 (meta_lines geo) none n (omega arith) (omega (arith, below))
+
+  module _ (layout : HasLayout geo m) (sound : IsSound m) where
+    some : 1 ≤ m.count
+    some = omega (arith, layout.lines, some_lines geo)
+
+    -- a mount finds the host's sizes, if it can read them
+    pub sizes_told : m.is_bad 0 ≡ false → geometry_told m ≡ geo
+    sizes_told good = superblock_told geo m sound some good layout.superblock layout.valid
+
+    pub nothing_early : bad_metadata geo m.is_bad ≡ [] → early_finding m ≡ None
+    nothing_early none = early_none geo m sound layout.valid layout.lines (good_lines none) layout.strong layout.superblock
+
+    -- a mount finds the lowest bad line
+    pub bad_found : (line : ℕ) (lines : List ℕ) → bad_metadata geo m.is_bad ≡ line ∷ lines → first_finding m ≡ Some (bad_line line)
+    unfolding first_finding inspection_finding early_finding
+    bad_found line lines is =
+        ap (λ o. first_there (first_there o (option_map wrong_word (wrong_log (geometry_told m) (last_image m)))) (option_map wrong_word (wrong_table (geometry_told m) (last_image m)))) early
+      where
+        first : IsFirst m.is_bad 0 (meta_lines geo) line
+        first = first_of m.is_bad 0 (meta_lines geo) line lines is
+
+        early : first_there (superblock_finding m) (meta_finding (geometry_told m) m) ≡ Some (bad_line line)
+        early = elim (cases_Bool (m.is_bad 0)) as (λ _. first_there (superblock_finding m) (meta_finding (geometry_told m) m) ≡ Some (bad_line line)) [
+          | inl bad ↦
+              let at : line ≡ 0 = elim (cases_lt 0 line) as (λ _. line ≡ 0) [ inl past ↦ absurd (false≢true (sym (first.before 0 (omega arith) past) ∙ bad)) | inr zero ↦ omega (arith, zero) ] in
+              ap (λ o. first_there o (meta_finding (geometry_told m) m)) (superblock_bad m bad) ∙ ap (λ n. Some (bad_line n)) (sym at)
+          | inr good ↦
+              ap (λ o. first_there o (meta_finding (geometry_told m) m)) (superblock_none geo m sound some good layout.superblock layout.valid layout.lines)
+              ∙ ap (λ g. meta_finding g m) (sizes_told good)
+              ∙ ap (λ o. first_there (option_map bad_line o) (option_map (λ n. wrong_word (8 * n)) (position m.is_weak (range_with_len 0 (meta_lines geo))))) (searched m.is_bad (meta_lines geo) ∙ ap head is)
+        ]
+
+    -- and where it finds a bad line, that is the lowest one
+    pub found_bad : (line : ℕ) → first_finding m ≡ Some (bad_line line) → (lines : List ℕ) × (bad_metadata geo m.is_bad ≡ line ∷ lines)
+    unfolding first_finding inspection_finding
+    found_bad line found = by_list (bad_metadata geo m.is_bad) refl
+      where
+        number_in : Option Finding → ℕ
+        number_in None = 0
+        number_in (Some (bad_line n)) = n
+        number_in (Some (wrong_word n)) = n
+
+        -- no word of logs and tables is a line
+        never : (log table : Option ℕ) → first_there (first_there None (option_map wrong_word log)) (option_map wrong_word table) ≡ Some (bad_line line) → ⊥
+        never None None is = cc is
+        never None (Some at) is = cc is
+        never (Some at) table is = cc is
+
+        by_list : (lines : List ℕ) → bad_metadata geo m.is_bad ≡ lines → (lines : List ℕ) × (bad_metadata geo m.is_bad ≡ line ∷ lines)
+        by_list [] is =
+            absurd (never (wrong_log (geometry_told m) (last_image m)) (wrong_table (geometry_told m) (last_image m))
+            (sym (ap (λ o. first_there (first_there o (option_map wrong_word (wrong_log (geometry_told m) (last_image m)))) (option_map wrong_word (wrong_table (geometry_told m) (last_image m)))) (nothing_early is)) ∙ found))
+        by_list (first ∷ lines) is = (lines, is ∙ ap (λ n. n ∷ lines) (ap number_in (sym (bad_found first lines is) ∙ found)))
+
+-- a media error takes one more line of metadata
+module _ (geo : Geometry) (line : ℕ) (old new : Medium) (within : line < meta_lines geo) (w : WritesBack (poisoned old line) new) where
+  pub layout-poisoned : HasLayout geo old → HasLayout geo new
+  layout-poisoned layout = record {
+    valid = layout.valid;
+    lines = w.count ∙ layout.lines;
+    strong = λ n below. w.weak n ∙ stays_strong n (n == line) (layout.strong n below);
+    superblock = superblock-poisoned geo line old new w layout.superblock;
+  }
+    where
+      stays_strong : (n : ℕ) (b : Bool) → old.is_weak n ≡ false → cond b false (old.is_weak n) ≡ false
+      stays_strong n true strong = refl
+      stays_strong n false strong = strong
+
+  pub metadata-poisoned : (bad_meta : List ℕ) → MetadataStands geo old bad_meta → MetadataStands geo new (with_line line bad_meta)
+  metadata-poisoned bad_meta stands = record {
+    layout = layout-poisoned stands.layout;
+    bad = filter-same new.is_bad (with_at old.is_bad line true) 0 (meta_lines geo) (λ n lt. w.bad n) ∙ one_more old.is_bad line 0 (meta_lines geo) (omega arith) (omega (arith, within)) ∙ ap (with_line line) stands.bad;
+  }
