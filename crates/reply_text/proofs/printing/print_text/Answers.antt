@@ -8,9 +8,6 @@ returns-in-DeviceFailed-clause-text c =
     let extend = c.extend-in-DeviceFailed.ensures in
     rw c.in-DeviceFailed.is (Appends-whole (codes "refused device") _ _ _ extend.ok extend.err extend.succeeds extend.spare)
 
-pub returns-in-Stopped-clause-text : goal.returns-in-Stopped-clause-text
-returns-in-Stopped-clause-text c = rw c.in-Stopped.is c.print_counted-in-Stopped.ensures.text
-
 pub returns-in-RefusedMeta-clause-text : goal.returns-in-RefusedMeta-clause-text
 returns-in-RefusedMeta-clause-text c = rw c.in-RefusedMeta.is c.print_counted-in-RefusedMeta.ensures.text
 
