@@ -1,5 +1,5 @@
 -- What a host and its device stand for, after a call on the blocks.
-use Rattle.std.proofs.Common.{◌≡◌, ◌/◌, ◌≤◌, ℕ, IsTrue, nat_lt, Option, Some, None, option_map, Result, Ok, Err, OnOk, List, [], ◌∷◌, refl, sym, ap, ap₂, subst, ◌∙◌, arith}
+use Rattle.std.proofs.Common.{◌≡◌, ◌/◌, ◌<◌, ◌≤◌, ℕ, IsTrue, true, position, Option, Some, None, option_map, Result, Ok, Err, OnOk, List, [], ◌∷◌, refl, sym, ap, ap₂, subst, ◌∙◌, arith}
 use Rattle.line_device.specs.Medium.{Medium}
 use Rattle.line_device.specs.Panel.{Runs}
 use Rattle.line_device.specs.Device.{Device}
@@ -16,7 +16,8 @@ use Rattle.nvm_model.specs.Blocks.Obstacle.{scar, bad_line}
 use Rattle.block_device.specs.declared.fault.BlockFault.{BlockFault}
 use Rattle.block_device.specs.declared.fault.BlockFault.TheVariants as fault
 use Rattle.block_device.specs.Refusals as blocks
-use Rattle.block_device.proofs.PositionLemmas.{none_below}
+use Rattle.std.specs.List.{range_with_len}
+use Rattle.block_device.proofs.PositionLemmas.{fails_below}
 use Rattle.block_device.proofs.ImageLemmas.{each_reads-then, served_reads}
 use Rattle.nvm_base.specs.declared.units.Span.{Span}
 use Rattle.nvm_model.specs.Blocks.{first_there}
@@ -25,7 +26,7 @@ use Rattle.reply_text.specs.Answer.{Answer, IsPrintable}
 use Rattle.reply_text.specs.Answer.Answer.{Done}
 use Rattle.reply_text.specs.Room.{most_of}
 use Rattle.machine_host.specs.Responding.{Answered}
-use Rattle.machine_host.proofs.RefusalLemmas.{fate_changing, first_alone}
+use Rattle.machine_host.proofs.RefusalLemmas.{fate_changing, mapped_first, meta_refused}
 use Rattle.word_tables.specs.Layout.{meta_lines}
 use Rattle.word_tables.specs.declared.geometry.Geometry.{Geometry}
 use Rattle.machine_host.specs.declared.mode.Mode.TheVariants.{On}
@@ -35,9 +36,10 @@ use Rattle.machine_host.specs.OnBlocks.{changing_blocks, refusal_answer}
 use Rattle.machine_host.specs.Machine.Fate.{Works}
 use Rattle.machine_host.specs.Commands.{MayLeaveBlocks, MayLeaveVolume, fate, meaning, spending, unless_refused}
 use Rattle.machine_host.specs.Interrupted.{stop_in}
-use Rattle.machine_host.specs.Lines.{HasLayout}
+use Rattle.machine_host.specs.Lines.{HasLayout, MetadataStands, bad_metadata}
 use Rattle.machine_host.specs.declared.mode.Mode.{Mode}
-use Rattle.machine_host.specs.Stands.{HostState, HostServes, MetadataStands, AreMounted, Stands, Comes}
+use Rattle.machine_host.specs.Meaning.{metadata_refusal}
+use Rattle.machine_host.specs.Stands.{HostState, HostServes, AreMounted, Stands, Comes}
 use Rattle.machine_host.specs.Faults.{answer_after, mode_after}
 use Rattle.line_words.specs.Told.Told.{Starves}
 use Rattle.block_device.specs.Refusals.{block_says}
@@ -46,15 +48,17 @@ use Rattle.pm_volume.specs.Images.{EachReadsPages}
 use Rattle.pm_volume.specs.Object.{VolumeHolds}
 use Rattle.pm_volume.proofs.StandingLemmas.{LineKept, each_pages-then}
 use Rattle.machine_host.proofs.CallLemmas.{IsPart, comes_of_call, printable_after, serves_of_call, short_told}
-use Rattle.machine_host.proofs.ElsewhereLemmas.{first_not_blocks, kept-beside, layout-beside, pages_elsewhere, volume_apart, volume_holds_elsewhere, volume_serves_elsewhere}
-use Rattle.machine_host.proofs.MetadataLemmas.{metadata-beside, nothing_bad}
+use Rattle.machine_host.proofs.BadLineLemmas.{good_lines}
+use Rattle.machine_host.proofs.ElsewhereLemmas.{first_not_blocks, pages_elsewhere, volume_apart, volume_holds_elsewhere, volume_serves_elsewhere}
+use Rattle.machine_host.proofs.LayoutLemmas.{kept-beside, layout-beside, metadata-then}
 use Rattle.machine_host.proofs.StepLemmas.{DeviceLeft, is_whole, stands_done, whole_pages}
 
 -- what a call on the blocks says, whichever it is
 pub record Called {T : Type 0} (host : HostState) (s : BlocksState) (r : Result T BlockFault) (P : List Block → Type 0) (calls persists : ℕ) (old new : Device) : Type 0 where
   pub untouched : OnRefused r ((s ≡ host.blocks) × (new ≡ old))
-  pub images : OnWorked r (EachReads host.blocks.geo new.medium P)
+  pub images : HasGoodMetadata host.blocks.geo old.medium → OnWorked r (EachReads host.blocks.geo new.medium P)
   pub outside : WritesBackBeside (IsBlockLine host.blocks.geo) old.medium new.medium
+  pub marks : (n : ℕ) → n < meta_lines host.blocks.geo → new.medium.is_bad n ≡ old.medium.is_bad n
   pub serves : IsTrue s.settled → object.BlocksServe s new.medium
   pub object : (s.geo ≡ host.blocks.geo) × (s.settled ≡ is_done (block_outcome r))
   pub runs : Runs calls persists (block_outcome r) old.panel new.panel
@@ -122,7 +126,7 @@ module _ (host : HostState) (s : BlocksState) (old new : Device) (on : host.mode
       (λ at. volume_apart host.geometry line serves.layout.valid of (subst (λ g. IsBlockLine g line) mounted.geometry at)) outside
 
   pub layout_after : HasLayout host.geometry new.medium
-  layout_after = layout-beside host.geometry (IsBlockLine host.blocks.geo) old.medium new.medium serves.layout outside
+  layout_after = layout-beside host.geometry old.medium new.medium serves.layout (IsBlockLine host.blocks.geo) (first_not_blocks host.blocks.geo) outside
 
   mounted_after : s.geo ≡ host.blocks.geo → IsTrue s.settled → object.BlocksServe s new.medium → AreMounted host.geometry s host.volume new.medium
   mounted_after geo settled served = record {
@@ -135,11 +139,11 @@ module _ (host : HostState) (s : BlocksState) (old new : Device) (on : host.mode
         (λ n below. outside.stays_strong n (mounted.volume_serves.strong n below)) outside.count mounted.volume_serves;
   }
 
-  pub served_after : (served : object.BlocksServe s new.medium) → s.geo ≡ host.blocks.geo → EachReads host.geometry new.medium (λ bs. bs ≡ blocks_of s new.medium)
-  served_after served geo =
+  pub served_after : (served : object.BlocksServe s new.medium) → HasGoodMetadata host.geometry new.medium → s.geo ≡ host.blocks.geo → EachReads host.geometry new.medium (λ bs. bs ≡ blocks_of s new.medium)
+  served_after served good geo =
       let same = geo ∙ mounted.geometry in
       subst (λ g. EachReads g new.medium (λ bs. bs ≡ blocks_of s new.medium)) same
-      (served_reads s new.medium (subst (λ g. HasGoodMetadata g new.medium) (sym same) layout_after.good) served)
+      (served_reads s new.medium (subst (λ g. HasGoodMetadata g new.medium) (sym same) good) served)
 
 -- A call on the blocks comes to what the machine makes of it: done, refused, or interrupted.
 module _ (host : HostState) (s : BlocksState) (action : Action) (calls persists : ℕ) (h : Machine) (few : calls ≤ (spending h action).calls) (few_persists : persists ≤ (spending h action).persists)
@@ -149,11 +153,11 @@ module _ (host : HostState) (s : BlocksState) (action : Action) (calls persists 
   may = MayLeaveBlocks (Some action) (blocks_of host.blocks old.medium)
 
   -- the volume, which such a call leaves
-  pages_beside : WritesBackBeside (IsBlockLine host.blocks.geo) old.medium new.medium → EachReadsPages h.geometry new.medium (λ pages. pages ≡ h.volume)
-  pages_beside outside =
+  pages_beside : WritesBackBeside (IsBlockLine host.blocks.geo) old.medium new.medium → h.bad_meta ≡ [] → EachReadsPages h.geometry new.medium (λ pages. pages ≡ h.volume)
+  pages_beside outside good =
       subst (λ g. EachReadsPages g new.medium (λ pages. pages ≡ h.volume)) stands.geometry
       (pages_elsewhere host.geometry old.medium new.medium serves.layout.valid (kept_beside host s old new on serves outside) (λ pages. pages ≡ h.volume)
-      (subst (λ g. EachReadsPages g old.medium (λ pages. pages ≡ h.volume)) (sym stands.geometry) (whole_pages host old h stands (is_whole host old h stands on))))
+      (subst (λ g. EachReadsPages g old.medium (λ pages. pages ≡ h.volume)) (sym stands.geometry) (whole_pages host old h stands (is_whole host old h stands on) good)))
 
   holds_beside : WritesBackBeside (IsBlockLine host.blocks.geo) old.medium new.medium → VolumeHolds host.volume new.medium h.volume
   holds_beside outside =
@@ -161,20 +165,29 @@ module _ (host : HostState) (s : BlocksState) (action : Action) (calls persists 
       volume_holds_elsewhere host.geometry old.medium new.medium serves.layout.valid (kept_beside host s old new on serves outside) host.volume h.volume mounted.volume_geometry mounted.volume_serves.all (stands.volume on)
 
   -- the metadata
-  metadata_beside : WritesBackBeside (IsBlockLine host.blocks.geo) old.medium new.medium → MetadataStands h.geometry new.medium h.bad_meta
-  metadata_beside outside =
-      metadata-beside h.geometry h.bad_meta old.medium new.medium stands.device.metadata (IsBlockLine host.blocks.geo)
-      (subst (λ g. HasLayout g old.medium) stands.geometry serves.layout) outside (first_not_blocks host.blocks.geo)
+  metadata_beside : {T : Type 0} {r : Result T BlockFault} → Called host s r may calls persists old new → MetadataStands h.geometry new.medium h.bad_meta
+  metadata_beside c =
+      metadata-then h.geometry old.medium new.medium h.bad_meta
+      (layout-beside h.geometry old.medium new.medium stands.device.metadata.layout (IsBlockLine host.blocks.geo) (first_not_blocks host.blocks.geo) c.outside)
+      (λ n below. c.marks n (subst (λ g. n < meta_lines g) (sym ((serves.mounted on).geometry ∙ stands.geometry)) below)) stands.device.metadata
+
+  good_after : {T : Type 0} {r : Result T BlockFault} → Called host s r may calls persists old new → h.bad_meta ≡ [] → HasGoodMetadata host.geometry new.medium
+  good_after c good = subst (λ g. HasGoodMetadata g new.medium) (sym stands.geometry) (good_lines h.geometry new.medium ((metadata_beside c).bad ∙ good))
+
+  good_was : h.bad_meta ≡ [] → HasGoodMetadata host.blocks.geo old.medium
+  good_was good =
+      subst (λ g. HasGoodMetadata g old.medium) (sym ((serves.mounted on).geometry ∙ stands.geometry)) (good_lines h.geometry old.medium (stands.device.metadata.bad ∙ good))
 
   -- the state after a call that went well
   stands_called : {T : Type 0} (r : Result T BlockFault) → Called host s r may calls persists old new → OnOk r (blocks_of s new.medium ≡ f (blocks_of host.blocks old.medium))
       → OnOk r (Stands (host_after host s On) new (record h { blocks = f h.blocks }))
   stands_called (Ok x) c ok =
       let now : blocks_of s new.medium ≡ f h.blocks = ok ∙ ap f (stands.blocks on) in
-      stands_done host (host_after host s On) old new h action stands on calls persists few few_persists refl (f h.blocks) h.volume refl c.runs (metadata_beside c.outside)
-      (subst (λ g. EachReads g new.medium (λ bs. bs ≡ f h.blocks)) stands.geometry
+      stands_done host (host_after host s On) old new h action stands on calls persists few few_persists refl (f h.blocks) h.volume refl c.runs (metadata_beside c)
+      (λ good.
+      subst (λ g. EachReads g new.medium (λ bs. bs ≡ f h.blocks)) stands.geometry
       (each_reads-then host.geometry new.medium (λ bs. bs ≡ blocks_of s new.medium) (λ bs. bs ≡ f h.blocks) (λ bs e. e ∙ now)
-      (served_after host s old new on serves c.outside (c.serves c.object.1) c.object.0)))
+      (served_after host s old new on serves c.outside (c.serves c.object.1) (good_after c good) c.object.0)))
       now (pages_beside c.outside) (holds_beside c.outside)
   stands_called (Err e) c ok = tt
 
@@ -184,18 +197,19 @@ module _ (host : HostState) (s : BlocksState) (action : Action) (calls persists 
       subst (λ bs. EachReads h.geometry new.medium (MayLeaveBlocks (Some action) bs)) (stands.blocks on)
       (subst (λ g. EachReads g new.medium may) ((serves.mounted on).geometry ∙ stands.geometry) each)
 
-  left_by : MayLeaveVolume h.geometry (Some action) h.volume h.volume → WritesBackBeside (IsBlockLine host.blocks.geo) old.medium new.medium → EachReads host.blocks.geo new.medium may
+  left_by : {T : Type 0} {r : Result T BlockFault} → MayLeaveVolume h.geometry (Some action) h.volume h.volume → Called host s r may calls persists old new → (h.bad_meta ≡ [] → EachReads host.blocks.geo new.medium may)
       → DeviceLeft h action new.medium
-  left_by left outside each = record {
-    metadata = metadata_beside outside;
-    blocks = blocks_interrupted each;
-    volume = each_pages-then h.geometry new.medium (λ pages. pages ≡ h.volume) (MayLeaveVolume h.geometry (Some action) h.volume)
-        (λ pages same. subst (MayLeaveVolume h.geometry (Some action) h.volume) (sym same) left) (pages_beside outside);
+  left_by left c each = record {
+    metadata = metadata_beside c;
+    blocks = λ good. blocks_interrupted (each good);
+    volume = λ good.
+        each_pages-then h.geometry new.medium (λ pages. pages ≡ h.volume) (MayLeaveVolume h.geometry (Some action) h.volume)
+        (λ pages same. subst (MayLeaveVolume h.geometry (Some action) h.volume) (sym same) left) (pages_beside c.outside good);
   }
 
   left_called : {T : Type 0} (r : Result T BlockFault) → MayLeaveVolume h.geometry (Some action) h.volume h.volume → Called host s r may calls persists old new → OnWorked r (DeviceLeft h action new.medium)
-  left_called (Ok x) left c = left_by left c.outside c.images
-  left_called (Err e) left c = λ worked. left_by left c.outside (c.images worked)
+  left_called (Ok x) left c = left_by left c (λ good. c.images (good_was good))
+  left_called (Err e) left c = λ worked. left_by left c (λ good. c.images (good_was good) worked)
 
 same_host : {T : Type 0} (host : HostState) (s : BlocksState) (r : Result T BlockFault) (old new : Device) → OnRefused r ((s ≡ host.blocks) × (new ≡ old)) → OnRefused r ((host_after host s host.mode ≡ host) × (new ≡ old))
 same_host host s (Ok x) old new untouched = tt
@@ -210,55 +224,68 @@ on_refused-then : {T P Q : Type 0} (r : Result T BlockFault) → (P → Q) → O
 on_refused-then (Ok x) then_ p = tt
 on_refused-then (Err f) then_ p = λ told. then_ (p told)
 
+-- a call that a bad line of metadata refuses leaves the marks of metadata
+last_none : {A : Type 0} (a b : Option A) → first_there a b ≡ None → b ≡ None
+last_none None b none = none
+last_none (Some x) b none = cc none
+
+pub unrefused : (geo : Geometry) (m : Medium) (places : Option Refusal) → first_there places (blocks.meta_refusal geo m) ≡ None → HasGoodMetadata geo m
+unrefused geo m places none n below = fails_below m.is_bad (meta_lines geo) n (not_mapped Meta (position m.is_bad (range_with_len 0 (meta_lines geo))) (last_none places (blocks.meta_refusal geo m) none)) below
+  where
+    not_mapped : {A B : Type 0} (f : A → B) (o : Option A) → option_map f o ≡ None → o ≡ None
+    not_mapped f None none = refl
+    not_mapped f (Some x) none = cc none
+
+pub marks_kept : {Q : Type 0} (geo : Geometry) (old new : Device) (lines : ℕ → Type 0) (r : Result (Unit {0}) BlockFault) (places : Option Refusal) → Answers (first_there places (blocks.meta_refusal geo old.medium)) r → OnRefused r (Q × (new ≡ old))
+    → WritesBackBeside lines old.medium new.medium → (n : ℕ) → n < meta_lines geo → new.medium.is_bad n ≡ old.medium.is_bad n
+marks_kept geo old new lines r places answers untouched x n below = by_refusal (first_there places (blocks.meta_refusal geo old.medium)) refl r answers untouched
+  where
+    worked : first_there places (blocks.meta_refusal geo old.medium) ≡ None → new.medium.is_bad n ≡ old.medium.is_bad n
+    worked none = let good = unrefused geo old.medium places none n below in x.stays_good n good ∙ sym good
+
+    by_refusal : {Q : Type 0} (why : Option Refusal) → first_there places (blocks.meta_refusal geo old.medium) ≡ why → (r : Result (Unit {0}) BlockFault) → Answers why r → OnRefused r (Q × (new ≡ old))
+        → new.medium.is_bad n ≡ old.medium.is_bad n
+    by_refusal None is r answers untouched = worked is
+    by_refusal (Some w) is (Ok x) answers untouched = absurd answers
+    by_refusal (Some w) is (Err f) answers untouched = ap (λ d. d.medium.is_bad n) (untouched (λ none. cc (none, answers))).1
+
 -- a call that changes blocks, whichever, by its clauses
-pub called : {D : Type 0} (state : D → Device) (host : HostState) (s : BlocksState) (r : Result (Unit {0}) BlockFault) (P : List Block → Type 0) (calls persists : ℕ) (before after : D)
-    → OnRefused r ((s ≡ host.blocks) × (after ≡ before)) → OnWorked r (EachReads host.blocks.geo (state after).medium P)
+pub called : {D : Type 0} (state : D → Device) (host : HostState) (s : BlocksState) (r : Result (Unit {0}) BlockFault) (P : List Block → Type 0) (calls persists : ℕ) (before after : D) (places : Option Refusal)
+    → Answers (first_there places (blocks.meta_refusal host.blocks.geo (state before).medium)) r → OnRefused r ((s ≡ host.blocks) × (after ≡ before)) → OnWorked r (EachReads host.blocks.geo (state after).medium P)
     → WritesBackBeside (IsBlockLine host.blocks.geo) (state before).medium (state after).medium → (IsTrue s.settled → object.BlocksServe s (state after).medium)
     → (s.geo ≡ host.blocks.geo) × (s.settled ≡ is_done (block_outcome r)) → Runs calls persists (block_outcome r) (state before).panel (state after).panel
     → Called host s r P calls persists (state before) (state after)
-called state host s r P calls persists before after untouched images outside serves object runs = record {
+called state host s r P calls persists before after places refused untouched images outside serves object runs = record {
   untouched = on_refused-then r (λ same. (same.0, ap state same.1)) untouched;
-  images = images;
+  images = λ good. images;
   outside = outside;
+  marks = marks_kept host.blocks.geo (state before) (state after) (IsBlockLine host.blocks.geo) r places refused (on_refused-then r (λ same. (same.0, ap state same.1)) untouched) outside;
   serves = serves;
   object = object;
   runs = runs;
 }
 
--- where nothing is bad, no line of metadata refuses
-pub no_meta : (geo : Geometry) (m : Medium) → HasLayout geo m → blocks.meta_refusal geo m ≡ None
-no_meta geo m layout = ap (option_map Meta) (none_below m.is_bad (meta_lines geo) layout.good)
+-- the first of three reasons
+pub first_assoc : {A : Type 0} (a b c : Option A) → first_there (first_there a b) c ≡ first_there a (first_there b c)
+first_assoc None b c = refl
+first_assoc (Some x) b c = refl
 
 -- of a state that the host stands for, the refusals of the blocks are the machine's
 module _ (host : HostState) (old : Device) (h : Machine) (serves : HostServes host old) (stands : Stands host old h) (on : host.mode ≡ On) where
-  blocks_there : host.blocks.geo.blocks ≡ h.geometry.blocks
-  blocks_there = ap (λ g. g.blocks) ((serves.mounted on).geometry ∙ stands.geometry)
+  geo_there : host.blocks.geo ≡ h.geometry
+  geo_there = (serves.mounted on).geometry ∙ stands.geometry
 
-  meta_none : blocks.meta_refusal host.blocks.geo old.medium ≡ None
-  meta_none = subst (λ g. blocks.meta_refusal g old.medium ≡ None) (sym (serves.mounted on).geometry) (no_meta host.geometry old.medium serves.layout)
+  -- a bad line of metadata refuses what would change it
+  pub meta_same : metadata_refusal true h.bad_meta ≡ option_map refusal_answer (blocks.meta_refusal host.blocks.geo old.medium)
+  meta_same =
+      ap (metadata_refusal true) (sym stands.device.metadata.bad ∙ ap (λ g. bad_metadata g old.medium.is_bad) (sym geo_there))
+      ∙ meta_refused Meta refusal_answer (λ n. refl) host.blocks.geo old.medium.is_bad
 
-  -- no line of metadata of the state is bad
-  pub good_state : h.bad_meta ≡ []
-  good_state = nothing_bad h.geometry old.medium h.bad_meta (subst (λ g. HasLayout g old.medium) stands.geometry serves.layout) stands.device.metadata
-
-  with_meta : (o : Option Refusal) → o ≡ first_there o (blocks.meta_refusal host.blocks.geo old.medium)
-  with_meta o = sym (first_alone o) ∙ ap (first_there o) (sym meta_none)
-
-  pub refused_write : (block len : ℕ) → blocks.bytes_refusal h.geometry.blocks block len ≡ blocks.write_refusal host.blocks old.medium block len
-  refused_write block len = ap (λ n. blocks.bytes_refusal n block len) (sym blocks_there) ∙ with_meta (blocks.bytes_refusal host.blocks.geo.blocks block len)
-
-  pub refused_atomic : (block len : ℕ) → first_there (blocks.bytes_refusal h.geometry.blocks block len) (blocks.where_ (nat_lt 64 (len / 512)) Limit) ≡ blocks.atomic_refusal host.blocks old.medium block len
-  refused_atomic block len =
-      ap₂ first_there (ap (λ n. blocks.bytes_refusal n block len) (sym blocks_there)) (with_meta (blocks.where_ (nat_lt 64 (len / 512)) Limit))
-
-  pub refused_multi : (ranges : List Span) → blocks.ranges_refusal h.geometry.blocks ranges ≡ blocks.multiwrite_refusal host.blocks old.medium ranges
-  refused_multi ranges = ap (λ n. blocks.ranges_refusal n ranges) (sym blocks_there) ∙ with_meta (blocks.ranges_refusal host.blocks.geo.blocks ranges)
-
-  pub refused_change : (spans : List Span) → blocks.together_refusal h.geometry.blocks spans ≡ blocks.change_refusal host.blocks old.medium spans
-  refused_change spans = ap (λ n. blocks.together_refusal n spans) (sym blocks_there) ∙ with_meta (blocks.together_refusal host.blocks.geo.blocks spans)
-
-  pub refused_hint : (span : Span) → blocks.spans_refusal h.geometry.blocks (span ∷ []) ≡ blocks.hint_refusal host.blocks old.medium span
-  refused_hint span = ap (λ n. blocks.spans_refusal n (span ∷ [])) (sym blocks_there) ∙ with_meta (blocks.spans_refusal host.blocks.geo.blocks (span ∷ []))
+  pub refused_places : (places : ℕ → Option Refusal) → first_there (option_map refusal_answer (places h.geometry.blocks)) (metadata_refusal true h.bad_meta)
+      ≡ option_map refusal_answer (first_there (places host.blocks.geo.blocks) (blocks.meta_refusal host.blocks.geo old.medium))
+  refused_places places =
+      ap₂ (λ (g : Geometry) o. first_there (option_map refusal_answer (places g.blocks)) o) (sym geo_there) meta_same
+      ∙ mapped_first refusal_answer (places host.blocks.geo.blocks) (blocks.meta_refusal host.blocks.geo old.medium)
 
 -- The same of a host behind a reference: `host` is what is inside `now`, and `after` what the answer leaves.
 module _ (now host after : HostState) (s : BlocksState) (r : Result (Unit {0}) BlockFault) (calls persists : ℕ) (old new : Device)
@@ -292,14 +319,14 @@ module _ (now host after : HostState) (s : BlocksState) (r : Result (Unit {0}) B
       (left_called host s action calls persists h (few h) (few_persists h) old new on_inside serves_inside stands_inside f r left call) call.runs)))
 
   -- a change of the blocks, by its row, is answered
-  pub change_answered : (answer : Answer) (why : BlocksState → Option Refusal) (places : ℕ → Option Refusal) (f : List Block → List Block) (left : BlocksLeft) (a b : ℕ) → meaning action ≡ changing_blocks places f left a b
+  pub change_answered : (answer : Answer) (places : ℕ → Option Refusal) (f : List Block → List Block) (left : BlocksLeft) (a b : ℕ) → meaning action ≡ changing_blocks places f left a b
       → ((h : Machine) → MayLeaveVolume h.geometry (Some action) h.volume h.volume)
-      → ((h : Machine) → HostServes host old → Stands host old h → host.mode ≡ On → places h.geometry.blocks ≡ why host.blocks)
-      → Answers (why host.blocks) r → OnOk r (blocks_of s new.medium ≡ f (blocks_of host.blocks old.medium)) → answer ≡ answer_after block_says refusal_answer Done r → Answered action answer now after old new
-  change_answered answer why places f left a b row kept refusal refused ok answer_is = record {
-    step = λ h stands. change_comes h Done answer (why host.blocks) f refl stands (kept h)
-        (λ serves stands on. fate_changing h action places f left a b row (sym stands.mode ∙ on) (good_state host old h serves stands on)
-        ∙ ap (λ o. unless_refused h (option_map refusal_answer o) (Works Done (record h { blocks = f h.blocks }))) (refusal h serves stands on))
+      → Answers (first_there (places host.blocks.geo.blocks) (blocks.meta_refusal host.blocks.geo old.medium)) r → OnOk r (blocks_of s new.medium ≡ f (blocks_of host.blocks old.medium))
+      → answer ≡ answer_after block_says refusal_answer Done r → Answered action answer now after old new
+  change_answered answer places f left a b row kept refused ok answer_is = record {
+    step = λ h stands. change_comes h Done answer (first_there (places host.blocks.geo.blocks) (blocks.meta_refusal host.blocks.geo old.medium)) f refl stands (kept h)
+        (λ serves stands on. fate_changing h action places f left a b row (sym stands.mode ∙ on)
+        ∙ ap (λ o. unless_refused h o (Works Done (record h { blocks = f h.blocks }))) (refused_places host old h serves stands on places))
         refused ok answer_is;
     printable = subst IsPrintable (sym answer_is) (printable_after block_says refusal_answer blocks_part Done tt r);
     room = let short = subst (λ a. most_of a ≤ 64) (sym answer_is) (short_after r) in subst (λ m. most_of answer ≤ m.room) (sym row) short;

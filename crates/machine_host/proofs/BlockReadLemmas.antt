@@ -10,7 +10,7 @@ use Rattle.nvm_model.specs.Storage.{Block}
 use Rattle.nvm_model.specs.Blocks.{first_there, first_obstacle, look_blocks}
 use Rattle.nvm_model.proofs.NumberedLemmas.{length-list_from}
 use Rattle.block_device.specs.Area.{IsBlockLine}
-use Rattle.block_device.specs.Object.{BlocksState, blocks_of}
+use Rattle.block_device.specs.Object.{BlocksState, HasGoodMetadata, blocks_of}
 use Rattle.block_device.specs.Object.{BlocksServe as ServesBlocks}
 use Rattle.block_device.specs.Images.{EachReads}
 use Rattle.block_device.specs.Refusals.{told, Answers, OnRefused, OnWorked, block_outcome, bytes_refusal, read_refusal, where_}
@@ -110,19 +110,20 @@ module _ (now host after : HostState) (s : BlocksState) (r : Result (Unit {0}) B
   abbrev may : List Block → Type 0
   may = MayLeaveBlocks (Some (BRead block count)) (blocks_of host.blocks old.medium)
 
-  reads : EachReads host.blocks.geo new.medium may
-  reads =
+  reads : HasGoodMetadata host.blocks.geo old.medium → EachReads host.blocks.geo new.medium may
+  reads good =
       let layout = subst (λ g. HasLayout g old.medium) geo_was serves.layout in
       let served_was = subst (λ k. ServesBlocks k.blocks old.medium) (sym inside) (serves.mounted on).serves in
       each_reads-write_back host.blocks.geo old.medium new.medium may layout.valid lines
       (each_reads-then host.blocks.geo old.medium (λ bs. bs ≡ blocks_of host.blocks old.medium) may (λ bs e. e)
-      (served_reads host.blocks old.medium layout.good served_was))
+      (served_reads host.blocks old.medium good served_was))
 
   call : Called host s r may calls 0 old new
   call = record {
     untouched = same_object r untouched object;
-    images = on_worked r reads;
+    images = λ good. on_worked r (reads good);
     outside = beside-write_back (IsBlockLine host.blocks.geo) old.medium new.medium lines;
+    marks = λ n below. lines.bad n;
     serves = λ _. served;
     object = (ap (λ k. k.geo) object, ap (λ k. k.settled) object);
     runs = runs;

@@ -20,7 +20,7 @@ use Rattle.machine_host.specs.Lines.{HasLayout}
 use Rattle.machine_host.specs.Run.{answered}
 use Rattle.machine_host.specs.Stands.{HostState, HostServes, Stands, AreMounted, Comes, is_powered}
 use Rattle.machine_host.proofs.StepLemmas.{DeviceLeft, comes_of_done, comes_of_interruption}
-use Rattle.machine_host.proofs.TellingLemmas.{never_on, tells_nothing}
+use Rattle.machine_host.proofs.TellingLemmas.{never_on, never_stops, tells_nothing}
 
 -- a fault that refuses is answered as its reason is, and leaves the mode
 answer_told : {R : Type 0} (answer : R → Answer) (t : Told R) (w : R) → refusal_of t ≡ Some w → told_answer answer t ≡ answer w
@@ -122,11 +122,13 @@ module _ {E R : Type 0} (says : E → Told R) (answer : R → Answer) (part : Is
         layout = layout_now (interrupted_mode Failed);
         power = powered (interrupted_mode Failed) true (runs.cause.0 ∙ power_was) refl;
         mounted = λ e. absurd (never_on Failed (sym (in_mode (interrupted_mode Failed)) ∙ e));
+        stopped = λ e. absurd (never_stops Failed (sym (in_mode (interrupted_mode Failed)) ∙ e));
       }
       by_told (Stops PowerLost) never untouched runs = record {
         layout = layout_now (interrupted_mode PowerLost);
         power = powered (interrupted_mode PowerLost) false runs.cause.0 refl;
         mounted = λ e. absurd (never_on PowerLost (sym (in_mode (interrupted_mode PowerLost)) ∙ e));
+        stopped = λ e. absurd (never_stops PowerLost (sym (in_mode (interrupted_mode PowerLost)) ∙ e));
       }
       by_told Starves never untouched runs = absurd (never refl)
 
@@ -136,5 +138,6 @@ module _ {E R : Type 0} (says : E → Told R) (answer : R → Answer) (part : Is
         layout = layout_now On;
         power = powered On true (runs.cause.0 ∙ power_was) refl;
         mounted = λ _. subst (λ g. AreMounted g (after On).blocks (after On).volume new.medium) (sym (same On)) mounted;
+        stopped = λ e. let is = in_mode On in cc (is, e);
       }
       by_result (Err f) untouched mounted runs = by_told (says f) (part.fed f) untouched runs

@@ -25,7 +25,7 @@ use Rattle.reply_text.specs.declared.reply.Why.TheVariants as because
 use Rattle.machine_host.specs.declared.mode.Mode.TheVariants.{On}
 use Rattle.machine_host.specs.Machine.{Machine, Fate}
 use Rattle.machine_host.specs.Meaning.{first_reason, mode_refusal, no_reasons}
-use Rattle.machine_host.specs.Meaning.Needs.{Usable}
+use Rattle.machine_host.specs.declared.needs.Needs.TheVariants.{Usable}
 use Rattle.machine_host.specs.Commands.{fate, refusal, unless_refused}
 use Rattle.machine_host.specs.Machine.Fate.{Gives}
 use Rattle.machine_host.proofs.RefusalLemmas.{first_alone}
@@ -71,7 +71,7 @@ module _ (now host : HostState) (d : Device) (h : Machine) (block : ℕ) where
   unfolding refusal
   fate_exists on there is =
       let comes : Fate = Gives (said (is_there (nth h.blocks block))) h in
-      ap (λ mode. unless_refused h (first_reason (mode_refusal mode Usable) h.bad_meta (record no_reasons { places = if nat_lt block h.geometry.blocks then None else Some (Refused because.Range) })) comes) on
+      ap (λ mode. unless_refused h (first_reason (mode_refusal mode h.bad_meta Usable) h.bad_meta (record no_reasons { places = if nat_lt block h.geometry.blocks then None else Some (Refused because.Range) })) comes) on
       ∙ ap (λ b. unless_refused h (first_reason None h.bad_meta (record no_reasons { places = if b then None else Some (Refused because.Range) })) comes) is
       ∙ ap (λ o. unless_refused h o comes) (first_alone (if there then None else Some (Refused because.Range)))
 
@@ -105,7 +105,7 @@ module _ (now host : HostState) (d : Device) (h : Machine) (page : ℕ) (inside 
   unfolding refusal
   fate_vexists within is =
       let comes : Fate = Gives (yes_or_no (slice_index_or (presence_of h.volume) page false)) h in
-      ap (λ mode. unless_refused h (first_reason (mode_refusal mode Usable) h.bad_meta (record no_reasons { places = if nat_lt page h.geometry.vpages then None else Some (Refused because.Range) })) comes) (sym stands.mode ∙ on)
+      ap (λ mode. unless_refused h (first_reason (mode_refusal mode h.bad_meta Usable) h.bad_meta (record no_reasons { places = if nat_lt page h.geometry.vpages then None else Some (Refused because.Range) })) comes) (sym stands.mode ∙ on)
       ∙ ap (λ b. unless_refused h (first_reason None h.bad_meta (record no_reasons { places = if b then None else Some (Refused because.Range) })) comes) is
       ∙ ap (λ o. unless_refused h o comes) (first_alone (if within then None else Some (Refused because.Range)))
 
@@ -135,7 +135,7 @@ pub comes_of_vranges : (now : HostState) (d : Device) (h : Machine) (ranges : Li
 unfolding refusal
 comes_of_vranges now d h ranges on stands is =
     let gives : fate h VRanges ≡ Gives (Ranges ranges) h =
-    ap (λ mode. unless_refused h (first_reason (mode_refusal mode Usable) h.bad_meta no_reasons) (Gives (Ranges (volume_ranges h.geometry)) h)) (sym stands.mode ∙ on)
+    ap (λ mode. unless_refused h (first_reason (mode_refusal mode h.bad_meta Usable) h.bad_meta no_reasons) (Gives (Ranges (volume_ranges h.geometry)) h)) (sym stands.mode ∙ on)
     ∙ ap (λ r. Gives (Ranges r) h) (ap volume_ranges (sym stands.geometry) ∙ sym is) in
     subst (λ fate. Comes h VRanges fate (Ranges ranges) now d d) (sym gives) (same_state now d h VRanges (Ranges ranges) refl stands)
 

@@ -41,13 +41,13 @@ use Rattle.machine_host.specs.declared.mode.Mode.TheVariants.{On}
 use Rattle.machine_host.specs.Machine.{Machine}
 use Rattle.machine_host.specs.Machine.Fate.{Gives, Works}
 use Rattle.machine_host.specs.Commands.{MayLeaveVolume, fate, longest, meaning, unless_refused}
-use Rattle.machine_host.specs.Meaning.Needs.{Usable}
+use Rattle.machine_host.specs.declared.needs.Needs.TheVariants.{Usable}
+use Rattle.machine_host.specs.Meaning.{metadata_refusal}
 use Rattle.machine_host.specs.Faults.{answer_after}
 use Rattle.machine_host.specs.Interrupted.{stop_in}
 use Rattle.machine_host.specs.OnMedia.{line_answer}
 use Rattle.machine_host.specs.Responding.{Answered}
 use Rattle.machine_host.specs.Stands.{HostState, HostServes, AreMounted, Stands, Comes}
-use Rattle.machine_host.proofs.BlockLemmas.{good_state}
 use Rattle.machine_host.proofs.CallLemmas.{IsPart, printable_told, short_told}
 use Rattle.machine_host.proofs.ElsewhereLemmas.{line_of_range, volume_apart}
 use Rattle.machine_host.proofs.MediaLemmas.{IsRefusal, answers_told, blocks_marked, blocks_marked_serve, comes_of_marking, volume_marked, volume_marked_serves}
@@ -113,13 +113,14 @@ byte_within geo offset rest = by_test (nat_le (4096 * geo.vpages) offset) refl
 held : (s : VolumeState) (m : Medium) → VolumeHolds s m (device_pages (volume_line s.geo) m s.present)
 held s m = record { there = presence_of-device (volume_line s.geo) m s.present; stand = device_pages-stand (volume_line s.geo) m s.present }
 
--- the state is the host's, so no line of metadata is bad there, and a row of places alone is its fate
+-- a row of places alone is its fate
 fate_marking : (host : HostState) (old : Device) (h : Machine) (action : Action) → HostServes host old → Stands host old h → host.mode ≡ On → (meaning action).needs ≡ Usable
-    → ((meaning action).reasons h).named ≡ None → ((meaning action).reasons h).full ≡ None → ((meaning action).reasons h).unreadable ≡ None
+    → ((meaning action).reasons h).named ≡ None → ((meaning action).reasons h).full ≡ None → ((meaning action).reasons h).changes_metadata ≡ false → ((meaning action).reasons h).unreadable ≡ None
     → fate h action ≡ unless_refused h ((meaning action).reasons h).places ((meaning action).comes h)
-fate_marking host old h action serves stands on needs named full readable =
+fate_marking host old h action serves stands on needs named full changes readable =
     let r = (meaning action).reasons h in
-    fate_worked h action needs (sym stands.mode ∙ on) (good_state host old h serves stands on) named full
+    fate_worked h action needs (sym stands.mode ∙ on) named full
+    ∙ ap (λ b. unless_refused h (first_there r.places (first_there (metadata_refusal b h.bad_meta) r.unreadable)) ((meaning action).comes h)) changes
     ∙ ap (λ o. unless_refused h (first_there r.places o) ((meaning action).comes h)) readable
     ∙ ap (λ o. unless_refused h o ((meaning action).comes h)) (first_alone r.places)
 
@@ -152,7 +153,7 @@ module _ (host : HostState) (old new : Device) (serves : HostServes host old) (o
         let seen : block_refusal host.blocks.geo.blocks (blocks_of host.blocks old.medium) block line ≡ block_refusal h.geometry.blocks h.blocks block line =
         ap₂ (λ n bs. block_refusal n bs block line) (ap (λ g. g.blocks) (mounted.geometry ∙ stands.geometry)) (stands.blocks on) in
         subst (λ a. Comes h (PoisonBlock block line) (fate h (PoisonBlock block line)) a host old new) (sym answer_is)
-        (subst (λ f. Comes h (PoisonBlock block line) f (answer_after place_says line_answer Done r) host old new) (sym (fate_marking host old h (PoisonBlock block line) serves stands on refl refl refl refl))
+        (subst (λ f. Comes h (PoisonBlock block line) f (answer_after place_says line_answer Done r) host old new) (sym (fate_marking host old h (PoisonBlock block line) serves stands on refl refl refl refl refl))
         (comes_of_marking place_says line_answer quiet_line host old new h (record h { blocks = lose block line h.blocks }) (PoisonBlock block line) r (block_refusal h.geometry.blocks h.blocks block line) stands panel
         (subst (λ o. Answers place_says o r) seen refused) (if_err_all r place_refuses) untouched (stands_ok r refused ok h stands)));
     printable = subst IsPrintable (sym answer_is) (line_printable place_says r);
@@ -240,11 +241,11 @@ module _ (host : HostState) (old new : Device) (serves : HostServes host old) (o
 -- a state's fate, by the row that marks a line of the volume
 pub fate_poison : (host : HostState) (old : Device) (h : Machine) (offset : ℕ) → HostServes host old → Stands host old h → host.mode ≡ On
     → fate h (PoisonVolume offset) ≡ unless_refused h (option_map line_answer (place_refusal h.geometry h.volume offset)) (Gives Done (record h { volume = change_line lose_cell (offset / 64) h.volume }))
-fate_poison host old h offset serves stands on = fate_marking host old h (PoisonVolume offset) serves stands on refl refl refl refl
+fate_poison host old h offset serves stands on = fate_marking host old h (PoisonVolume offset) serves stands on refl refl refl refl refl
 
 pub fate_weaken : (host : HostState) (old : Device) (h : Machine) (offset : ℕ) → HostServes host old → Stands host old h → host.mode ≡ On
     → fate h (WeakenVolume offset) ≡ unless_refused h (option_map line_answer (place_refusal h.geometry h.volume offset)) (Gives Done (record h { volume = change_line weaken_cell (offset / 64) h.volume }))
-fate_weaken host old h offset serves stands on = fate_marking host old h (WeakenVolume offset) serves stands on refl refl refl refl
+fate_weaken host old h offset serves stands on = fate_marking host old h (WeakenVolume offset) serves stands on refl refl refl refl refl
 
 -- no fault of a clear wants memory
 scrub_fed : (f : ScrubFault) → scrub_says f ≡ Starves → ⊥
@@ -303,6 +304,7 @@ module _ (host : HostState) (offset : ℕ) (r : Result (Unit {0}) ScrubFault) (o
     untouched = with_volume r untouched;
     images = images;
     outside = beside outside;
+    marks = λ n below. outside.bad n (λ is. let behind = volume_behind host.volume.geo (offset / 64) in omega (arith, is, behind, below));
     serves = λ _. served;
     sizes = refl;
     settled = on_ok r (serves.mounted on).volume_settled;
@@ -311,4 +313,4 @@ module _ (host : HostState) (offset : ℕ) (r : Result (Unit {0}) ScrubFault) (o
 
 pub fate_clear : (host : HostState) (old : Device) (h : Machine) (offset : ℕ) → HostServes host old → Stands host old h → host.mode ≡ On
     → fate h (ClearVolume offset) ≡ unless_refused h (option_map line_answer (clear_refusal h.geometry h.volume offset)) (Works Done (record h { volume = change_line clear_cell (offset / 64) h.volume }))
-fate_clear host old h offset serves stands on = fate_marking host old h (ClearVolume offset) serves stands on refl refl refl refl
+fate_clear host old h offset serves stands on = fate_marking host old h (ClearVolume offset) serves stands on refl refl refl refl refl

@@ -33,7 +33,7 @@ use Rattle.machine_host.specs.Responding.{Answered}
 use Rattle.machine_host.specs.Stands.{HostState, HostServes}
 use Rattle.machine_host.proofs.BlockReadLemmas.{refilled}
 use Rattle.machine_host.proofs.ElsewhereLemmas.{volume_holds_elsewhere}
-use Rattle.machine_host.proofs.VolumeCallLemmas.{VolumeCalled, volume_part, no_bad_lines, same_volume, settled_ok, settled_was, volume_after, volume_pages, volume_sizes, work_comes, work_serves}
+use Rattle.machine_host.proofs.VolumeCallLemmas.{VolumeCalled, volume_part, same_volume, settled_ok, settled_was, volume_after, volume_pages, volume_sizes, work_comes, work_serves}
 use Rattle.machine_host.proofs.VolumeFateLemmas.{fate_vload}
 
 -- bytes that are there
@@ -80,6 +80,7 @@ module _ (now host after : HostState) (s : VolumeState) (r : Result (Unit {0}) V
     untouched = same_volume (new ≡ old) host.volume s r object (settled_was now host old inside on serves) (same_again r untouched);
     images = on_worked r (λ pages holds. subst (λ g. EachReadsPages g new.medium (λ x. x ≡ pages)) (ap (λ k. k.geo) object) (served_pages s new.medium pages served (holds_after pages holds)));
     outside = others-write_back (IsOfVolume host.volume.geo) old.medium new.medium lines;
+    marks = λ n below. lines.bad n;
     serves = λ _. served;
     sizes = ap (λ k. k.geo) object;
     settled = settled_ok s r (ap (λ k. k.settled) object);
@@ -100,7 +101,7 @@ module _ (now host after : HostState) (s : VolumeState) (r : Result (Unit {0}) V
         let there = subst (λ g. offset + len ≤ 4096 * g.vpages) stands.geometry within in
         work_comes volume_says volume_answer volume_part now host after s r calls 0 old new inside state on serves (VLoad offset len) (λ h stands. (few, omega arith)) (λ h bs same. same) call h (Bytes (look h.volume offset len)) answer
         (load_refusal host.volume h.volume offset len) h.volume refl stands
-        (fate_vload h host.volume (sym stands.mode ∙ on) (no_bad_lines now host old h inside on serves stands) (volume_sizes now host old h inside on serves stands) offset len some there most (bytes_right h.geometry offset len some there))
+        (fate_vload h host.volume (sym stands.mode ∙ on) (volume_sizes now host old h inside on serves stands) offset len some there most (bytes_right h.geometry offset len some there))
         (refused h.volume holds) (on_ok r (holds_after h.volume holds)) (answer_is h holds);
     printable = printable;
     room = room;

@@ -1,5 +1,5 @@
 -- What host and device stand for once a line was marked: bad or weak from now on, with no counted call.
-use Rattle.std.proofs.Common.{◌≡◌, ℕ, ◌<◌, ◌≤◌, false, Option, Some, None, option_map, Result, Ok, Err, OnOk, List, refl, sym, ap, subst, ◌∙◌, arith}
+use Rattle.std.proofs.Common.{◌≡◌, ℕ, ◌<◌, ◌≤◌, false, Option, Some, None, option_map, Result, Ok, Err, OnOk, List, [], refl, sym, ap, subst, ◌∙◌, arith}
 use Rattle.std.specs.Prelude.{IfErr}
 use Rattle.line_device.specs.History.{WordWritesBack}
 use Rattle.line_device.specs.Medium.{Medium}
@@ -34,12 +34,13 @@ use Rattle.machine_host.specs.Machine.Fate.{Gives}
 use Rattle.machine_host.specs.Commands.{MayLeaveBlocks, unless_refused}
 use Rattle.machine_host.specs.Faults.{answer_after, told_answer}
 use Rattle.machine_host.specs.Interrupted.{stop_in}
-use Rattle.machine_host.specs.Lines.{HasLayout}
+use Rattle.machine_host.specs.Lines.{HasLayout, MetadataStands}
 use Rattle.machine_host.specs.Run.{answered}
 use Rattle.machine_host.specs.Telling.{Tells}
-use Rattle.machine_host.specs.Stands.{HostState, HostServes, MetadataStands, AreMounted, Stands, Comes}
-use Rattle.machine_host.proofs.ElsewhereLemmas.{pages_elsewhere, stays_of_kept, volume_holds_elsewhere, volume_serves_elsewhere}
-use Rattle.machine_host.proofs.MetadataLemmas.{metadata-kept}
+use Rattle.machine_host.specs.Stands.{HostState, HostServes, AreMounted, Stands, Comes}
+use Rattle.machine_host.proofs.BadLineLemmas.{good_lines}
+use Rattle.machine_host.proofs.ElsewhereLemmas.{pages_elsewhere, volume_holds_elsewhere, volume_serves_elsewhere}
+use Rattle.machine_host.proofs.LayoutLemmas.{layout-kept, metadata-then, stays_of_kept}
 use Rattle.machine_host.proofs.StepLemmas.{blocks_elsewhere, is_whole, stands_done, whole_pages}
 use Rattle.machine_host.proofs.TellingLemmas.{tells_nothing}
 
@@ -105,7 +106,7 @@ module _ (host : HostState) (old new : Device) (serves : HostServes host old) (o
   metadata_line n below = kept-but lines old.medium new.medium n (λ of. let far = behind n of in omega (arith, far, below)) x
 
   layout_marked : HasLayout geo new.medium
-  layout_marked = record { valid = serves.layout.valid; lines = x.count ∙ serves.layout.lines; good = λ n below. (metadata_line n below).bad ∙ serves.layout.good n below }
+  layout_marked = layout-kept geo old.medium new.medium serves.layout x.count metadata_line (some_meta geo)
 
   strong_marked : (g : Geometry) → g ≡ geo → (n : ℕ) → n < meta_lines g → new.medium.is_weak n ≡ false
   strong_marked g same n below =
@@ -113,12 +114,12 @@ module _ (host : HostState) (old new : Device) (serves : HostServes host old) (o
       (metadata_line n there).weak ∙ mounted.serves.strong n (subst (λ k. n < meta_lines k) (sym mounted.geometry) there)
 
   goes_on : AreMounted geo host.blocks host.volume new.medium → HostServes host new
-  goes_on now = record { layout = layout_marked; power = ap (λ p. p.power) panel ∙ serves.power; mounted = λ _. now }
+  goes_on now = record { layout = layout_marked; power = ap (λ p. p.power) panel ∙ serves.power; mounted = λ _. now; stopped = λ stop. cc (on, stop) }
 
   metadata_marked : (h : Machine) → Stands host old h → MetadataStands h.geometry new.medium h.bad_meta
   metadata_marked h stands =
-      metadata-kept h.geometry h.bad_meta old.medium new.medium stands.device.metadata x.count
-      (λ n below. metadata_line n (subst (λ g. n < meta_lines g) (sym stands.geometry) below)) (some_meta h.geometry)
+      let kept = λ (n : ℕ) (below : n < meta_lines h.geometry). metadata_line n (subst (λ g. n < meta_lines g) (sym stands.geometry) below) in
+      metadata-then h.geometry old.medium new.medium h.bad_meta (layout-kept h.geometry old.medium new.medium stands.device.metadata.layout x.count kept (some_meta h.geometry)) (λ n below. (kept n below).bad) stands.device.metadata
 
   nothing_run : Runs 0 0 went old.panel new.panel
   nothing_run = subst (λ p. Runs 0 0 went old.panel p) (sym panel) (runs-refl old.panel)
@@ -143,16 +144,17 @@ module _ (host : HostState) (old new : Device) (serves : HostServes host old) (o
         → Stands host new (record h { blocks = f h.blocks })
     blocks_marked h action f stands is =
         let seen = is ∙ ap f (stands.blocks on) in
-        let good = subst (λ g. HasGoodMetadata g new.medium) (sym mounted.geometry) layout_marked.good in
-        let reads : EachReads h.geometry new.medium (λ bs. bs ≡ f h.blocks) =
+        let metadata = metadata_marked h stands in
+        let reads : h.bad_meta ≡ [] → EachReads h.geometry new.medium (λ bs. bs ≡ f h.blocks) = λ none.
+        let good = subst (λ g. HasGoodMetadata g new.medium) (sym (mounted.geometry ∙ stands.geometry)) (good_lines h.geometry new.medium (metadata.bad ∙ none)) in
         subst (λ g. EachReads g new.medium (λ bs. bs ≡ f h.blocks)) (mounted.geometry ∙ stands.geometry)
         (subst (λ to. EachReads host.blocks.geo new.medium (λ bs. bs ≡ to)) seen (served_reads host.blocks new.medium good served)) in
-        let pages : EachReadsPages h.geometry new.medium (λ x. x ≡ h.volume) =
+        let pages : h.bad_meta ≡ [] → EachReadsPages h.geometry new.medium (λ x. x ≡ h.volume) = λ none.
         subst (λ g. EachReadsPages g new.medium (λ x. x ≡ h.volume)) stands.geometry
         (pages_elsewhere geo old.medium new.medium serves.layout.valid volume_line_kept (λ x. x ≡ h.volume)
-        (subst (λ g. EachReadsPages g old.medium (λ x. x ≡ h.volume)) (sym stands.geometry) (whole_pages host old h stands (is_whole host old h stands on)))) in
+        (subst (λ g. EachReadsPages g old.medium (λ x. x ≡ h.volume)) (sym stands.geometry) (whole_pages host old h stands (is_whole host old h stands on) none))) in
         let holds = volume_holds_elsewhere geo old.medium new.medium serves.layout.valid volume_line_kept host.volume h.volume mounted.volume_geometry mounted.volume_serves.all (stands.volume on) in
-        stands_done host host old new h action stands on 0 0 (omega arith) (omega arith) refl (f h.blocks) h.volume on nothing_run (metadata_marked h stands) reads seen pages holds
+        stands_done host host old new h action stands on 0 0 (omega arith) (omega arith) refl (f h.blocks) h.volume on nothing_run metadata reads seen pages holds
 
   -- lines of the volume
   module _ (apart : (n : ℕ) → IsBlockLine geo n → lines n → ⊥) (served : VolumeServes host.volume new.medium) where
@@ -177,4 +179,4 @@ module _ (host : HostState) (old new : Device) (serves : HostServes host old) (o
         let each : EachReadsPages h.geometry new.medium (λ x. x ≡ pages) =
         subst (λ g. EachReadsPages g new.medium (λ x. x ≡ pages)) (mounted.volume_geometry ∙ stands.geometry) (served_pages host.volume new.medium pages served holds) in
         stands_done host host old new h action stands on 0 0 (omega arith) (omega arith) refl h.blocks pages on nothing_run (metadata_marked h stands)
-        (subst (λ interrupted. EachReads h.geometry new.medium (MayLeaveBlocks interrupted h.blocks)) whole kept.0) (kept.1 on) each holds
+        (λ none. subst (λ interrupted. EachReads h.geometry new.medium (MayLeaveBlocks interrupted h.blocks)) whole (kept.0 none)) (kept.1 on) (λ none. each) holds

@@ -1,6 +1,8 @@
 -- What is known of a command that nothing refuses, and what comes of it.
-use Rattle.std.proofs.Common.{◌≡◌, ℕ, ◌+◌, ◌≤◌, Bool, true, false, cond, ltb, eqb, Option, Some, None, option_map, List, [], refl, ap, ◌∙◌, arith}
-use Rattle.std.proofs.lemmas.Bool.{le-ltb, ne_eqb}
+use Rattle.std.proofs.Common.{◌≡◌, ℕ, ◌+◌, ◌≤◌, Bool, true, false, cond, ltb, eqb, ◌<◌, Option, Some, None, option_map, position, List, [], ◌∷◌, refl, sym, ap, ◌∙◌, arith}
+use Rattle.std.specs.List.{range_with_len}
+use Rattle.std.proofs.lemmas.Option.{same_Some}
+use Rattle.std.proofs.lemmas.Bool.{le-ltb, lt-ltb, ne_eqb}
 use Rattle.std.proofs.lemmas.Bool.Decides.{nat_tests}
 use Rattle.word_tables.specs.declared.geometry.Geometry.{Geometry}
 use Rattle.nvm_model.specs.Blocks.{Obstacle, first_there, first_obstacle, look_blocks}
@@ -8,52 +10,71 @@ use Rattle.nvm_model.specs.Storage.{Block}
 use Rattle.block_device.specs.Refusals.{Refusal}
 use Rattle.block_device.specs.Refusals.Refusal.{Unreadable}
 use Rattle.script_text.specs.Action.{Action}
-use Rattle.script_text.specs.Action.Action.{BRead, BWrite, BAtomic, BMulti, BDiscard, BDiscardIf, BExists, BScar, VLoad, VStore, VSync, VRanges, VPSync, VDiscard, VDiscardIf, VExists, PoisonBlock, PoisonVolume, WeakenVolume, ClearVolume, Cut, CutIn, Restart}
+use Rattle.script_text.specs.Action.Action.{BRead, BWrite, BAtomic, BMulti, BDiscard, BDiscardIf, BExists, BScar, VLoad, VStore, VSync, VRanges, VPSync, VDiscard, VDiscardIf, VExists, PoisonBlock, PoisonVolume, PoisonMeta, WeakenVolume, ClearVolume, Cut, CutIn, FailIn, Restart, Recover}
 use Rattle.reply_text.specs.declared.reply.Why.{Why}
 use Rattle.reply_text.specs.declared.reply.Why.TheVariants.{Range, Length, Limit}
-use Rattle.reply_text.specs.Answer.Answer.{Done, Bytes, Refused}
+use Rattle.reply_text.specs.Answer.{Answer}
+use Rattle.reply_text.specs.Answer.Answer.{Done, Bytes, Refused, RefusedMeta}
 use Rattle.machine_host.specs.declared.mode.Mode.{Mode}
-use Rattle.machine_host.specs.declared.mode.Mode.TheVariants.{On, Off, Unsettled}
+use Rattle.machine_host.specs.declared.mode.Mode.TheVariants.{On, Off, Unsettled, Stopped}
+use Rattle.machine_host.specs.declared.needs.Needs.{Needs}
+use Rattle.machine_host.specs.declared.needs.Needs.TheVariants.{Usable, Anytime, Powered, Unpowered, Failed}
+use Rattle.machine_host.specs.Interrupted.{stop_in}
+use Rattle.machine_host.specs.Lines.{bad_metadata}
 use Rattle.machine_host.specs.Machine.{Machine, Fate}
 use Rattle.machine_host.specs.Machine.Fate.{Works}
-use Rattle.machine_host.specs.Meaning.{BlocksLeft, Needs, first_reason, metadata_refusal, mode_refusal, most_refusal, no_reasons, span_refusal}
-use Rattle.machine_host.specs.Meaning.Needs.{Usable, Powered, Unpowered}
+use Rattle.machine_host.specs.Meaning.{BlocksLeft, Reasons, first_reason, metadata_refusal, mode_refusal, most_refusal, no_reasons, span_refusal}
 use Rattle.machine_host.specs.OnBlocks.{changing_blocks, refusal_answer}
+use Rattle.word_tables.specs.Layout.{meta_lines}
 use Rattle.machine_host.specs.Commands.{early_refusal, fate, meaning, refusal, unless_refused}
+use Rattle.machine_host.proofs.BadLineLemmas.{head, searched}
 
 -- the mode of what is not refused
-needs_on : (mode : Mode) (needs : Needs) → needs ≡ Usable → mode_refusal mode needs ≡ None → mode ≡ On
-needs_on On needs is none = refl
-needs_on Off needs is none = cc (is, none)
-needs_on Unsettled needs is none = cc (is, none)
+needs_on : (mode : Mode) (bad_meta : List ℕ) (needs : Needs) → needs ≡ Usable → mode_refusal mode bad_meta needs ≡ None → mode ≡ On
+needs_on On bad_meta needs is none = refl
+needs_on Off bad_meta needs is none = cc (is, none)
+needs_on Unsettled bad_meta needs is none = cc (is, none)
+needs_on Stopped bad_meta needs is none = cc (is, none)
 
-needs_off : (mode : Mode) (needs : Needs) → needs ≡ Unpowered → mode_refusal mode needs ≡ None → mode ≡ Off
-needs_off On needs is none = cc (is, none)
-needs_off Off needs is none = refl
-needs_off Unsettled needs is none = cc (is, none)
+needs_off : (mode : Mode) (bad_meta : List ℕ) (needs : Needs) → needs ≡ Unpowered → mode_refusal mode bad_meta needs ≡ None → mode ≡ Off
+needs_off On bad_meta needs is none = cc (is, none)
+needs_off Off bad_meta needs is none = refl
+needs_off Unsettled bad_meta needs is none = cc (is, none)
+needs_off Stopped bad_meta needs is none = cc (is, none)
 
-needs_power : (mode : Mode) (needs : Needs) → needs ≡ Powered → mode_refusal mode needs ≡ None → mode ≡ Off → ⊥
-needs_power On needs is none off = cc off
-needs_power Off needs is none off = cc (is, none)
-needs_power Unsettled needs is none off = cc off
+needs_power : (mode : Mode) (bad_meta : List ℕ) (needs : Needs) → needs ≡ Powered → mode_refusal mode bad_meta needs ≡ None → mode ≡ Off → ⊥
+needs_power On bad_meta needs is none off = cc off
+needs_power Off bad_meta needs is none off = cc (is, none)
+needs_power Unsettled bad_meta needs is none off = cc off
+needs_power Stopped bad_meta needs is none off = cc off
 
-both_pass : (a b : Option Why) → first_there a b ≡ None → (a ≡ None) × (b ≡ None)
-both_pass None b none = (refl, none)
-both_pass (Some why) b none = cc none
+needs_failure : (mode : Mode) (bad_meta : List ℕ) (needs : Needs) → needs ≡ Failed → mode_refusal mode bad_meta needs ≡ None → mode ≡ Unsettled
+needs_failure On bad_meta needs is none = cc (is, none)
+needs_failure Off bad_meta needs is none = cc (is, none)
+needs_failure Unsettled bad_meta needs is none = refl
+needs_failure Stopped bad_meta needs is none = cc (is, none)
 
-module _ (mode : Mode) (geo : Geometry) (action : Action) (none : early_refusal mode geo action ≡ None) where
-  passed : (mode_refusal mode (meaning action).needs ≡ None) × ((meaning action).checked geo ≡ None)
+both_pass : (a : Option Answer) (b : Option Why) → first_there a (option_map Refused b) ≡ None → (a ≡ None) × (b ≡ None)
+both_pass None None none = (refl, refl)
+both_pass None (Some why) none = cc none
+both_pass (Some answer) b none = cc none
+
+module _ (mode : Mode) (bad_meta : List ℕ) (geo : Geometry) (action : Action) (none : early_refusal mode bad_meta geo action ≡ None) where
+  passed : (mode_refusal mode bad_meta (meaning action).needs ≡ None) × ((meaning action).checked geo ≡ None)
   unfolding early_refusal
-  passed = both_pass (mode_refusal mode (meaning action).needs) ((meaning action).checked geo) none
+  passed = both_pass (mode_refusal mode bad_meta (meaning action).needs) ((meaning action).checked geo) none
 
   pub is_on : (meaning action).needs ≡ Usable → mode ≡ On
-  is_on needs = needs_on mode (meaning action).needs needs passed.0
+  is_on needs = needs_on mode bad_meta (meaning action).needs needs passed.0
 
   pub is_off : (meaning action).needs ≡ Unpowered → mode ≡ Off
-  is_off needs = needs_off mode (meaning action).needs needs passed.0
+  is_off needs = needs_off mode bad_meta (meaning action).needs needs passed.0
 
   pub is_powered : (meaning action).needs ≡ Powered → mode ≡ Off → ⊥
-  is_powered needs = needs_power mode (meaning action).needs needs passed.0
+  is_powered needs = needs_power mode bad_meta (meaning action).needs needs passed.0
+
+  pub is_unsettled : (meaning action).needs ≡ Failed → mode ≡ Unsettled
+  is_unsettled needs = needs_failure mode bad_meta (meaning action).needs needs passed.0
 
   pub places_right : (meaning action).checked geo ≡ None
   places_right = passed.1
@@ -68,12 +89,19 @@ span_allowed size offset len = by_tests (ltb size (offset + len)) (eqb len 0) re
     by_tests false true e f none = cc
     by_tests false false e f none = (grind (arith, nat_tests), grind (arith, nat_tests))
 
-pub cut_in_some : (calls : ℕ) → cond (eqb calls 0) (Some Range) None ≡ None → 1 ≤ calls
-cut_in_some calls = by_test (eqb calls 0) refl
+pub calls_some : (calls : ℕ) → cond (eqb calls 0) (Some Range) None ≡ None → 1 ≤ calls
+calls_some calls = by_test (eqb calls 0) refl
   where
     by_test : (none : Bool) → eqb calls 0 ≡ none → cond none (Some Range) None ≡ None → 1 ≤ calls
     by_test true e none = cc
     by_test false e none = grind (arith, nat_tests)
+
+pub line_within : (line lines : ℕ) → cond (ltb line lines) None (Some Range) ≡ None → line < lines
+line_within line lines = by_test (ltb line lines) refl
+  where
+    by_test : (below : Bool) → ltb line lines ≡ below → cond below None (Some Range) ≡ None → line < lines
+    by_test true e none = grind (arith, nat_tests)
+    by_test false e none = cc
 
 -- so of a read, which asks for no more than is read at once
 pub read_within : (most size start len : ℕ) → most_refusal most size start len ≡ None → (1 ≤ len) × (start + len ≤ size) × (len ≤ most)
@@ -95,6 +123,9 @@ span_right size offset len some within =
 
 pub calls_right : (calls : ℕ) → 1 ≤ calls → cond (eqb calls 0) (Some Range) None ≡ None
 calls_right calls some = ap (λ b. cond b (Some Range) None) (ne_eqb calls 0 (λ e. omega arith))
+
+pub line_right : (line lines : ℕ) → line < lines → cond (ltb line lines) None (Some Range) ≡ None
+line_right line lines within = ap (λ b. cond b None (Some Range)) (lt-ltb line lines within)
 
 pub read_right : (most size start len : ℕ) → 1 ≤ len → start + len ≤ size → len ≤ most → most_refusal most size start len ≡ None
 read_right most size start len some within few =
@@ -126,26 +157,63 @@ places_refused h (VDiscardIf page count) why is = cc is
 places_refused h (VExists page) why is = cc is
 places_refused h (PoisonBlock block line) why is = cc is
 places_refused h (PoisonVolume offset) why is = cc is
+places_refused h (PoisonMeta line) why is = (refl, ap (option_map Refused) is)
 places_refused h (WeakenVolume offset) why is = cc is
 places_refused h (ClearVolume offset) why is = cc is
 places_refused h Cut why is = cc is
 places_refused h (CutIn calls) why is = (refl, ap (option_map Refused) is)
+places_refused h (FailIn calls) why is = (refl, ap (option_map Refused) is)
 places_refused h (Restart choice) why is = cc is
+places_refused h Recover why is = cc is
+
+-- no refusal by the mode tells of an interruption
+mode_quiet : (mode : Mode) (bad_meta : List ℕ) (needs : Needs) (answer : Answer) → mode_refusal mode bad_meta needs ≡ Some answer → stop_in answer ≡ None
+mode_quiet On bad_meta Usable answer is = cc is
+mode_quiet On bad_meta Anytime answer is = cc is
+mode_quiet On bad_meta Powered answer is = cc is
+mode_quiet On bad_meta Unpowered answer is = ap stop_in (sym (same_Some _ _ is))
+mode_quiet On bad_meta Failed answer is = ap stop_in (sym (same_Some _ _ is))
+mode_quiet Off bad_meta Usable answer is = ap stop_in (sym (same_Some _ _ is))
+mode_quiet Off bad_meta Anytime answer is = cc is
+mode_quiet Off bad_meta Powered answer is = ap stop_in (sym (same_Some _ _ is))
+mode_quiet Off bad_meta Unpowered answer is = cc is
+mode_quiet Off bad_meta Failed answer is = ap stop_in (sym (same_Some _ _ is))
+mode_quiet Unsettled bad_meta Usable answer is = ap stop_in (sym (same_Some _ _ is))
+mode_quiet Unsettled bad_meta Anytime answer is = cc is
+mode_quiet Unsettled bad_meta Powered answer is = cc is
+mode_quiet Unsettled bad_meta Unpowered answer is = ap stop_in (sym (same_Some _ _ is))
+mode_quiet Unsettled bad_meta Failed answer is = cc is
+mode_quiet Stopped bad_meta Usable answer is = ap stop_in (sym (same_Some _ _ is))
+mode_quiet Stopped bad_meta Anytime answer is = cc is
+mode_quiet Stopped bad_meta Powered answer is = cc is
+mode_quiet Stopped bad_meta Unpowered answer is = ap stop_in (sym (same_Some _ _ is))
+mode_quiet Stopped bad_meta Failed answer is = ap stop_in (sym (same_Some _ _ is))
 
 -- so what the host refuses by itself, the machine refuses for the same reason
-pub early_first : (h : Machine) (action : Action) (why : Why) → early_refusal h.mode h.geometry action ≡ Some why → refusal h action ≡ Some (Refused why)
+pub early_first : (h : Machine) (action : Action) (answer : Answer) → early_refusal h.mode h.bad_meta h.geometry action ≡ Some answer
+    → (refusal h action ≡ Some answer) × (stop_in answer ≡ None)
 unfolding early_refusal refusal
-early_first h action why = by_mode (mode_refusal h.mode (meaning action).needs)
+early_first h action answer = by_mode (mode_refusal h.mode h.bad_meta (meaning action).needs) refl
   where
-    by_mode : (o : Option Why) → first_there o ((meaning action).checked h.geometry) ≡ Some why → first_reason o h.bad_meta ((meaning action).reasons h) ≡ Some (Refused why)
-    by_mode None is =
-        let r = (meaning action).reasons h in
-        let wrong = places_refused h action why is in
-        ap (λ n. first_reason None h.bad_meta (record r { named = n })) wrong.0 ∙ ap (λ p. first_reason None h.bad_meta (record r { named = None; places = p })) wrong.1
-    by_mode (Some first) is = ap (λ w. first_reason w h.bad_meta ((meaning action).reasons h)) is
+    r : Reasons
+    r = (meaning action).reasons h
+
+    by_places : (o : Option Why) → (meaning action).checked h.geometry ≡ o → option_map Refused o ≡ Some answer → (first_reason None h.bad_meta r ≡ Some answer) × (stop_in answer ≡ None)
+    by_places None checked is = cc is
+    by_places (Some why) checked is =
+        let wrong = places_refused h action why checked in
+        let same = same_Some (Refused why) answer is in (
+          ap (λ n. first_reason None h.bad_meta (record r { named = n })) wrong.0 ∙ ap (λ p. first_reason None h.bad_meta (record r { named = None; places = p })) wrong.1 ∙ is,
+          ap stop_in (sym same),
+        )
+
+    by_mode : (o : Option Answer) → mode_refusal h.mode h.bad_meta (meaning action).needs ≡ o → first_there o (option_map Refused ((meaning action).checked h.geometry)) ≡ Some answer
+        → (first_reason o h.bad_meta r ≡ Some answer) × (stop_in answer ≡ None)
+    by_mode None mode is = by_places ((meaning action).checked h.geometry) refl is
+    by_mode (Some first) mode is = (is, mode_quiet h.mode h.bad_meta (meaning action).needs answer (mode ∙ is))
 
 -- What comes of a command whose places the host looks at, where mode and places are right.
-pub fate_placed : (h : Machine) (action : Action) → mode_refusal h.mode (meaning action).needs ≡ None
+pub fate_placed : (h : Machine) (action : Action) → mode_refusal h.mode h.bad_meta (meaning action).needs ≡ None
     → (meaning action).reasons h ≡ record no_reasons { places = option_map Refused ((meaning action).checked h.geometry) } → (meaning action).checked h.geometry ≡ None
     → fate h action ≡ (meaning action).comes h
 unfolding refusal
@@ -155,26 +223,46 @@ fate_placed h action mode reasons places =
     ∙ ap (λ r. unless_refused h (first_reason None h.bad_meta r) comes) reasons
     ∙ ap (λ o. unless_refused h (first_reason None h.bad_meta (record no_reasons { places = option_map Refused o })) comes) places
 
-pub on_allowed : {mode : Mode} → mode ≡ On → mode_refusal mode Usable ≡ None
-on_allowed on = ap (λ m. mode_refusal m Usable) on
+pub on_allowed : {mode : Mode} {bad_meta : List ℕ} → mode ≡ On → mode_refusal mode bad_meta Usable ≡ None
+on_allowed {bad_meta = bad_meta} on = ap (λ m. mode_refusal m bad_meta Usable) on
 
-pub power_allows : (mode : Mode) → (mode ≡ Off → ⊥) → mode_refusal mode Powered ≡ None
-power_allows On powered = refl
-power_allows Off powered = absurd (powered refl)
-power_allows Unsettled powered = refl
+pub power_allows : (mode : Mode) (bad_meta : List ℕ) → (mode ≡ Off → ⊥) → mode_refusal mode bad_meta Powered ≡ None
+power_allows On bad_meta powered = refl
+power_allows Off bad_meta powered = absurd (powered refl)
+power_allows Unsettled bad_meta powered = refl
+power_allows Stopped bad_meta powered = refl
 
--- and of a change of the blocks, with the power on and no line of metadata bad
+pub always_allowed : (mode : Mode) (bad_meta : List ℕ) → mode_refusal mode bad_meta Anytime ≡ None
+always_allowed On bad_meta = refl
+always_allowed Off bad_meta = refl
+always_allowed Unsettled bad_meta = refl
+always_allowed Stopped bad_meta = refl
+
+-- the first of reasons, as it is answered
+pub mapped_first : {R : Type 0} (answer : R → Answer) (a b : Option R) → first_there (option_map answer a) (option_map answer b) ≡ option_map answer (first_there a b)
+mapped_first answer None b = refl
+mapped_first answer (Some w) b = refl
+
+-- the lowest bad line of metadata, as a part of storage finds it
+pub meta_refused : {R : Type 0} (refusal : ℕ → R) (answer : R → Answer) → ((n : ℕ) → answer (refusal n) ≡ RefusedMeta n) → (geo : Geometry) (is_bad : ℕ → Bool)
+    → metadata_refusal true (bad_metadata geo is_bad) ≡ option_map answer (option_map refusal (position is_bad (range_with_len 0 (meta_lines geo))))
+meta_refused refusal answer is geo is_bad = by_list (bad_metadata geo is_bad) ∙ ap (λ o. option_map answer (option_map refusal o)) (sym (searched is_bad (meta_lines geo)))
+  where
+    by_list : (lines : List ℕ) → metadata_refusal true lines ≡ option_map answer (option_map refusal (head lines))
+    by_list [] = refl
+    by_list (line ∷ lines) = ap Some (sym (is line))
+
+-- and of a change of the blocks, with the power on
 pub fate_changing : (h : Machine) (action : Action) (places : ℕ → Option Refusal) (to : List Block → List Block) (left : BlocksLeft) (calls persists : ℕ)
-    → meaning action ≡ changing_blocks places to left calls persists → h.mode ≡ On → h.bad_meta ≡ []
-    → fate h action ≡ unless_refused h (option_map refusal_answer (places h.geometry.blocks)) (Works Done (record h { blocks = to h.blocks }))
+    → meaning action ≡ changing_blocks places to left calls persists → h.mode ≡ On
+    → fate h action ≡ unless_refused h (first_there (option_map refusal_answer (places h.geometry.blocks)) (metadata_refusal true h.bad_meta)) (Works Done (record h { blocks = to h.blocks }))
 unfolding refusal
-fate_changing h action places to left calls persists row on good =
+fate_changing h action places to left calls persists row on =
     let row_of = changing_blocks places to left calls persists in
     let comes : Fate = Works Done (record h { blocks = to h.blocks }) in
-    ap (λ m. unless_refused h (first_reason (mode_refusal h.mode m.needs) h.bad_meta (m.reasons h)) (m.comes h)) row
-    ∙ ap (λ mode. unless_refused h (first_reason (mode_refusal mode Usable) h.bad_meta (row_of.reasons h)) comes) on
-    ∙ ap (λ bad. unless_refused h (first_reason None bad (row_of.reasons h)) comes) good
-    ∙ ap (λ o. unless_refused h o comes) (first_alone (option_map refusal_answer (places h.geometry.blocks)))
+    ap (λ m. unless_refused h (first_reason (mode_refusal h.mode h.bad_meta m.needs) h.bad_meta (m.reasons h)) (m.comes h)) row
+    ∙ ap (λ mode. unless_refused h (first_reason (mode_refusal mode h.bad_meta Usable) h.bad_meta (row_of.reasons h)) comes) on
+    ∙ ap (λ o. unless_refused h (first_there (option_map refusal_answer (places h.geometry.blocks)) o) comes) (first_alone (metadata_refusal true h.bad_meta))
 
 -- a read of blocks that are there is refused by what can't be read alone
 pub fate_read : (h : Machine) (block count : ℕ) → h.mode ≡ On → 1 ≤ count → block + count ≤ h.geometry.blocks → count ≤ 128
@@ -183,7 +271,7 @@ unfolding refusal
 fate_read h block count on some within few =
     let r = (meaning (BRead block count)).reasons h in
     let comes : Fate = Works (Bytes (look_blocks h.blocks block count)) h in
-    ap (λ mode. unless_refused h (first_reason (mode_refusal mode Usable) h.bad_meta r) comes) on
+    ap (λ mode. unless_refused h (first_reason (mode_refusal mode h.bad_meta Usable) h.bad_meta r) comes) on
     ∙ ap (λ o. unless_refused h (first_reason None h.bad_meta (record r { places = option_map Refused o })) comes) (read_right 128 h.geometry.blocks block count some within few)
     ∙ ap (λ o. unless_refused h o comes) (mapped_twice (first_obstacle h.blocks block count))
   where
@@ -191,21 +279,14 @@ fate_read h block count on some within few =
     mapped_twice None = refl
     mapped_twice (Some obstacle) = refl
 
--- What comes of a command whose places a part of storage looks at, with the power on and no line of metadata bad: the reasons of
--- its row, places first.
-pub fate_worked : (h : Machine) (action : Action) → (meaning action).needs ≡ Usable → h.mode ≡ On → h.bad_meta ≡ [] → ((meaning action).reasons h).named ≡ None
-    → ((meaning action).reasons h).full ≡ None
-    → fate h action ≡ unless_refused h (first_there ((meaning action).reasons h).places ((meaning action).reasons h).unreadable) ((meaning action).comes h)
+-- What comes of a command whose places a part of storage looks at, with the power on: the reasons of its row, places first.
+pub fate_worked : (h : Machine) (action : Action) → (meaning action).needs ≡ Usable → h.mode ≡ On → ((meaning action).reasons h).named ≡ None → ((meaning action).reasons h).full ≡ None
+    → fate h action
+    ≡ unless_refused h (first_there ((meaning action).reasons h).places (first_there (metadata_refusal ((meaning action).reasons h).changes_metadata h.bad_meta) ((meaning action).reasons h).unreadable)) ((meaning action).comes h)
 unfolding refusal
-fate_worked h action needs on good named full =
+fate_worked h action needs on named full =
     let r = (meaning action).reasons h in
     let comes = (meaning action).comes h in
-    ap (λ m. unless_refused h (first_reason m h.bad_meta r) comes) (ap (mode_refusal h.mode) needs ∙ ap (λ mode. mode_refusal mode Usable) on)
-    ∙ ap (λ bad. unless_refused h (first_reason None bad r) comes) good
-    ∙ ap (λ o. unless_refused h (first_there o (first_there r.places (first_there r.full (first_there (metadata_refusal r.changes_metadata []) r.unreadable)))) comes) named
-    ∙ ap (λ o. unless_refused h (first_there r.places (first_there o (first_there (metadata_refusal r.changes_metadata []) r.unreadable))) comes) full
-    ∙ ap (λ o. unless_refused h (first_there r.places (first_there o r.unreadable)) comes) (no_bad_line r.changes_metadata)
-  where
-    no_bad_line : (changes : Bool) → metadata_refusal changes [] ≡ None
-    no_bad_line true = refl
-    no_bad_line false = refl
+    ap (λ m. unless_refused h (first_reason m h.bad_meta r) comes) (ap (mode_refusal h.mode h.bad_meta) needs ∙ ap (λ mode. mode_refusal mode h.bad_meta Usable) on)
+    ∙ ap (λ o. unless_refused h (first_there o (first_there r.places (first_there r.full (first_there (metadata_refusal r.changes_metadata h.bad_meta) r.unreadable)))) comes) named
+    ∙ ap (λ o. unless_refused h (first_there r.places (first_there o (first_there (metadata_refusal r.changes_metadata h.bad_meta) r.unreadable))) comes) full

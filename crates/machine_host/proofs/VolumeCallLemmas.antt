@@ -8,20 +8,18 @@ use Rattle.line_words.specs.Told.Told.{Starves}
 use Rattle.word_tables.specs.declared.geometry.Geometry.{Geometry}
 use Rattle.word_tables.specs.Layout.{meta_lines}
 use Rattle.nvm_model.specs.Blocks.{first_there}
-use Rattle.nvm_model.specs.Lines.{AreStrong}
 use Rattle.nvm_model.specs.Interrupted.{MaySync}
 use Rattle.nvm_model.specs.Page.{Page, first_bad_line, persist, presence_of}
 use Rattle.nvm_model.specs.Storage.{Block}
 use Rattle.page_lines.specs.Turns.{WritesBackOthers}
 use Rattle.block_device.specs.Images.{EachReads}
 use Rattle.block_device.specs.Area.{IsBlockLine}
-use Rattle.block_device.specs.Object.{HasGoodMetadata, blocks_of}
+use Rattle.block_device.specs.Object.{blocks_of}
 use Rattle.block_device.proofs.ReadLemmas.{Stays}
 use Rattle.block_device.proofs.ImageLemmas.{each_reads-then}
-use Rattle.block_device.proofs.PositionLemmas.{none_below}
 use Rattle.pm_volume.specs.Area.{IsOfVolume}
 use Rattle.pm_volume.specs.Images.{EachReadsPages}
-use Rattle.pm_volume.specs.Object.{VolumeState, VolumeHolds, VolumeServes}
+use Rattle.pm_volume.specs.Object.{KeepsMarks, VolumeState, VolumeHolds, VolumeServes}
 use Rattle.pm_volume.specs.Refusals.{VolumeRefusal, metadata_refusal_if, physical_offset, physical_refusal, poisoned_at, refused_if, volume_says}
 use Rattle.pm_volume.specs.Refusals.VolumeRefusal.{Range, Length, Address, Meta, Poison}
 use Rattle.pm_volume.specs.declared.fault.VolumeFault.{VolumeFault}
@@ -39,22 +37,23 @@ use Rattle.machine_host.specs.Machine.Fate.{Works}
 use Rattle.machine_host.specs.Commands.{LeavesVolume, MayLeaveBlocks, MayLeaveVolume, fate, longest, spending, unless_refused}
 use Rattle.machine_host.specs.Faults.{answer_after, mode_after}
 use Rattle.machine_host.specs.Interrupted.{stop_in}
-use Rattle.machine_host.specs.Lines.{HasLayout}
+use Rattle.machine_host.specs.Lines.{HasLayout, MetadataStands, bad_metadata}
+use Rattle.machine_host.specs.Meaning.{metadata_refusal}
 use Rattle.machine_host.specs.OnVolume.{part_synced_at, persist_at, volume_answer}
 use Rattle.machine_host.specs.Responding.{Answered}
-use Rattle.machine_host.specs.Stands.{HostState, HostServes, AreMounted, MetadataStands, Stands, Comes}
-use Rattle.machine_host.proofs.BlockLemmas.{good_state}
+use Rattle.machine_host.specs.Stands.{HostState, HostServes, AreMounted, Stands, Comes}
 use Rattle.machine_host.proofs.CallLemmas.{IsPart, comes_of_call, on_refused-then, printable_after, serves_of_call, short_told}
-use Rattle.machine_host.proofs.ElsewhereLemmas.{first_not_volume, kept-others, mounted-worked, stays_of_kept, volume_apart}
-use Rattle.machine_host.proofs.MetadataLemmas.{metadata-others}
+use Rattle.machine_host.proofs.ElsewhereLemmas.{first_not_volume, mounted-worked, volume_apart}
+use Rattle.machine_host.proofs.LayoutLemmas.{kept-others, layout-others, metadata-then, stays_of_kept}
+use Rattle.machine_host.proofs.RefusalLemmas.{meta_refused}
 use Rattle.machine_host.proofs.StepLemmas.{DeviceLeft, blocks_elsewhere, is_whole, stands_done}
-use Rattle.machine_host.proofs.VolumeLemmas.{has_layout-others}
 
 -- What a call on the volume says, whichever it is. What it may leave is told of the pages that the volume stood for.
 pub record VolumeCalled {T E R : Type 0} (says : E → Told R) (host : HostState) (s : VolumeState) (r : Result T E) (may : List Page → List Page → Type 0) (calls persists : ℕ) (old new : Device) : Type 0 where
   pub untouched : OnRefused says r ((s ≡ host.volume) × (new ≡ old))
   pub images : OnWorked says r ((pages : List Page) → VolumeHolds host.volume old.medium pages → EachReadsPages host.volume.geo new.medium (may pages))
   pub outside : WritesBackOthers (IsOfVolume host.volume.geo) old.medium new.medium
+  pub marks : KeepsMarks host.volume.geo old.medium new.medium
   pub serves : IsTrue s.settled → VolumeServes s new.medium
   pub sizes : s.geo ≡ host.volume.geo
   pub settled : OnOk r (IsTrue s.settled)
@@ -115,16 +114,12 @@ module _ (host : HostState) (old new : Device) (on : host.mode ≡ On) (serves :
       stays_of_kept old.medium new.medium n
       (kept-others (IsOfVolume host.geometry) old.medium new.medium n (λ of_volume. volume_apart host.geometry n serves.layout.valid of_volume of) work_outside)
 
-  -- and metadata stays strong
-  strong_was : AreStrong old.medium (meta_lines host.geometry)
-  strong_was n below = mounted.serves.strong n (subst (λ g. n < meta_lines g) (sym mounted.geometry) below)
-
   layout_worked : HasLayout host.geometry new.medium
-  layout_worked = has_layout-others host.geometry (IsOfVolume host.geometry) old.medium new.medium serves.layout strong_was work_outside
+  layout_worked = layout-others host.geometry old.medium new.medium serves.layout (IsOfVolume host.geometry) (λ of. first_not_volume host.geometry 0 (omega arith) of) work_outside
 
   mounted_worked : (s : VolumeState) → s.geo ≡ host.volume.geo → IsTrue s.settled → VolumeServes s new.medium → AreMounted host.geometry host.blocks s new.medium
   mounted_worked s same settled serves =
-      mounted-worked host.geometry host.blocks host.volume s old.medium new.medium blocks_stay (λ n below. work_outside.stays_strong n (strong_was n below)) work_outside.count mounted same settled serves
+      mounted-worked host.geometry host.blocks host.volume s old.medium new.medium blocks_stay (λ n below. work_outside.stays_strong n (serves.layout.strong n below)) work_outside.count mounted same settled serves
 
 module _ {E R : Type 0} (says : E → Told R) (host : HostState) (s : VolumeState) (action : Action) (calls persists : ℕ) (h : Machine) (few : calls ≤ (spending h action).calls) (few_persists : persists ≤ (spending h action).persists)
     (old new : Device) (on : host.mode ≡ On) (serves : HostServes host old) (stands : Stands host old h) where
@@ -132,39 +127,40 @@ module _ {E R : Type 0} (says : E → Told R) (host : HostState) (s : VolumeStat
   geo_is = (serves.mounted on).volume_geometry ∙ stands.geometry
 
   -- the blocks, which such a call leaves
-  blocks_after : WritesBackOthers (IsOfVolume host.volume.geo) old.medium new.medium → (EachReads h.geometry new.medium (λ bs. bs ≡ h.blocks)) × (blocks_of host.blocks new.medium ≡ h.blocks)
+  blocks_after : WritesBackOthers (IsOfVolume host.volume.geo) old.medium new.medium → (h.bad_meta ≡ [] → EachReads h.geometry new.medium (λ bs. bs ≡ h.blocks)) × (blocks_of host.blocks new.medium ≡ h.blocks)
   blocks_after outside =
       let kept = blocks_elsewhere host old new h stands serves (blocks_stay host old new on serves outside) in
-      (subst (λ interrupted. EachReads h.geometry new.medium (MayLeaveBlocks interrupted h.blocks)) (is_whole host old h stands on) kept.0, kept.1 on)
+      (λ good. subst (λ interrupted. EachReads h.geometry new.medium (MayLeaveBlocks interrupted h.blocks)) (is_whole host old h stands on) (kept.0 good), kept.1 on)
 
   -- and the metadata
-  metadata_after : WritesBackOthers (IsOfVolume host.volume.geo) old.medium new.medium → MetadataStands h.geometry new.medium h.bad_meta
-  metadata_after outside =
-      metadata-others h.geometry h.bad_meta old.medium new.medium stands.device.metadata (IsOfVolume host.volume.geo) (subst (λ g. HasLayout g old.medium) stands.geometry serves.layout) outside
-      (λ of. first_not_volume host.volume.geo 0 (omega arith) of)
+  metadata_after : WritesBackOthers (IsOfVolume host.volume.geo) old.medium new.medium → KeepsMarks host.volume.geo old.medium new.medium → MetadataStands h.geometry new.medium h.bad_meta
+  metadata_after outside marks =
+      metadata-then h.geometry old.medium new.medium h.bad_meta
+      (layout-others h.geometry old.medium new.medium stands.device.metadata.layout (IsOfVolume host.volume.geo) (λ of. first_not_volume host.volume.geo 0 (omega arith) of) outside)
+      (λ n below. marks n (subst (λ g. n < meta_lines g) (sym geo_is) below)) stands.device.metadata
 
   -- the state after a call that went well
   stands_worked : {T : Type 0} {may : List Page → List Page → Type 0} (r : Result T E) (pages : List Page) → VolumeCalled says host s r may calls persists old new → OnOk r (VolumeHolds s new.medium pages)
       → OnOk r (Stands (volume_after host s On) new (record h { volume = pages }))
   stands_worked (Ok x) pages c holds =
       let blocks = blocks_after c.outside in
-      stands_done host (volume_after host s On) old new h action stands on calls persists few few_persists refl h.blocks pages refl c.runs (metadata_after c.outside)
+      stands_done host (volume_after host s On) old new h action stands on calls persists few few_persists refl h.blocks pages refl c.runs (metadata_after c.outside c.marks)
       blocks.0 blocks.1
-      (subst (λ g. EachReadsPages g new.medium (λ x. x ≡ pages)) (c.sizes ∙ geo_is) (served_pages s new.medium pages (c.serves c.settled) holds)) holds
+      (λ good. subst (λ g. EachReadsPages g new.medium (λ x. x ≡ pages)) (c.sizes ∙ geo_is) (served_pages s new.medium pages (c.serves c.settled) holds)) holds
   stands_worked (Err e) pages c holds = tt
 
-  left_by : ((bs : List Block) → bs ≡ h.blocks → MayLeaveBlocks (Some action) h.blocks bs) → WritesBackOthers (IsOfVolume host.volume.geo) old.medium new.medium
+  left_by : ((bs : List Block) → bs ≡ h.blocks → MayLeaveBlocks (Some action) h.blocks bs) → WritesBackOthers (IsOfVolume host.volume.geo) old.medium new.medium → KeepsMarks host.volume.geo old.medium new.medium
       → EachReadsPages host.volume.geo new.medium (MayLeaveVolume host.volume.geo (Some action) h.volume) → DeviceLeft h action new.medium
-  left_by kept outside each = record {
-    metadata = metadata_after outside;
-    blocks = each_reads-then h.geometry new.medium (λ bs. bs ≡ h.blocks) (MayLeaveBlocks (Some action) h.blocks) kept (blocks_after outside).0;
-    volume = subst (λ g. EachReadsPages g new.medium (MayLeaveVolume g (Some action) h.volume)) geo_is each;
+  left_by kept outside marks each = record {
+    metadata = metadata_after outside marks;
+    blocks = λ good. each_reads-then h.geometry new.medium (λ bs. bs ≡ h.blocks) (MayLeaveBlocks (Some action) h.blocks) kept ((blocks_after outside).0 good);
+    volume = λ good. subst (λ g. EachReadsPages g new.medium (MayLeaveVolume g (Some action) h.volume)) geo_is each;
   }
 
   left_worked : {T : Type 0} (r : Result T E) → ((bs : List Block) → bs ≡ h.blocks → MayLeaveBlocks (Some action) h.blocks bs)
       → VolumeCalled says host s r (MayLeaveVolume host.volume.geo (Some action)) calls persists old new → OnWorked says r (DeviceLeft h action new.medium)
-  left_worked (Ok x) kept c = left_by kept c.outside (c.images h.volume (stands.volume on))
-  left_worked (Err e) kept c = λ worked. left_by kept c.outside (c.images worked h.volume (stands.volume on))
+  left_worked (Ok x) kept c = left_by kept c.outside c.marks (c.images h.volume (stands.volume on))
+  left_worked (Err e) kept c = λ worked. left_by kept c.outside c.marks (c.images worked h.volume (stands.volume on))
 
 same_host : {T E R : Type 0} (says : E → Told R) (host : HostState) (s : VolumeState) (r : Result T E) (old new : Device) → OnRefused says r ((s ≡ host.volume) × (new ≡ old))
     → OnRefused says r ((volume_after host s host.mode ≡ host) × (new ≡ old))
@@ -184,13 +180,14 @@ settled_ok s (Err f) is = tt
 pub volume_called : {D : Type 0} (state : D → Device) (host : HostState) (s : VolumeState) (r : Result (Unit {0}) VolumeFault) (may : List Page → List Page → Type 0) (calls persists : ℕ) (before after : D)
     → OnRefused volume_says r ((s ≡ host.volume) × (after ≡ before))
     → OnWorked volume_says r ((pages : List Page) → VolumeHolds host.volume (state before).medium pages → EachReadsPages host.volume.geo (state after).medium (may pages))
-    → WritesBackOthers (IsOfVolume host.volume.geo) (state before).medium (state after).medium → (IsTrue s.settled → VolumeServes s (state after).medium)
+    → WritesBackOthers (IsOfVolume host.volume.geo) (state before).medium (state after).medium → KeepsMarks host.volume.geo (state before).medium (state after).medium → (IsTrue s.settled → VolumeServes s (state after).medium)
     → (s.geo ≡ host.volume.geo) × (s.settled ≡ is_done (outcome_by volume_says r)) → Runs calls persists (outcome_by volume_says r) (state before).panel (state after).panel
     → VolumeCalled volume_says host s r may calls persists (state before) (state after)
-volume_called state host s r may calls persists before after untouched images outside serves object runs = record {
+volume_called state host s r may calls persists before after untouched images outside marks serves object runs = record {
   untouched = on_refused-then volume_says r (λ same. (same.0, ap state same.1)) untouched;
   images = images;
   outside = outside;
+  marks = marks;
   serves = serves;
   sizes = object.0;
   settled = settled_ok s r object.1;
@@ -246,16 +243,12 @@ module _ (now host : HostState) (old : Device) (h : Machine) (inside : host ≡ 
       subst (λ geo. count host.volume.geo host.volume.present ≤ count geo (presence_of h.volume)) volume_sizes
       (subst (λ there. count host.volume.geo host.volume.present ≤ count host.volume.geo there) (sym presence_seen) (omega arith))
 
-  -- no line of metadata refuses a change
-  pub no_bad_meta : (changes : Bool) → metadata_refusal_if changes host.volume.geo old.medium ≡ None
-  no_bad_meta true =
-      ap (option_map Meta)
-      (none_below old.medium.is_bad (meta_lines host.volume.geo)
-      (subst (λ g. HasGoodMetadata g old.medium) (sym (ap (λ k. k.volume.geo) inside ∙ (serves.mounted on).volume_geometry)) serves.layout.good))
-  no_bad_meta false = refl
-
-  pub no_bad_lines : h.bad_meta ≡ []
-  no_bad_lines = good_state now old h serves stands on
+  -- a bad line of metadata refuses what changes it
+  pub meta_seen : (changes : Bool) → metadata_refusal changes h.bad_meta ≡ option_map volume_answer (metadata_refusal_if changes host.volume.geo old.medium)
+  meta_seen true =
+      ap (metadata_refusal true) (sym stands.device.metadata.bad ∙ ap (λ g. bad_metadata g old.medium.is_bad) (sym volume_sizes))
+      ∙ meta_refused Meta volume_answer (λ n. refl) host.volume.geo old.medium.is_bad
+  meta_seen false = refl
 
 -- a call that was not refused or stopped, of the pages that the volume stands for
 pub of_pages : {T E : Type 0} (s t : VolumeState) (m n : Medium) (r : Result T E) (f : List Page → List Page) (pages : List Page)

@@ -5,7 +5,7 @@ use Rattle.pm_volume.specs.Refusals.{store_refusal, volume_says}
 use Rattle.machine_host.specs.OnVolume.{volume_answer}
 use Rattle.machine_host.specs.Stands.{HostState}
 use Rattle.script_text.specs.Action.Action.{VStore}
-use Rattle.machine_host.proofs.VolumeCallLemmas.{volume_part, no_bad_lines, no_bad_meta, of_pages, counted_seen, volume_called, volume_pages, volume_sizes, work_answered}
+use Rattle.machine_host.proofs.VolumeCallLemmas.{volume_part, meta_seen, presence_seen, of_pages, counted_seen, volume_called, volume_pages, volume_sizes, work_answered}
 use Rattle.machine_host.proofs.VolumeFateLemmas.{fate_vstore}
 use Rattle.machine_host.proofs.host.Host.vstore.Goals as goal
 
@@ -21,10 +21,10 @@ returns g c =
     (λ h stands.
     let seen = counted_seen now host old h c.self.view_is c.requires.on c.requires.serves stands in
     (seen (λ geo there. store_calls there c.args.offset len), seen (λ geo there. store_persists there c.args.offset len))) (λ h bs same. same)
-    (volume_called g.D.Lines.state host _ c.store-call.result _ _ _ _ _ said.untouched said.images said.outside said.serves said.object said.runs)
+    (volume_called g.D.Lines.state host _ c.store-call.result _ _ _ _ _ said.untouched said.images said.outside said.metadata said.serves said.object said.runs)
     _ (λ pages. store_refusal v old.medium pages c.args.offset len) (λ h. put c.args.offset c.args.bytes.now (fill c.args.offset len h.volume)) refl
-    (λ h stands. fate_vstore h v (sym stands.mode ∙ c.requires.on) (no_bad_lines now host old h c.self.view_is c.requires.on c.requires.serves stands) (volume_sizes now host old h c.self.view_is c.requires.on c.requires.serves stands)
-    old.medium (no_bad_meta now host old h c.self.view_is c.requires.on c.requires.serves stands) c.args.offset c.args.bytes.now)
+    (λ h stands. fate_vstore h v (sym stands.mode ∙ c.requires.on) (volume_sizes now host old h c.self.view_is c.requires.on c.requires.serves stands)
+    old.medium (meta_seen now host old h c.self.view_is c.requires.on c.requires.serves stands) (presence_seen now host old h c.self.view_is c.requires.on c.requires.serves stands) c.args.offset c.args.bytes.now)
     (λ h stands. said.refused h.volume (volume_pages now host old h c.self.view_is c.requires.on c.requires.serves stands))
     (λ h stands. of_pages _ _ _ _ _ (λ pages. put c.args.offset c.args.bytes.now (fill c.args.offset len pages)) h.volume said.ok (volume_pages now host old h c.self.view_is c.requires.on c.requires.serves stands))
     c.volume_answer.ensures.answer

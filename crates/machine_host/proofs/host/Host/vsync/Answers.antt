@@ -5,7 +5,7 @@ use Rattle.pm_volume.specs.Refusals.{sync_refusal, volume_says}
 use Rattle.machine_host.specs.OnVolume.{volume_answer}
 use Rattle.machine_host.specs.Stands.{HostState}
 use Rattle.script_text.specs.Action.Action.{VSync}
-use Rattle.machine_host.proofs.VolumeCallLemmas.{volume_part, counted_seen, no_bad_lines, of_pages, same_volume, settled_was, volume_called, volume_pages, volume_sizes, work_answered}
+use Rattle.machine_host.proofs.VolumeCallLemmas.{volume_part, counted_seen, of_pages, same_volume, settled_was, volume_called, volume_pages, volume_sizes, work_answered}
 use Rattle.machine_host.proofs.VolumeFateLemmas.{fate_vsync}
 use Rattle.machine_host.proofs.host.Host.vsync.Goals as goal
 
@@ -21,9 +21,9 @@ returns g c =
     let few = counted_seen now host old h c.self.view_is c.requires.on c.requires.serves stands (λ geo there. lines_there geo there c.args.offset c.args.len) in
     (few, few)) (λ h bs same. same)
     (volume_called g.D.Lines.state host _ c.sync-call.result _ _ _ _ _ (same_volume _ v _ c.sync-call.result said.object (settled_was now host old c.self.view_is c.requires.on c.requires.serves) said.untouched)
-    said.images said.outside (λ _. said.serves) (ap (λ k. k.geo) said.object, ap (λ k. k.settled) said.object) said.runs)
+    said.images said.outside said.metadata (λ _. said.serves) (ap (λ k. k.geo) said.object, ap (λ k. k.settled) said.object) said.runs)
     _ (λ pages. sync_refusal v pages c.args.offset c.args.len) (λ h. persist c.args.offset c.args.len h.volume) refl
-    (λ h stands. fate_vsync h v (sym stands.mode ∙ c.requires.on) (no_bad_lines now host old h c.self.view_is c.requires.on c.requires.serves stands) (volume_sizes now host old h c.self.view_is c.requires.on c.requires.serves stands) c.args.offset c.args.len)
+    (λ h stands. fate_vsync h v (sym stands.mode ∙ c.requires.on) (volume_sizes now host old h c.self.view_is c.requires.on c.requires.serves stands) c.args.offset c.args.len)
     (λ h stands. said.refused h.volume (volume_pages now host old h c.self.view_is c.requires.on c.requires.serves stands))
     (λ h stands. of_pages _ _ _ _ _ (persist c.args.offset c.args.len) h.volume said.ok (volume_pages now host old h c.self.view_is c.requires.on c.requires.serves stands))
     c.volume_answer.ensures.answer
