@@ -25,10 +25,11 @@ use Rattle.page_lines.proofs.TurnLemmas.{stands-others}
 use Rattle.pm_volume.specs.Area.{volume_area, IsOfVolume}
 use Rattle.pm_volume.specs.Checked.{IsAbsentLine, IsCovered}
 use Rattle.pm_volume.specs.Images.{EachReadsPages, ReadsPages}
-use Rattle.pm_volume.specs.Object.{VolumeHolds, VolumeServes, VolumeState, volume_place}
+use Rattle.pm_volume.specs.Object.{KeepsMarks, VolumeHolds, VolumeServes, VolumeState, volume_place}
 use Rattle.pm_volume.specs.Presence.{presence_words, switched}
 use Rattle.pm_volume.proofs.BadLemmas.{cell_there, page_there}
 use Rattle.pm_volume.proofs.AreaLemmas.{area_in_metadata}
+use Rattle.pm_volume.proofs.MarkLemmas.{marks-others, marks-outside, marks-trans}
 use Rattle.pm_volume.proofs.PlaceLemmas.{in_volume, line_is_volume, lines_differ, place_of, placed, placed_line, volume_behind_metadata}
 use Rattle.pm_volume.proofs.PresenceLemmas.{among_bounds, filled_presence, touches_among}
 use Rattle.pm_volume.proofs.ServesLemmas.{of_volume, others-outside, reads_rest, serves-others}
@@ -79,9 +80,11 @@ module _ (s : VolumeState) (old : Medium) (serves : VolumeServes s old) where
     pub cleared-serves : VolumeServes s mid
     cleared-serves = serves-others s old mid (IsAbsentLine s.geo s.present) absent_is_volume x serves
 
+    pub cleared-marks : KeepsMarks s.geo old mid
+    cleared-marks = marks-others s.geo old mid (IsAbsentLine s.geo s.present) serves.valid absent_is_volume x
+
     pub cleared-good : AreGood old (meta_lines s.geo) → AreGood mid (meta_lines s.geo)
-    cleared-good good n below =
-        x.bad n (λ is. let from = (volume_behind_metadata s.geo serves.valid n (absent_is_volume n is)).0 in absurd (omega (arith, from, below))) ∙ good n below
+    cleared-good good n below = cleared-marks n below ∙ good n below
 
     pub cleared-holds : (pages : List Page) → VolumeHolds s old pages → VolumeHolds s mid pages
     cleared-holds pages holds = holds-others s old mid (IsAbsentLine s.geo s.present) there_not_absent x pages holds
@@ -149,6 +152,9 @@ module _ (s : VolumeState) (old : Medium) (serves : VolumeServes s old) where
 
       pub filled-outside : WritesBackOthers (IsOfVolume s.geo) old new
       filled-outside = others-trans (IsOfVolume s.geo) old mid new cleared-outside (others-outside s.geo mid new serves.valid y)
+
+      pub filled-marks : KeepsMarks s.geo old new
+      filled-marks = marks-trans s.geo old mid new cleared-marks (marks-outside s.geo (IsOf (volume_area s.geo)) mid new y)
 
       -- lines that are bad now were there, and bad
       pub filled-covered : (t : VolumeState) → t.geo ≡ s.geo → t.present ≡ switched pages.start pages.len true s.present → IsCovered s old span → IsCovered t new span

@@ -1,5 +1,6 @@
 pub mod AreaLemmas
 pub mod PlaceLemmas
+pub mod MarkLemmas
 pub mod ResultLemmas
 pub mod CheckLemmas
 pub mod BadLemmas

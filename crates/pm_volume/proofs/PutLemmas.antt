@@ -10,7 +10,8 @@ use Rattle.page_lines.proofs.OthersLemmas.{others-wider}
 use Rattle.page_lines.proofs.PutLemmas.{may_put-done}
 use Rattle.pm_volume.specs.Area.{IsOfVolume}
 use Rattle.pm_volume.specs.Images.{EachReadsPages}
-use Rattle.pm_volume.specs.Object.{VolumeHolds, VolumeServes, VolumeState, volume_place}
+use Rattle.pm_volume.specs.Object.{KeepsMarks, VolumeHolds, VolumeServes, VolumeState, volume_place}
+use Rattle.pm_volume.proofs.MarkLemmas.{marks-others}
 use Rattle.pm_volume.proofs.ResultLemmas.{on_ok-then}
 use Rattle.pm_volume.proofs.ServesLemmas.{of_volume, serves-others}
 use Rattle.pm_volume.proofs.TurnLemmas.{holds-turned, images-turned, placed_lines}
@@ -18,6 +19,9 @@ use Rattle.pm_volume.proofs.TurnLemmas.{holds-turned, images-turned, placed_line
 module _ (s : VolumeState) (old new : Medium) (start len : ℕ) (serves : VolumeServes s old) (x : WritesBackOthers (IsPlaced (volume_place s.geo s.present true) start len) old new) where
   pub turned-outside : WritesBackOthers (IsOfVolume s.geo) old new
   turned-outside = others-wider (IsPlaced (volume_place s.geo s.present true) start len) (IsOfVolume s.geo) old new (λ n is. of_volume s.geo n (placed_lines s old start len n serves is)) x
+
+  pub turned-marks : KeepsMarks s.geo old new
+  turned-marks = marks-others s.geo old new (IsPlaced (volume_place s.geo s.present true) start len) serves.valid (λ n is. placed_lines s old start len n serves is) x
 
   pub turned-serves : VolumeServes s new
   turned-serves = serves-others s old new (IsPlaced (volume_place s.geo s.present true) start len) (λ n is. placed_lines s old start len n serves is) x serves

@@ -1,5 +1,5 @@
 -- What callers see of the volume of a device.
-use Rattle.std.specs.Prelude.{◌≡◌, ◌/◌, ℕ, Bool, true, false, not, IsTrue, List, length, Option, Some, None, slice_get, if◌then◌else◌}
+use Rattle.std.specs.Prelude.{◌≡◌, ◌<◌, ◌/◌, ℕ, Bool, true, false, not, IsTrue, List, length, Option, Some, None, slice_get, if◌then◌else◌}
 use Rattle.nvm_base.specs.declared.units.Span.{Span}
 use Rattle.line_device.specs.Medium.{Medium}
 use Rattle.word_tables.specs.declared.geometry.Geometry.{Geometry}
@@ -32,6 +32,10 @@ pub record VolumeServes (s : VolumeState) (m : Medium) : Type 0 where
 pub record VolumeHolds (s : VolumeState) (m : Medium) (pages : List Page) : Type 0 where
   pub there : presence_of pages ≡ s.present
   pub stand : PagesStand (volume_line s.geo) m pages
+
+-- no line of metadata changes its mark
+abbrev pub KeepsMarks : Geometry → Medium → Medium → Type 0
+KeepsMarks geo old new = (n : ℕ) → n < meta_lines geo → new.is_bad n ≡ old.is_bad n
 
 -- the page is there, or absent, as it is wanted
 abbrev pub is_wanted : Bool → Option Bool → Bool

@@ -10,7 +10,7 @@ ghost use Rattle.nvm_model.specs.Page.{Page, discard};
 ghost use Rattle.page_lines.specs.Turns.{WritesBackOthers};
 ghost use Rattle.pm_volume.specs.Area.{IsOfVolume, volume_area};
 ghost use Rattle.pm_volume.specs.Images.{EachReadsPages};
-ghost use Rattle.pm_volume.specs.Object.{VolumeHolds, VolumeServes};
+ghost use Rattle.pm_volume.specs.Object.{KeepsMarks, VolumeHolds, VolumeServes};
 ghost use Rattle.pm_volume.specs.Refusals.{discard_refusal, volume_says};
 ghost use Rattle.word_log.specs.Area.{IsOf};
 ghost use Rattle.word_log.specs.Changes.{commit_calls, commit_persists};
@@ -34,6 +34,7 @@ impl Volume {
         ensures images { OnWorked volume_says result ((before : List Page) → VolumeHolds self.old (L.state dev.old).medium before
             → EachReadsPages self.old.geo (L.state dev.new).medium (λ left. (left ≡ before) ⊎ (left ≡ discard pages.start pages.len before))) }
         ensures outside { WritesBackOthers (IsOfVolume self.old.geo) (L.state dev.old).medium (L.state dev.new).medium }
+        ensures metadata { KeepsMarks self.old.geo (L.state dev.old).medium (L.state dev.new).medium }
         ensures serves { IsTrue self.new.settled → VolumeServes self.new (L.state dev.new).medium }
         ensures object { (self.new.geo ≡ self.old.geo) × (self.new.settled ≡ is_done (outcome_by volume_says result)) }
         ensures runs { Runs (commit_calls pages.len) (commit_persists pages.len) (outcome_by volume_says result)
@@ -58,6 +59,7 @@ impl Volume {
         ensures images { OnWorked volume_says result ((before : List Page) → VolumeHolds self.old (L.state dev.old).medium before
             → EachReadsPages self.old.geo (L.state dev.new).medium (AreMixed Page before (discard pages.start pages.len before))) }
         ensures outside { WritesBackOthers (IsOfVolume self.old.geo) (L.state dev.old).medium (L.state dev.new).medium }
+        ensures metadata { KeepsMarks self.old.geo (L.state dev.old).medium (L.state dev.new).medium }
         ensures serves { IsTrue self.new.settled → VolumeServes self.new (L.state dev.new).medium }
         ensures object { (self.new.geo ≡ self.old.geo) × (self.new.settled ≡ is_done (outcome_by volume_says result)) }
         ensures runs { Runs (11 * pages.len) (5 * pages.len) (outcome_by volume_says result)

@@ -13,7 +13,7 @@ ghost use Rattle.pm_volume.specs.Area.{IsOfVolume};
 ghost use Rattle.pm_volume.specs.Checked.{IsAbsentLine, IsCovered};
 ghost use Rattle.pm_volume.specs.Costs.{pages_touched, store_persists};
 ghost use Rattle.pm_volume.specs.Images.{EachReadsPages};
-ghost use Rattle.pm_volume.specs.Object.{VolumeHolds, VolumeServes};
+ghost use Rattle.pm_volume.specs.Object.{KeepsMarks, VolumeHolds, VolumeServes};
 
 use crate::Volume;
 use line_device::Lines;
@@ -46,6 +46,7 @@ impl Volume {
         ensures images { (pages : List Page) → VolumeHolds self.old (L.state dev.old).medium pages
             → EachReadsPages self.old.geo (L.state dev.new).medium (λ left. (left ≡ pages) ⊎ (left ≡ fill span.start span.len pages)) }
         ensures outside { WritesBackOthers (IsOfVolume self.old.geo) (L.state dev.old).medium (L.state dev.new).medium }
+        ensures metadata { KeepsMarks self.old.geo (L.state dev.old).medium (L.state dev.new).medium }
         ensures covered { OnOk result (IsCovered self.new (L.state dev.new).medium span) }
         ensures serves { OnOk result (VolumeServes self.new (L.state dev.new).medium) }
         ensures object { (self.new.geo ≡ self.old.geo) × (self.new.settled ≡ self.old.settled) × (OnOk result (IsTrue self.new.quiet)) }
@@ -74,6 +75,7 @@ impl Volume {
         ensures images { (pages : List Page) → VolumeHolds self.old (L.state dev.old).medium pages
             → EachReadsPages self.old.geo (L.state dev.new).medium (λ left. (left ≡ pages) ⊎ (left ≡ fill span.start span.len pages)) }
         ensures outside { WritesBackOthers (IsOfVolume self.old.geo) (L.state dev.old).medium (L.state dev.new).medium }
+        ensures metadata { KeepsMarks self.old.geo (L.state dev.old).medium (L.state dev.new).medium }
         ensures covered { OnOk result (IsCovered self.new (L.state dev.new).medium span) }
         ensures serves { OnOk result (VolumeServes self.new (L.state dev.new).medium) }
         ensures object { (self.new.geo ≡ self.old.geo) × (self.new.settled ≡ self.old.settled) × (OnOk result (IsTrue self.new.quiet)) }

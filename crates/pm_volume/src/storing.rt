@@ -9,7 +9,7 @@ ghost use Rattle.page_lines.specs.Turns.{WritesBackOthers};
 ghost use Rattle.pm_volume.specs.Area.{IsOfVolume};
 ghost use Rattle.pm_volume.specs.Checked.{IsCovered};
 ghost use Rattle.pm_volume.specs.Images.{EachReadsPages};
-ghost use Rattle.pm_volume.specs.Object.{VolumeHolds, VolumeServes};
+ghost use Rattle.pm_volume.specs.Object.{KeepsMarks, VolumeHolds, VolumeServes};
 ghost use Rattle.pm_volume.specs.Refusals.{store_refusal, volume_says};
 ghost use Rattle.pm_volume.specs.Costs.{lines_touched, store_calls, store_persists};
 
@@ -39,6 +39,7 @@ impl Volume {
         ensures images { OnWorked volume_says result ((pages : List Page) → VolumeHolds self.old (L.state dev.old).medium pages
             → EachReadsPages self.old.geo (L.state dev.new).medium (MayStore offset bytes.now pages)) }
         ensures outside { WritesBackOthers (IsOfVolume self.old.geo) (L.state dev.old).medium (L.state dev.new).medium }
+        ensures metadata { KeepsMarks self.old.geo (L.state dev.old).medium (L.state dev.new).medium }
         ensures serves { IsTrue self.new.settled → VolumeServes self.new (L.state dev.new).medium }
         ensures object { (self.new.geo ≡ self.old.geo) × (self.new.settled ≡ is_done (outcome_by volume_says result)) }
         ensures runs { Runs (store_calls self.old.present offset (length bytes.now)) (store_persists self.old.present offset (length bytes.now))
@@ -68,6 +69,7 @@ impl Volume {
         ensures images { (pages : List Page) → VolumeHolds self.now (L.state dev.old).medium pages
             → EachReadsPages self.now.geo (L.state dev.new).medium (LineByLine (MayPut offset bytes.now) pages) }
         ensures outside { WritesBackOthers (IsOfVolume self.now.geo) (L.state dev.old).medium (L.state dev.new).medium }
+        ensures metadata { KeepsMarks self.now.geo (L.state dev.old).medium (L.state dev.new).medium }
         ensures serves { VolumeServes self.now (L.state dev.new).medium }
         ensures runs { Runs (2 * lines_touched offset (length bytes.now)) 0 (ended result) (L.state dev.old).panel (L.state dev.new).panel }
     {

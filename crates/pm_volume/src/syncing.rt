@@ -10,7 +10,7 @@ ghost use Rattle.pm_volume.specs.Area.{IsOfVolume};
 ghost use Rattle.pm_volume.specs.Checked.{IsReadable};
 ghost use Rattle.pm_volume.specs.Costs.{lines_there, lines_there_at};
 ghost use Rattle.pm_volume.specs.Images.{EachReadsPages};
-ghost use Rattle.pm_volume.specs.Object.{VolumeHolds, VolumeServes};
+ghost use Rattle.pm_volume.specs.Object.{KeepsMarks, VolumeHolds, VolumeServes};
 ghost use Rattle.pm_volume.specs.Refusals.{physical_offset, physical_refusal, sync_refusal, volume_says};
 
 use crate::{Volume, VolumeFault};
@@ -34,6 +34,7 @@ impl Volume {
         ensures images { OnWorked volume_says result ((pages : List Page) → VolumeHolds self.old (L.state dev.old).medium pages
             → EachReadsPages self.old.geo (L.state dev.new).medium (MaySync span.start span.len pages)) }
         ensures outside { WritesBackOthers (IsOfVolume self.old.geo) (L.state dev.old).medium (L.state dev.new).medium }
+        ensures metadata { KeepsMarks self.old.geo (L.state dev.old).medium (L.state dev.new).medium }
         ensures serves { VolumeServes self.new (L.state dev.new).medium }
         ensures object { self.new ≡ record self.old { settled = is_done (outcome_by volume_says result) } }
         ensures runs { let lines = lines_there self.old.geo self.old.present span.start span.len in
@@ -61,6 +62,7 @@ impl Volume {
             → physical_offset self.old.geo span.start span.len ≡ Some offset → VolumeHolds self.old (L.state dev.old).medium pages
             → EachReadsPages self.old.geo (L.state dev.new).medium (MaySync offset span.len pages)) }
         ensures outside { WritesBackOthers (IsOfVolume self.old.geo) (L.state dev.old).medium (L.state dev.new).medium }
+        ensures metadata { KeepsMarks self.old.geo (L.state dev.old).medium (L.state dev.new).medium }
         ensures serves { VolumeServes self.new (L.state dev.new).medium }
         ensures object { self.new ≡ record self.old { settled = is_done (outcome_by volume_says result) } }
         ensures runs { let lines = lines_there_at self.old.geo self.old.present (physical_offset self.old.geo span.start span.len) span.len in
@@ -85,6 +87,7 @@ impl Volume {
         ensures images { (pages : List Page) → VolumeHolds self.now (L.state dev.old).medium pages
             → EachReadsPages self.now.geo (L.state dev.new).medium (MaySync span.start span.len pages) }
         ensures outside { WritesBackOthers (IsOfVolume self.now.geo) (L.state dev.old).medium (L.state dev.new).medium }
+        ensures metadata { KeepsMarks self.now.geo (L.state dev.old).medium (L.state dev.new).medium }
         ensures serves { VolumeServes self.now (L.state dev.new).medium }
         ensures runs { let lines = lines_there self.now.geo self.now.present span.start span.len in
             Runs lines lines (ended result) (L.state dev.old).panel (L.state dev.new).panel }

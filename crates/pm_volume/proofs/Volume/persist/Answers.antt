@@ -5,7 +5,7 @@ use Rattle.page_lines.specs.Placed.{AreApart, IsPlaced}
 use Rattle.page_lines.specs.Turns.{MayTurn, Turns, WritesBackOthers}
 use Rattle.pm_volume.specs.Object.{PlacesState, volume_place}
 use Rattle.pm_volume.proofs.PlaceLemmas.{lines_apart}
-use Rattle.pm_volume.proofs.PutLemmas.{persist-holds, persist-images, turned-outside, turned-serves}
+use Rattle.pm_volume.proofs.PutLemmas.{persist-holds, persist-images, turned-marks, turned-outside, turned-serves}
 use Rattle.pm_volume.proofs.Volume.persist.Goals as goal
 
 pub persist_lines-requires-clause-apart : goal.persist_lines-requires-clause-apart
@@ -35,6 +35,13 @@ returns-clause-outside g c =
     let old = (g.L.Lines.state c.args.dev.now).medium in
     let new = (g.L.Lines.state c.persist_lines.new.dev).medium in
     turned-outside c.args.self.now old new c.args.span.start c.args.span.len c.requires.serves
+    (subst (λ (l : PlacesState). WritesBackOthers (IsPlaced (volume_place l.geo l.present l.wanted) c.args.span.start c.args.span.len) old new) c.lines-lines.ensures c.persist_lines.ensures.outside)
+
+pub returns-clause-metadata : goal.returns-clause-metadata
+returns-clause-metadata g c =
+    let old = (g.L.Lines.state c.args.dev.now).medium in
+    let new = (g.L.Lines.state c.persist_lines.new.dev).medium in
+    turned-marks c.args.self.now old new c.args.span.start c.args.span.len c.requires.serves
     (subst (λ (l : PlacesState). WritesBackOthers (IsPlaced (volume_place l.geo l.present l.wanted) c.args.span.start c.args.span.len) old new) c.lines-lines.ensures c.persist_lines.ensures.outside)
 
 pub returns-clause-serves : goal.returns-clause-serves

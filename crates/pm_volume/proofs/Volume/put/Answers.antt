@@ -6,7 +6,7 @@ use Rattle.page_lines.specs.Placed.{AreApart, IsPlaced}
 use Rattle.page_lines.specs.Turns.{MayTurn, Turns, WritesBackOthers}
 use Rattle.pm_volume.specs.Object.{PlacesState, volume_place}
 use Rattle.pm_volume.proofs.PlaceLemmas.{lines_apart}
-use Rattle.pm_volume.proofs.PutLemmas.{put-holds, put-images, turned-outside, turned-serves}
+use Rattle.pm_volume.proofs.PutLemmas.{put-holds, put-images, turned-marks, turned-outside, turned-serves}
 use Rattle.pm_volume.proofs.CountLemmas.{there_in_most}
 use Rattle.pm_volume.proofs.Volume.put.Goals as goal
 
@@ -37,6 +37,13 @@ returns-clause-outside g c =
     let old = (g.L.Lines.state c.args.dev.now).medium in
     let new = (g.L.Lines.state c.put_lines.new.dev).medium in
     turned-outside c.args.self.now old new c.args.offset (length c.args.bytes.now) c.requires.serves
+    (subst (λ (l : PlacesState). WritesBackOthers (IsPlaced (volume_place l.geo l.present l.wanted) c.args.offset (length c.args.bytes.now)) old new) c.lines-lines.ensures c.put_lines.ensures.outside)
+
+pub returns-clause-metadata : goal.returns-clause-metadata
+returns-clause-metadata g c =
+    let old = (g.L.Lines.state c.args.dev.now).medium in
+    let new = (g.L.Lines.state c.put_lines.new.dev).medium in
+    turned-marks c.args.self.now old new c.args.offset (length c.args.bytes.now) c.requires.serves
     (subst (λ (l : PlacesState). WritesBackOthers (IsPlaced (volume_place l.geo l.present l.wanted) c.args.offset (length c.args.bytes.now)) old new) c.lines-lines.ensures c.put_lines.ensures.outside)
 
 pub returns-clause-serves : goal.returns-clause-serves

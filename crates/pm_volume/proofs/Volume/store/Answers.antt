@@ -7,8 +7,9 @@ use Rattle.page_lines.specs.Turns.{WritesBackOthers}
 use Rattle.word_tables.specs.declared.geometry.Geometry.{Geometry}
 use Rattle.pm_volume.specs.Area.{IsOfVolume}
 use Rattle.pm_volume.specs.Images.{EachReadsPages}
-use Rattle.pm_volume.specs.Object.{VolumeState}
+use Rattle.pm_volume.specs.Object.{KeepsMarks, VolumeState}
 use Rattle.pm_volume.specs.Refusals.{volume_says}
+use Rattle.pm_volume.proofs.MarkLemmas.{marks-trans}
 use Rattle.pm_volume.proofs.ServesLemmas.{holds-same}
 use Rattle.pm_volume.proofs.StoreLemmas.{may_store-filled, reads-then}
 use Rattle.pm_volume.proofs.Volume.store.Goals as goal
@@ -46,6 +47,15 @@ returns-in_err-put-clause-outside g c =
     (subst (λ (t : VolumeState). WritesBackOthers (IsOfVolume t.geo) old mid) c.self.view_is c.fill.ensures.outside)
     (subst (λ (geo : Geometry). WritesBackOthers (IsOfVolume geo) mid new) (c.fill.ensures.object.0 ∙ ap (λ (t : VolumeState). t.geo) c.self.view_is) c.put.ensures.outside)
 
+pub returns-in_err-put-clause-metadata : goal.returns-in_err-put-clause-metadata
+returns-in_err-put-clause-metadata g c =
+    let old = (g.L.Lines.state c.args.dev.now).medium in
+    let mid = (g.L.Lines.state c.fill.new.dev).medium in
+    let new = (g.L.Lines.state c.put.new.dev).medium in
+    marks-trans c.args.self.now.geo old mid new
+    (subst (λ (t : VolumeState). KeepsMarks t.geo old mid) c.self.view_is c.fill.ensures.metadata)
+    (subst (λ (geo : Geometry). KeepsMarks geo mid new) (c.fill.ensures.object.0 ∙ ap (λ (t : VolumeState). t.geo) c.self.view_is) c.put.ensures.metadata)
+
 pub returns-clause-images : goal.returns-clause-images
 returns-clause-images g c = λ pages holds.
     let old = (g.L.Lines.state c.args.dev.now).medium in
@@ -63,3 +73,12 @@ returns-clause-outside g c =
     others-trans (IsOfVolume c.args.self.now.geo) old mid new
     (subst (λ (t : VolumeState). WritesBackOthers (IsOfVolume t.geo) old mid) c.self.view_is c.fill.ensures.outside)
     (subst (λ (geo : Geometry). WritesBackOthers (IsOfVolume geo) mid new) (c.fill.ensures.object.0 ∙ ap (λ (t : VolumeState). t.geo) c.self.view_is) c.put.ensures.outside)
+
+pub returns-clause-metadata : goal.returns-clause-metadata
+returns-clause-metadata g c =
+    let old = (g.L.Lines.state c.args.dev.now).medium in
+    let mid = (g.L.Lines.state c.fill.new.dev).medium in
+    let new = (g.L.Lines.state c.put.new.dev).medium in
+    marks-trans c.args.self.now.geo old mid new
+    (subst (λ (t : VolumeState). KeepsMarks t.geo old mid) c.self.view_is c.fill.ensures.metadata)
+    (subst (λ (geo : Geometry). KeepsMarks geo mid new) (c.fill.ensures.object.0 ∙ ap (λ (t : VolumeState). t.geo) c.self.view_is) c.put.ensures.metadata)
