@@ -5,7 +5,7 @@ ghost use Rattle.line_device.specs.Device.{Restarted, Waited, setup_outcome};
 ghost use Rattle.line_device.specs.declared.fault.DeviceFault.TheVariants.{Poisoned, Failed};
 ghost use Rattle.line_device.specs.declared.fault.ResetFault.TheVariants as setup;
 ghost use Rattle.test_devices.specs.Schedule.{schedule_ended};
-ghost use Rattle.test_devices.specs.Faulty.{faulty, schedule, reached, Numbered};
+ghost use Rattle.test_devices.specs.Faulty.{faulty, schedule, reached, Numbered, setup_failed};
 
 use super::Faulty;
 use line_device::{Choice, DeviceFault, LineDevice, LineState, Peek, ResetFault};
@@ -21,7 +21,8 @@ impl<D: LineDevice> LineDevice for Faulty<D> {
         ensures on { OnOk result (IsTrue (faulty D.state self.new).panel.power) }
         ensures stays_on { IsTrue (faulty D.state self.old).panel.power → IsTrue (faulty D.state self.new).panel.power }
         ensures sets_up { SetsUp (setup_outcome result) (faulty D.state self.old).panel (faulty D.state self.new).panel }
-        ensures numbered { Numbered self.old self.new (result ≡ Err setup.Failed)
+        ensures numbered { Numbered self.old self.new
+            ((result ≡ Err setup.Failed) × ((faulty D.state self.new).panel.counts ≡ setup_failed (faulty D.state self.old).panel.counts))
             (SetsUp (setup_outcome result) (D.state (reached self.old)).panel (D.state (reached self.new)).panel) }
     {
         if self.fails_setup() {
@@ -35,7 +36,8 @@ impl<D: LineDevice> LineDevice for Faulty<D> {
         ensures lines { OnOk result (WritesBack (installed (faulty D.state self.old).medium line.0 told.now) (faulty D.state self.new).medium) }
         ensures power { (faulty D.state self.new).panel.power ≡ (faulty D.state self.old).panel.power }
         ensures sets_up { SetsUp (setup_outcome result) (faulty D.state self.old).panel (faulty D.state self.new).panel }
-        ensures numbered { Numbered self.old self.new (result ≡ Err setup.Failed)
+        ensures numbered { Numbered self.old self.new
+            ((result ≡ Err setup.Failed) × ((faulty D.state self.new).panel.counts ≡ setup_failed (faulty D.state self.old).panel.counts))
             (SetsUp (setup_outcome result) (D.state (reached self.old)).panel (D.state (reached self.new)).panel) }
     {
         if self.fails_setup() {
@@ -51,7 +53,8 @@ impl<D: LineDevice> LineDevice for Faulty<D> {
         ensures lines { WritesBack (faulty D.state self.old).medium (faulty D.state self.new).medium }
         ensures power { KeepsPower (outcome result) (faulty D.state self.old).panel (faulty D.state self.new).panel }
         ensures sets_up { SetsUp (outcome result) (faulty D.state self.old).panel (faulty D.state self.new).panel }
-        ensures numbered { Numbered self.old self.new (result ≡ Err Failed)
+        ensures numbered { Numbered self.old self.new
+            ((result ≡ Err Failed) × ((faulty D.state self.new).panel.counts ≡ setup_failed (faulty D.state self.old).panel.counts))
             (SetsUp (outcome result) (D.state (reached self.old)).panel (D.state (reached self.new)).panel) }
     {
         if self.fails_setup() {

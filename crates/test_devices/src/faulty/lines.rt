@@ -7,17 +7,17 @@ ghost use Rattle.line_device.specs.Device.{Poisons};
 ghost use Rattle.line_device.specs.declared.fault.DeviceFault.TheVariants.{Failed};
 ghost use Rattle.test_devices.specs.contracts.faulty.Faulty.{the_row};
 ghost use Rattle.test_devices.specs.Schedule.{fails_next};
-ghost use Rattle.test_devices.specs.Faulty.{faulty, schedule, reached, Numbered, LoadFails, LoadNumbered};
+ghost use Rattle.test_devices.specs.Faulty.{faulty, schedule, reached, Numbered, LoadFails, LoadNumbered, call_failed, persist_failed};
 
 use super::Faulty;
 use line_device::{Counts, DeviceFault, LineDevice, Lines};
-use nvm_base::LineNo;
+use nvm_base::{LineNo, raise};
 use std::alloc::AllocError;
 
 impl<D: LineDevice> Lines for Faulty<D> {
     ghost state = { faulty D.state };
 
-    ghost load_leaves = { LoadNumbered D.load_leaves };
+    ghost load_leaves = { LoadNumbered D.state D.load_leaves };
 
     fn lines(&self) -> u64 {
         self.inner.lines()
@@ -34,6 +34,7 @@ impl<D: LineDevice> Lines for Faulty<D> {
             .saturating_add(self.calls)
             .saturating_add(self.setups);
         counts.calls = counts.calls.saturating_add(self.calls);
+        counts.persists = counts.persists.saturating_add(self.persists);
         counts.setups = counts.setups.saturating_add(self.setups);
         counts
     }
@@ -55,7 +56,7 @@ impl<D: LineDevice> Lines for Faulty<D> {
         ensures* after { sem 𝓛 (Rests (the_row D.row) self.entry (λ new.
             WritesBack (faulty D.state self.old).medium (faulty D.state new).medium
             × Runs 1 0 (outcome result) (faulty D.state self.old).panel (faulty D.state new).panel
-            × LoadNumbered D.load_leaves self.old new)) }
+            × LoadNumbered D.state D.load_leaves self.old new)) }
     {
         if self.fails_call() {
             return Err(DeviceFault::Failed);
@@ -73,7 +74,8 @@ impl<D: LineDevice> Lines for Faulty<D> {
             (λ _. WritesBack (faulty D.state self.old).medium (faulty D.state self.new).medium) }
         ensures poison { Poisons line.0 ((faulty D.state self.old).medium.is_bad line.0) result }
         ensures runs { Runs 1 0 (outcome result) (faulty D.state self.old).panel (faulty D.state self.new).panel }
-        ensures numbered { Numbered self.old self.new (result ≡ Err Failed)
+        ensures numbered { Numbered self.old self.new
+            ((result ≡ Err Failed) × ((faulty D.state self.new).panel.counts ≡ call_failed (faulty D.state self.old).panel.counts))
             (Runs 1 0 (outcome result) (D.state (reached self.old)).panel (D.state (reached self.new)).panel) }
     {
         if self.fails_call() {
@@ -90,10 +92,12 @@ impl<D: LineDevice> Lines for Faulty<D> {
             (λ _. WritesBack (faulty D.state self.old).medium (faulty D.state self.new).medium) }
         ensures poison { Poisons line.0 ((faulty D.state self.old).medium.is_bad line.0) result }
         ensures runs { Runs 1 1 (outcome result) (faulty D.state self.old).panel (faulty D.state self.new).panel }
-        ensures numbered { Numbered self.old self.new (result ≡ Err Failed)
+        ensures numbered { Numbered self.old self.new
+            ((result ≡ Err Failed) × ((faulty D.state self.new).panel.counts ≡ persist_failed (faulty D.state self.old).panel.counts))
             (Runs 1 1 (outcome result) (D.state (reached self.old)).panel (D.state (reached self.new)).panel) }
     {
         if self.fails_call() {
+            raise(&mut self.persists);
             return Err(DeviceFault::Failed);
         }
         self.inner.persist(line)
@@ -107,7 +111,8 @@ impl<D: LineDevice> Lines for Faulty<D> {
             (λ _. WritesBack (faulty D.state self.old).medium (faulty D.state self.new).medium) }
         ensures poison { Poisons line.0 false result }
         ensures runs { Runs 1 0 (outcome result) (faulty D.state self.old).panel (faulty D.state self.new).panel }
-        ensures numbered { Numbered self.old self.new (result ≡ Err Failed)
+        ensures numbered { Numbered self.old self.new
+            ((result ≡ Err Failed) × ((faulty D.state self.new).panel.counts ≡ call_failed (faulty D.state self.old).panel.counts))
             (Runs 1 0 (outcome result) (D.state (reached self.old)).panel (D.state (reached self.new)).panel) }
     {
         if self.fails_call() {
