@@ -54,7 +54,10 @@ impl Failures {
     pub fn is_to_come(&self) -> bool
         ensures { result ≡ is_to_come self.now }
     {
-        self.numbers.as_slice().iter().any(|number| *number > self.calls)
+        self.numbers
+            .as_slice()
+            .iter()
+            .any(|number| *number > self.calls)
     }
 
     /// No further call fails.
