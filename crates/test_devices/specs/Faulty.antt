@@ -1,5 +1,5 @@
 -- A device whose calls fail by a list of their numbers.
-use Rattle.std.specs.Prelude.{◌≡◌, ◌⊎◌, ◌+◌, ◌||◌, ℕ, Bool, false, min, Result, Err, IsTrue}
+use Rattle.std.specs.Prelude.{◌≡◌, ◌+◌, ◌||◌, ℕ, Bool, false, IsTrue}
 use Rattle.nvm_base.specs.Counts.{raised}
 use Rattle.line_device.specs.Panel.{Panel}
 use Rattle.line_device.specs.Device.{Device}
