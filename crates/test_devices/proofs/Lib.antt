@@ -1,1 +1,2 @@
 pub mod RecorderLemmas
+pub mod ScheduleLemmas

@@ -1,3 +1,5 @@
 pub mod Starts
 pub mod Recorder
 pub mod Fuse
+pub mod Schedule
+pub mod Faulty

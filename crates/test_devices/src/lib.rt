@@ -1,12 +1,14 @@
 //! Devices of tests: one that records how it was restarted and what it was told to do, and one that cuts the power.
 #![tactic(auto)]
 
+mod faulty;
 mod fuse;
 mod recorder;
 mod start;
 #[cfg(test)]
 mod tests;
 
+pub use faulty::Faulty;
 pub use fuse::Fuse;
 pub use recorder::Recorder;
 pub use start::Start;

@@ -1,9 +1,11 @@
 // Stories of the devices of tests, over a plain device.
 
-use crate::{Fuse, Recorder};
+use crate::{Faulty, Fuse, Recorder};
 use line_device::{Choice, DeviceFault, LineDevice, LineState, Lines, Order, Peek, Plain};
-use nvm_base::LineNo;
+use nvm_base::{LineNo, Words};
 use std::test::Fail;
+
+mod listed;
 
 const LINE: LineNo = LineNo(1);
 
@@ -60,6 +62,7 @@ fn devices_are_set_up_while_there_is_memory(rt: HostRuntime) -> Result<(), Fail>
     let alloc = rt.alloc();
     assert!(rt; is_set_up(&mut Recorder::new(alloc, Plain::new(alloc))));
     assert!(rt; is_set_up(&mut Fuse::new(Plain::new(alloc), 9)));
+    assert!(rt; is_set_up(&mut Faulty::new(Plain::new(alloc), Words::new(alloc))));
     assert!(rt; is_set_up(&mut Recorder::new(alloc, Fuse::new(Plain::new(alloc), 9))));
     Ok(())
 }
