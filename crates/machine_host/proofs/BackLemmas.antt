@@ -26,37 +26,24 @@ use Rattle.block_device.proofs.RestartLemmas.{blocks_read-restarted, each_reads-
 use Rattle.recovery.specs.Findings.{first_finding}
 use Rattle.machine_host.specs.Machine.{Machine}
 use Rattle.machine_host.specs.Commands.{MayLeaveBlocks, MayLeaveVolume}
-use Rattle.machine_host.specs.Restarting.{RestartMayLeave}
-use Rattle.machine_host.specs.Lines.{HasLayout}
-use Rattle.machine_host.specs.Stands.{MetadataStands}
+use Rattle.machine_host.specs.Restarting.{MayLeaveStorage}
 use Rattle.machine_host.proofs.VolumeLemmas.{line_there}
 use Rattle.machine_host.proofs.ElsewhereLemmas.{area_of_volume, volume_within}
-use Rattle.machine_host.proofs.MetadataLemmas.{metadata-restarted}
+use Rattle.machine_host.proofs.LayoutLemmas.{IsGood, is_good, layout-restarted}
 use Rattle.machine_host.proofs.MountLemmas.{IsTold, is_told, nothing_wrong_there}
 
--- the layout stays
-pub layout-restarted : (geo : Geometry) (choice : Choice) (old new : Medium) → HasLayout geo old → Survivors choice old new → HasLayout geo new
-layout-restarted geo choice old new layout x = record {
-  valid = layout.valid;
-  lines = x.count ∙ layout.lines;
-  good = λ n below. x.bad n ∙ layout.good n below;
-}
-
 -- What comes back with the power: lines that each kept one value of a word stand for what is read there.
-module _ (h : Machine) (choice : Choice) (old mid : Medium) (image : Image) (was : HasLayout h.geometry old) (metadata_was : MetadataStands h.geometry old h.bad_meta)
+module _ (h : Machine) (choice : Choice) (old mid : Medium) (image : Image) (was : IsGood h.geometry old)
     (blocks_were : EachReads h.geometry old (MayLeaveBlocks h.interrupted h.blocks)) (volume_was : EachReadsPages h.geometry old (MayLeaveVolume h.geometry h.interrupted h.volume))
     (left : Survivors choice old mid) (shows : Depicts mid image) (sound_old : IsSound old) (sound : IsSound mid) where
   abbrev geo : Geometry
   geo = h.geometry
 
-  pub layout_back : HasLayout geo mid
-  layout_back = layout-restarted geo choice old mid was left
-
-  pub metadata_back : MetadataStands geo mid h.bad_meta
-  metadata_back = metadata-restarted geo h.bad_meta old mid metadata_was choice sound_old was left
+  pub layout_back : IsGood geo mid
+  layout_back = is_good (layout-restarted geo old mid was.layout choice sound_old left) (λ n below. left.bad n ∙ was.good n below)
 
   pub told_back : IsTold geo mid
-  told_back = is_told geo mid h.bad_meta layout_back metadata_back sound
+  told_back = is_told geo mid layout_back sound
 
   pub readable_back : AreReadable geo mid
   readable_back =
@@ -118,7 +105,7 @@ module _ (h : Machine) (choice : Choice) (old mid : Medium) (image : Image) (was
   nothing_back = nothing_wrong_there geo mid layout_back told_back sound readable_back (each_pages-then geo mid (λ pages. pages ≡ pages_back) (λ _. Unit {0}) (λ _ _. tt) each_back)
 
   -- and they are what a restart may leave
-  pub kept_back : RestartMayLeave choice image h
+  pub kept_back : MayLeaveStorage choice image h
   kept_back = record {
     blocks = blocks_read-restarted geo was.valid choice old mid image (MayLeaveBlocks h.interrupted h.blocks) was.lines left shows blocks_were;
     left = pages_were.pages;

@@ -79,7 +79,7 @@ one_more test line start (suc len) from below = elim (cases_lt start line) as (�
     rest : List ℕ
     rest = filter test (range_with_len (start + 1) len)
 
-    abbrev more : Bool → Bool → List ℕ
+    more : Bool → Bool → List ℕ
     more at was = let rest = filter (with_at test line true) (range_with_len (start + 1) len) in cond (cond at true was) (start ∷ rest) rest
 
     -- behind it nothing changes

@@ -39,7 +39,7 @@ use Rattle.pm_volume.proofs.DeviceLemmas.{device_pages-stand, presence_of-device
 use Rattle.pm_volume.proofs.AreaLemmas.{area_in_metadata}
 use Rattle.pm_volume.proofs.StandingLemmas.{line_of_volume, pages-kept, volume_shaped}
 use Rattle.recovery.specs.Mounting.{IsOfLogs}
-use Rattle.machine_host.specs.Lines.{HasLayout}
+use Rattle.machine_host.proofs.LayoutLemmas.{IsGood}
 use Rattle.machine_host.proofs.VolumeLemmas.{line_there}
 use Rattle.machine_host.proofs.ElsewhereLemmas.{area_of_volume, range_kept, volume_within}
 use Rattle.machine_host.proofs.MountLemmas.{volume_image-last}
@@ -49,7 +49,7 @@ length-presence_read : (geo : Geometry) (word : ℕ → ℕ) → length (presenc
 unfolding words_read
 length-presence_read geo word = length-map (words_read geo word) (λ w. w == 1) ∙ length-list_from _ 0 geo.vpages
 
-module _ (geo : Geometry) (m : Medium) (image : Image) (layout : HasLayout geo m) (shows : Depicts m image) where
+module _ (geo : Geometry) (m : Medium) (image : Image) (layout : IsGood geo m) (shows : Depicts m image) where
   there : (n : ℕ) → n < total_lines geo → n < m.count
   there n below = subst (λ c. n < c) (sym layout.lines) below
 

@@ -5,6 +5,7 @@ pub mod RefusalLemmas
 pub mod CostLemmas
 pub mod LayoutLemmas
 mod BadLineLemmas
+pub mod ReadingLemmas
 pub mod ElsewhereLemmas
 pub mod StepLemmas
 pub mod CallLemmas

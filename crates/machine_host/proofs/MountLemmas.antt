@@ -41,10 +41,10 @@ use Rattle.recovery.specs.declared.fault.MountFault.{MountFault}
 use Rattle.recovery.specs.declared.fault.MountFault.TheVariants as fault
 use Rattle.recovery.proofs.FindingLemmas.{all_right, early_none as both_none, is_superblock, nothing_early, nothing_found}
 use Rattle.recovery.proofs.SuperblockLemmas.{early_none, some_lines, some_meta, superblock_told, superblock-outside}
-use Rattle.machine_host.specs.Lines.{HasLayout}
-use Rattle.machine_host.specs.Stands.{IsFlushed, MetadataStands}
+use Rattle.machine_host.specs.Lines.{HasLayout, MetadataStands}
+use Rattle.machine_host.specs.Stands.{IsFlushed}
 use Rattle.machine_host.specs.Costs.{mount_calls, mount_persists}
-use Rattle.machine_host.proofs.MetadataLemmas.{none_bad}
+use Rattle.machine_host.proofs.LayoutLemmas.{IsGood, none_bad}
 use Rattle.machine_host.proofs.ElsewhereLemmas.{area_of_volume, first_not_blocks, first_not_volume, volume_within}
 
 -- there is a first line
@@ -96,7 +96,7 @@ durable_flushed m flushed none block unit at p from to =
     let unit_line = named_is_data geo is.valid states (p / 8) (length-states_read geo (last_image m)) (found_map m none) (record { block = block; unit = unit; at = at; from = from; to = to }) in
     flushed p (subst (λ c. p / 8 < c) (sym is.count) (data_on_device geo is.valid (p / 8) unit_line))
 
-first_place : (p : ℕ) → p < 8 → p / 8 ≡ 0
+pub first_place : (p : ℕ) → p < 8 → p / 8 ≡ 0
 first_place p below = omega arith
 
 -- the first line has no word of logs and tables
@@ -114,28 +114,27 @@ metadata_mounted old new some flushed none x order =
     let geo = geometry_told old in
     let is = is_superblock old (both_none old (nothing_early old none)).0 in
     record {
-      lines = order.count;
+      layout = record {
+        valid = order.valid;
+        lines = order.count;
+        strong = order.strong;
+        superblock = superblock-outside geo (IsOfLogs geo) old new x (first_not_area geo is.valid)
+            (λ p below. subst (λ v. IsOnly v (old.history p)) (is.words p below) (flushed p (omega (arith, first_place p below, some))));
+      };
       bad = none_bad geo new order.good;
-      strong = order.strong;
-      superblock = superblock-outside geo (IsOfLogs geo) old new x (first_not_area geo is.valid)
-          (λ p below. subst (λ v. IsOnly v (old.history p)) (is.words p below) (flushed p (omega (arith, first_place p below, some))));
     }
-
--- and its layout
-pub layout_mounted : (geo : Geometry) (new : Medium) → IsInOrder geo new → HasLayout geo new
-layout_mounted geo new order = record { valid = order.valid; lines = order.count; good = order.good }
 
 -- of a device that stands for a state, as a mount sees it: its sizes, and that nothing is found before the log
 pub record IsTold (geo : Geometry) (m : Medium) : Type 0 where
   pub sizes : geometry_told m ≡ geo
   pub early : early_finding m ≡ None
 
-pub is_told : (geo : Geometry) (m : Medium) (bad_meta : List ℕ) → HasLayout geo m → MetadataStands geo m bad_meta → IsSound m → IsTold geo m
-is_told geo m bad_meta layout stands sound =
-    let some = line_zero geo m layout in
+pub is_told : (geo : Geometry) (m : Medium) → IsGood geo m → IsSound m → IsTold geo m
+is_told geo m good sound =
+    let layout = good.layout in
     record {
-      sizes = superblock_told geo m sound some (layout.good 0 (some_meta geo)) stands.superblock layout.valid;
-      early = early_none geo m sound layout.valid layout.lines layout.good stands.strong stands.superblock;
+      sizes = superblock_told geo m sound (line_zero geo m layout) (good.good 0 (some_meta geo)) layout.superblock layout.valid;
+      early = early_none geo m sound layout.valid layout.lines good.good layout.strong layout.superblock;
     }
 
 -- a mount that was stopped, or had no memory
@@ -147,13 +146,13 @@ StopsMount fault.PowerLost = Unit {0}
 StopsMount fault.Memory = Unit {0}
 
 -- the last values are an image of log and presence words
-pub volume_image-last : (geo : Geometry) (m : Medium) → IsSound m → HasLayout geo m → IsImageOn (volume_area geo) m (last_image m)
+pub volume_image-last : (geo : Geometry) (m : Medium) → IsSound m → IsGood geo m → IsImageOn (volume_area geo) m (last_image m)
 volume_image-last geo m sound layout p of =
     let on : p / 8 < m.count = subst (λ c. p / 8 < c) (sym layout.lines) (volume_within geo (p / 8) (area_of_volume geo p layout.valid of)) in
     sound.last p (on, layout.good (p / 8) (area_in_metadata geo layout.valid p of))
 
 -- Nothing is wrong with such a device.
-pub nothing_wrong_there : (geo : Geometry) (m : Medium) → HasLayout geo m → IsTold geo m → IsSound m → AreReadable geo m → EachReadsPages geo m (λ _. Unit {0}) → first_finding m ≡ None
+pub nothing_wrong_there : (geo : Geometry) (m : Medium) → IsGood geo m → IsTold geo m → IsSound m → AreReadable geo m → EachReadsPages geo m (λ _. Unit {0}) → first_finding m ≡ None
 nothing_wrong_there geo m layout told sound readable each =
     all_right m told.early (ap (λ g. wrong_place g (last_image m)) told.sizes ∙ none_wrong) (ap (λ g. wrong_volume_place g (last_image m)) told.sizes ∙ no_page_wrong)
   where

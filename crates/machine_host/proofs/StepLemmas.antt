@@ -37,7 +37,7 @@ use Rattle.machine_host.specs.Meaning.{Starved, mode_refusal, no_reasons}
 use Rattle.machine_host.specs.Meaning.Starved.{Untouched, WrittenBack, Unmounted, Unrecovered}
 use Rattle.machine_host.specs.Lines.{MetadataStands, bad_metadata}
 use Rattle.machine_host.specs.Stands.{HostState, HostServes, Stands, Comes, is_powered}
-use Rattle.machine_host.proofs.CostLemmas.{opens-refl}
+use Rattle.machine_host.proofs.CostLemmas.{opens-none}
 use Rattle.machine_host.proofs.ElsewhereLemmas.{pages_elsewhere, volume_holds_elsewhere}
 use Rattle.machine_host.proofs.LayoutLemmas.{layout-write_back, metadata-then, stays_of_kept}
 use Rattle.machine_host.proofs.RefusalLemmas.{early_first, fate_placed}
@@ -295,7 +295,7 @@ pub leaves_all : (starved : Starved) (host : HostState) (d : Device) → LeavesS
 leaves_all Untouched host d = (refl, refl)
 leaves_all WrittenBack host d = (refl, write_back-refl d.medium, refl)
 leaves_all (Unmounted choice) host d = inl (refl, inl refl)
-leaves_all Unrecovered host d = record { same = refl; opens = opens-refl d.panel; stands = λ h stands. stands }
+leaves_all Unrecovered host d = record { same = refl; opens = opens-none d.panel; stands = λ h stands. stands }
 
 -- A refusal comes to itself.
 pub comes_of_refusal : (host : HostState) (d : Device) (h : Machine) (action : Action) (answer : Answer) → Stands host d h

@@ -5,7 +5,7 @@ use Rattle.line_device.specs.Device.{Device}
 use Rattle.line_words.specs.Words.{IsOnly}
 use Rattle.word_tables.specs.declared.geometry.Geometry.{Geometry}
 use Rattle.block_device.specs.Object.{BlocksState, BlocksServe, blocks_of}
-use Rattle.block_device.specs.Images.{EachReads}
+use Rattle.block_device.specs.Images.{AreReadable, EachReads}
 use Rattle.script_text.specs.Action.{Action}
 use Rattle.reply_text.specs.Answer.{Answer, answer_line}
 use Rattle.machine_host.specs.declared.mode.Mode.{Mode}
@@ -41,10 +41,12 @@ pub record AreMounted (geo : Geometry) (b : BlocksState) (v : VolumeState) (m : 
   pub volume_settled : IsTrue v.settled
   pub volume_serves : VolumeServes v m
 
--- The host may command the device: it has the lines of the host's sizes, its power is off exactly in mode Off, in mode On
--- blocks and volume are mounted, and in mode Stopped a line of metadata is bad.
+-- The host may command the device: it has the lines of the host's sizes, and blocks can be read in each image, where no line of
+-- metadata is bad. Its power is off exactly in mode Off, in mode On blocks and volume are mounted, and in mode Stopped a line of
+-- metadata is bad.
 pub record HostServes (host : HostState) (d : Device) : Type 0 where
   pub layout : HasLayout host.geometry d.medium
+  pub readable : bad_metadata host.geometry d.medium.is_bad ≡ [] → AreReadable host.geometry d.medium
   pub power : d.panel.power ≡ is_powered host.mode
   pub mounted : host.mode ≡ modes.On → AreMounted host.geometry host.blocks host.volume d.medium
   pub stopped : host.mode ≡ modes.Stopped → bad_metadata host.geometry d.medium.is_bad ≢ []
