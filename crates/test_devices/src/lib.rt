@@ -1,4 +1,5 @@
-//! Devices of tests: one that records how it was restarted and what it was told to do, and one that cuts the power.
+//! Devices of tests: one that records how it was restarted and what it was told to do, one that cuts the power, and one whose
+//! calls fail by a list.
 #![tactic(auto)]
 
 mod faulty;
