@@ -8,3 +8,10 @@ pub mod LineLemmas
 pub mod InterruptedLemmas
 pub mod MediaLemmas
 pub mod LostLemmas
+pub mod OrderLemmas
+pub mod FileLemmas
+pub mod SlotLemmas
+pub mod RiseLemmas
+pub mod ListedLemmas
+pub mod AlikeLemmas
+pub mod AlikeChangeLemmas

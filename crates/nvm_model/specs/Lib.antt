@@ -5,3 +5,4 @@ pub mod Lines
 pub mod Interrupted
 pub mod Storage
 pub mod Blocks
+pub mod Listing
