@@ -26,7 +26,7 @@ pub record IsFirst (test : ℕ → Bool) (start len line : ℕ) : Type 0 where
   pub here : test line ≡ true
   pub before : (k : ℕ) → start ≤ k → k < line → test k ≡ false
 
-head_of : (x y : ℕ) (xs ys : List ℕ) → x ∷ xs ≡ y ∷ ys → x ≡ y
+pub head_of : (x y : ℕ) (xs ys : List ℕ) → x ∷ xs ≡ y ∷ ys → x ≡ y
 head_of x y xs ys is = ap (λ (ns : List ℕ). slice_index ns 0) is
 
 pub first_of : (test : ℕ → Bool) (start len line : ℕ) (lines : List ℕ) → filter test (range_with_len start len) ≡ line ∷ lines → IsFirst test start len line
@@ -142,25 +142,26 @@ module _ (geo : Geometry) (m : Medium) where
     pub nothing_early : bad_metadata geo m.is_bad ≡ [] → early_finding m ≡ None
     nothing_early none = early_none geo m sound layout.valid layout.lines (good_lines none) layout.strong layout.superblock
 
-    -- a mount finds the lowest bad line
-    pub bad_found : (line : ℕ) (lines : List ℕ) → bad_metadata geo m.is_bad ≡ line ∷ lines → first_finding m ≡ Some (bad_line line)
-    unfolding first_finding inspection_finding early_finding
-    bad_found line lines is =
-        ap (λ o. first_there (first_there o (option_map wrong_word (wrong_log (geometry_told m) (last_image m)))) (option_map wrong_word (wrong_table (geometry_told m) (last_image m)))) early
+    -- a mount finds the lowest bad line, before any log is read
+    pub bad_early : (line : ℕ) (lines : List ℕ) → bad_metadata geo m.is_bad ≡ line ∷ lines → early_finding m ≡ Some (bad_line line)
+    unfolding early_finding
+    bad_early line lines is = elim (cases_Bool (m.is_bad 0)) as (λ _. first_there (superblock_finding m) (meta_finding (geometry_told m) m) ≡ Some (bad_line line)) [
+      | inl bad ↦
+          let at : line ≡ 0 = elim (cases_lt 0 line) as (λ _. line ≡ 0) [ inl past ↦ absurd (false≢true (sym (first.before 0 (omega arith) past) ∙ bad)) | inr zero ↦ omega (arith, zero) ] in
+          ap (λ o. first_there o (meta_finding (geometry_told m) m)) (superblock_bad m bad) ∙ ap (λ n. Some (bad_line n)) (sym at)
+      | inr good ↦
+          ap (λ o. first_there o (meta_finding (geometry_told m) m)) (superblock_none geo m sound some good layout.superblock layout.valid layout.lines)
+          ∙ ap (λ g. meta_finding g m) (sizes_told good)
+          ∙ ap (λ o. first_there (option_map bad_line o) (option_map (λ n. wrong_word (8 * n)) (position m.is_weak (range_with_len 0 (meta_lines geo))))) (searched m.is_bad (meta_lines geo) ∙ ap head is)
+    ]
       where
         first : IsFirst m.is_bad 0 (meta_lines geo) line
         first = first_of m.is_bad 0 (meta_lines geo) line lines is
 
-        early : first_there (superblock_finding m) (meta_finding (geometry_told m) m) ≡ Some (bad_line line)
-        early = elim (cases_Bool (m.is_bad 0)) as (λ _. first_there (superblock_finding m) (meta_finding (geometry_told m) m) ≡ Some (bad_line line)) [
-          | inl bad ↦
-              let at : line ≡ 0 = elim (cases_lt 0 line) as (λ _. line ≡ 0) [ inl past ↦ absurd (false≢true (sym (first.before 0 (omega arith) past) ∙ bad)) | inr zero ↦ omega (arith, zero) ] in
-              ap (λ o. first_there o (meta_finding (geometry_told m) m)) (superblock_bad m bad) ∙ ap (λ n. Some (bad_line n)) (sym at)
-          | inr good ↦
-              ap (λ o. first_there o (meta_finding (geometry_told m) m)) (superblock_none geo m sound some good layout.superblock layout.valid layout.lines)
-              ∙ ap (λ g. meta_finding g m) (sizes_told good)
-              ∙ ap (λ o. first_there (option_map bad_line o) (option_map (λ n. wrong_word (8 * n)) (position m.is_weak (range_with_len 0 (meta_lines geo))))) (searched m.is_bad (meta_lines geo) ∙ ap head is)
-        ]
+    pub bad_found : (line : ℕ) (lines : List ℕ) → bad_metadata geo m.is_bad ≡ line ∷ lines → first_finding m ≡ Some (bad_line line)
+    unfolding first_finding inspection_finding
+    bad_found line lines is =
+        ap (λ o. first_there (first_there o (option_map wrong_word (wrong_log (geometry_told m) (last_image m)))) (option_map wrong_word (wrong_table (geometry_told m) (last_image m)))) (bad_early line lines is)
 
     -- and where it finds a bad line, that is the lowest one
     pub found_bad : (line : ℕ) → first_finding m ≡ Some (bad_line line) → (lines : List ℕ) × (bad_metadata geo m.is_bad ≡ line ∷ lines)

@@ -1,233 +1,379 @@
--- A mount of a device whose host has not mounted it, while the power is on.
-use Rattle.std.proofs.Common.{◌≡◌, ℕ, Bool, true, false, IsTrue, [], length, Result, Err, refl, sym, ap, subst, ◌∙◌}
-use Rattle.std.specs.Prelude.{IfErr}
+-- A mount of a device whose host has not mounted it, while the power is on: it runs through, is interrupted, or wants memory.
+use Rattle.std.proofs.Common.{◌≡◌, ◌≢◌, ℕ, ◌+◌, ◌≤◌, inl, inr, Bool, true, false, IsTrue, List, [], ◌∷◌, length, Option, Some, None, Result, Ok, Err, MatchResult, refl, sym, ap, subst, ◌∙◌, arith}
 use Rattle.std.proofs.lemmas.Bool.{false≢true}
+use Rattle.std.proofs.lemmas.Option.{none-some}
 use Rattle.std.proofs.lemmas.List.{length-map}
-use Rattle.line_device.specs.Medium.{IsSound, last_image}
+use Rattle.line_device.specs.Medium.{Medium, IsSound, WritesBack, last_image}
 use Rattle.line_device.specs.Panel.{Panel, Runs}
 use Rattle.line_device.specs.Panel.Outcome.{went}
 use Rattle.line_device.specs.Device.{Device}
+use Rattle.line_words.specs.declared.interruption.Interruption.{Interruption}
+use Rattle.line_words.specs.declared.interruption.Interruption.TheVariants.{Failed, PowerLost as Lost}
+use Rattle.line_words.specs.Ending.{ended}
 use Rattle.line_words.specs.Words.{WritesBackOutside}
 use Rattle.word_tables.specs.declared.geometry.Geometry.{Geometry}
-use Rattle.word_tables.specs.Layout.{volume_line}
+use Rattle.word_tables.specs.Layout.{meta_lines, volume_line}
+use Rattle.word_log.specs.Mount.{Finding}
+use Rattle.word_log.specs.Mount.Finding.{bad_line, wrong_word}
 use Rattle.word_log.specs.Rest.{EachImage, IsReached}
-use Rattle.nvm_model.specs.Page.{is_present, presence_of, PagesStand}
-use Rattle.block_device.specs.Object.{BlocksState, BlocksServe, blocks_of}
+use Rattle.nvm_model.specs.Page.{Page, is_present, presence_of, PagesStand}
+use Rattle.block_device.specs.Object.{BlocksState, BlocksServe, HasGoodMetadata, blocks_of}
 use Rattle.block_device.specs.Reading.{blocks_read}
-use Rattle.block_device.specs.Images.{AreReadable, KeepsReads, ReadsAs}
-use Rattle.block_device.proofs.ImageLemmas.{each_reads-then}
+use Rattle.block_device.specs.Images.{AreReadable, EachReads, KeepsReads, ReadsAs}
+use Rattle.block_device.proofs.ImageLemmas.{each_reads-then, served_reads}
 use Rattle.block_device.proofs.ReachLemmas.{each_reads-kept}
 use Rattle.block_device.proofs.RestartLemmas.{block_image-last}
 use Rattle.pm_volume.specs.Area.{volume_area}
-use Rattle.pm_volume.specs.Images.{ReadsPages}
+use Rattle.pm_volume.specs.Images.{EachReadsPages, ReadsPages}
 use Rattle.pm_volume.specs.Object.{VolumeState, VolumeHolds, VolumeServes}
 use Rattle.pm_volume.specs.Presence.{presence_read}
-use Rattle.pm_volume.proofs.StandingLemmas.{each_pages-reached, each_pages-then, pages-kept, presence_read-replays}
-use Rattle.recovery.specs.Findings.{geometry_told, first_finding}
+use Rattle.pm_volume.proofs.StandingLemmas.{each_pages-reached, each_pages-then, pages-kept, presence_read-replays, served_pages}
+use Rattle.recovery.specs.Findings.{geometry_told, early_finding, inspection_finding, first_finding}
 use Rattle.recovery.specs.Mounting.{Finds, HasDurableBlocks, IsOfLogs, mount_outcome}
 use Rattle.recovery.specs.declared.Mounted.{Mounted}
 use Rattle.recovery.specs.declared.fault.MountFault.{MountFault}
 use Rattle.recovery.specs.declared.fault.MountFault.TheVariants as fault
+use Rattle.recovery.proofs.FindingLemmas.{early_inspection}
+use Rattle.recovery.proofs.SuperblockLemmas.{some_meta}
+use Rattle.reply_text.specs.Answer.{Answer}
+use Rattle.reply_text.specs.Answer.Answer.{DoneBad, Stopped}
+use Rattle.machine_host.specs.declared.mode.Mode.{Mode}
 use Rattle.machine_host.specs.declared.mode.Mode.TheVariants as modes
 use Rattle.machine_host.specs.Machine.{Machine}
 use Rattle.machine_host.specs.Commands.{MayLeaveBlocks, MayLeaveVolume}
-use Rattle.machine_host.specs.Restarting.{holding, reading}
-use Rattle.machine_host.specs.Costs.{mount_calls, mount_persists}
-use Rattle.machine_host.specs.Lines.{HasLayout}
-use Rattle.machine_host.specs.Stands.{HostState, HostServes, MetadataStands, Stands, is_powered}
-use Rattle.machine_host.specs.Settling.{Asks, IsQuiet, IsSettled, StaysUnmounted, Settled, SettlesTo, disarmed}
+use Rattle.machine_host.specs.Interrupted.{Interrupts, interrupted_answer, interrupted_mode, stop_in}
+use Rattle.machine_host.specs.Restarting.{holding, mounted_answer, stopped_by}
+use Rattle.machine_host.specs.Recovering.{RecoversTo, RecoveryMayLeave}
+use Rattle.machine_host.specs.Costs.{Spending, mount_calls, mount_persists}
+use Rattle.machine_host.specs.Run.{worked}
+use Rattle.machine_host.specs.Telling.{Tells}
+use Rattle.machine_host.specs.Faults.{CountsBad, unmounted_answer, unmounted_mode}
+use Rattle.machine_host.specs.Lines.{HasLayout, MetadataStands, bad_metadata}
+use Rattle.machine_host.specs.Stands.{HostState, HostServes, AreMounted, Stands, is_powered}
+use Rattle.machine_host.proofs.BadLineLemmas.{bad_early, bad_found, found_bad, good_lines, nothing_early, sizes_told}
 use Rattle.machine_host.proofs.ElsewhereLemmas.{range_kept}
-use Rattle.machine_host.proofs.MetadataLemmas.{metadata-outside, nothing_bad}
-use Rattle.machine_host.proofs.MountLemmas.{StopsMount, IsTold, first_not_area, is_told, nothing_wrong_there, only_stops, volume_image-last}
-use Rattle.machine_host.proofs.MountedLemmas.{stands_mounted}
-use Rattle.machine_host.proofs.RestartLemmas.{IsMount}
-use Rattle.machine_host.proofs.VolumeLemmas.{has_layout-outside}
+use Rattle.machine_host.proofs.LayoutLemmas.{IsGood, is_good, layout-outside, layout-write_back, metadata-then, none_bad, same_bad, stays_bad}
+use Rattle.machine_host.proofs.MountLemmas.{IsTold, first_not_area, is_told, nothing_wrong_there, volume_image-last}
+use Rattle.machine_host.proofs.TellingLemmas.{interrupts, never_on, never_stops, power_struck, struck, tells_interrupted, tells_work}
 
--- what was not armed is not armed later
-pub stays_off : (old new : Bool) → old ≡ false → (IsTrue new → IsTrue old) → new ≡ false
-stays_off old false off arms = refl
-stays_off old true off arms = absurd (false≢true (sym off ∙ arms refl))
+-- what a mount does, as its clauses say it
+pub record IsMount (old new : Device) : Type 0 where
+  pub outside : WritesBackOutside (IsOfLogs (geometry_told old.medium)) old.medium new.medium
+  pub refused : inspection_finding old.medium ≢ None → WritesBack old.medium new.medium
+  pub reads : early_finding old.medium ≡ None → KeepsReads (geometry_told old.medium) old.medium new.medium
+  pub presence : EachImage (volume_area (geometry_told old.medium)) new.medium (IsReached (volume_area (geometry_told old.medium)) old.medium)
 
--- work that nothing stopped, where nothing was armed
-pub asks_of_work : (p q : Panel) → IsQuiet p → Runs mount_calls mount_persists went p q → Asks [] p q
-asks_of_work p q quiet runs = record {
-  tells = runs.orders.starts;
-  cut_armed = runs.cause.2 ∙ quiet.cut;
-  fail_armed = runs.cause.3 ∙ quiet.fail;
-  calls = runs.few_calls;
-  persists = runs.few_persists;
-  faults = runs.faults;
-  cuts = runs.cause.1;
-  offs = runs.orders.offs;
-  arms = runs.orders.arms;
-  evicts = runs.orders.evicts;
-  disarms = runs.orders.disarms;
-  setups = runs.setups;
-  last_order = runs.orders.last_order;
-}
+-- what it gives where it is done
+pub record Gives (old new : Device) (s : BlocksState) (v : VolumeState) : Type 0 where
+  pub geometry : s.geo ≡ geometry_told old.medium
+  pub settled : IsTrue s.settled
+  pub serves : HasDurableBlocks old.medium → BlocksServe s new.medium
+  pub blocks : blocks_of s new.medium ≡ blocks_read (geometry_told old.medium) old.medium.is_bad (last_image old.medium)
+  pub volume_geometry : v.geo ≡ geometry_told old.medium
+  pub present : v.present ≡ presence_read (geometry_told old.medium) (last_image old.medium)
+  pub volume_settled : IsTrue v.settled
+  pub volume_serves : VolumeServes v new.medium
 
--- A mount of a device whose host has not mounted it, while nothing is armed.
-module _ (host : HostState) (old new : Device) (serves : HostServes host old) (unsettled : host.mode ≡ modes.Unsettled) (quiet : IsQuiet old.panel)
-    (sound : IsSound old.medium) (x : IsMount old new) (runs : Runs mount_calls mount_persists went old.panel new.panel) where
-  -- the host goes on without
-  serves_unmounted : HostServes host new
-  serves_unmounted = record {
-    layout = has_layout-outside host.geometry (IsOfLogs (geometry_told old.medium)) old.medium new.medium serves.layout x.outside;
-    power = runs.cause.0 ∙ serves.power;
-    mounted = λ on. cc (on, unsettled);
+-- What it comes to in a state that host and device stand for: it ran through, or was interrupted.
+pub record MountsTo (h : Machine) (answer : Answer) (after : HostState) (old new : Device) : Type 0 where
+  pub next : Machine
+  pub ends : ((answer ≡ mounted_answer next) × RecoveryMayLeave h next) ⊎ ((by : Interruption) × (answer ≡ interrupted_answer by) × Interrupts by h next)
+  pub tells : Tells (worked (record { calls = mount_calls; persists = mount_persists }) answer) old.panel new.panel
+  pub stands : Stands after new next
+
+-- It ran through: the state that it read, and host and device stand for.
+pub record BroughtUp (h : Machine) (after : HostState) (new : Device) : Type 0 where
+  pub next : Machine
+  pub may : RecoveryMayLeave h next
+  pub stands : Stands after new next
+
+-- a mount of lines with the host's layout
+module _ (geo : Geometry) (old new : Device) (layout : HasLayout geo old.medium) (sound : IsSound old.medium) (x : IsMount old new) where
+  good_of : bad_metadata geo old.medium.is_bad ≡ [] → IsGood geo old.medium
+  good_of none = is_good layout (good_lines geo old.medium none)
+
+  -- where a line of metadata is bad it leaves all as it is
+  left_bad : (line : ℕ) (lines : List ℕ) → bad_metadata geo old.medium.is_bad ≡ line ∷ lines → WritesBack old.medium new.medium
+  left_bad line lines is = x.refused (early_inspection old.medium (λ none. none-some (bad_line line) (sym none ∙ bad_early geo old.medium layout sound line lines is)))
+
+  -- and else it changes logs and tables
+  outside_of : bad_metadata geo old.medium.is_bad ≡ [] → WritesBackOutside (IsOfLogs geo) old.medium new.medium
+  outside_of none = subst (λ g. WritesBackOutside (IsOfLogs g) old.medium new.medium) (is_told geo old.medium (good_of none) sound).sizes x.outside
+
+  pub layout_mount : HasLayout geo new.medium
+  layout_mount = by_lines (bad_metadata geo old.medium.is_bad) refl
+    where
+      by_lines : (lines : List ℕ) → bad_metadata geo old.medium.is_bad ≡ lines → HasLayout geo new.medium
+      by_lines [] none = layout-outside geo old.medium new.medium layout (IsOfLogs geo) (first_not_area geo layout.valid) (outside_of none)
+      by_lines (line ∷ lines) is = layout-write_back geo old.medium new.medium layout (left_bad line lines is)
+
+  marks_mount : (n : ℕ) → n < meta_lines geo → new.medium.is_bad n ≡ old.medium.is_bad n
+  marks_mount n below = x.outside.bad n
+
+  pub readable_mount : (bad_metadata geo old.medium.is_bad ≡ [] → AreReadable geo old.medium) → bad_metadata geo new.medium.is_bad ≡ [] → AreReadable geo new.medium
+  readable_mount readable none =
+      let none_was = sym (same_bad geo old.medium new.medium marks_mount) ∙ none in
+      let told = is_told geo old.medium (good_of none_was) sound in
+      each_reads-kept geo old.medium new.medium (λ _. Unit {0}) (subst (λ g. KeepsReads g old.medium new.medium) told.sizes (x.reads told.early)) (readable none_was)
+
+  -- what the map names is durable
+  pub durable_mount : (bad_metadata geo old.medium.is_bad ≡ [] → AreReadable geo old.medium) → bad_metadata geo old.medium.is_bad ≡ [] → HasDurableBlocks old.medium
+  durable_mount readable none found =
+      let good = good_of none in
+      let told = is_told geo old.medium good sound in
+      let reads = readable none (last_image old.medium) (block_image-last geo layout.valid old.medium sound layout.lines) in
+      (subst (λ g. ReadsAs g old.medium (λ _. Unit {0}) (last_image old.medium)) (sym told.sizes) reads).durable
+
+  -- where nothing was found, none was bad
+  pub none_found : first_finding old.medium ≡ None → bad_metadata geo old.medium.is_bad ≡ []
+  none_found found = by_lines (bad_metadata geo old.medium.is_bad) refl
+    where
+      by_lines : (lines : List ℕ) → bad_metadata geo old.medium.is_bad ≡ lines → bad_metadata geo old.medium.is_bad ≡ []
+      by_lines [] is = is
+      by_lines (line ∷ lines) is = absurd (none-some (bad_line line) (sym found ∙ bad_found geo old.medium layout sound line lines is))
+
+module _ (host : HostState) (old new : Device) (serves : HostServes host old) (unsettled : host.mode ≡ modes.Unsettled) (sound : IsSound old.medium) (x : IsMount old new) where
+  -- the host in another mode, with nothing mounted
+  abbrev pub in_mode : Mode → HostState
+  in_mode mode = record { geometry = host.geometry; mode = mode; blocks = host.blocks; volume = host.volume }
+
+  layout_new : HasLayout host.geometry new.medium
+  layout_new = layout_mount host.geometry old new serves.layout sound x
+
+  pub serves_unmounted : (mode : Mode) → new.panel.power ≡ is_powered mode → (mode ≡ modes.On → ⊥) → (mode ≡ modes.Stopped → bad_metadata host.geometry old.medium.is_bad ≢ []) → HostServes (in_mode mode) new
+  serves_unmounted mode power off stopped = record {
+    layout = layout_new;
+    readable = readable_mount host.geometry old new serves.layout sound x serves.readable;
+    power = power;
+    mounted = λ on. absurd (off on);
+    stopped = λ stop. stays_bad host.geometry old.medium new.medium (marks_mount host.geometry old new serves.layout sound x) (stopped stop);
   }
+
+  -- the mount was done
+  module _ (runs : Runs mount_calls mount_persists went old.panel new.panel) (found : first_finding old.medium ≡ None) (s : BlocksState) (v : VolumeState) (given : Gives old new s v) where
+    abbrev pub taken : HostState
+    taken = record { geometry = host.geometry; mode = modes.On; blocks = s; volume = v }
+
+    none : bad_metadata host.geometry old.medium.is_bad ≡ []
+    none = none_found host.geometry old new serves.layout sound x found
+
+    good : IsGood host.geometry old.medium
+    good = good_of host.geometry old new serves.layout sound x none
+
+    told : IsTold host.geometry old.medium
+    told = is_told host.geometry old.medium good sound
+
+    served : BlocksServe s new.medium
+    served = given.serves (durable_mount host.geometry old new serves.layout sound x serves.readable none)
+
+    pub serves_taken : HostServes taken new
+    serves_taken = record {
+      layout = layout_new;
+      readable = readable_mount host.geometry old new serves.layout sound x serves.readable;
+      power = runs.cause.0 ∙ serves.power ∙ ap is_powered unsettled;
+      mounted = λ _. record {
+        geometry = given.geometry ∙ told.sizes;
+        settled = given.settled;
+        serves = served;
+        volume_geometry = given.volume_geometry ∙ told.sizes;
+        volume_settled = given.volume_settled;
+        volume_serves = given.volume_serves;
+      };
+      stopped = λ stop. cc stop;
+    }
 
   module _ (h : Machine) (stands : Stands host old h) where
     abbrev geo : Geometry
     geo = h.geometry
 
-    layout : HasLayout geo old.medium
-    layout = subst (λ g. HasLayout g old.medium) stands.geometry serves.layout
-
-    told : IsTold geo old.medium
-    told = is_told geo old.medium h.bad_meta layout stands.device.metadata sound
-
-    -- the mount finds the host's sizes
-    sizes : geometry_told old.medium ≡ host.geometry
-    sizes = told.sizes ∙ sym stands.geometry
-
-    outside : WritesBackOutside (IsOfLogs geo) old.medium new.medium
-    outside = subst (λ g. WritesBackOutside (IsOfLogs g) old.medium new.medium) told.sizes x.outside
-
-    readable : AreReadable geo old.medium
-    readable = each_reads-then geo old.medium (MayLeaveBlocks h.interrupted h.blocks) (λ _. Unit {0}) (λ bs is. tt) stands.device.blocks
-
-    -- and nothing else keeps it from being done than memory
-    stops_alone : {T : Type 0} (r : Result T MountFault) → Finds (first_finding old.medium) r → IfErr r StopsMount
-    stops_alone r finds =
-        only_stops r
-        (subst (λ found. Finds found r)
-        (nothing_wrong_there geo old.medium layout told sound readable (each_pages-then geo old.medium (MayLeaveVolume geo h.interrupted h.volume) (λ _. Unit {0}) (λ _ _. tt) stands.device.volume)) finds)
+    was : HasLayout geo old.medium
+    was = stands.device.metadata.layout
 
     metadata : MetadataStands geo new.medium h.bad_meta
-    metadata = metadata-outside geo h.bad_meta old.medium new.medium stands.device.metadata (IsOfLogs geo) outside (first_not_area geo layout.valid)
+    metadata = metadata-then geo old.medium new.medium h.bad_meta (layout_mount geo old new was sound x) (marks_mount geo old new was sound x) stands.device.metadata
 
-    -- the state stays, where it was not done
-    stands_again : Stands host new (disarmed h)
-    stands_again =
-        let reads = subst (λ g. KeepsReads g old.medium new.medium) told.sizes (x.reads told.early) in
-        let presence = subst (λ g. EachImage (volume_area g) new.medium (IsReached (volume_area g) old.medium)) told.sizes x.presence in
-        record {
-          geometry = stands.geometry;
-          mode = stands.mode;
-          blocks = λ on. cc (on, unsettled);
-          volume = λ on. cc (on, unsettled);
-          device = record {
-            metadata = metadata;
-            blocks = each_reads-kept geo old.medium new.medium (MayLeaveBlocks h.interrupted h.blocks) reads stands.device.blocks;
-            volume = each_pages-reached geo old.medium new.medium (MayLeaveVolume geo h.interrupted h.volume) layout.valid presence (range_kept geo old.medium new.medium layout.valid outside) stands.device.volume;
-            power = runs.cause.0 ∙ stands.device.power;
-            cut_armed = runs.cause.2 ∙ quiet.cut;
-            fail_armed = runs.cause.3 ∙ quiet.fail;
-            whole = stands.device.whole;
-          };
+    none_of : h.bad_meta ≡ [] → bad_metadata geo old.medium.is_bad ≡ []
+    none_of good = stands.device.metadata.bad ∙ good
+
+    told_of : h.bad_meta ≡ [] → IsTold geo old.medium
+    told_of good = is_told geo old.medium (good_of geo old new was sound x (none_of good)) sound
+
+    blocks_kept : h.bad_meta ≡ [] → EachReads geo new.medium (MayLeaveBlocks h.interrupted h.blocks)
+    blocks_kept good =
+        let told = told_of good in
+        each_reads-kept geo old.medium new.medium (MayLeaveBlocks h.interrupted h.blocks) (subst (λ g. KeepsReads g old.medium new.medium) told.sizes (x.reads told.early)) (stands.device.blocks good)
+
+    volume_kept : h.bad_meta ≡ [] → EachReadsPages geo new.medium (MayLeaveVolume geo h.interrupted h.volume)
+    volume_kept good =
+        let presence = subst (λ g. EachImage (volume_area g) new.medium (IsReached (volume_area g) old.medium)) (told_of good).sizes x.presence in
+        each_pages-reached geo old.medium new.medium (MayLeaveVolume geo h.interrupted h.volume) was.valid presence
+        (range_kept geo old.medium new.medium was.valid (outside_of geo old new was sound x (none_of good))) (stands.device.volume good)
+
+    -- The state stays, where the mount was not done, in this mode and with what is armed then.
+    kept : (mode : Mode) → new.panel.power ≡ is_powered mode → (mode ≡ modes.On → ⊥) → (mode ≡ modes.Stopped → ⊥)
+        → Stands (in_mode mode) new (record h { mode = mode; cut_armed = new.panel.cut_armed; fail_armed = new.panel.fail_armed })
+    kept mode power off up = record {
+      geometry = stands.geometry;
+      mode = refl;
+      blocks = λ on. absurd (off on);
+      volume = λ on. absurd (off on);
+      device = record {
+        metadata = metadata;
+        blocks = blocks_kept;
+        volume = volume_kept;
+        power = power;
+        cut_armed = refl;
+        fail_armed = refl;
+        whole = λ on. absurd (off on);
+        stopped = λ stop. absurd (up stop);
+      };
+    }
+
+    -- nothing is wrong where no line of metadata is bad
+    pub nothing_found : h.bad_meta ≡ [] → first_finding old.medium ≡ None
+    nothing_found good =
+        nothing_wrong_there geo old.medium (good_of geo old new was sound x (none_of good)) (told_of good) sound
+        (each_reads-then geo old.medium (MayLeaveBlocks h.interrupted h.blocks) (λ _. Unit {0}) (λ bs is. tt) (stands.device.blocks good))
+        (each_pages-then geo old.medium (MayLeaveVolume geo h.interrupted h.volume) (λ _. Unit {0}) (λ _ _. tt) (stands.device.volume good))
+
+    -- and no word is found wrong
+    pub never_wrong : (at : ℕ) → first_finding old.medium ≡ Some (wrong_word at) → ⊥
+    never_wrong at found = by_lines h.bad_meta refl
+      where
+        is_line : Option Finding → Bool
+        is_line None = false
+        is_line (Some (bad_line n)) = true
+        is_line (Some (wrong_word n)) = false
+
+        by_lines : (lines : List ℕ) → h.bad_meta ≡ lines → ⊥
+        by_lines [] good = none-some (wrong_word at) (sym (nothing_found good) ∙ found)
+        by_lines (line ∷ lines) bad = false≢true (ap is_line (sym found ∙ bad_found geo old.medium was sound line lines (stands.device.metadata.bad ∙ bad)))
+
+    -- A mount that was interrupted keeps the state.
+    pub mounts_stopped : (by : Interruption) → Runs mount_calls mount_persists (ended {T = Unit {0}} (Err by)) old.panel new.panel → MountsTo h (interrupted_answer by) (in_mode (interrupted_mode by)) old new
+    mounts_stopped by runs = record {
+      next = struck h by new.panel;
+      ends = inr (by, refl, interrupts by h mount_calls mount_persists old.panel new.panel runs stands.device.cut_armed stands.device.fail_armed);
+      tells = tells_interrupted (record { calls = mount_calls; persists = mount_persists }) mount_calls mount_persists (omega arith) (omega arith) old.panel new.panel by runs;
+      stands = kept (interrupted_mode by) (power_struck by h mount_calls mount_persists old.panel new.panel runs (serves.power ∙ ap is_powered unsettled)) (never_on by) (never_stops by);
+    }
+
+    module _ (runs : Runs mount_calls mount_persists went old.panel new.panel) where
+      cut_stays : new.panel.cut_armed ≡ h.cut_armed
+      cut_stays = runs.cause.2 ∙ stands.device.cut_armed
+
+      fail_stays : new.panel.fail_armed ≡ h.fail_armed
+      fail_stays = runs.cause.3 ∙ stands.device.fail_armed
+
+      power_stays : new.panel.power ≡ true
+      power_stays = runs.cause.0 ∙ serves.power ∙ ap is_powered unsettled
+
+      -- so does one that had no memory
+      pub kept_unmounted : Stands host new h
+      kept_unmounted =
+          let mode = sym unsettled ∙ stands.mode in
+          subst (λ (k : HostState). Stands k new h) (ap in_mode (sym unsettled))
+          (subst (λ m. Stands (in_mode modes.Unsettled) new (record h { mode = m })) mode
+          (subst (λ cut. Stands (in_mode modes.Unsettled) new (record h { mode = modes.Unsettled; cut_armed = cut })) cut_stays
+          (subst (λ fail. Stands (in_mode modes.Unsettled) new (record h { mode = modes.Unsettled; cut_armed = new.panel.cut_armed; fail_armed = fail })) fail_stays
+          (kept modes.Unsettled power_stays (λ on. cc on) (λ stop. cc stop)))))
+
+      -- A bad line of metadata stops the host.
+      module _ (line : ℕ) (found : first_finding old.medium ≡ Some (bad_line line)) where
+        pub stopped_up : BroughtUp h (in_mode modes.Stopped) new
+        stopped_up =
+            let bad = found_bad geo old.medium was sound line found in
+            let is : h.bad_meta ≡ line ∷ bad.0 = sym stands.device.metadata.bad ∙ bad.1 in
+            let next : Machine = record (stopped_by geo (line ∷ bad.0)) { cut_armed = h.cut_armed; fail_armed = h.fail_armed } in
+            record {
+              next = next;
+              may = subst (λ lines. RecoversTo lines h next) (sym is) refl;
+              stands = record {
+                geometry = stands.geometry;
+                mode = refl;
+                blocks = λ on. cc on;
+                volume = λ on. cc on;
+                device = record {
+                  metadata = subst (MetadataStands geo new.medium) is metadata;
+                  blocks = λ none. cc none;
+                  volume = λ none. cc none;
+                  power = power_stays;
+                  cut_armed = cut_stays;
+                  fail_armed = fail_stays;
+                  whole = λ on. cc on;
+                  stopped = λ _ none. cc none;
+                };
+              };
+            }
+
+        pub mounts_bad : MountsTo h (Stopped line) (in_mode modes.Stopped) old new
+        mounts_bad = record {
+          next = stopped_up.next;
+          ends = inl (refl, stopped_up.may);
+          tells = tells_work (record { calls = mount_calls; persists = mount_persists }) mount_calls mount_persists (omega arith) (omega arith) old.panel new.panel (Stopped line) refl runs;
+          stands = stopped_up.stands;
         }
 
-    -- what is read as last stored
-    reads_last : ReadsAs geo old.medium (MayLeaveBlocks h.interrupted h.blocks) (last_image old.medium)
-    reads_last = stands.device.blocks (last_image old.medium) (block_image-last geo layout.valid old.medium sound layout.lines)
+      -- A mount that was done brings the host into mode On.
+      module _ (found : first_finding old.medium ≡ None) (s : BlocksState) (v : VolumeState) (given : Gives old new s v) where
+        good_meta : h.bad_meta ≡ []
+        good_meta = sym stands.device.metadata.bad ∙ none_found geo old new was sound x found
 
-    pages_last : ReadsPages geo old.medium (MayLeaveVolume geo h.interrupted h.volume) (last_image old.medium)
-    pages_last = stands.device.volume (last_image old.medium) (volume_image-last geo old.medium sound layout)
+        told_now : IsTold geo old.medium
+        told_now = told_of good_meta
 
-    durable : HasDurableBlocks old.medium
-    durable none =
-        let reads = subst (λ g. ReadsAs g old.medium (MayLeaveBlocks h.interrupted h.blocks) (last_image old.medium)) (sym told.sizes) reads_last in
-        reads.durable
+        reads_last : ReadsAs geo old.medium (MayLeaveBlocks h.interrupted h.blocks) (last_image old.medium)
+        reads_last = stands.device.blocks good_meta (last_image old.medium) (block_image-last geo was.valid old.medium sound was.lines)
 
-    -- the volume that was mounted stands for its pages
-    holds : (v : VolumeState) → v.geo ≡ geometry_told old.medium → v.present ≡ presence_read (geometry_told old.medium) (last_image old.medium) → VolumeHolds v new.medium pages_last.pages
-    holds v same present =
-        let pages = pages_last.pages in
-        let size : length (presence_of pages) ≡ geo.vpages = length-map pages is_present ∙ pages_last.all in
-        record {
-          there = sym (present ∙ ap (λ g. presence_read g (last_image old.medium)) told.sizes ∙ presence_read-replays geo (last_image old.medium) (presence_of pages) size pages_last.replays);
-          stand = subst (λ g. PagesStand (volume_line g) new.medium pages) (sym (same ∙ told.sizes))
-              (pages-kept geo old.medium new.medium pages pages_last.all (range_kept geo old.medium new.medium layout.valid outside) pages_last.stand);
+        pages_last : ReadsPages geo old.medium (MayLeaveVolume geo h.interrupted h.volume) (last_image old.medium)
+        pages_last = stands.device.volume good_meta (last_image old.medium) (volume_image-last geo old.medium sound (good_of geo old new was sound x (none_of good_meta)))
+
+        -- the volume that was mounted stands for its pages
+        holds : VolumeHolds v new.medium pages_last.pages
+        holds =
+            let pages = pages_last.pages in
+            let size : length (presence_of pages) ≡ geo.vpages = length-map pages is_present ∙ pages_last.all in
+            record {
+              there = sym (given.present ∙ ap (λ g. presence_read g (last_image old.medium)) told_now.sizes ∙ presence_read-replays geo (last_image old.medium) (presence_of pages) size pages_last.replays);
+              stand = subst (λ g. PagesStand (volume_line g) new.medium pages) (sym (given.volume_geometry ∙ told_now.sizes))
+                  (pages-kept geo old.medium new.medium pages pages_last.all (range_kept geo old.medium new.medium was.valid (outside_of geo old new was sound x (none_of good_meta))) pages_last.stand);
+            }
+
+        seen : blocks_of s new.medium ≡ blocks_read geo old.medium.is_bad (last_image old.medium)
+        seen = given.blocks ∙ ap (λ g. blocks_read g old.medium.is_bad (last_image old.medium)) told_now.sizes
+
+        pub done_up : BroughtUp h (taken runs found s v given) new
+        done_up =
+            let mounted = (serves_taken runs found s v given).mounted refl in
+            let next : Machine = record (holding geo (blocks_of s new.medium) pages_last.pages) { cut_armed = h.cut_armed; fail_armed = h.fail_armed } in
+            record {
+              next = next;
+              may = subst (λ lines. RecoversTo lines h next) (sym good_meta)
+                  (record { blocks = subst (MayLeaveBlocks h.interrupted h.blocks) (sym seen) reads_last.blocks; volume = pages_last.is; state = refl });
+              stands = record {
+                geometry = stands.geometry;
+                mode = refl;
+                blocks = λ _. refl;
+                volume = λ _. holds;
+                device = record {
+                  metadata = subst (MetadataStands geo new.medium) good_meta metadata;
+                  blocks = λ _.
+                      subst (λ g. EachReads g new.medium (λ bs. bs ≡ blocks_of s new.medium)) (mounted.geometry ∙ stands.geometry)
+                      (served_reads s new.medium (subst (λ g. HasGoodMetadata g new.medium) (sym (mounted.geometry ∙ stands.geometry)) (good_lines geo new.medium (metadata.bad ∙ good_meta))) mounted.serves);
+                  volume = λ _. subst (λ g. EachReadsPages g new.medium (λ pages. pages ≡ pages_last.pages)) (given.volume_geometry ∙ told_now.sizes) (served_pages v new.medium pages_last.pages given.volume_serves holds);
+                  power = power_stays;
+                  cut_armed = cut_stays;
+                  fail_armed = fail_stays;
+                  whole = λ _. refl;
+                  stopped = λ stop. cc stop;
+                };
+              };
+            }
+
+        pub mounts_done : (answer : Answer) → CountsBad s v new.medium answer → MountsTo h answer (taken runs found s v given) old new
+        mounts_done answer counts = record {
+          next = done_up.next;
+          ends = inl (counts.told ∙ ap (λ n. DoneBad n) (counts.count pages_last.pages holds), done_up.may);
+          tells = tells_work (record { calls = mount_calls; persists = mount_persists }) mount_calls mount_persists (omega arith) (omega arith) old.panel new.panel answer (ap stop_in counts.told) runs;
+          stands = done_up.stands;
         }
-
-    -- A mount that was done brings the host into mode On.
-    settled_mounted : (s : BlocksState) (v : VolumeState) → s.geo ≡ geometry_told old.medium → IsTrue s.settled → (HasDurableBlocks old.medium → BlocksServe s new.medium)
-        → blocks_of s new.medium ≡ blocks_read (geometry_told old.medium) old.medium.is_bad (last_image old.medium)
-        → v.geo ≡ geometry_told old.medium → v.present ≡ presence_read (geometry_told old.medium) (last_image old.medium) → IsTrue v.settled → VolumeServes v new.medium
-        → Settled h (record { geometry = host.geometry; mode = modes.On; blocks = s; volume = v }) old.panel new
-    unfolding reading
-    settled_mounted s v same settled served blocks vsame present vsettled vserved =
-        let after : HostState = record { geometry = host.geometry; mode = modes.On; blocks = s; volume = v } in
-        let pages = pages_last.pages in
-        let goes_on : HostServes after new =
-        record {
-          layout = serves_unmounted.layout;
-          power = runs.cause.0 ∙ serves.power ∙ ap is_powered unsettled;
-          mounted = λ _. record {
-            geometry = same ∙ sizes;
-            settled = settled;
-            serves = served durable;
-            volume_geometry = vsame ∙ sizes;
-            volume_settled = vsettled;
-            volume_serves = vserved;
-          };
-        } in
-        let none_bad : MetadataStands host.geometry new.medium [] =
-        subst (λ g. MetadataStands g new.medium []) (sym stands.geometry)
-        (subst (MetadataStands geo new.medium) (nothing_bad geo old.medium h.bad_meta layout stands.device.metadata) metadata) in
-        let asks = asks_of_work old.panel new.panel quiet runs in
-        let seen = blocks ∙ ap (λ g. blocks_read g old.medium.is_bad (last_image old.medium)) told.sizes in
-        record {
-          starts = [];
-          next = holding geo (blocks_of s new.medium) pages;
-          comes = subst (λ mode. SettlesTo mode h [] (holding geo (blocks_of s new.medium) pages)) (sym unsettled ∙ stands.mode)
-              (refl, record { blocks = subst (MayLeaveBlocks h.interrupted h.blocks) (sym seen) reads_last.blocks; volume = pages_last.is; state = refl });
-          stands = subst (λ g. Stands after new (holding g (blocks_of s new.medium) pages)) stands.geometry
-              (subst (λ cut. Stands after new (record (holding host.geometry (blocks_of s new.medium) pages) { cut_armed = cut; fail_armed = false })) asks.cut_armed
-              (subst (λ fail. Stands after new (record (holding host.geometry (blocks_of s new.medium) pages) { cut_armed = new.panel.cut_armed; fail_armed = fail })) asks.fail_armed
-              (stands_mounted after new pages refl goes_on none_bad (holds v vsame present))));
-          serves = goes_on;
-          asks = asks;
-          restarts = runs.orders.restarts;
-        }
-
-  -- There was no memory for it.
-  pub left_unmounted : StaysUnmounted host host old new
-  left_unmounted = record {
-    same = refl;
-    serves = serves_unmounted;
-    asks = asks_of_work old.panel new.panel quiet runs;
-    restarts = runs.orders.restarts;
-    stands = stands_again;
-  }
-
-  -- What was mounted was taken over.
-  pub settled_taken : (after : HostState) (s : BlocksState) (v : VolumeState) → s.geo ≡ geometry_told old.medium → IsTrue s.settled
-      → (HasDurableBlocks old.medium → BlocksServe s new.medium) → blocks_of s new.medium ≡ blocks_read (geometry_told old.medium) old.medium.is_bad (last_image old.medium)
-      → v.geo ≡ geometry_told old.medium → v.present ≡ presence_read (geometry_told old.medium) (last_image old.medium) → IsTrue v.settled → VolumeServes v new.medium
-      → after ≡ record host { mode = modes.On; blocks = s; volume = v } → IsSettled host after old new
-  settled_taken after s v same settled served blocks vsame present vsettled vserved taken =
-      subst (λ k. IsSettled host k old new) (sym taken) (refl, λ h stands. settled_mounted h stands s v same settled served blocks vsame present vsettled vserved)
-
--- Nothing could stop it.
-pub never_stopped : (f : MountFault) (p q : Panel) {a b : ℕ} → IsQuiet p → Runs a b (mount_outcome {T = Mounted} (Err f)) p q → mount_outcome {T = Mounted} (Err f) ≡ went
-never_stopped (fault.Meta line) p q quiet runs = refl
-never_stopped (fault.Layout at) p q quiet runs = refl
-never_stopped fault.Device p q quiet runs = absurd (false≢true (sym quiet.fail ∙ runs.cause.2))
-never_stopped fault.PowerLost p q quiet runs = absurd (false≢true (sym quiet.cut ∙ runs.cause.1))
-never_stopped fault.Memory p q quiet runs = refl
-
-pub never_failed : (f : MountFault) (p q : Panel) {a b : ℕ} → IsQuiet p → Runs a b (mount_outcome {T = Mounted} (Err f)) p q → f ≡ fault.Device → ⊥
-never_failed fault.Device p q quiet runs is = false≢true (sym quiet.fail ∙ runs.cause.2)
-never_failed fault.PowerLost p q quiet runs is = cc is
-never_failed fault.Memory p q quiet runs is = cc is
-never_failed (fault.Meta line) p q quiet runs is = cc is
-never_failed (fault.Layout at) p q quiet runs is = cc is
-
-pub never_lost : (f : MountFault) (p q : Panel) {a b : ℕ} → IsQuiet p → Runs a b (mount_outcome {T = Mounted} (Err f)) p q → f ≡ fault.PowerLost → ⊥
-never_lost fault.PowerLost p q quiet runs is = false≢true (sym quiet.cut ∙ runs.cause.1)
-never_lost fault.Device p q quiet runs is = cc is
-never_lost fault.Memory p q quiet runs is = cc is
-never_lost (fault.Meta line) p q quiet runs is = cc is
-never_lost (fault.Layout at) p q quiet runs is = cc is

@@ -1,164 +1,243 @@
--- What a restart is answered, by its mount: done, of other sizes, or not done.
-use Rattle.std.proofs.Common.{◌≡◌, ◌≢◌, ◌⊎◌, inl, inr, ◌≤◌, true, IsTrue, Result, Ok, Err, MatchResult, refl, sym, ap, subst, ◌∙◌, arith}
-use Rattle.line_device.specs.Medium.{IsSound, last_image}
-use Rattle.line_device.specs.Panel.{Panel, Start, Runs}
+-- What a restart or a recovery is answered, by its mount.
+use Rattle.std.proofs.Common.{◌≡◌, ◌≢◌, ◌⊎◌, inl, inr, ◌≤◌, true, IsTrue, List, [], ◌∷◌, Some, None, Result, Ok, Err, MatchResult, refl, sym, ap, subst, ◌∙◌, arith}
+use Rattle.line_device.specs.Medium.{IsSound}
+use Rattle.line_device.specs.Panel.{Panel, Start, Runs, after_restart}
 use Rattle.line_device.specs.Panel.Outcome.{went}
 use Rattle.line_device.specs.Device.{Device, Restarted}
 use Rattle.line_device.specs.declared.line.Choice.{Choice}
 use Rattle.line_words.specs.declared.interruption.Interruption.{Interruption}
 use Rattle.line_words.specs.declared.interruption.Interruption.TheVariants.{Failed, PowerLost as Lost}
-use Rattle.line_words.specs.Ending.{ended}
-use Rattle.word_tables.specs.declared.geometry.Geometry.{Geometry}
-use Rattle.pm_volume.specs.Object.{VolumeState, VolumeServes}
-use Rattle.pm_volume.specs.Presence.{presence_read}
-use Rattle.block_device.specs.Object.{BlocksState, BlocksServe, blocks_of}
-use Rattle.block_device.specs.Reading.{blocks_read}
-use Rattle.recovery.specs.Findings.{geometry_told, first_finding}
+use Rattle.pm_volume.specs.Object.{VolumeState}
+use Rattle.block_device.specs.Object.{BlocksState}
+use Rattle.recovery.specs.Findings.{first_finding}
 use Rattle.recovery.specs.Mounting.{Finds, mount_outcome}
 use Rattle.recovery.specs.declared.Mounted.{Mounted}
 use Rattle.recovery.specs.declared.fault.MountFault.{MountFault}
 use Rattle.recovery.specs.declared.fault.MountFault.TheVariants as fault
-use Rattle.script_text.specs.Action.Action.{Restart}
+use Rattle.script_text.specs.Action.Action.{Recover, Restart}
 use Rattle.reply_text.specs.Answer.{Answer, IsPrintable, answer_of}
-use Rattle.reply_text.specs.Answer.Answer.{DeviceFailed, DoneBad}
+use Rattle.reply_text.specs.Answer.Answer.{DoneBad}
 use Rattle.reply_text.specs.Room.{most_of}
 use Rattle.reply_text.specs.declared.reply.Reply.{Reply}
+use Rattle.machine_host.specs.declared.mode.Mode.{Mode}
 use Rattle.machine_host.specs.declared.mode.Mode.TheVariants as modes
+use Rattle.machine_host.specs.declared.needs.Needs.TheVariants.{Unpowered, Failed as AfterFailure}
 use Rattle.machine_host.specs.Machine.{Machine}
-use Rattle.machine_host.specs.Machine.Fate.{Restarts}
-use Rattle.machine_host.specs.Commands.{fate}
-use Rattle.machine_host.specs.Interrupted.{interrupted_answer, interrupted_mode}
-use Rattle.machine_host.specs.Costs.{mount_calls, mount_persists}
+use Rattle.machine_host.specs.Machine.Fate.{Recovers, Restarts}
+use Rattle.machine_host.specs.Commands.{fate, spending}
+use Rattle.machine_host.specs.Costs.{Spending, mount_calls, mount_persists}
+use Rattle.machine_host.specs.Interrupted.{Interrupts, interrupted_answer, may_come}
+use Rattle.machine_host.specs.Recovering.{RecoveryMayLeave}
+use Rattle.machine_host.specs.Restarting.{mounted_answer, restarted}
+use Rattle.machine_host.specs.Run.{Ends, with_start, worked}
+use Rattle.machine_host.specs.Telling.{Tells}
+use Rattle.machine_host.specs.Lines.{bad_metadata}
 use Rattle.machine_host.specs.Stands.{HostState, HostServes, Stands, Comes, is_powered}
-use Rattle.machine_host.specs.Faults.{CountsBad, unmounted_answer, unmounted_mode}
-use Rattle.machine_host.specs.Responding.{Answered, Responds}
-use Rattle.machine_host.proofs.CostLemmas.{opens-runs}
+use Rattle.machine_host.specs.Faults.{CountsBad, LeftUnmounted, unmounted_answer, unmounted_mode}
 use Rattle.machine_host.specs.Meaning.{mode_refusal}
-use Rattle.machine_host.specs.Meaning.Needs.{Unpowered}
+use Rattle.machine_host.specs.Responding.{Answered, Responds}
+use Rattle.machine_host.proofs.BadLineLemmas.{found_bad}
+use Rattle.machine_host.proofs.CostLemmas.{opens-runs}
+use Rattle.machine_host.proofs.ReadingLemmas.{recovered_back}
 use Rattle.machine_host.proofs.RefusalLemmas.{fate_placed}
-use Rattle.machine_host.proofs.MountLemmas.{StopsMount}
-use Rattle.machine_host.proofs.RestartLemmas.{IsMount, comes_of_restart, comes_of_stopped_restart, serves_remounted, sizes_back, stands_unmounted, stops_alone}
+use Rattle.machine_host.proofs.RemountLemmas.{Gives, IsMount, MountsTo, kept_unmounted, mounts_bad, mounts_done, mounts_stopped, never_wrong, serves_taken, serves_unmounted}
+use Rattle.machine_host.proofs.RestartLemmas.{came_back, keeps, serves_back, stands_back}
 
--- a mount that was stopped, but by want of memory, was interrupted
-pub record Stopped (T : Type 0) (f : MountFault) : Type 0 where
-  pub by : Interruption
-  pub answer : unmounted_answer f ≡ interrupted_answer by
-  pub mode : unmounted_mode f ≡ interrupted_mode by
-  pub ended_so : mount_outcome {T = T} (Err f) ≡ ended {T = Unit {0}} (Err by)
+-- What a mount is answered: that in each state it comes to, in few bytes, and the host may go on.
+pub record MountAnswered (host after : HostState) (answer : Answer) (old new : Device) : Type 0 where
+  pub step : (h : Machine) → Stands host old h → MountsTo h answer after old new
+  pub printable : IsPrintable answer
+  pub room : most_of answer ≤ 64
+  pub serves : HostServes after new
 
-pub stopped : (T : Type 0) (f : MountFault) → StopsMount f → (f ≡ fault.Memory → ⊥) → Stopped T f
-stopped T (fault.Meta line) stop other = absurd stop
-stopped T (fault.Layout at) stop other = absurd stop
-stopped T fault.Device stop other = record { by = Failed; answer = refl; mode = refl; ended_so = refl }
-stopped T fault.PowerLost stop other = record { by = Lost; answer = refl; mode = refl; ended_so = refl }
-stopped T fault.Memory stop other = absurd (other refl)
+module _ (host : HostState) (old new : Device) (serves : HostServes host old) (unsettled : host.mode ≡ modes.Unsettled) (sound : IsSound old.medium) (x : IsMount old new) where
+  abbrev in_mode : Mode → HostState
+  in_mode mode = record { geometry = host.geometry; mode = mode; blocks = host.blocks; volume = host.volume }
 
--- the power after a mount that was not done
-power_unmounted : (T : Type 0) (f : MountFault) (p q : Panel) → Runs mount_calls mount_persists (mount_outcome {T = T} (Err f)) p q → p.power ≡ true → q.power ≡ is_powered (unmounted_mode f)
-power_unmounted T (fault.Meta line) p q runs on = runs.cause.0 ∙ on
-power_unmounted T (fault.Layout at) p q runs on = runs.cause.0 ∙ on
-power_unmounted T fault.Device p q runs on = runs.cause.0 ∙ on
-power_unmounted T fault.PowerLost p q runs on = runs.cause.0
-power_unmounted T fault.Memory p q runs on = runs.cause.0 ∙ on
+  on : old.panel.power ≡ true
+  on = serves.power ∙ ap is_powered unsettled
 
-not_mounted : (f : MountFault) → unmounted_mode f ≡ modes.On → ⊥
-not_mounted (fault.Meta line) on = cc on
-not_mounted (fault.Layout at) on = cc on
-not_mounted fault.Device on = cc on
-not_mounted fault.PowerLost on = cc on
-not_mounted fault.Memory on = cc on
+  -- it was done
+  pub mount_done : (s : BlocksState) (v : VolumeState) (answer : Answer) → Runs mount_calls mount_persists went old.panel new.panel → first_finding old.medium ≡ None → Gives old new s v → CountsBad s v new.medium answer
+      → MountAnswered host (record { geometry = host.geometry; mode = modes.On; blocks = s; volume = v }) answer old new
+  mount_done s v answer runs found given counts = record {
+    step = λ h stands. mounts_done host old new serves unsettled sound x h stands runs found s v given answer counts;
+    printable = subst IsPrintable (sym counts.told) tt;
+    room = subst (λ a. most_of a ≤ 64) (sym counts.told) (omega arith);
+    serves = serves_taken host old new serves unsettled sound x runs found s v given;
+  }
 
-room_unmounted : (f : MountFault) → most_of (unmounted_answer f) ≤ 64
-room_unmounted (fault.Meta line) = omega arith
-room_unmounted (fault.Layout at) = omega arith
-room_unmounted fault.Device = omega arith
-room_unmounted fault.PowerLost = omega arith
-room_unmounted fault.Memory = omega arith
+  -- it was not, but had memory
+  pub mount_refused : (f : MountFault) → (f ≡ fault.Memory → ⊥) → Finds {T = Mounted} (first_finding old.medium) (Err f) → Runs mount_calls mount_persists (mount_outcome {T = Mounted} (Err f)) old.panel new.panel
+      → MountAnswered host (in_mode (unmounted_mode f)) (unmounted_answer f) old new
+  mount_refused (fault.Meta line) other finds runs = record {
+    step = λ h stands. mounts_bad host old new serves unsettled sound x h stands runs line.0 finds;
+    printable = tt;
+    room = omega arith;
+    serves = serves_unmounted host old new serves unsettled sound x modes.Stopped (runs.cause.0 ∙ on) (λ is. cc is)
+        (λ _ none. let bad = found_bad host.geometry old.medium serves.layout sound line.0 finds in cc (none, bad.1));
+  }
+  mount_refused (fault.Layout at) other finds runs = record {
+    step = λ h stands. absurd (never_wrong host old new serves unsettled sound x h stands at finds);
+    printable = tt;
+    room = omega arith;
+    serves = serves_unmounted host old new serves unsettled sound x modes.Unsettled (runs.cause.0 ∙ on) (λ is. cc is) (λ is. cc is);
+  }
+  mount_refused fault.Device other finds runs = record {
+    step = λ h stands. mounts_stopped host old new serves unsettled sound x h stands Failed runs;
+    printable = tt;
+    room = omega arith;
+    serves = serves_unmounted host old new serves unsettled sound x modes.Unsettled (runs.cause.0 ∙ on) (λ is. cc is) (λ is. cc is);
+  }
+  mount_refused fault.PowerLost other finds runs = record {
+    step = λ h stands. mounts_stopped host old new serves unsettled sound x h stands Lost runs;
+    printable = tt;
+    room = omega arith;
+    serves = serves_unmounted host old new serves unsettled sound x modes.Off runs.cause.0 (λ is. cc is) (λ is. cc is);
+  }
+  mount_refused fault.Memory other finds runs = absurd (other refl)
 
-printable_unmounted : (f : MountFault) → IsPrintable (unmounted_answer f)
-printable_unmounted (fault.Meta line) = tt
-printable_unmounted (fault.Layout at) = tt
-printable_unmounted fault.Device = tt
-printable_unmounted fault.PowerLost = tt
-printable_unmounted fault.Memory = tt
+  -- it had none
+  pub mount_starved : Runs mount_calls mount_persists went old.panel new.panel → HostServes (in_mode modes.Unsettled) new × ((h : Machine) → Stands host old h → Stands host new h)
+  mount_starved runs = (
+    serves_unmounted host old new serves unsettled sound x modes.Unsettled (runs.cause.0 ∙ on) (λ is. cc is) (λ is. cc is),
+    λ h stands. kept_unmounted host old new serves unsettled sound x h stands runs,
+  )
 
--- A restart of a host behind a reference, by its mount: `host` is what is inside `now`, and `after` what the answer leaves.
-module _ (now host after : HostState) (choice : Choice) (old mid new : Device) (start : Start) (inside : host ≡ now) (serves : HostServes now old)
-    (left : Restarted choice old mid start) (sound_old : IsSound old.medium) (sound : IsSound mid.medium) (x : IsMount mid new) (off : now.mode ≡ modes.Off) where
-  back_on : mid.panel.power ≡ true
-  back_on = ap (λ p. p.power) left.panel
+-- A recovery is answered as its mount is.
+module _ (now : HostState) (old new : Device) (unsettled : now.mode ≡ modes.Unsettled) where
+  recovers : (h : Machine) → Stands now old h → fate h Recover ≡ Recovers
+  recovers h stands = fate_placed h Recover (ap (λ m. mode_refusal m h.bad_meta AfterFailure) (sym stands.mode ∙ unsettled)) refl refl
 
-  -- it is not refused
-  back_done : (h : Machine) → Stands now old h → fate h (Restart choice) ≡ Restarts choice
-  back_done h stands = fate_placed h (Restart choice) (ap (λ m. mode_refusal m Unpowered) (sym stands.mode ∙ off)) refl refl
+  pub recover_answered : (after : HostState) (answer : Answer) → MountAnswered now after answer old new → Answered Recover answer now after old new
+  recover_answered after answer m = record {
+    step = λ h stands.
+        let c = m.step h stands in
+        subst (λ f. Comes h Recover f answer after old new) (sym (recovers h stands)) (record {
+          said = worked (spending h Recover) answer;
+          next = c.next;
+          answers = refl;
+          takes = (answer, refl, c.ends);
+          tells = c.tells;
+          stands = c.stands;
+        });
+    printable = m.printable;
+    room = m.room;
+    serves = m.serves;
+  }
 
-  -- the mount was done, and its sizes are the host's or others
-  pub restart_mounted : (found : Geometry) (s : BlocksState) (v : VolumeState) (answer : Answer) → Runs mount_calls mount_persists went mid.panel new.panel → found ≡ geometry_told mid.medium
-      → s.geo ≡ geometry_told mid.medium → IsTrue s.settled → BlocksServe s new.medium → blocks_of s new.medium ≡ blocks_read (geometry_told mid.medium) mid.medium.is_bad (last_image mid.medium)
-      → v.geo ≡ geometry_told mid.medium → v.present ≡ presence_read (geometry_told mid.medium) (last_image mid.medium) → IsTrue v.settled → VolumeServes v new.medium
-      → ((found ≡ host.geometry) × (after ≡ record host { mode = modes.On; blocks = s; volume = v }) × CountsBad s v new.medium answer) ⊎ ((found ≢ host.geometry) × (after ≡ record host { mode = modes.Unsettled }) × (answer ≡ DeviceFailed))
-      → Answered (Restart choice) answer now after old new
-  restart_mounted found s v answer runs told geo settled served blocks vgeo present vsettled vserved (inl same) =
-      let next : HostState = record { geometry = now.geometry; mode = modes.On; blocks = s; volume = v } in
-      let is : after ≡ next = same.1 ∙ ap (λ (k : HostState). record k { mode = modes.On; blocks = s; volume = v }) inside in
-      let sizes : geometry_told mid.medium ≡ now.geometry = sym told ∙ same.0 ∙ ap (λ k. k.geometry) inside in
-      let bad = same.2.bad in
-      subst (λ a. Answered (Restart choice) a now after old new) (sym same.2.told)
-      (subst (λ k. Answered (Restart choice) (DoneBad bad) now k old new) (sym is) (record {
-        step = λ h stands. subst (λ f. Comes h (Restart choice) f (DoneBad bad) next old new) (sym (back_done h stands)) (comes_of_restart now choice old mid new h start serves stands left sound_old sound s v bad runs x blocks vgeo present same.2.count);
-        printable = tt;
-        room = omega arith;
-        serves = serves_remounted now next choice old mid new start _ serves left refl x.outside (runs.cause.0 ∙ back_on) (λ _. record { geometry = geo ∙ sizes; settled = settled; serves = served; volume_geometry = vgeo ∙ sizes; volume_settled = vsettled; volume_serves = vserved });
-      }))
-  restart_mounted found s v answer runs told geo settled served blocks vgeo present vsettled vserved (inr other) =
-      let next : HostState = record { geometry = now.geometry; mode = modes.Unsettled; blocks = now.blocks; volume = now.volume } in
-      let is : after ≡ next = other.1 ∙ ap (λ (k : HostState). record k { mode = modes.Unsettled }) inside in
-      subst (λ a. Answered (Restart choice) a now after old new) (sym other.2)
-      (subst (λ k. Answered (Restart choice) DeviceFailed now k old new) (sym is) (record {
-        step = λ h stands. absurd (other.0 (told ∙ sizes_back now choice old mid new h start serves stands left sound_old sound ∙ sym (ap (λ k. k.geometry) inside)));
-        printable = tt;
-        room = omega arith;
-        serves = serves_remounted now next choice old mid new start _ serves left refl x.outside (runs.cause.0 ∙ back_on) (λ on. cc on);
-      }))
+-- the panel from before the restart, by what it tells of the work after it
+tells_back : (spent : Spending) (start : Start) (old mid new : Panel) → mid ≡ after_restart old start → (answer : Answer) → Tells (worked spent answer) mid new → Tells (with_start spent start answer) old new
+tells_back spent start old mid new panel answer = subst (λ p. Tells (worked spent answer) p new → Tells (with_start spent start answer) old new) (sym panel) (λ t. record {
+  starts = t.starts;
+  restarts = t.restarts;
+  orders = t.orders;
+  arms = t.arms;
+  offs = t.offs;
+  faults = t.faults;
+  cuts = t.cuts;
+  calls = t.calls;
+  persists = t.persists;
+  evicts = t.evicts;
+  setups = t.setups;
+  disarms = t.disarms;
+})
 
-  -- it was not done
-  pub restart_unmounted : {E : Type 0} (f : MountFault) (r : Result Reply E) → Finds {T = Mounted} (first_finding mid.medium) (Err f) → Runs mount_calls mount_persists (mount_outcome {T = Mounted} (Err f)) mid.panel new.panel
-      → after ≡ record host { mode = unmounted_mode f } → MatchResult r (λ reply. (f ≡ fault.Memory → ⊥) × (answer_of reply ≡ unmounted_answer f)) (λ _. f ≡ fault.Memory)
+-- So is a restart, once the power came back.
+module _ (now : HostState) (choice : Choice) (old mid new : Device) (start : Start) (serves : HostServes now old) (off : now.mode ≡ modes.Off)
+    (left : Restarted choice old mid start) (sound_old : IsSound old.medium) (sound : IsSound mid.medium) where
+  abbrev pub back : HostState
+  back = record now { mode = modes.Unsettled }
+
+  restarts : (h : Machine) → Stands now old h → fate h (Restart choice) ≡ Restarts choice
+  restarts h stands = fate_placed h (Restart choice) (ap (λ m. mode_refusal m h.bad_meta Unpowered) (sym stands.mode ∙ off)) refl refl
+
+  module _ (h : Machine) (stands : Stands now old h) where
+    abbrev read : Machine
+    read = restarted h start.image
+
+    came : Stands back mid (record read { mode = modes.Unsettled })
+    came = stands_back now choice old mid start serves left sound_old sound h stands
+
+    comes_back : (after : HostState) (answer : Answer) → MountsTo (record read { mode = modes.Unsettled }) answer after mid new → Comes h (Restart choice) (Restarts choice) answer after old new
+    comes_back after answer m = record {
+      said = with_start (spending h (Restart choice)) start answer;
+      next = m.next;
+      answers = refl;
+      takes = (start, answer, refl, left.asked, keeps now choice old mid start serves left sound_old sound h stands, by_end m.ends);
+      tells = tells_back (spending h (Restart choice)) start old.panel mid.panel new.panel left.panel answer m.tells;
+      stands = m.stands;
+    }
+      where
+        still_armed : (by : Interruption) → IsTrue (may_come by (record read { mode = modes.Unsettled })) → IsTrue (may_come by read)
+        still_armed Failed armed = armed
+        still_armed Lost armed = armed
+
+        by_end : ((answer ≡ mounted_answer m.next) × RecoveryMayLeave (record read { mode = modes.Unsettled }) m.next)
+            ⊎ ((by : Interruption) × (answer ≡ interrupted_answer by) × Interrupts by (record read { mode = modes.Unsettled }) m.next) → Ends (mounted_answer read) read read answer m.next
+        by_end (inl done) = let is = recovered_back h m.next start.image done.1 in inl (done.0 ∙ ap mounted_answer is, is)
+        by_end (inr stop) = inr (stop.0, stop.1, record { armed = still_armed stop.0 stop.2.armed; state = stop.2.state; cut = stop.2.cut; fail = stop.2.fail })
+
+  pub restart_answered : (after : HostState) (answer : Answer) → MountAnswered back after answer mid new → Answered (Restart choice) answer now after old new
+  restart_answered after answer m = record {
+    step = λ h stands. subst (λ f. Comes h (Restart choice) f answer after old new) (sym (restarts h stands)) (comes_back h stands after answer (m.step (record (restarted h start.image) { mode = modes.Unsettled }) (came h stands)));
+    printable = m.printable;
+    room = m.room;
+    serves = m.serves;
+  }
+
+  -- and one that had no memory to mount
+  pub restart_starved : Runs mount_calls mount_persists went mid.panel new.panel → ((k : Machine) → Stands back mid k → Stands back new k) → LeftUnmounted choice now back old new
+  restart_starved runs stays = record {
+    between = mid;
+    start = start;
+    restarted = left;
+    opens = opens-runs went mid.panel new.panel runs;
+    unsettled = refl;
+    stands = λ h stands. record { keeps = keeps now choice old mid start serves left sound_old sound h stands; stands = stays (record (restarted h start.image) { mode = modes.Unsettled }) (came h stands) };
+  }
+
+-- By what the host answers where the mount was not done.
+module _ (now after : HostState) (old new : Device) (serves : HostServes now old) (unsettled : now.mode ≡ modes.Unsettled) (sound : IsSound old.medium) (x : IsMount old new) (f : MountFault)
+    (finds : Finds {T = Mounted} (first_finding old.medium) (Err f)) (runs : Runs mount_calls mount_persists (mount_outcome {T = Mounted} (Err f)) old.panel new.panel) (is : after ≡ record now { mode = unmounted_mode f }) where
+  refused_now : (f ≡ fault.Memory → ⊥) → MountAnswered now after (unmounted_answer f) old new
+  refused_now other = subst (λ k. MountAnswered now k (unmounted_answer f) old new) (sym is) (mount_refused now old new serves unsettled sound x f other finds runs)
+
+  starved_now : f ≡ fault.Memory → Runs mount_calls mount_persists went old.panel new.panel × (after ≡ record now { mode = modes.Unsettled })
+  starved_now memory = (
+    subst (λ (f : MountFault). Runs mount_calls mount_persists (mount_outcome {T = Mounted} (Err f)) old.panel new.panel) memory runs,
+    is ∙ ap (λ (f : MountFault). record now { mode = unmounted_mode f }) memory,
+  )
+
+  pub recover_unmounted : {E : Type 0} (r : Result Reply E) → MatchResult r (λ reply. (f ≡ fault.Memory → ⊥) × (answer_of reply ≡ unmounted_answer f)) (λ _. f ≡ fault.Memory) → Responds Recover r now after old new
+  recover_unmounted (Ok reply) said = subst (λ a. Answered Recover a now after old new) (sym said.1) (recover_answered now old new unsettled after (unmounted_answer f) (refused_now said.0))
+  recover_unmounted (Err e) memory =
+      let starved = starved_now memory in
+      let left = mount_starved now old new serves unsettled sound x starved.0 in
+      record {
+        leaves = record {
+          same = starved.1 ∙ ap (λ m. record now { mode = m }) (sym unsettled);
+          opens = opens-runs went old.panel new.panel starved.0;
+          stands = left.1;
+        };
+        serves = subst (λ k. HostServes k new) (sym starved.1) left.0;
+      }
+
+module _ (now after : HostState) (choice : Choice) (old mid new : Device) (start : Start) (serves : HostServes now old) (off : now.mode ≡ modes.Off)
+    (left : Restarted choice old mid start) (sound_old : IsSound old.medium) (sound : IsSound mid.medium) (x : IsMount mid new) (f : MountFault)
+    (finds : Finds {T = Mounted} (first_finding mid.medium) (Err f)) (runs : Runs mount_calls mount_persists (mount_outcome {T = Mounted} (Err f)) mid.panel new.panel) (is : after ≡ record now { mode = unmounted_mode f }) where
+  pub restart_unmounted : {E : Type 0} (r : Result Reply E) → MatchResult r (λ reply. (f ≡ fault.Memory → ⊥) × (answer_of reply ≡ unmounted_answer f)) (λ _. f ≡ fault.Memory)
       → Responds (Restart choice) r now after old new
-  restart_unmounted {E} f r finds runs state said = by_answer r said
-    where
-      next : HostState
-      next = record { geometry = now.geometry; mode = unmounted_mode f; blocks = now.blocks; volume = now.volume }
-
-      is : after ≡ next
-      is = state ∙ ap (λ (k : HostState). record k { mode = unmounted_mode f }) inside
-
-      goes_on : HostServes after new
-      goes_on =
-          subst (λ k. HostServes k new) (sym is)
-          (serves_remounted now next choice old mid new start _ serves left refl x.outside (power_unmounted Mounted f mid.panel new.panel runs back_on) (λ on. absurd (not_mounted f on)))
-
-      comes : (f ≡ fault.Memory → ⊥) → (h : Machine) → Stands now old h → Comes h (Restart choice) (Restarts choice) (unmounted_answer f) after old new
-      comes other h stands =
-          let stop = stopped Mounted f (stops_alone now choice old mid new h start serves stands left sound_old sound {T = Mounted} (Err f) finds) other in
-          subst (λ a. Comes h (Restart choice) (Restarts choice) a after old new) (sym stop.answer)
-          (comes_of_stopped_restart now choice old mid new h start serves stands left sound_old sound after stop.by (is ∙ ap (λ m. record now { mode = m }) stop.mode)
-          (subst (λ e. Runs mount_calls mount_persists e mid.panel new.panel) stop.ended_so runs) x)
-
-      by_answer : (r : Result Reply E) → MatchResult r (λ reply. (f ≡ fault.Memory → ⊥) × (answer_of reply ≡ unmounted_answer f)) (λ _. f ≡ fault.Memory) → Responds (Restart choice) r now after old new
-      by_answer (Ok reply) said =
-          subst (λ a. Answered (Restart choice) a now after old new) (sym said.1) (record { step = λ h stands. subst (λ fate. Comes h (Restart choice) fate (unmounted_answer f) after old new) (sym (back_done h stands)) (comes said.0 h stands); printable = printable_unmounted f; room = room_unmounted f; serves = goes_on })
-      by_answer (Err e) memory =
-          let went_on = subst (λ (f : MountFault). Runs mount_calls mount_persists (mount_outcome {T = Mounted} (Err f)) mid.panel new.panel) memory runs in
-          let unsettled : after ≡ record now { mode = modes.Unsettled } = is ∙ ap (λ (f : MountFault). record now { mode = unmounted_mode f }) memory in
-          record {
-            leaves = inr (record {
-              between = mid;
-              start = start;
-              restarted = left;
-              opens = opens-runs went mid.panel new.panel went_on;
-              unsettled = unsettled;
-              stands = λ h stands. stands_unmounted now choice old mid new h start serves stands left sound_old sound after unsettled went_on x;
-            });
-            serves = goes_on;
-          }
+  restart_unmounted (Ok reply) said =
+      subst (λ a. Answered (Restart choice) a now after old new) (sym said.1)
+      (restart_answered now choice old mid new start serves off left sound_old sound after (unmounted_answer f)
+      (refused_now (record now { mode = modes.Unsettled }) after mid new (serves_back now choice old mid start serves left sound_old sound) refl sound x f finds runs is said.0))
+  restart_unmounted (Err e) memory =
+      let base : HostState = record now { mode = modes.Unsettled } in
+      let back_serves = serves_back now choice old mid start serves left sound_old sound in
+      let starved = starved_now base after mid new back_serves refl sound x f finds runs is memory in
+      let kept = mount_starved base mid new back_serves refl sound x starved.0 in
+      record {
+        leaves = inr (subst (λ k. LeftUnmounted choice now k old new) (sym starved.1) (restart_starved now choice old mid new start serves off left sound_old sound starved.0 kept.1));
+        serves = subst (λ k. HostServes k new) (sym starved.1) kept.0;
+      }

@@ -1,31 +1,131 @@
 -- What settling a host comes to.
-use Rattle.std.proofs.Common.{◌≡◌, inl, List, [], ◌∷◌, Result, Ok, Err, refl, sym, ap, ap₂, subst, ◌∙◌, arith}
+use Rattle.std.proofs.Common.{◌≡◌, ◌+◌, ◌≤◌, ℕ, Bool, true, false, IsTrue, List, [], ◌∷◌, Some, None, Result, Ok, Err, refl, sym, ap, ap₂, subst, ◌∙◌, arith}
 use Rattle.std.specs.Prelude.{OnOk, OnErr}
+use Rattle.std.proofs.lemmas.Bool.{false≢true}
 use Rattle.line_device.specs.Medium.{WritesBack, IsSound}
-use Rattle.line_device.specs.Panel.{Start, after_disarm}
+use Rattle.line_device.specs.Panel.{Panel, Runs, Start, after_disarm}
 use Rattle.line_device.specs.Panel.Outcome.{went}
 use Rattle.line_device.specs.Device.{Device, Restarted, Waited}
 use Rattle.line_device.specs.declared.line.Choice.TheVariants.{Lasts}
-use Rattle.line_device.proofs.PanelLemmas.{runs-refl, runs_within}
-use Rattle.line_device.proofs.WriteBackLemmas.{write_back-refl}
-use Rattle.line_words.proofs.FrameLemmas.{outside-write_back}
-use Rattle.block_device.proofs.ReachLemmas.{keeps_reads-write_back}
-use Rattle.recovery.specs.Findings.{geometry_told}
-use Rattle.recovery.specs.Mounting.{IsOfLogs}
+use Rattle.word_log.specs.Mount.Finding.{bad_line}
+use Rattle.block_device.specs.Object.{BlocksState}
+use Rattle.pm_volume.specs.Object.{VolumeState}
+use Rattle.recovery.specs.Findings.{first_finding}
+use Rattle.recovery.specs.Mounting.{mount_outcome}
+use Rattle.recovery.specs.declared.Mounted.{Mounted}
+use Rattle.recovery.specs.declared.fault.MountFault.{MountFault}
+use Rattle.recovery.specs.declared.fault.MountFault.TheVariants as fault
 use Rattle.machine_host.specs.declared.mode.Mode.{Mode}
 use Rattle.machine_host.specs.declared.mode.Mode.TheVariants as modes
 use Rattle.machine_host.specs.Machine.{Machine}
-use Rattle.machine_host.specs.Restarting.{RestartMayLeave, holding, reading, restarted}
+use Rattle.machine_host.specs.Recovering.{RecoveryMayLeave}
+use Rattle.machine_host.specs.Restarting.{RestartMayLeave, restarted}
 use Rattle.machine_host.specs.Costs.{mount_calls, mount_persists}
-use Rattle.machine_host.specs.Faults.{StandsUnmounted}
-use Rattle.machine_host.specs.Stands.{HostState, HostServes, Stands}
+use Rattle.machine_host.specs.Stands.{HostState, HostServes, Stands, is_powered}
 use Rattle.machine_host.specs.Telling.{bumped_by}
-use Rattle.machine_host.specs.Settling.{Asks, IsQuiet, IsSettled, LeavesUnmounted, StaysUnmounted, LeftUnsettled, MountsAnew, Settled, Settles, SettlesTo, disarmed}
+use Rattle.machine_host.specs.Settling.{Asks, IsQuiet, IsSettled, LeavesUnmounted, StaysUnmounted, LeftUnsettled, MountsAnew, Settled, Settles, SettlesTo, disarmed, is_down}
+use Rattle.machine_host.proofs.BadLineLemmas.{found_bad}
 use Rattle.machine_host.proofs.ElsewhereLemmas.{serves_ordered}
-use Rattle.machine_host.proofs.BackLemmas.{layout-restarted}
-use Rattle.machine_host.proofs.RestartLemmas.{IsMount, serves_waited, stands_unmounted}
+use Rattle.machine_host.proofs.ReadingLemmas.{recovered_back}
+use Rattle.machine_host.proofs.RemountLemmas.{BroughtUp, Gives, IsMount, done_up, kept_unmounted, serves_taken, serves_unmounted, stopped_up}
+use Rattle.machine_host.proofs.RestartLemmas.{keeps, serves_waited, stands_back}
 use Rattle.machine_host.proofs.StepLemmas.{stands_ordered}
-use Rattle.machine_host.proofs.RemountLemmas.{stays_off}
+
+-- what was not armed is not armed later
+pub stays_off : (old new : Bool) → old ≡ false → (IsTrue new → IsTrue old) → new ≡ false
+stays_off old false off arms = refl
+stays_off old true off arms = absurd (false≢true (sym off ∙ arms refl))
+
+-- work that nothing stopped, where nothing was armed
+pub asks_of_work : (p q : Panel) → IsQuiet p → Runs mount_calls mount_persists went p q → Asks [] p q
+asks_of_work p q quiet runs = record {
+  tells = runs.orders.starts;
+  cut_armed = runs.cause.2 ∙ quiet.cut;
+  fail_armed = runs.cause.3 ∙ quiet.fail;
+  calls = runs.few_calls;
+  persists = runs.few_persists;
+  faults = runs.faults;
+  cuts = runs.cause.1;
+  offs = runs.orders.offs;
+  arms = runs.orders.arms;
+  evicts = runs.orders.evicts;
+  disarms = runs.orders.disarms;
+  setups = runs.setups;
+  last_order = runs.orders.last_order;
+}
+
+-- a state with nothing armed
+already : (h : Machine) (d : Device) (host : HostState) → IsQuiet d.panel → Stands host d h → disarmed h ≡ h
+already h d host quiet stands =
+    ap₂ (λ cut fail. record h { cut_armed = cut; fail_armed = fail }) (sym quiet.cut ∙ stands.device.cut_armed) (sym quiet.fail ∙ stands.device.fail_armed)
+
+-- A mount of a device whose host has not mounted it, while nothing is armed.
+module _ (host : HostState) (old new : Device) (serves : HostServes host old) (unsettled : host.mode ≡ modes.Unsettled) (quiet : IsQuiet old.panel)
+    (sound : IsSound old.medium) (x : IsMount old new) (runs : Runs mount_calls mount_persists went old.panel new.panel) where
+  asks : Asks [] old.panel new.panel
+  asks = asks_of_work old.panel new.panel quiet runs
+
+  settled_up : (after : HostState) (h : Machine) → Stands host old h → HostServes after new → BroughtUp h after new → Settled h after old.panel new
+  settled_up after h stands goes_on up = record {
+    starts = [];
+    next = up.next;
+    comes = subst (λ mode. SettlesTo mode h [] up.next) (sym unsettled ∙ stands.mode) (refl, subst (λ k. RecoveryMayLeave k up.next) (sym (already h old host quiet stands)) up.may);
+    stands = up.stands;
+    serves = goes_on;
+    asks = asks;
+    restarts = runs.orders.restarts;
+  }
+
+  -- it was done
+  pub settled_taken : (after : HostState) (s : BlocksState) (v : VolumeState) → first_finding old.medium ≡ None → Gives old new s v → after ≡ record host { mode = modes.On; blocks = s; volume = v } → IsSettled host after old new
+  settled_taken after s v found given is =
+      subst (λ k. IsSettled host k old new) (sym is) (
+        refl,
+        λ h stands. settled_up _ h stands (serves_taken host old new serves unsettled sound x runs found s v given) (done_up host old new serves unsettled sound x h stands runs found s v given),
+      )
+
+  -- a line of metadata is bad
+  pub settled_bad : (after : HostState) (line : ℕ) → first_finding old.medium ≡ Some (bad_line line) → after ≡ record host { mode = modes.Stopped } → IsSettled host after old new
+  settled_bad after line found is =
+      subst (λ k. IsSettled host k old new) (sym is) (
+        refl,
+        λ h stands. settled_up _ h stands (serves_unmounted host old new serves unsettled sound x modes.Stopped (runs.cause.0 ∙ serves.power ∙ ap is_powered unsettled) (λ on. cc on)
+            (λ _ none. let bad = found_bad host.geometry old.medium serves.layout sound line found in cc (none, bad.1)))
+            (stopped_up host old new serves unsettled sound x h stands runs line found),
+      )
+
+  -- there was no memory for it
+  pub left_unmounted : StaysUnmounted host host old new
+  left_unmounted = record {
+    same = refl;
+    serves = subst (λ (k : HostState). HostServes k new) (ap (λ m. record host { mode = m }) (sym unsettled))
+        (serves_unmounted host old new serves unsettled sound x modes.Unsettled (runs.cause.0 ∙ serves.power ∙ ap is_powered unsettled) (λ on. cc on) (λ stop. cc stop));
+    asks = asks;
+    restarts = runs.orders.restarts;
+    stands = λ h stands. subst (Stands host new) (sym (already h old host quiet stands)) (kept_unmounted host old new serves unsettled sound x h stands runs);
+  }
+
+-- Nothing could stop it.
+pub never_stopped : (f : MountFault) (p q : Panel) {a b : ℕ} → IsQuiet p → Runs a b (mount_outcome {T = Mounted} (Err f)) p q → mount_outcome {T = Mounted} (Err f) ≡ went
+never_stopped (fault.Meta line) p q quiet runs = refl
+never_stopped (fault.Layout at) p q quiet runs = refl
+never_stopped fault.Device p q quiet runs = absurd (false≢true (sym quiet.fail ∙ runs.cause.2))
+never_stopped fault.PowerLost p q quiet runs = absurd (false≢true (sym quiet.cut ∙ runs.cause.1))
+never_stopped fault.Memory p q quiet runs = refl
+
+pub never_failed : (f : MountFault) (p q : Panel) {a b : ℕ} → IsQuiet p → Runs a b (mount_outcome {T = Mounted} (Err f)) p q → f ≡ fault.Device → ⊥
+never_failed fault.Device p q quiet runs is = false≢true (sym quiet.fail ∙ runs.cause.2)
+never_failed fault.PowerLost p q quiet runs is = cc is
+never_failed fault.Memory p q quiet runs is = cc is
+never_failed (fault.Meta line) p q quiet runs is = cc is
+never_failed (fault.Layout at) p q quiet runs is = cc is
+
+pub never_lost : (f : MountFault) (p q : Panel) {a b : ℕ} → IsQuiet p → Runs a b (mount_outcome {T = Mounted} (Err f)) p q → f ≡ fault.PowerLost → ⊥
+never_lost fault.PowerLost p q quiet runs is = false≢true (sym quiet.cut ∙ runs.cause.1)
+never_lost fault.Device p q quiet runs is = cc is
+never_lost fault.Memory p q quiet runs is = cc is
+never_lost (fault.Meta line) p q quiet runs is = cc is
+never_lost (fault.Layout at) p q quiet runs is = cc is
 
 -- A restart that was refused.
 pub left_waiting : (host : HostState) (old new : Device) → HostServes host old → host.mode ≡ modes.Off → IsQuiet old.panel → Waited old new → LeftUnsettled host host old old.panel new
@@ -34,8 +134,8 @@ left_waiting host old new serves off quiet x =
     record {
       starts = [];
       few = omega arith;
-      was_not_on = λ on. cc (on, off);
-      is_not_on = λ on. cc (on, off);
+      was_down = ap is_down off;
+      stays_down = ap is_down off;
       serves = serves_waited host old new serves off x;
       asks = record {
         tells = x.panel.starts;
@@ -57,34 +157,24 @@ left_waiting host old new serves off quiet x =
       stands = λ h stands is. cc (is, off);
     }
 
--- a mount that does nothing
-no_mount : (d : Device) → IsMount d d
-no_mount d = record {
-  outside = outside-write_back (IsOfLogs (geometry_told d.medium)) d.medium d.medium (write_back-refl d.medium);
-  reads = λ none. keeps_reads-write_back (geometry_told d.medium) d.medium d.medium (write_back-refl d.medium);
-  presence = λ image is. record { before = image; was = is; same = inl (λ p of. refl) };
-}
-
 -- A restart that was done, and then a mount.
 module _ (host : HostState) (old mid new : Device) (start : Start) (serves : HostServes host old) (off : host.mode ≡ modes.Off) (quiet : IsQuiet old.panel)
     (left : Restarted Lasts old mid start) (sound_old : IsSound old.medium) (sound : IsSound mid.medium) where
   abbrev pub back : HostState
   back = record host { mode = modes.Unsettled }
 
-  pub serves_back : HostServes back mid
-  serves_back = record {
-    layout = layout-restarted host.geometry Lasts old.medium mid.medium serves.layout left.lines;
-    power = ap (λ p. p.power) left.panel;
-    mounted = λ on. cc on;
-  }
-
   pub quiet_back : IsQuiet mid.panel
   quiet_back = record { cut = ap (λ p. p.cut_armed) left.panel ∙ quiet.cut; fail = ap (λ p. p.fail_armed) left.panel ∙ quiet.fail }
 
   module _ (h : Machine) (stands : Stands host old h) where
-    came_back : StandsUnmounted Lasts start h back mid
-    came_back = stands_unmounted host Lasts old mid mid h start serves stands left sound_old sound back refl
-        (runs_within 0 0 mount_calls mount_persists went mid.panel mid.panel (runs-refl mid.panel) (omega arith) (omega arith)) (no_mount mid)
+    abbrev came : Machine
+    came = record (restarted h start.image) { mode = modes.Unsettled }
+
+    stands_came : Stands back mid came
+    stands_came = stands_back host Lasts old mid start serves left sound_old sound h stands
+
+    kept : RestartMayLeave Lasts start.image h
+    kept = keeps host Lasts old mid start serves left sound_old sound h stands
 
     is_off : modes.Off ≡ h.mode
     is_off = sym off ∙ stands.mode
@@ -107,21 +197,13 @@ module _ (host : HostState) (old mid new : Device) (start : Start) (serves : Hos
   })
 
   -- the state that it came to
-  settled_from : (h : Machine) → Stands host old h → (after : HostState) → Settled (record (restarted h start.image) { mode = modes.Unsettled }) after mid.panel new → Settled h after old.panel new
-  unfolding reading
+  settled_from : (h : Machine) (stands : Stands host old h) (after : HostState) → Settled (came h stands) after mid.panel new → Settled h after old.panel new
   settled_from h stands after d =
-      let image = start.image in
       let asks = asks_back (subst (λ starts. Asks starts mid.panel new.panel) d.comes.0 d.asks) in
       record {
         starts = start ∷ [];
         next = d.next;
-        comes = subst (λ mode. SettlesTo mode h (start ∷ []) d.next) (is_off h stands) (
-          start,
-          refl,
-          left.asked,
-          (came_back h stands).keeps,
-          d.comes.1.state ∙ ap₂ (λ bs pages. holding h.geometry bs pages) d.comes.1.blocks d.comes.1.volume,
-        );
+        comes = subst (λ mode. SettlesTo mode h (start ∷ []) d.next) (is_off h stands) (start, refl, left.asked, kept h stands, recovered_back (disarmed h) d.next start.image d.comes.1);
         stands = d.stands;
         serves = d.serves;
         asks = asks;
@@ -129,7 +211,7 @@ module _ (host : HostState) (old mid new : Device) (start : Start) (serves : Hos
       }
 
   pub settled_back : (after : HostState) → IsSettled back after mid new → IsSettled host after old new
-  settled_back after d = (d.0, λ h stands. settled_from h stands after (d.1 (record (restarted h start.image) { mode = modes.Unsettled }) (came_back h stands).stands))
+  settled_back after d = (d.0, λ h stands. settled_from h stands after (d.1 (came h stands) (stands_came h stands)))
 
   -- or the device was not mounted
   pub left_back : (after : HostState) → StaysUnmounted back after mid new → LeftUnsettled host after old old.panel new
@@ -138,8 +220,8 @@ module _ (host : HostState) (old mid new : Device) (start : Start) (serves : Hos
       record {
         starts = start ∷ [];
         few = omega arith;
-        was_not_on = λ on. cc (on, off);
-        is_not_on = λ on. let mode = ap (λ (k : HostState). k.mode) d.same in cc (on, mode);
+        was_down = ap is_down off;
+        stays_down = ap (λ (k : HostState). is_down k.mode) d.same;
         serves = d.serves;
         asks = asks_back d.asks;
         restarts = omega (arith, restarts);
@@ -147,8 +229,8 @@ module _ (host : HostState) (old mid new : Device) (start : Start) (serves : Hos
         stands = λ h stands is. (
           record (restarted (disarmed h) start.image) { mode = modes.Unsettled },
           subst (λ mode. LeavesUnmounted mode h (start ∷ []) (record (restarted (disarmed h) start.image) { mode = modes.Unsettled })) (sym off)
-              (start, refl, left.asked, (came_back h stands).keeps, refl),
-          d.stands (record (restarted h start.image) { mode = modes.Unsettled }) (came_back h stands).stands,
+              (start, refl, left.asked, kept h stands, refl),
+          d.stands (came h stands) (stands_came h stands),
         );
       }
 
@@ -160,7 +242,7 @@ module _ (host : HostState) (old mid new : Device) (start : Start) (serves : Hos
 -- A device that is disarmed first.
 module _ (host : HostState) (old quiet : Device) (serves : HostServes host old) (w : WritesBack old.medium quiet.medium) (panel : quiet.panel ≡ after_disarm old.panel) where
   pub serves_disarmed : HostServes host quiet
-  serves_disarmed = serves_ordered host host.mode old quiet serves w (ap (λ p. p.power) panel ∙ serves.power) (λ on. on)
+  serves_disarmed = serves_ordered host host.mode old quiet serves w (ap (λ p. p.power) panel ∙ serves.power) (λ on. on) (λ stop. stop)
 
   pub is_disarmed : IsQuiet quiet.panel
   is_disarmed = record { cut = ap (λ p. p.cut_armed) panel; fail = ap (λ p. p.fail_armed) panel }
@@ -170,24 +252,35 @@ module _ (host : HostState) (old quiet : Device) (serves : HostServes host old) 
 
   -- that what is armed is no part of what a settling comes to
   keeps_disarmed : (h : Machine) (start : Start) → RestartMayLeave Lasts start.image (disarmed h) → RestartMayLeave Lasts start.image h
-  keeps_disarmed h start k = record { blocks = k.blocks; left = k.left; may = k.may; there = k.there; volume = k.volume }
+  keeps_disarmed h start k = record {
+    metadata = k.metadata;
+    storage = λ good. let kept = k.storage good in record { blocks = kept.blocks; left = kept.left; may = kept.may; there = kept.there; volume = kept.volume };
+  }
 
   comes_disarmed : (h : Machine) (mode : Mode) (starts : List Start) (next : Machine) → SettlesTo mode (disarmed h) starts next → SettlesTo mode h starts next
   comes_disarmed h modes.On starts next c = c
   comes_disarmed h modes.Off starts next c = (c.0, c.1, c.2, keeps_disarmed h c.0 c.3, c.4)
-  comes_disarmed h modes.Unsettled starts next c = (c.0, record { blocks = c.1.blocks; volume = c.1.volume; state = c.1.state })
+  comes_disarmed h modes.Unsettled starts next c = c
+  comes_disarmed h modes.Stopped starts next c = c
 
   leaves_disarmed : (h : Machine) (mode : Mode) (starts : List Start) (next : Machine) → LeavesUnmounted mode (disarmed h) starts next → LeavesUnmounted mode h starts next
   leaves_disarmed h modes.On starts next c = c
   leaves_disarmed h modes.Off starts next c = (c.0, c.1, c.2, keeps_disarmed h c.0 c.3, c.4)
   leaves_disarmed h modes.Unsettled starts next c = c
+  leaves_disarmed h modes.Stopped starts next c = c
 
-  -- of a host that was on
-  pub settled_on : host.mode ≡ modes.On → (h : Machine) → Stands host old h → Settled h host (after_disarm old.panel) quiet
-  settled_on on h stands = record {
+  -- of a host that was on, or stopped
+  still : (mode : Mode) → is_down mode ≡ false → (h : Machine) → SettlesTo mode h [] (disarmed h)
+  still modes.On up h = (refl, refl)
+  still modes.Off up h = cc up
+  still modes.Unsettled up h = cc up
+  still modes.Stopped up h = (refl, refl)
+
+  pub settled_on : is_down host.mode ≡ false → (h : Machine) → Stands host old h → Settled h host (after_disarm old.panel) quiet
+  settled_on up h stands = record {
     starts = [];
     next = disarmed h;
-    comes = subst (λ mode. SettlesTo mode h [] (disarmed h)) (sym on ∙ stands.mode) (refl, refl);
+    comes = still h.mode (ap is_down (sym stands.mode) ∙ up) h;
     stands = stands_disarmed h stands;
     serves = serves_disarmed;
     asks = subst (Asks [] (after_disarm old.panel)) (sym panel) (record {
@@ -228,8 +321,8 @@ module _ (host : HostState) (old quiet : Device) (serves : HostServes host old) 
         subst (λ p. LeftUnsettled host after old p new) panel (record {
           starts = d.starts;
           few = d.few;
-          was_not_on = d.was_not_on;
-          is_not_on = d.is_not_on;
+          was_down = d.was_down;
+          stays_down = d.stays_down;
           serves = d.serves;
           asks = d.asks;
           restarts = d.restarts;
@@ -244,8 +337,8 @@ module _ (host : HostState) (old quiet : Device) (serves : HostServes host old) 
     left_remounting unsettled d = record {
       starts = [];
       few = omega arith;
-      was_not_on = λ on. cc (on, unsettled);
-      is_not_on = λ on. let mode = ap (λ (k : HostState). k.mode) d.same in cc (on, mode, unsettled);
+      was_down = ap is_down unsettled;
+      stays_down = ap (λ (k : HostState). is_down k.mode) d.same ∙ ap is_down unsettled;
       serves = d.serves;
       asks = d.asks;
       restarts = omega (arith, d.restarts);

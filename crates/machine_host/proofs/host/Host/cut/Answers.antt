@@ -17,9 +17,9 @@ returns g c =
     let said = c.power_off.ensures in
     let serves = subst (λ host. HostServes host old) (sym c.self.view_is) c.requires.serves in
     subst (λ k. Answered Cut Done k (record host { mode = Off }) old new) c.self.view_is (record {
-      step = λ h stands. comes_placed host _ old new h Cut Done stands (power_allows c.self.inside.mode (λ off. c.requires.powered (sym (ap (λ k. k.mode) c.self.view_is) ∙ off))) refl refl
+      step = λ h stands. comes_placed host _ old new h Cut Done stands (λ bad_meta. power_allows c.self.inside.mode bad_meta (λ off. c.requires.powered (sym (ap (λ k. k.mode) c.self.view_is) ∙ off))) refl refl
           (comes_of_cut host old new h stands serves said.lines said.panel);
       printable = tt;
       room = omega arith;
-      serves = serves_ordered host Off old new serves said.lines (ap (λ p. p.power) said.panel) (λ on. cc);
+      serves = serves_ordered host Off old new serves said.lines (ap (λ p. p.power) said.panel) (λ on. cc) (λ stop. cc stop);
     })

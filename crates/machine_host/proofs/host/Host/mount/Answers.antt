@@ -1,8 +1,9 @@
 use Rattle.std.proofs.Common.{[], refl, sym, subst, ◌∙◌}
 use Rattle.recovery.specs.Mounting.{IsInOrder}
-use Rattle.machine_host.specs.Stands.{MetadataStands}
-use Rattle.machine_host.proofs.MountLemmas.{durable_flushed, layout_mounted, metadata_mounted}
-use Rattle.machine_host.proofs.MountedLemmas.{stands_found}
+use Rattle.machine_host.specs.Lines.{MetadataStands}
+use Rattle.machine_host.proofs.MountLemmas.{durable_flushed, metadata_mounted}
+use Rattle.machine_host.proofs.MountedLemmas.{readable_served, stands_found}
+use Rattle.machine_host.proofs.BadLineLemmas.{good_lines}
 use Rattle.machine_host.proofs.host.Host.mount.Goals as goal
 
 pub returns-clause-metadata : goal.returns-clause-metadata
@@ -18,7 +19,8 @@ returns-clause-serves g c =
     let new = (g.D.Lines.state c.mount.new.dev).medium in
     let x = c.in_ok-mounted.ensures in
     record {
-      layout = layout_mounted c.in_ok-mounted.mounted.geo new x.order;
+      layout = (returns-clause-metadata g c).layout;
+      readable = λ none. readable_served c.in_ok-mounted.mounted.geo c.in_ok-mounted.mounted.blocks new (x.ok.1 ∙ sym x.ok.0) (x.serves (durable_flushed _ c.requires.flushed)) (good_lines c.in_ok-mounted.mounted.geo new none);
       power = x.runs.cause.0 ∙ c.requires.on;
       mounted = λ _. record {
         geometry = x.ok.1 ∙ sym x.ok.0;
@@ -28,6 +30,7 @@ returns-clause-serves g c =
         volume_settled = x.settled.1;
         volume_serves = x.volume;
       };
+      stopped = λ stop. cc stop;
     }
 
 pub returns-clause-stands : goal.returns-clause-stands

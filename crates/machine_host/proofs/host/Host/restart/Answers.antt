@@ -1,11 +1,13 @@
 use Rattle.std.proofs.Common.{inl, inr, refl}
 use Rattle.std.proofs.lemmas.Result.{err_from_is_err_and}
 use Rattle.reply_text.specs.Answer.{answer_of}
+use Rattle.machine_host.specs.Responding.{Answered}
 use Rattle.machine_host.proofs.MountLemmas.{durable_flushed, flushed-restarted, line_zero, mount_within}
-use Rattle.machine_host.proofs.RestartAnswerLemmas.{restart_mounted, restart_unmounted}
-use Rattle.machine_host.proofs.BackLemmas.{layout-restarted}
-use Rattle.machine_host.proofs.RestartLemmas.{serves_waited}
+use Rattle.machine_host.proofs.RemountLemmas.{Gives}
+use Rattle.machine_host.proofs.RestartAnswerLemmas.{mount_done, restart_answered, restart_unmounted}
+use Rattle.machine_host.proofs.RestartLemmas.{serves_back, serves_waited}
 use Rattle.machine_host.proofs.host.Host.restart.Goals as goal
+use Rattle.std.proofs.Common.{subst, sym}
 
 pub returns-in_err-restart : goal.returns-in_err-restart
 returns-in_err-restart g c =
@@ -14,7 +16,9 @@ returns-in_err-restart g c =
 
 pub mount-requires-clause-some : goal.mount-requires-clause-some
 mount-requires-clause-some g c =
-    line_zero c.args.self.now.geometry _ (layout-restarted c.args.self.now.geometry c.args.choice _ _ c.requires.serves.layout c.in_ok-restart.ensures.1.lines)
+    let left = c.in_ok-restart.ensures in
+    line_zero c.args.self.now.geometry _
+    (serves_back c.args.self.now c.args.choice _ _ left.0 c.requires.serves left.1 (g.met.D.Lines.sound c.args.device.now) (g.met.D.Lines.sound c.restart.new.self)).layout
 
 pub mounted-requires-clause-blocks : goal.mounted-requires-clause-blocks
 mounted-requires-clause-blocks g c =
@@ -22,13 +26,29 @@ mounted-requires-clause-blocks g c =
 
 pub returns-in-Ok : goal.returns-in-Ok
 returns-in-Ok g c =
+    let now = c.args.self.now in
     let old = (g.D.Lines.state c.args.device.now) in
     let mid = (g.D.Lines.state c.restart.new.self) in
     let new = (g.D.Lines.state c.mount.new.dev) in
     let x = c.in-Ok.ensures in
     let left = c.in_ok-restart.ensures in
-    restart_mounted c.args.self.now c.args.self.now c.mounted.new.self c.args.choice old mid new left.0 refl c.requires.serves left.1 (g.met.D.Lines.sound c.args.device.now) (g.met.D.Lines.sound c.restart.new.self)
-    (record { outside = x.outside; reads = x.reads; presence = x.presence }) c.requires.off c.in-Ok.mounted.geo c.in-Ok.mounted.blocks c.in-Ok.mounted.volume (answer_of c.mounted.result) (mount_within mid.medium _ mid.panel new.panel x.runs) x.ok.0 x.ok.1 x.settled.0 (x.serves (durable_flushed _ (flushed-restarted c.args.choice _ _ (g.met.D.Lines.sound c.args.device.now) c.in_ok-restart.ensures.1.lines))) x.ok.2 x.ok.3 x.ok.4 x.settled.1 x.volume c.mounted.ensures
+    let sound_old = g.met.D.Lines.sound c.args.device.now in
+    let sound = g.met.D.Lines.sound c.restart.new.self in
+    let given : Gives mid new c.in-Ok.mounted.blocks c.in-Ok.mounted.volume = record {
+      geometry = x.ok.1;
+      settled = x.settled.0;
+      serves = x.serves;
+      blocks = x.ok.2;
+      volume_geometry = x.ok.3;
+      present = x.ok.4;
+      volume_settled = x.settled.1;
+      volume_serves = x.volume;
+    } in
+    subst (λ k. Answered _ (answer_of c.mounted.result) now k old new) (sym c.mounted.ensures.state)
+    (restart_answered now c.args.choice old mid new left.0 c.requires.serves c.requires.off left.1 sound_old sound _ (answer_of c.mounted.result)
+    (mount_done _ mid new (serves_back now c.args.choice old mid left.0 c.requires.serves left.1 sound_old sound) refl sound
+    (record { outside = x.outside; refused = x.refused; reads = x.reads; presence = x.presence })
+    c.in-Ok.mounted.blocks c.in-Ok.mounted.volume (answer_of c.mounted.result) (mount_within mid.medium _ mid.panel new.panel x.runs) x.finds given c.mounted.ensures.answer))
 
 pub returns-in-Err : goal.returns-in-Err
 returns-in-Err g c =
@@ -37,5 +57,6 @@ returns-in-Err g c =
     let new = (g.D.Lines.state c.mount.new.dev) in
     let x = c.in-Err.ensures in
     let left = c.in_ok-restart.ensures in
-    restart_unmounted c.args.self.now c.args.self.now c.unmounted.new.self c.args.choice old mid new left.0 refl c.requires.serves left.1 (g.met.D.Lines.sound c.args.device.now) (g.met.D.Lines.sound c.restart.new.self)
-    (record { outside = x.outside; reads = x.reads; presence = x.presence }) c.requires.off c.in-Err.fault c.unmounted.result x.finds (mount_within mid.medium _ mid.panel new.panel x.runs) c.unmounted.ensures.state c.unmounted.ensures.answer
+    restart_unmounted c.args.self.now c.unmounted.new.self c.args.choice old mid new left.0 c.requires.serves c.requires.off left.1 (g.met.D.Lines.sound c.args.device.now) (g.met.D.Lines.sound c.restart.new.self)
+    (record { outside = x.outside; refused = x.refused; reads = x.reads; presence = x.presence }) c.in-Err.fault x.finds (mount_within mid.medium _ mid.panel new.panel x.runs) c.unmounted.ensures.state
+    c.unmounted.result c.unmounted.ensures.answer

@@ -2,23 +2,23 @@ use Rattle.std.proofs.Common.{refl, sym}
 use Rattle.std.proofs.lemmas.Result.{IfOk-weaker}
 use Rattle.script_text.specs.Action.{action_of}
 use Rattle.machine_host.specs.Commands.{meaning}
-use Rattle.reply_text.specs.Answer.Answer.{Refused}
+use Rattle.reply_text.specs.Answer.{answer_of}
 use Rattle.machine_host.proofs.StepLemmas.{comes_of_refusal, leaves_all, on_err, on_err-with}
 use Rattle.machine_host.proofs.host.Host.step.Goals as goal
 
 pub returns-in-Some-clause-step : goal.returns-in-Some-clause-step
 returns-in-Some-clause-step g c = IfOk-weaker c.print.result _ _ (λ _ line h stands. record {
-  answer = Refused c.in-Some.why;
-  comes = comes_of_refusal c.args.self.now _ h (action_of c.args.command.now) c.in-Some.why stands (sym c.in-Some.ensures);
+  answer = answer_of c.in-Some.reply;
+  comes = comes_of_refusal c.args.self.now _ h (action_of c.args.command.now) (answer_of c.in-Some.reply) stands (sym c.in-Some.ensures);
   line = line;
 }) c.print.ensures.ok
 
 pub returns-in_err-reserve-clause-memory : goal.returns-in_err-reserve-clause-memory
 returns-in_err-reserve-clause-memory g c =
     on_err c.from_residual.result
-    (c.reserve.ensures.items, leaves_all (meaning (action_of c.args.command.now)).starved c.args.self.now c.args.self.now (g.D.Lines.state c.args.device.now) (g.D.Lines.state c.args.device.now) refl refl)
+    (c.reserve.ensures.items, leaves_all (meaning (action_of c.args.command.now)).starved c.args.self.now (g.D.Lines.state c.args.device.now))
 
 pub returns-in-Some-clause-memory : goal.returns-in-Some-clause-memory
 returns-in-Some-clause-memory g c =
     on_err-with _ c.print.result c.print.ensures.err
-    (leaves_all (meaning (action_of c.args.command.now)).starved c.args.self.now c.args.self.now (g.D.Lines.state c.args.device.now) (g.D.Lines.state c.args.device.now) refl refl)
+    (leaves_all (meaning (action_of c.args.command.now)).starved c.args.self.now (g.D.Lines.state c.args.device.now))
