@@ -35,7 +35,7 @@ use Rattle.machine_host.specs.OnBlocks.{refusal_answer}
 use Rattle.machine_host.specs.Commands.{fate, meaning, refusal, unless_refused, while_interrupted}
 use Rattle.machine_host.specs.Machine.Fate.{Gives, Works, Orders, Restarts}
 use Rattle.machine_host.specs.Interrupted.{interrupted_answer}
-use Rattle.machine_host.specs.Restarting.{RestartMayLeave, reading, fresh, restarted, restart_answer}
+use Rattle.machine_host.specs.Restarting.{MayLeaveStorage, RestartMayLeave, fresh, mounted_answer, read_with, reading, restarted}
 use Rattle.machine_host.specs.Run.{Transcript, Run, Takes, Ends, followed_by}
 use Rattle.machine_host.specs.Rows.{small, text}
 use Rattle.machine_host.specs.CutRows.{MayWrite, with_cut_write, cut_write_lines}
@@ -84,7 +84,7 @@ module _ (h : Machine) (action : Action) (inputs : List Input) (answers : List A
 
   began_restarting : (choice : Choice) → fate h action ≡ Restarts choice
       → (image : Image) × (answer : Answer) × (next : Machine) × (rest : List Answer) × (answers ≡ answer ∷ rest) × RestartMayLeave choice image h
-      × Ends (restart_answer h image) (restarted h image) (restarted h image) answer next × Later next inputs rest
+      × Ends (mounted_answer (restarted h image)) (restarted h image) (restarted h image) answer next × Later next inputs rest
   began_restarting choice is =
       let run = later.3 in
       let took = subst (λ f. Takes h action f run.0 run.2) is run.4 in (
@@ -138,23 +138,27 @@ new_shows = record { free = refl; whole = refl; shows = refl }
 nothing_more : (h : Machine) (rest : List Answer) → Later h [] rest → rest ≡ []
 nothing_more h rest later = sym later.2 ∙ ap (λ (t : Transcript). t.answers) later.3.0
 
+-- the machine after a restart that left this image, none of the lines of its metadata bad
+abbrev back : Image → Bool → Bool → Machine
+back image cut fail = record (read_with [] small image) { cut_armed = cut; fail_armed = fail }
+
 -- the restart left such blocks
 module _ (shown : List ℕ) (image : Image) (cut fail : Bool) (blocks : List Block) (is : blocks_read small image.is_bad image.word ≡ blocks)
     (seen : List ℕ) (good_blocks : Shows blocks seen) where
-  abbrev back : Machine
-  back = restarted (struck cut fail) image
+  abbrev came_back : Machine
+  came_back = back image cut fail
 
-  read_shows : (answers : List Answer) → Later back (Asked (BRead 0 2) ∷ []) answers → reply_text answers ≡ text (line shown ∷ []) → shown ≡ seen
+  read_shows : (answers : List Answer) → Later came_back (Asked (BRead 0 2) ∷ []) answers → reply_text answers ≡ text (line shown ∷ []) → shown ≡ seen
   unfolding refusal reading
   read_shows answers later wrote =
-      let one = began_working back (BRead 0 2) [] answers later (Bytes (look_blocks blocks 0 2)) back came in
+      let one = began_working came_back (BRead 0 2) [] answers later (Bytes (look_blocks blocks 0 2)) came_back came in
       by_end one.0 one.1 one.2 one.4 (nothing_more one.1 one.2 one.5) (sym (ap reply_text one.3) ∙ wrote)
     where
-      came : fate back (BRead 0 2) ≡ Works (Bytes (look_blocks blocks 0 2)) back
-      came = ap (λ b. unless_refused back (option_map (λ o. refusal_answer (Unreadable o)) (first_obstacle b 0 2)) (Works (Bytes (look_blocks b 0 2)) back)) is
-          ∙ ap (λ o. unless_refused back (option_map (λ o. refusal_answer (Unreadable o)) o) (Works (Bytes (look_blocks blocks 0 2)) back)) good_blocks.free
+      came : fate came_back (BRead 0 2) ≡ Works (Bytes (look_blocks blocks 0 2)) came_back
+      came = ap (λ b. unless_refused came_back (option_map (λ o. refusal_answer (Unreadable o)) (first_obstacle b 0 2)) (Works (Bytes (look_blocks b 0 2)) came_back)) is
+          ∙ ap (λ o. unless_refused came_back (option_map (λ o. refusal_answer (Unreadable o)) o) (Works (Bytes (look_blocks blocks 0 2)) came_back)) good_blocks.free
 
-      by_end : (answer : Answer) (next : Machine) (rest : List Answer) → Ends (Bytes (look_blocks blocks 0 2)) back (while_interrupted back (BRead 0 2)) answer next
+      by_end : (answer : Answer) (next : Machine) (rest : List Answer) → Ends (Bytes (look_blocks blocks 0 2)) came_back (while_interrupted came_back (BRead 0 2)) answer next
           → rest ≡ [] → reply_text (answer ∷ rest) ≡ text (line shown ∷ []) → shown ≡ seen
       by_end answer next rest (inl good) last e =
           let same : codes "data " ++ (seen ++ 10 ∷ []) ≡ text (line shown ∷ []) =
@@ -163,11 +167,11 @@ module _ (shown : List ℕ) (image : Image) (cut fail : Bool) (blocks : List Blo
       by_end answer next rest (inr stop) last e = absurd (never_stopped stop.0 rest 100 _ (omega arith) (sym (ap (λ a. reply_text (a ∷ rest)) stop.1) ∙ e))
 
   restart_shows : (answer : Answer) (next : Machine) (rest : List Answer) → bad_lines (read_pages (volume_line small) image (presence_read small image.word)) ≡ 0
-      → Ends (restart_answer (struck cut fail) image) back back answer next → Later next (Asked (BRead 0 2) ∷ []) rest
+      → Ends (mounted_answer came_back) came_back came_back answer next → Later next (Asked (BRead 0 2) ∷ []) rest
       → reply_text (answer ∷ rest) ≡ text (codes "ok bad 0" ∷ line shown ∷ []) → shown ≡ seen
   unfolding answer_line digits reading
   restart_shows answer next rest healthy (inl good) later e =
-      let none : restart_answer (struck cut fail) image ≡ DoneBad 0 =
+      let none : mounted_answer came_back ≡ DoneBad 0 =
       ap (λ n. DoneBad (n + bad_lines (read_pages (volume_line small) image (presence_read small image.word)))) (ap bad_block_lines is ∙ good_blocks.whole) ∙ ap (λ n. DoneBad (0 + n)) healthy in
       let wrote : reply_text (DoneBad 0 ∷ rest) ≡ text (codes "ok bad 0" ∷ line shown ∷ []) = sym (ap (λ a. reply_text (a ∷ rest)) (good.0 ∙ none)) ∙ e in
       read_shows rest (subst (λ k. Later k (Asked (BRead 0 2) ∷ []) rest) good.1 later) (ap (drop 9) wrote)
@@ -183,10 +187,13 @@ back_shows : (shown : List ℕ) (cut fail : Bool) (answers : List Answer) → La
 unfolding refusal reading
 back_shows shown cut fail answers later wrote =
     let one = began_restarting (struck cut fail) (Restart Firsts) (Asked (BRead 0 2) ∷ []) answers later Firsts refl in
-    by_blocks one.0 one.1 one.2 one.3 one.5 one.6 one.7 one.5.blocks (sym (ap reply_text one.4) ∙ wrote)
+    let same : restarted (struck cut fail) one.0 ≡ back one.0 cut fail =
+    ap (λ bad. record (read_with bad small one.0) { cut_armed = cut; fail_armed = fail }) one.5.metadata in
+    let keeps = one.5.storage refl in
+    by_blocks one.0 one.1 one.2 one.3 keeps (subst (λ k. Ends (mounted_answer k) k k one.1 one.2) same one.6) one.7 keeps.blocks (sym (ap reply_text one.4) ∙ wrote)
   where
-    by_blocks : (image : Image) (answer : Answer) (next : Machine) (rest : List Answer) → RestartMayLeave Firsts image (struck cut fail)
-        → Ends (restart_answer (struck cut fail) image) (restarted (struck cut fail) image) (restarted (struck cut fail) image) answer next
+    by_blocks : (image : Image) (answer : Answer) (next : Machine) (rest : List Answer) → MayLeaveStorage Firsts image (struck cut fail)
+        → Ends (mounted_answer (back image cut fail)) (back image cut fail) (back image cut fail) answer next
         → Later next (Asked (BRead 0 2) ∷ []) rest
         → IsEither (fresh small).blocks (written (fresh small)).blocks (blocks_read small image.is_bad image.word)
         → reply_text (answer ∷ rest) ≡ text (codes "ok bad 0" ∷ line shown ∷ []) → Whole shown
