@@ -30,7 +30,7 @@ same_said a b starts orders cuts calls persists answers =
 followed_by-nil : (a : Transcript) → followed_by a silence ≡ a
 followed_by-nil a = same_said (followed_by a silence) a (append-nil a.starts) (append-nil a.orders) (omega arith) (omega arith) (omega arith) (append-nil a.answers)
 
-followed_by-silence : (a : Transcript) → followed_by silence a ≡ a
+pub followed_by-silence : (a : Transcript) → followed_by silence a ≡ a
 followed_by-silence a = same_said (followed_by silence a) a refl refl (omega arith) (omega arith) (omega arith) refl
 
 followed_by-assoc : (a b c : Transcript) → followed_by (followed_by a b) c ≡ followed_by a (followed_by b c)

@@ -1,0 +1,198 @@
+-- Runs through failures and cuts, from what befell each command.
+use Rattle.std.proofs.Common.{◌≡◌, ◌&&◌, ℕ, Bool, true, false, IsTrue, inl, inr, Option, Some, None, List, [], ◌∷◌, ◌++◌, replicate, refl, sym}
+use Rattle.std.specs.Prelude.{codes}
+use Rattle.std.proofs.lemmas.Bool.{and_parts, false≢true}
+use Rattle.std.specs.Fmt.{digits}
+use Rattle.line_device.specs.Panel.{Image, Start}
+use Rattle.line_device.specs.Word.{word_from, byte_over, word_over, reaches}
+use Rattle.line_device.specs.declared.line.Choice.{Choice}
+use Rattle.line_device.specs.declared.line.Choice.TheVariants.{Lasts}
+use Rattle.line_words.specs.declared.interruption.Interruption.{Interruption}
+use Rattle.line_words.specs.declared.interruption.Interruption.TheVariants.{Failed, PowerLost as Lost}
+use Rattle.nvm_base.specs.Numbers.{number_of}
+use Rattle.nvm_base.specs.Data.{data_of, runs_of, data_within, data_text}
+use Rattle.word_tables.specs.Layout.{size, first_line, total_lines, volume_line}
+use Rattle.nvm_model.specs.Cell.{Cell}
+use Rattle.nvm_model.specs.Interrupted.{Became, LineByLine, MayPersist}
+use Rattle.nvm_model.specs.Page.{Page, cell_of, discard, fill, first_bad_line, first_uncovered_line, look, persist, presence_of, put, read_pages}
+use Rattle.pm_volume.specs.Presence.{presence_read, words_read}
+use Rattle.nvm_model.specs.Blocks.{write, look_blocks}
+use Rattle.word_log.specs.Replay.{listed}
+use Rattle.block_device.specs.Reading.{states_read, blocks_read}
+use Rattle.reply_text.specs.Answer.{answer_line, reply_text}
+use Rattle.reply_text.specs.Answer.Answer.{Done, Refused}
+use Rattle.reply_text.specs.declared.reply.Why.TheVariants.{Syntax}
+use Rattle.script_text.specs.Action.{Action}
+use Rattle.script_text.specs.Script.{Input, inputs, lines_of, words_of, command_action, line_input}
+use Rattle.script_text.specs.Script.Input.{Skipped, Malformed, Asked}
+use Rattle.machine_host.specs.Lines.{bad_metadata}
+use Rattle.machine_host.specs.Machine.{Machine, Fate}
+use Rattle.machine_host.specs.Machine.Fate.{Gives, Works, Orders, Cuts, Restarts, Recovers}
+use Rattle.machine_host.specs.Commands.{MayLeaveBlocks, MayLeaveVolume, fate, refusal, spending, while_interrupted}
+use Rattle.machine_host.specs.Interrupted.{Interrupts, interrupted_answer, interrupted_mode, may_come}
+use Rattle.machine_host.specs.Restarting.{RestartMayLeave, fresh, holding, mounted_answer, reading, restarted}
+use Rattle.machine_host.specs.Recovering.{RecoveryMayLeave}
+use Rattle.machine_host.specs.Run.{Run, Takes, answered, followed_by, silence, with_cut, with_order, with_start, worked}
+use Rattle.machine_host.specs.Performing.{Performance, after}
+use Rattle.machine_host.specs.Rows.{small, leaving, text}
+use Rattle.machine_host.specs.CutRows.{MayWrite}
+use Rattle.machine_host.specs.FailureRows.{failed_recovery_lines, failed_write_lines, keeping_fives, with_failed_recovery, with_failed_write}
+use Rattle.machine_host.proofs.LastLemmas.{keeps-last, pages_last}
+use Rattle.machine_host.proofs.RunLemmas.{followed_by-silence}
+
+-- What befell a command: nothing; an interruption, with a cut or a failure armed still; a restart that left this, and one that
+-- was interrupted; or a recovery that came to this state.
+data Turn : Type 0 where
+  Through : Turn
+  Halted : Interruption → Bool → Bool → Turn
+  Started : Start → Turn
+  StartHalted : Start → Interruption → Bool → Bool → Turn
+  Recovered : Machine → Turn
+
+-- the state once it was interrupted
+abbrev halted : Machine → Interruption → Bool → Bool → Machine
+halted h by cut fail = record h { mode = interrupted_mode by; cut_armed = cut; fail_armed = fail }
+
+-- what is said, and the state after it
+abbrev step : Machine → Action → Fate → Turn → Performance
+step h action (Gives good to) turn = record { said = answered good; state = to }
+step h action (Works good to) Through = record { said = worked (spending h action) good; state = to }
+step h action (Works good to) (Halted by cut fail) =
+    record { said = worked (spending h action) (interrupted_answer by); state = halted (while_interrupted h action) by cut fail }
+step h action (Orders order to) turn = record { said = with_order order Done; state = to }
+step h action (Cuts to) turn = record { said = with_cut Done; state = to }
+step h action (Restarts choice) (Started start) =
+    record { said = with_start (spending h action) start (mounted_answer (restarted h start.image)); state = restarted h start.image }
+step h action (Restarts choice) (StartHalted start by cut fail) =
+    record { said = with_start (spending h action) start (interrupted_answer by); state = halted (restarted h start.image) by cut fail }
+step h action Recovers (Halted by cut fail) = record { said = worked (spending h action) (interrupted_answer by); state = halted h by cut fail }
+step h action Recovers (Recovered next) = record { said = worked (spending h action) (mounted_answer next); state = next }
+step h action f turn = record { said = silence; state = h }
+
+-- what an interruption needs is armed, and what is armed after it was before
+abbrev armed_for : Interruption → Bool → Bool → Bool
+armed_for Failed cut fail = fail
+armed_for Lost cut fail = cut
+
+abbrev was_armed : Bool → Bool → Bool
+was_armed true before = before
+was_armed false before = true
+
+abbrev may_halt : Machine → Interruption → Bool → Bool → Bool
+may_halt h by cut fail = armed_for by h.cut_armed h.fail_armed && (was_armed cut h.cut_armed && was_armed fail h.fail_armed)
+
+-- it may have befallen the command
+abbrev May : Machine → Fate → Turn → Type 0
+May h (Gives good to) turn = Unit {0}
+May h (Works good to) Through = Unit {0}
+May h (Works good to) (Halted by cut fail) = may_halt h by cut fail ≡ true
+May h (Orders order to) turn = Unit {0}
+May h (Cuts to) turn = Unit {0}
+May h (Restarts choice) (Started start) = (start.choice ≡ choice) × RestartMayLeave choice start.image h
+May h (Restarts choice) (StartHalted start by cut fail) = (start.choice ≡ choice) × RestartMayLeave choice start.image h × (may_halt h by cut fail ≡ true)
+May h Recovers (Halted by cut fail) = may_halt h by cut fail ≡ true
+May h Recovers (Recovered next) = RecoveryMayLeave h next
+May h f turn = ⊥
+
+interrupts : (h : Machine) (by : Interruption) (cut fail : Bool) → may_halt h by cut fail ≡ true → Interrupts by h (halted h by cut fail)
+interrupts h by cut fail may =
+    let armed = and_parts (armed_for by h.cut_armed h.fail_armed) _ may in
+    let kept = and_parts _ _ armed.1 in
+    record { armed = comes by armed.0; state = refl; cut = implied cut h.cut_armed kept.0; fail = implied fail h.fail_armed kept.1 }
+  where
+    comes : (by : Interruption) → armed_for by h.cut_armed h.fail_armed ≡ true → IsTrue (may_come by h)
+    comes Failed is = is
+    comes Lost is = is
+
+    implied : (after before : Bool) → was_armed after before ≡ true → IsTrue after → IsTrue before
+    implied true before is armed = is
+    implied false before is armed = absurd (false≢true armed)
+
+takes : (h : Machine) (action : Action) (f : Fate) (turn : Turn) → May h f turn → Takes h action f (step h action f turn).said (step h action f turn).state
+takes h action (Gives good to) turn may = (refl, refl)
+takes h action (Works good to) Through may = (good, refl, inl (refl, refl))
+takes h action (Works good to) (Halted by cut fail) may = (interrupted_answer by, refl, inr (by, refl, interrupts (while_interrupted h action) by cut fail may))
+takes h action (Orders order to) turn may = (refl, refl)
+takes h action (Cuts to) turn may = (refl, refl)
+takes h action (Restarts choice) (Started start) may = (start, mounted_answer (restarted h start.image), refl, may.0, may.1, inl (refl, refl))
+takes h action (Restarts choice) (StartHalted start by cut fail) may =
+    (start, interrupted_answer by, refl, may.0, may.1, inr (by, refl, interrupts (restarted h start.image) by cut fail may.2))
+takes h action Recovers (Halted by cut fail) may = (interrupted_answer by, refl, inr (by, refl, interrupts h by cut fail may))
+takes h action Recovers (Recovered next) may = (mounted_answer next, refl, inl (refl, may))
+takes h action f turn may = absurd may
+
+-- what is said of inputs, a turn for each command
+abbrev go_on : Performance → (Machine → Performance) → Performance
+go_on one rest = after one.said (rest one.state)
+
+abbrev play : Machine → List Input → List Turn → Performance
+play h [] turns = record { said = silence; state = h }
+play h (Skipped ∷ inputs) turns = play h inputs turns
+play h (Malformed ∷ inputs) turns = after (answered (Refused Syntax)) (play h inputs turns)
+play h (Asked action ∷ inputs) [] = record { said = silence; state = h }
+play h (Asked action ∷ inputs) (turn ∷ turns) = go_on (step h action (fate h action) turn) (λ k. play k inputs turns)
+
+abbrev MayAll : Machine → List Input → List Turn → Type 0
+MayAll h [] turns = Unit {0}
+MayAll h (Skipped ∷ inputs) turns = MayAll h inputs turns
+MayAll h (Malformed ∷ inputs) turns = MayAll h inputs turns
+MayAll h (Asked action ∷ inputs) [] = ⊥
+MayAll h (Asked action ∷ inputs) (turn ∷ turns) = May h (fate h action) turn × MayAll (step h action (fate h action) turn).state inputs turns
+
+run_played : (h : Machine) (inputs : List Input) (turns : List Turn) → MayAll h inputs turns → Run h inputs (play h inputs turns).said (play h inputs turns).state
+run_played h [] turns may = (refl, refl)
+run_played h (Skipped ∷ inputs) turns may =
+    (silence, (play h inputs turns).said, h, sym (followed_by-silence (play h inputs turns).said), (refl, refl), run_played h inputs turns may)
+run_played h (Malformed ∷ inputs) turns may = (answered (Refused Syntax), (play h inputs turns).said, h, refl, (refl, refl), run_played h inputs turns may)
+run_played h (Asked action ∷ inputs) [] may = absurd may
+run_played h (Asked action ∷ inputs) (turn ∷ turns) may =
+    let one = step h action (fate h action) turn in
+    (one.said, (play one.state inputs turns).said, one.state, refl, takes h action (fate h action) turn may.0, run_played one.state inputs turns may.1)
+
+-- what these turns may make of a script
+may_write : (script : List ℕ) (turns : List Turn) (lines : List (List ℕ)) → MayAll (fresh small) (inputs script) turns
+    → reply_text (play (fresh small) (inputs script) turns).said.answers ≡ text lines
+    → MayWrite script (play (fresh small) (inputs script) turns).said.starts lines
+may_write script turns lines may written = record {
+  said = (play (fresh small) (inputs script) turns).said;
+  end = (play (fresh small) (inputs script) turns).state;
+  run = run_played (fresh small) (inputs script) turns may;
+  left = refl;
+  written = written;
+}
+
+-- a restart that left the pages as they were
+left_by : (choice : Choice) (image : Image) (h : Machine) → bad_metadata h.geometry image.is_bad ≡ h.bad_meta
+    → MayLeaveBlocks h.interrupted h.blocks (blocks_read h.geometry image.is_bad image.word) → MayLeaveVolume h.geometry h.interrupted h.volume h.volume
+    → presence_of h.volume ≡ presence_read h.geometry image.word → pages_last (volume_line h.geometry) image h.volume ≡ true → RestartMayLeave choice image h
+left_by choice image h metadata blocks may there last = record {
+  metadata = metadata;
+  storage = λ _. record { blocks = blocks; left = h.volume; may = may; there = there; volume = keeps-last choice (volume_line h.geometry) image h.volume last };
+}
+
+-- a sync that got nowhere
+unsynced : (start len : ℕ) (pages : List Page) → LineByLine (MayPersist start len) pages pages
+unsynced start len pages = record { there = refl; each = λ n. by_cell n (cell_of pages n) }
+  where
+    by_cell : (n : ℕ) (o : Option Cell) → Became (MayPersist start len n) o o
+    by_cell n None = tt
+    by_cell n (Some cell) = inl refl
+
+-- the state at rest of new blocks, and with the first one written
+abbrev untouched : Machine
+untouched = holding small (fresh small).blocks (fresh small).volume
+
+abbrev with_ones : Machine
+with_ones = holding small (write 0 (replicate 512 1) (fresh small).blocks) (fresh small).volume
+
+pub write_lost : MayWrite with_failed_write [] (failed_write_lines (codes "data 00*512"))
+unfolding digits number_of data_of runs_of data_within data_text read_pages answer_line lines_of words_of command_action line_input refusal size first_line total_lines volume_line reading write look_blocks states_read blocks_read listed words_read
+write_lost =
+    may_write with_failed_write (Through ∷ Halted Failed false false ∷ Through ∷ Recovered untouched ∷ Through ∷ []) (failed_write_lines (codes "data 00*512"))
+    (tt, (refl, (tt, (record { blocks = inl refl; volume = refl; state = refl }, (tt, tt))))) refl
+
+pub write_kept : MayWrite with_failed_write [] (failed_write_lines (codes "data 01*512"))
+unfolding digits number_of data_of runs_of data_within data_text read_pages answer_line lines_of words_of command_action line_input refusal size first_line total_lines volume_line reading write look_blocks states_read blocks_read listed words_read
+write_kept =
+    may_write with_failed_write (Through ∷ Halted Failed false false ∷ Through ∷ Recovered with_ones ∷ Through ∷ []) (failed_write_lines (codes "data 01*512"))
+    (tt, (refl, (tt, (record { blocks = inr refl; volume = refl; state = refl }, (tt, tt))))) refl
