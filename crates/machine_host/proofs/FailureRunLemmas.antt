@@ -25,6 +25,7 @@ use Rattle.reply_text.specs.declared.reply.Why.TheVariants.{Syntax}
 use Rattle.script_text.specs.Action.{Action}
 use Rattle.script_text.specs.Script.{Input, inputs, lines_of, words_of, command_action, line_input}
 use Rattle.script_text.specs.Script.Input.{Skipped, Malformed, Asked}
+use Rattle.machine_host.specs.declared.mode.Mode.TheVariants as modes
 use Rattle.machine_host.specs.Lines.{bad_metadata}
 use Rattle.machine_host.specs.Machine.{Machine, Fate}
 use Rattle.machine_host.specs.Machine.Fate.{Gives, Works, Orders, Cuts, Restarts, Recovers}
@@ -36,7 +37,7 @@ use Rattle.machine_host.specs.Run.{Run, Takes, answered, followed_by, silence, w
 use Rattle.machine_host.specs.Performing.{Performance, after}
 use Rattle.machine_host.specs.Rows.{small, leaving, text}
 use Rattle.machine_host.specs.CutRows.{MayWrite}
-use Rattle.machine_host.specs.FailureRows.{failed_recovery_lines, failed_write_lines, keeping_fives, with_failed_recovery, with_failed_write}
+use Rattle.machine_host.specs.FailureRows.{cut_before_failure_lines, cut_restart_lines, failed_recovery_lines, failed_restart_lines, failed_sync_lines, failed_write_lines, leaving_fives, with_cut_before_failure, with_cut_restart, with_failed_recovery, with_failed_restart, with_failed_sync, with_failed_write}
 use Rattle.machine_host.proofs.LastLemmas.{keeps-last, pages_last}
 use Rattle.machine_host.proofs.RunLemmas.{followed_by-silence}
 
@@ -178,12 +179,18 @@ unsynced start len pages = record { there = refl; each = λ n. by_cell n (cell_o
     by_cell n None = tt
     by_cell n (Some cell) = inl refl
 
--- the state at rest of new blocks, and with the first one written
+-- the state at rest of new blocks, of ones or fives in the first block, and of a page that was stored into once it was durable
 abbrev untouched : Machine
 untouched = holding small (fresh small).blocks (fresh small).volume
 
 abbrev with_ones : Machine
 with_ones = holding small (write 0 (replicate 512 1) (fresh small).blocks) (fresh small).volume
+
+abbrev with_fives : Machine
+with_fives = holding small (write 0 (replicate 512 5) (fresh small).blocks) (fresh small).volume
+
+abbrev with_sevens : Machine
+with_sevens = holding small (fresh small).blocks (put 0 (replicate 8 7) (fill 0 8 (persist 0 64 (put 0 (replicate 64 0) (fill 0 64 (fresh small).volume)))))
 
 pub write_lost : MayWrite with_failed_write [] (failed_write_lines (codes "data 00*512"))
 unfolding digits number_of data_of runs_of data_within data_text read_pages answer_line lines_of words_of command_action line_input refusal size first_line total_lines volume_line reading write look_blocks states_read blocks_read listed words_read
@@ -196,3 +203,45 @@ unfolding digits number_of data_of runs_of data_within data_text read_pages answ
 write_kept =
     may_write with_failed_write (Through ∷ Halted Failed false false ∷ Through ∷ Recovered with_ones ∷ Through ∷ []) (failed_write_lines (codes "data 01*512"))
     (tt, (refl, (tt, (record { blocks = inr refl; volume = refl; state = refl }, (tt, tt))))) refl
+
+pub write_lost_by_the_second_recovery : MayWrite with_failed_recovery [] (failed_recovery_lines (codes "data 00*512"))
+unfolding digits number_of data_of runs_of data_within data_text read_pages answer_line lines_of words_of command_action line_input refusal size first_line total_lines volume_line reading write look_blocks states_read blocks_read listed words_read
+write_lost_by_the_second_recovery =
+    may_write with_failed_recovery (Through ∷ Halted Failed false false ∷ Through ∷ Halted Failed false false ∷ Recovered untouched ∷ Through ∷ []) (failed_recovery_lines (codes "data 00*512"))
+    (tt, (refl, (tt, (refl, (record { blocks = inl refl; volume = refl; state = refl }, (tt, tt)))))) refl
+
+pub write_kept_by_the_second_recovery : MayWrite with_failed_recovery [] (failed_recovery_lines (codes "data 01*512"))
+unfolding digits number_of data_of runs_of data_within data_text read_pages answer_line lines_of words_of command_action line_input refusal size first_line total_lines volume_line reading write look_blocks states_read blocks_read listed words_read
+write_kept_by_the_second_recovery =
+    may_write with_failed_recovery (Through ∷ Halted Failed false false ∷ Through ∷ Halted Failed false false ∷ Recovered with_ones ∷ Through ∷ []) (failed_recovery_lines (codes "data 01*512"))
+    (tt, (refl, (tt, (refl, (record { blocks = inr refl; volume = refl; state = refl }, (tt, tt)))))) refl
+
+pub restart_cut : MayWrite with_cut_restart (leaving_fives ∷ leaving_fives ∷ []) cut_restart_lines
+unfolding digits number_of data_of runs_of data_within data_text read_pages answer_line lines_of words_of command_action line_input refusal size first_line total_lines volume_line reading write look_blocks states_read blocks_read listed words_read
+restart_cut =
+    may_write with_cut_restart (Through ∷ Through ∷ Through ∷ StartHalted leaving_fives Lost false false ∷ Through ∷ Started leaving_fives ∷ Through ∷ []) cut_restart_lines
+    (tt, (tt, (tt, ((refl, left_by Lasts leaving_fives.image off refl refl refl refl refl, refl), (tt, ((refl, left_by Lasts leaving_fives.image once_more refl refl refl refl refl), (tt, tt))))))) refl
+  where
+    off : Machine
+    off = record with_fives { mode = modes.Off; cut_armed = true }
+
+    once_more : Machine
+    once_more = record with_fives { mode = modes.Off }
+
+pub restart_failed : MayWrite with_failed_restart (leaving Lasts [] ∷ []) failed_restart_lines
+unfolding digits number_of data_of runs_of data_within data_text read_pages answer_line lines_of words_of command_action line_input refusal size first_line total_lines volume_line reading write look_blocks states_read blocks_read listed words_read
+restart_failed =
+    may_write with_failed_restart (Through ∷ Through ∷ StartHalted (leaving Lasts []) Failed false false ∷ Recovered untouched ∷ []) failed_restart_lines
+    (tt, (tt, ((refl, left_by _ _ _ refl refl refl refl refl, refl), (record { blocks = refl; volume = refl; state = refl }, tt)))) refl
+
+pub cut_before_failure : MayWrite with_cut_before_failure (leaving Lasts [] ∷ []) cut_before_failure_lines
+unfolding digits number_of data_of runs_of data_within data_text read_pages answer_line lines_of words_of command_action line_input refusal size first_line total_lines volume_line reading write look_blocks states_read blocks_read listed words_read
+cut_before_failure =
+    may_write with_cut_before_failure (Through ∷ Through ∷ Halted Lost false true ∷ StartHalted (leaving Lasts []) Failed false false ∷ []) cut_before_failure_lines
+    (tt, (tt, (refl, ((refl, left_by _ _ _ refl (inl refl) refl refl refl, refl), tt)))) refl
+
+pub sync_failed : MayWrite with_failed_sync [] failed_sync_lines
+unfolding digits word_from byte_over word_over reaches number_of runs_of data_within data_text fill put persist discard first_bad_line first_uncovered_line look read_pages answer_line lines_of words_of command_action line_input refusal size first_line total_lines volume_line reading states_read blocks_read listed words_read
+sync_failed =
+    may_write with_failed_sync (Through ∷ Through ∷ Through ∷ Through ∷ Halted Failed false false ∷ Through ∷ Recovered with_sevens ∷ Through ∷ []) failed_sync_lines
+    (tt, (tt, (tt, (tt, (refl, (tt, (record { blocks = refl; volume = unsynced 0 8 with_sevens.volume; state = refl }, (tt, tt)))))))) refl

@@ -64,31 +64,53 @@ with_failed_pair = text (codes "fail in 1" ∷ codes "batomic 0 11*1024" ∷ cod
 abbrev pub failed_pair_lines : List ℕ → List (List ℕ)
 failed_pair_lines read = codes "ok" ∷ codes "refused device" ∷ codes "ok bad 0" ∷ read ∷ []
 
--- a block that is written and kept by two restarts
-abbrev pub keeping_fives : Start
-keeping_fives = leaving_first Lasts 1 361700864190383365
+-- a restart that a cut interrupts, and one that is done; both left the block that was written
+abbrev pub with_cut_restart : List ℕ
+with_cut_restart =
+    text (codes "bwrite 0 05*512" ∷ codes "cut" ∷ codes "cut in 1" ∷ codes "restart all" ∷ codes "bread 0 1" ∷ codes "restart all"
+    ∷ codes "bread 0 1" ∷ [])
 
--- what may come of a call that fails
+abbrev pub cut_restart_lines : List (List ℕ)
+cut_restart_lines =
+    codes "ok" ∷ codes "ok" ∷ codes "ok" ∷ codes "power lost" ∷ codes "refused off" ∷ codes "ok bad 0" ∷ codes "data 05*512" ∷ []
+
+abbrev pub leaving_fives : Start
+leaving_fives = leaving_first Lasts 1 361700864190383365
+
+-- a restart in which a call fails, and the recovery
+abbrev pub with_failed_restart : List ℕ
+with_failed_restart = text (codes "cut" ∷ codes "fail in 1" ∷ codes "restart all" ∷ codes "recover" ∷ [])
+
+abbrev pub failed_restart_lines : List (List ℕ)
+failed_restart_lines = codes "ok" ∷ codes "ok" ∷ codes "refused device" ∷ codes "ok bad 0" ∷ []
+
+-- a cut and a failure that are armed for the same call: the cut comes, and the failure falls on the next call, of the restart
+abbrev pub with_cut_before_failure : List ℕ
+with_cut_before_failure = text (codes "cut in 1" ∷ codes "fail in 1" ∷ codes "batomic 0 01*512" ∷ codes "restart all" ∷ [])
+
+abbrev pub cut_before_failure_lines : List (List ℕ)
+cut_before_failure_lines = codes "ok" ∷ codes "ok" ∷ codes "power lost" ∷ codes "refused device" ∷ []
+
+-- a sync that fails: what was stored is there still after the recovery
+abbrev pub with_failed_sync : List ℕ
+with_failed_sync =
+    text (codes "vstore 0 00*64" ∷ codes "vsync 0 64" ∷ codes "vstore 0 07*8" ∷ codes "fail in 1" ∷ codes "vsync 0 8" ∷ codes "restart all"
+    ∷ codes "recover" ∷ codes "vload 0 8" ∷ [])
+
+abbrev pub failed_sync_lines : List (List ℕ)
+failed_sync_lines =
+    codes "ok" ∷ codes "ok" ∷ codes "ok" ∷ codes "ok" ∷ codes "refused device" ∷ codes "refused on" ∷ codes "ok bad 0" ∷ codes "data 07*8" ∷ []
+
+-- what may come of a call that fails, and of a restart that is interrupted
 pub record FailureRuns : Type 0 where
   pub write_lost : MayWrite with_failed_write [] (failed_write_lines (codes "data 00*512"))
   pub write_kept : MayWrite with_failed_write [] (failed_write_lines (codes "data 01*512"))
-  pub write_lost_after_two_recoveries : MayWrite with_failed_recovery [] (failed_recovery_lines (codes "data 00*512"))
-  pub write_kept_after_two_recoveries : MayWrite with_failed_recovery [] (failed_recovery_lines (codes "data 01*512"))
+  pub write_lost_by_the_second_recovery : MayWrite with_failed_recovery [] (failed_recovery_lines (codes "data 00*512"))
+  pub write_kept_by_the_second_recovery : MayWrite with_failed_recovery [] (failed_recovery_lines (codes "data 01*512"))
   pub pair_all_or_nothing : (starts : List Start) (shown : List ℕ) → MayWrite with_failed_pair starts (failed_pair_lines (codes "data " ++ shown))
       → (shown ≡ codes "00*1024") ⊎ (shown ≡ codes "11*1024")
   pub pair_never_in_part : (starts : List Start) → ¬ MayWrite with_failed_pair starts (failed_pair_lines (codes "data 11*512,00*512"))
-  pub restart_cut : MayWrite
-      (text (codes "bwrite 0 05*512" ∷ codes "cut" ∷ codes "cut in 1" ∷ codes "restart all" ∷ codes "bread 0 1" ∷ codes "restart all"
-      ∷ codes "bread 0 1" ∷ []))
-      (keeping_fives ∷ keeping_fives ∷ [])
-      (codes "ok" ∷ codes "ok" ∷ codes "ok" ∷ codes "power lost" ∷ codes "refused off" ∷ codes "ok bad 0" ∷ codes "data 05*512" ∷ [])
-  pub restart_failed : MayWrite (text (codes "cut" ∷ codes "fail in 1" ∷ codes "restart all" ∷ codes "recover" ∷ []))
-      (leaving Lasts [] ∷ []) (codes "ok" ∷ codes "ok" ∷ codes "refused device" ∷ codes "ok bad 0" ∷ [])
-  pub cut_before_a_failure : MayWrite
-      (text (codes "cut in 1" ∷ codes "fail in 1" ∷ codes "batomic 0 01*512" ∷ codes "restart all" ∷ []))
-      (leaving Lasts [] ∷ []) (codes "ok" ∷ codes "ok" ∷ codes "power lost" ∷ codes "refused device" ∷ [])
-  pub sync_failed : MayWrite
-      (text (codes "vstore 0 00*64" ∷ codes "vsync 0 64" ∷ codes "vstore 0 07*8" ∷ codes "fail in 1" ∷ codes "vsync 0 8" ∷ codes "restart all"
-      ∷ codes "recover" ∷ codes "vload 0 8" ∷ []))
-      []
-      (codes "ok" ∷ codes "ok" ∷ codes "ok" ∷ codes "ok" ∷ codes "refused device" ∷ codes "refused on" ∷ codes "ok bad 0" ∷ codes "data 07*8" ∷ [])
+  pub restart_cut : MayWrite with_cut_restart (leaving_fives ∷ leaving_fives ∷ []) cut_restart_lines
+  pub restart_failed : MayWrite with_failed_restart (leaving Lasts [] ∷ []) failed_restart_lines
+  pub cut_before_failure : MayWrite with_cut_before_failure (leaving Lasts [] ∷ []) cut_before_failure_lines
+  pub sync_failed : MayWrite with_failed_sync [] failed_sync_lines
