@@ -1,5 +1,5 @@
 -- Runs through failures and cuts, from what befell each command.
-use Rattle.std.proofs.Common.{◌≡◌, ◌&&◌, ℕ, Bool, true, false, IsTrue, inl, inr, Option, Some, None, List, [], ◌∷◌, ◌++◌, replicate, refl, sym}
+use Rattle.std.proofs.Common.{◌≡◌, ◌&&◌, ℕ, Bool, true, false, IsTrue, ◌⊎◌, inl, inr, Option, Some, None, List, [], ◌∷◌, drop, slice_index, replicate, refl, sym, ap, subst, ◌∙◌, arith}
 use Rattle.std.specs.Prelude.{codes}
 use Rattle.std.proofs.lemmas.Bool.{and_parts, false≢true}
 use Rattle.std.specs.Fmt.{digits}
@@ -7,6 +7,7 @@ use Rattle.line_device.specs.Panel.{Image, Start}
 use Rattle.line_device.specs.Word.{word_from, byte_over, word_over, reaches}
 use Rattle.line_device.specs.declared.line.Choice.{Choice}
 use Rattle.line_device.specs.declared.line.Choice.TheVariants.{Lasts}
+use Rattle.line_device.specs.declared.order.Order.TheVariants.{Fail as ForFailure}
 use Rattle.line_words.specs.declared.interruption.Interruption.{Interruption}
 use Rattle.line_words.specs.declared.interruption.Interruption.TheVariants.{Failed, PowerLost as Lost}
 use Rattle.nvm_base.specs.Numbers.{number_of}
@@ -14,15 +15,16 @@ use Rattle.nvm_base.specs.Data.{data_of, runs_of, data_within, data_text}
 use Rattle.word_tables.specs.Layout.{size, first_line, total_lines, volume_line}
 use Rattle.nvm_model.specs.Cell.{Cell}
 use Rattle.nvm_model.specs.Interrupted.{Became, LineByLine, MayPersist}
-use Rattle.nvm_model.specs.Page.{Page, cell_of, discard, fill, first_bad_line, first_uncovered_line, look, persist, presence_of, put, read_pages}
+use Rattle.nvm_model.specs.Page.{Page, cell_of, discard, fill, first_bad_line, first_uncovered_line, look, persist, presence_of, put, bad_lines, read_pages}
 use Rattle.pm_volume.specs.Presence.{presence_read, words_read}
 use Rattle.nvm_model.specs.Blocks.{write, look_blocks}
 use Rattle.word_log.specs.Replay.{listed}
 use Rattle.block_device.specs.Reading.{states_read, blocks_read}
-use Rattle.reply_text.specs.Answer.{answer_line, reply_text}
+use Rattle.reply_text.specs.Answer.{Answer, answer_line, reply_text}
 use Rattle.reply_text.specs.Answer.Answer.{Done, Refused}
 use Rattle.reply_text.specs.declared.reply.Why.TheVariants.{Syntax}
 use Rattle.script_text.specs.Action.{Action}
+use Rattle.script_text.specs.Action.Action.{BRead, FailIn, Recover}
 use Rattle.script_text.specs.Script.{Input, inputs, lines_of, words_of, command_action, line_input}
 use Rattle.script_text.specs.Script.Input.{Skipped, Malformed, Asked}
 use Rattle.machine_host.specs.declared.mode.Mode.TheVariants as modes
@@ -33,13 +35,15 @@ use Rattle.machine_host.specs.Commands.{MayLeaveBlocks, MayLeaveVolume, fate, re
 use Rattle.machine_host.specs.Interrupted.{Interrupts, interrupted_answer, interrupted_mode, may_come}
 use Rattle.machine_host.specs.Restarting.{RestartMayLeave, fresh, holding, mounted_answer, reading, restarted}
 use Rattle.machine_host.specs.Recovering.{RecoveryMayLeave}
-use Rattle.machine_host.specs.Run.{Run, Takes, answered, followed_by, silence, with_cut, with_order, with_start, worked}
+use Rattle.machine_host.specs.Run.{Ends, Run, Takes, answered, followed_by, silence, with_cut, with_order, with_start, worked}
 use Rattle.machine_host.specs.Performing.{Performance, after}
 use Rattle.machine_host.specs.Rows.{small, leaving, text}
 use Rattle.machine_host.specs.CutRows.{MayWrite}
-use Rattle.machine_host.specs.FailureRows.{cut_before_failure_lines, cut_restart_lines, failed_recovery_lines, failed_restart_lines, failed_sync_lines, failed_write_lines, leaving_fives, with_cut_before_failure, with_cut_restart, with_failed_recovery, with_failed_restart, with_failed_sync, with_failed_write}
+use Rattle.machine_host.specs.FailureRows.{cut_before_failure_lines, cut_restart_lines, failed_recovery_lines, failed_pair_lines, failed_restart_lines, failed_sync_lines, failed_write_lines, leaving_fives, with_cut_before_failure, with_cut_restart, with_failed_pair, with_failed_recovery, with_failed_restart, with_failed_sync, with_failed_write}
 use Rattle.machine_host.proofs.LastLemmas.{keeps-last, pages_last}
 use Rattle.machine_host.proofs.RunLemmas.{followed_by-silence}
+use Rattle.machine_host.proofs.CutLemmas.{the_write}
+use Rattle.machine_host.proofs.PartLemmas.{Later, Whole, began_ordering, began_recovering, began_working, line, mounted_shows, never_half, never_stopped, written}
 
 -- What befell a command: nothing; an interruption, with a cut or a failure armed still; a restart that left this, and one that
 -- was interrupted; or a recovery that came to this state.
@@ -245,3 +249,52 @@ unfolding digits word_from byte_over word_over reaches number_of runs_of data_wi
 sync_failed =
     may_write with_failed_sync (Through ∷ Through ∷ Through ∷ Through ∷ Halted Failed false false ∷ Through ∷ Recovered with_sevens ∷ Through ∷ []) failed_sync_lines
     (tt, (tt, (tt, (tt, (refl, (tt, (record { blocks = refl; volume = unsynced 0 8 with_sevens.volume; state = refl }, (tt, tt)))))))) refl
+
+-- the write of two blocks where a failure is armed, and once it came, with what is armed still
+abbrev ready : Machine
+ready = record (fresh small) { fail_armed = true }
+
+abbrev failing : Bool → Bool → Machine
+failing cut fail = halted (while_interrupted ready the_write) Failed cut fail
+
+recovery_shows : (shown : List ℕ) (cut fail : Bool) (answers : List Answer) → Later (failing cut fail) (Asked Recover ∷ Asked (BRead 0 2) ∷ []) answers
+    → reply_text answers ≡ text (codes "ok bad 0" ∷ line shown ∷ []) → Whole shown
+unfolding refusal words_read listed read_pages size first_line
+recovery_shows shown cut fail answers later wrote =
+    let one = began_recovering (failing cut fail) Recover (Asked (BRead 0 2) ∷ []) answers later refl in
+    by_end one.0 one.1 one.2 one.4 one.5 (sym (ap reply_text one.3) ∙ wrote)
+  where
+    by_end : (answer : Answer) (next : Machine) (rest : List Answer)
+        → ((answer ≡ mounted_answer next) × RecoveryMayLeave (failing cut fail) next) ⊎ ((by : Interruption) × (answer ≡ interrupted_answer by) × Interrupts by (failing cut fail) next)
+        → Later next (Asked (BRead 0 2) ∷ []) rest → reply_text (answer ∷ rest) ≡ text (codes "ok bad 0" ∷ line shown ∷ []) → Whole shown
+    by_end answer next rest (inl (is, left)) later e =
+        mounted_shows shown next.blocks next.volume cut fail left.blocks (ap bad_lines left.volume) rest
+        (subst (λ k. Later k (Asked (BRead 0 2) ∷ []) rest) left.state later) (sym (ap (λ a. reply_text (a ∷ rest)) (is ∙ ap mounted_answer left.state)) ∙ e)
+    by_end answer next rest (inr stop) later e = absurd (never_stopped stop.0 rest 111 _ (omega arith) (sym (ap (λ a. reply_text (a ∷ rest)) stop.1) ∙ e))
+
+failed_shows : (shown : List ℕ) (answers : List Answer) → Later ready (Asked the_write ∷ Asked Recover ∷ Asked (BRead 0 2) ∷ []) answers
+    → reply_text answers ≡ text (codes "refused device" ∷ codes "ok bad 0" ∷ line shown ∷ []) → Whole shown
+unfolding refusal answer_line
+failed_shows shown answers later wrote =
+    let one = began_working ready the_write (Asked Recover ∷ Asked (BRead 0 2) ∷ []) answers later Done (written ready) refl in
+    by_end one.0 one.1 one.2 one.4 one.5 (sym (ap reply_text one.3) ∙ wrote)
+  where
+    by_end : (answer : Answer) (next : Machine) (rest : List Answer) → Ends Done (written ready) (while_interrupted ready the_write) answer next
+        → Later next (Asked Recover ∷ Asked (BRead 0 2) ∷ []) rest
+        → reply_text (answer ∷ rest) ≡ text (codes "refused device" ∷ codes "ok bad 0" ∷ line shown ∷ []) → Whole shown
+    by_end answer next rest (inl good) later e =
+        let first : 111 ≡ 114 = ap (λ (s : List ℕ). slice_index s 0) (sym (ap (λ a. reply_text (a ∷ rest)) good.0) ∙ e) in absurd (omega (arith, first))
+    by_end answer next rest (inr (Lost, is, stop)) later e = absurd (false≢true stop.armed)
+    by_end answer next rest (inr (Failed, is, stop)) later e =
+        recovery_shows shown next.cut_armed next.fail_armed rest (subst (λ k. Later k (Asked Recover ∷ Asked (BRead 0 2) ∷ []) rest) stop.state later)
+        (ap (drop 15) (sym (ap (λ a. reply_text (a ∷ rest)) is) ∙ e))
+
+pub pair_all_or_nothing : (starts : List Start) (shown : List ℕ) → MayWrite with_failed_pair starts (failed_pair_lines (line shown)) → Whole shown
+unfolding digits number_of runs_of data_within answer_line lines_of words_of command_action line_input refusal
+pair_all_or_nothing starts shown may =
+    let one = began_ordering (fresh small) (FailIn 1) (Asked the_write ∷ Asked Recover ∷ Asked (BRead 0 2) ∷ []) may.said.answers (may.said, may.end, refl, may.run)
+    (ForFailure 1) ready refl in
+    failed_shows shown one.0 one.2 (ap (drop 3) (sym (ap reply_text one.1) ∙ may.written))
+
+pub pair_never_in_part : (starts : List Start) → ¬ MayWrite with_failed_pair starts (failed_pair_lines (codes "data 11*512,00*512"))
+pair_never_in_part starts may = never_half (pair_all_or_nothing starts (codes "11*512,00*512") may)

@@ -14,7 +14,7 @@ use Rattle.reply_text.specs.Answer.{answer_line}
 use Rattle.script_text.specs.Script.{lines_of, words_of, command_action, line_input}
 use Rattle.machine_host.specs.Commands.{refusal}
 use Rattle.machine_host.specs.Restarting.{reading}
-use Rattle.machine_host.proofs.FailureRunLemmas.{cut_before_failure, restart_cut, restart_failed, sync_failed, write_kept, write_kept_by_the_second_recovery, write_lost, write_lost_by_the_second_recovery}
+use Rattle.machine_host.proofs.FailureRunLemmas.{cut_before_failure, pair_all_or_nothing, pair_never_in_part, restart_cut, restart_failed, sync_failed, write_kept, write_kept_by_the_second_recovery, write_lost, write_lost_by_the_second_recovery}
 use Rattle.machine_host.proofs.rows.worked_failures.Goals as goal
 
 pub returns-clause-failures : goal.returns-clause-failures
@@ -38,8 +38,8 @@ returns-clause-may_fail c = record {
   write_kept = write_kept;
   write_lost_by_the_second_recovery = write_lost_by_the_second_recovery;
   write_kept_by_the_second_recovery = write_kept_by_the_second_recovery;
-  pair_all_or_nothing = ?;
-  pair_never_in_part = ?;
+  pair_all_or_nothing = pair_all_or_nothing;
+  pair_never_in_part = pair_never_in_part;
   restart_cut = restart_cut;
   restart_failed = restart_failed;
   cut_before_failure = cut_before_failure;
