@@ -35,7 +35,7 @@ use Rattle.machine_host.specs.Commands.{MayLeaveBlocks, MayLeaveVolume, fate, re
 use Rattle.machine_host.specs.Interrupted.{Interrupts, interrupted_answer, interrupted_mode, may_come}
 use Rattle.machine_host.specs.Restarting.{RestartMayLeave, fresh, holding, mounted_answer, reading, restarted}
 use Rattle.machine_host.specs.Recovering.{RecoveryMayLeave}
-use Rattle.machine_host.specs.Run.{Ends, Run, Takes, answered, followed_by, silence, with_cut, with_order, with_start, worked}
+use Rattle.machine_host.specs.Run.{Ends, Run, Takes, answered, silence, with_cut, with_order, with_start, worked}
 use Rattle.machine_host.specs.Performing.{Performance, after}
 use Rattle.machine_host.specs.Rows.{small, leaving, text}
 use Rattle.machine_host.specs.CutRows.{MayWrite}

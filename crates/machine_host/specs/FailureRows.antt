@@ -4,9 +4,9 @@ use Rattle.line_device.specs.Panel.{Start}
 use Rattle.line_device.specs.declared.line.Choice.TheVariants.{Lasts}
 use Rattle.machine_host.specs.CutRows.{MayWrite, leaving_first}
 use Rattle.machine_host.specs.MediaRows.{leaving_lines}
-use Rattle.machine_host.specs.Rows.{leaving, text, with_page, Writes}
+use Rattle.machine_host.specs.Rows.{leaving, text, Writes}
 
--- Nothing fails in these: it is armed at most.
+-- Nothing interrupts these: a failure or a cut is armed at most.
 pub record FailureRows : Type 0 where
   pub stopped_at_the_next_mount : Writes
       (text (codes "poison meta 0" ∷ codes "bwrite 0 01*512" ∷ codes "bread 0 1" ∷ codes "cut" ∷ codes "restart all" ∷ codes "bread 0 1" ∷ []))

@@ -3,7 +3,7 @@ use Rattle.std.proofs.Common.{refl}
 use Rattle.std.specs.Fmt.{digits}
 use Rattle.line_device.specs.Word.{word_from, byte_over, word_over, reaches}
 use Rattle.nvm_base.specs.Numbers.{number_of}
-use Rattle.nvm_base.specs.Data.{data_of, runs_of, data_within, data_text}
+use Rattle.nvm_base.specs.Data.{runs_of, data_within, data_text}
 use Rattle.word_tables.specs.Layout.{size, first_line, total_lines, volume_line}
 use Rattle.nvm_model.specs.Page.{discard, fill, first_bad_line, first_uncovered_line, look, persist, put, read_pages}
 use Rattle.pm_volume.specs.Presence.{words_read}
