@@ -26,7 +26,7 @@ use Rattle.script_text.specs.Script.Input.{Asked}
 use Rattle.machine_host.specs.declared.mode.Mode.TheVariants as modes
 use Rattle.machine_host.specs.Machine.{Machine}
 use Rattle.machine_host.specs.Commands.{refusal, spending, while_interrupted}
-use Rattle.machine_host.specs.Restarting.{RestartMayLeave, reading, fresh, restarted, restart_answer}
+use Rattle.machine_host.specs.Restarting.{RestartMayLeave, fresh, mounted_answer, reading, restarted}
 use Rattle.machine_host.specs.Run.{Transcript, Hears, Run, answered, followed_by, silence, with_order, with_start, worked}
 use Rattle.machine_host.specs.Rows.{small, leaving, with_page}
 use Rattle.machine_host.specs.Performing.{perform}
@@ -56,7 +56,7 @@ abbrev read_back : List ℕ → Transcript
 read_back read = followed_by (worked (spending armed (BRead 0 2)) (Bytes read)) silence
 
 abbrev come_back : Start → List ℕ → Transcript
-come_back start read = followed_by (with_start (spending armed (Restart Firsts)) start (restart_answer struck start.image)) (read_back read)
+come_back start read = followed_by (with_start (spending armed (Restart Firsts)) start (mounted_answer (restarted struck start.image))) (read_back read)
 
 abbrev told_of_write : Start → List ℕ → Transcript
 told_of_write start read =
@@ -67,7 +67,7 @@ run_of_write : (start : Start) (read : List ℕ) → start.choice ≡ Firsts →
     → Run (fresh small) (Asked (CutIn 1) ∷ Asked the_write ∷ Asked (BRead 0 1) ∷ Asked (Restart Firsts) ∷ Asked (BRead 0 2) ∷ []) (told_of_write start read) (back start)
 unfolding refusal reading words_read
 run_of_write start read chosen keeps reads =
-    let all = restart_answer struck start.image in (
+    let all = mounted_answer (restarted struck start.image) in (
       with_order (ForCut 1) Done,
       followed_by (worked (spending armed the_write) PowerLost) (followed_by (answered (Refused Off)) (come_back start read)),
       armed,
@@ -103,7 +103,7 @@ write_lost = record {
   said = told_of_write (leaving_first Firsts 0 0) (replicate 1024 0);
   end = back (leaving_first Firsts 0 0);
   run = run_of_write (leaving_first Firsts 0 0) (replicate 1024 0) refl
-      (record { blocks = inl refl; left = struck.volume; may = refl; there = refl; volume = keeps-last Firsts (volume_line small) (leaving_first Firsts 0 0).image struck.volume refl })
+      (record { metadata = refl; storage = λ _. record { blocks = inl refl; left = struck.volume; may = refl; there = refl; volume = keeps-last Firsts (volume_line small) (leaving_first Firsts 0 0).image struck.volume refl } })
       (Bytes (replicate 1024 0), refl, inl (refl, refl));
   left = refl;
   written = refl;
@@ -117,7 +117,7 @@ write_kept =
       said = told_of_write start two_blocks;
       end = back start;
       run = run_of_write start two_blocks refl
-          (record { blocks = inr refl; left = struck.volume; may = refl; there = refl; volume = keeps-last Firsts (volume_line small) start.image struck.volume refl })
+          (record { metadata = refl; storage = λ _. record { blocks = inr refl; left = struck.volume; may = refl; there = refl; volume = keeps-last Firsts (volume_line small) start.image struck.volume refl } })
           (Bytes two_blocks, refl, inl (refl, refl));
       left = refl;
       written = refl;
@@ -134,7 +134,7 @@ cut_that_never_came =
       end = all.state;
       run = run_performed (fresh small) (inputs with_late_cut) (start ∷ []) (
         refl,
-        record { blocks = refl; left = (fresh small).volume; may = refl; there = refl; volume = keeps-last Lasts (volume_line small) start.image (fresh small).volume refl },
+        record { metadata = refl; storage = λ _. record { blocks = refl; left = (fresh small).volume; may = refl; there = refl; volume = keeps-last Lasts (volume_line small) start.image (fresh small).volume refl } },
         refl,
       );
       left = refl;
@@ -163,7 +163,7 @@ unfolding digits word_from byte_over word_over reaches number_of runs_of data_wi
 store_in_part =
     let start = leaving Lasts (with_page 7 18446744069414584320) in
     let read = replicate 4 255 ++ replicate 4 0 in
-    let all = restart_answer halted start.image in
+    let all = mounted_answer (restarted halted start.image) in
     let left = stored_among (λ n. nat_lt n 1) 60 (replicate 8 255) durable.volume in
     let shown = followed_by (worked (spending armed (VLoad 60 8)) (Bytes read)) silence in
     let came = followed_by (with_start (spending armed (Restart Lasts)) start all) shown in
@@ -208,11 +208,14 @@ store_in_part =
                   refl,
                   refl,
                   record {
-                    blocks = refl;
-                    left = left;
-                    may = may_store-among (λ n. nat_lt n 1) 60 (replicate 8 255) durable.volume;
-                    there = refl;
-                    volume = keeps-last Lasts (volume_line small) start.image left refl;
+                    metadata = refl;
+                    storage = λ _. record {
+                      blocks = refl;
+                      left = left;
+                      may = may_store-among (λ n. nat_lt n 1) 60 (replicate 8 255) durable.volume;
+                      there = refl;
+                      volume = keeps-last Lasts (volume_line small) start.image left refl;
+                    };
                   },
                   inl (refl, refl),
                 ),

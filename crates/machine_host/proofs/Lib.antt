@@ -30,3 +30,4 @@ pub mod VolumeFateLemmas
 pub mod LoadLemmas
 pub mod MediaLemmas
 pub mod LineLemmas
+mod FailureRunLemmas

@@ -28,7 +28,7 @@ use Rattle.machine_host.specs.Machine.{Machine}
 use Rattle.machine_host.specs.Commands.{fate, refusal, spending, while_interrupted}
 use Rattle.machine_host.specs.Machine.Fate.{Gives, Orders, Restarts, Works}
 use Rattle.machine_host.specs.OnVolume.{yes_or_no}
-use Rattle.machine_host.specs.Restarting.{RestartMayLeave, reading, fresh, restarted, restart_answer}
+use Rattle.machine_host.specs.Restarting.{RestartMayLeave, fresh, mounted_answer, reading, restarted}
 use Rattle.machine_host.specs.Rows.{small, leaving}
 use Rattle.machine_host.specs.Run.{Transcript, Run, answered, followed_by, silence, with_order, with_start, worked}
 use Rattle.machine_host.specs.CutRows.{MayWrite}
@@ -52,7 +52,7 @@ looked first second = followed_by (answered first) (followed_by (answered second
 
 abbrev come_back : Machine → Action → Start → Answer → Answer → Transcript
 come_back h action start first second =
-    followed_by (with_start (spending (struck h action) (Restart Firsts)) start (restart_answer (struck h action) start.image)) (looked first second)
+    followed_by (with_start (spending (struck h action) (Restart Firsts)) start (mounted_answer (back h action start.image))) (looked first second)
 
 abbrev told : Machine → Action → Start → Answer → Answer → Transcript
 told h action start first second =
@@ -76,11 +76,11 @@ run_of_cut h to action start first second ordered works restarts chosen keeps on
     refl,
     rw works (PowerLost, refl, inr (Lost, refl, record { armed = refl; state = refl; cut = λ c. absurd (false≢true c); fail = λ f. f })),
     (
-      with_start (spending (struck h action) (Restart Firsts)) start (restart_answer (struck h action) start.image),
+      with_start (spending (struck h action) (Restart Firsts)) start (mounted_answer (back h action start.image)),
       looked first second,
       back h action start.image,
       refl,
-      rw restarts (start, restart_answer (struck h action) start.image, refl, chosen, keeps, inl (refl, refl)),
+      rw restarts (start, mounted_answer (back h action start.image), refl, chosen, keeps, inl (refl, refl)),
       (
         answered first,
         followed_by (answered second) silence,
@@ -101,7 +101,7 @@ fill_lost =
       said = told (fresh small) the_fill start (yes_or_no false) (yes_or_no false);
       end = back (fresh small) the_fill start.image;
       run = run_of_cut (fresh small) both_stored_armed the_fill start (yes_or_no false) (yes_or_no false) refl refl refl refl
-          (record { blocks = refl; left = (fresh small).volume; may = inl refl; there = refl; volume = keeps-last Firsts (volume_line small) start.image (fresh small).volume refl }) refl refl;
+          (record { metadata = refl; storage = λ _. record { blocks = refl; left = (fresh small).volume; may = inl refl; there = refl; volume = keeps-last Firsts (volume_line small) start.image (fresh small).volume refl } }) refl refl;
       left = refl;
       written = refl;
     }
@@ -118,7 +118,7 @@ fill_kept =
       said = told (fresh small) the_fill start (yes_or_no true) (yes_or_no true);
       end = back (fresh small) the_fill start.image;
       run = run_of_cut (fresh small) (record both_stored { cut_armed = true }) the_fill start (yes_or_no true) (yes_or_no true) refl refl refl refl
-          (record { blocks = refl; left = left; may = may_store-among (λ n. false) 4092 (replicate 8 17) (fresh small).volume; there = refl; volume = keeps-last Firsts (volume_line small) start.image left refl }) refl refl;
+          (record { metadata = refl; storage = λ _. record { blocks = refl; left = left; may = may_store-among (λ n. false) 4092 (replicate 8 17) (fresh small).volume; there = refl; volume = keeps-last Firsts (volume_line small) start.image left refl } }) refl refl;
       left = refl;
       written = refl;
     }
@@ -140,7 +140,7 @@ discard_kept =
       end = back both_stored action start.image;
       run = run_after_store (Asked (CutIn 7) ∷ Asked action ∷ Asked (Restart Firsts) ∷ Asked (VExists 0) ∷ Asked (VExists 1) ∷ []) (told both_stored action start (yes_or_no false) (yes_or_no false)) (back both_stored action start.image) refl
           (run_of_cut both_stored (record both_stored { volume = left; cut_armed = true }) action start (yes_or_no false) (yes_or_no false) refl refl refl refl
-          (record { blocks = refl; left = left; may = inr refl; there = refl; volume = keeps-last Firsts (volume_line small) start.image left refl }) refl refl);
+          (record { metadata = refl; storage = λ _. record { blocks = refl; left = left; may = inr refl; there = refl; volume = keeps-last Firsts (volume_line small) start.image left refl } }) refl refl);
       left = refl;
       written = refl;
     }
@@ -155,7 +155,7 @@ discard_lost =
       end = back both_stored action start.image;
       run = run_after_store (Asked (CutIn 7) ∷ Asked action ∷ Asked (Restart Firsts) ∷ Asked (VExists 0) ∷ Asked (VExists 1) ∷ []) (told both_stored action start (yes_or_no true) (yes_or_no true)) (back both_stored action start.image) refl
           (run_of_cut both_stored (record both_stored { volume = discard 0 2 both_stored.volume; cut_armed = true }) action start (yes_or_no true) (yes_or_no true) refl refl refl refl
-          (record { blocks = refl; left = both_stored.volume; may = inl refl; there = refl; volume = keeps-last Firsts (volume_line small) start.image both_stored.volume refl }) refl refl);
+          (record { metadata = refl; storage = λ _. record { blocks = refl; left = both_stored.volume; may = inl refl; there = refl; volume = keeps-last Firsts (volume_line small) start.image both_stored.volume refl } }) refl refl);
       left = refl;
       written = refl;
     }
@@ -163,7 +163,7 @@ discard_lost =
 -- a restart leaves both pages there, or both absent
 pub filled_together : (choice : Choice) (image : Image) → RestartMayLeave choice image (cut_in (fresh small) the_fill) → AreTogether (presence_read small image.word)
 unfolding fill reading read_pages words_read listed size first_line
-filled_together choice image keeps = subst AreTogether keeps.there (by_store keeps.left keeps.may)
+filled_together choice image keeps = subst AreTogether (keeps.storage refl).there (by_store (keeps.storage refl).left (keeps.storage refl).may)
   where
     by_store : (left : List Page) → (left ≡ (fresh small).volume) ⊎ LineByLine (MayPut 4092 (replicate 8 17)) (fill 4092 8 (fresh small).volume) left → AreTogether (presence_of left)
     by_store left (inl same) = inr (ap presence_of same)
@@ -171,7 +171,7 @@ filled_together choice image keeps = subst AreTogether keeps.there (by_store kee
 
 pub discarded_together : (choice : Choice) (image : Image) → RestartMayLeave choice image (cut_in both_stored (VDiscard 0 2)) → AreTogether (presence_read small image.word)
 unfolding fill put discard reading read_pages words_read listed size first_line
-discarded_together choice image keeps = subst AreTogether keeps.there (by_choice keeps.left keeps.may)
+discarded_together choice image keeps = subst AreTogether (keeps.storage refl).there (by_choice (keeps.storage refl).left (keeps.storage refl).may)
   where
     by_choice : (left : List Page) → (left ≡ both_stored.volume) ⊎ (left ≡ discard 0 2 both_stored.volume) → AreTogether (presence_of left)
     by_choice left (inl same) = inl (ap presence_of same)

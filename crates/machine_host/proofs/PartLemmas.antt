@@ -14,7 +14,7 @@ use Rattle.nvm_base.specs.Numbers.{number_of}
 use Rattle.nvm_base.specs.Data.{runs_of, data_within, data_text}
 use Rattle.word_tables.specs.Layout.{volume_line, size, first_line}
 use Rattle.nvm_model.specs.Storage.{Block}
-use Rattle.nvm_model.specs.Page.{presence_of, read_page, read_pages, bad_lines}
+use Rattle.nvm_model.specs.Page.{Page, presence_of, read_page, read_pages, bad_lines}
 use Rattle.nvm_model.specs.Blocks.{first_obstacle, bad_block_lines, write, look_blocks}
 use Rattle.word_log.specs.Replay.{listed}
 use Rattle.block_device.specs.Images.{IsEither}
@@ -33,16 +33,17 @@ use Rattle.nvm_model.specs.Numbered.{map_from}
 use Rattle.machine_host.specs.Machine.{Machine}
 use Rattle.machine_host.specs.OnBlocks.{refusal_answer}
 use Rattle.machine_host.specs.Commands.{fate, meaning, refusal, unless_refused, while_interrupted}
-use Rattle.machine_host.specs.Machine.Fate.{Gives, Works, Orders, Restarts}
-use Rattle.machine_host.specs.Interrupted.{interrupted_answer}
-use Rattle.machine_host.specs.Restarting.{RestartMayLeave, reading, fresh, restarted, restart_answer}
+use Rattle.machine_host.specs.Machine.Fate.{Gives, Works, Orders, Restarts, Recovers}
+use Rattle.machine_host.specs.Interrupted.{Interrupts, interrupted_answer}
+use Rattle.machine_host.specs.Restarting.{MayLeaveStorage, RestartMayLeave, fresh, holding, mounted_answer, read_with, reading, restarted}
+use Rattle.machine_host.specs.Recovering.{RecoveryMayLeave}
 use Rattle.machine_host.specs.Run.{Transcript, Run, Takes, Ends, followed_by}
 use Rattle.machine_host.specs.Rows.{small, text}
 use Rattle.machine_host.specs.CutRows.{MayWrite, with_cut_write, cut_write_lines}
 use Rattle.machine_host.proofs.CutLemmas.{armed, the_write}
 
 -- a run that gives these answers
-abbrev Later : Machine → List Input → List Answer → Type 0
+abbrev pub Later : Machine → List Input → List Answer → Type 0
 Later h inputs answers = (said : Transcript) × (end : Machine) × (said.answers ≡ answers) × Run h inputs said end
 
 -- what a run begins with, by what comes of its first command
@@ -60,7 +61,7 @@ module _ (h : Machine) (action : Action) (inputs : List Input) (answers : List A
         (run.1, later.1, refl, subst (λ k. Run k inputs run.1 later.1) took.1 run.5),
       )
 
-  began_ordering : (order : Order) (to : Machine) → fate h action ≡ Orders order to → (rest : List Answer) × (answers ≡ Done ∷ rest) × Later to inputs rest
+  pub began_ordering : (order : Order) (to : Machine) → fate h action ≡ Orders order to → (rest : List Answer) × (answers ≡ Done ∷ rest) × Later to inputs rest
   began_ordering order to is =
       let run = later.3 in
       let took = subst (λ f. Takes h action f run.0 run.2) is run.4 in (
@@ -69,7 +70,7 @@ module _ (h : Machine) (action : Action) (inputs : List Input) (answers : List A
         (run.1, later.1, refl, subst (λ k. Run k inputs run.1 later.1) took.1 run.5),
       )
 
-  began_working : (good : Answer) (to : Machine) → fate h action ≡ Works good to
+  pub began_working : (good : Answer) (to : Machine) → fate h action ≡ Works good to
       → (answer : Answer) × (next : Machine) × (rest : List Answer) × (answers ≡ answer ∷ rest) × Ends good to (while_interrupted h action) answer next × Later next inputs rest
   began_working good to is =
       let run = later.3 in
@@ -84,7 +85,7 @@ module _ (h : Machine) (action : Action) (inputs : List Input) (answers : List A
 
   began_restarting : (choice : Choice) → fate h action ≡ Restarts choice
       → (image : Image) × (answer : Answer) × (next : Machine) × (rest : List Answer) × (answers ≡ answer ∷ rest) × RestartMayLeave choice image h
-      × Ends (restart_answer h image) (restarted h image) (restarted h image) answer next × Later next inputs rest
+      × Ends (mounted_answer (restarted h image)) (restarted h image) (restarted h image) answer next × Later next inputs rest
   began_restarting choice is =
       let run = later.3 in
       let took = subst (λ f. Takes h action f run.0 run.2) is run.4 in (
@@ -98,18 +99,32 @@ module _ (h : Machine) (action : Action) (inputs : List Input) (answers : List A
         (run.1, later.1, refl, run.5),
       )
 
+  pub began_recovering : fate h action ≡ Recovers
+      → (answer : Answer) × (next : Machine) × (rest : List Answer) × (answers ≡ answer ∷ rest)
+      × (((answer ≡ mounted_answer next) × RecoveryMayLeave h next) ⊎ ((by : Interruption) × (answer ≡ interrupted_answer by) × Interrupts by h next)) × Later next inputs rest
+  began_recovering is =
+      let run = later.3 in
+      let took = subst (λ f. Takes h action f run.0 run.2) is run.4 in (
+        took.0,
+        run.2,
+        run.1.answers,
+        answers_of run.0 run.1 took.0 run.3 (ap (λ (t : Transcript). t.answers) took.1),
+        took.2,
+        (run.1, later.1, refl, run.5),
+      )
+
 -- an interruption is not answered by a line that begins like `ok` or `data`
-never_stopped : (by : Interruption) (rest : List Answer) (c : ℕ) (t : List ℕ) → c < 112 → reply_text (interrupted_answer by ∷ rest) ≡ c ∷ t → ⊥
+pub never_stopped : (by : Interruption) (rest : List Answer) (c : ℕ) (t : List ℕ) → c < 112 → reply_text (interrupted_answer by ∷ rest) ≡ c ∷ t → ⊥
 unfolding answer_line
 never_stopped Failed rest c t below e = let first : 114 ≡ c = ap (λ (s : List ℕ). slice_index s 0) e in omega arith
 never_stopped Lost rest c t below e = let first : 112 ≡ c = ap (λ (s : List ℕ). slice_index s 0) e in omega arith
 
 -- the state after the write
-abbrev written : Machine → Machine
+abbrev pub written : Machine → Machine
 written h = record h { blocks = (meaning the_write).blocks h.blocks }
 
 -- a line of data
-abbrev line : List ℕ → List ℕ
+abbrev pub line : List ℕ → List ℕ
 line shown = codes "data " ++ shown
 
 -- the machine once the cut came, with what is armed still
@@ -138,14 +153,18 @@ new_shows = record { free = refl; whole = refl; shows = refl }
 nothing_more : (h : Machine) (rest : List Answer) → Later h [] rest → rest ≡ []
 nothing_more h rest later = sym later.2 ∙ ap (λ (t : Transcript). t.answers) later.3.0
 
--- the restart left such blocks
-module _ (shown : List ℕ) (image : Image) (cut fail : Bool) (blocks : List Block) (is : blocks_read small image.is_bad image.word ≡ blocks)
+-- the state at rest of these blocks and pages, with what is armed
+abbrev pub at_rest : List Block → List Page → Bool → Bool → Machine
+at_rest blocks pages cut fail = record (holding small blocks pages) { cut_armed = cut; fail_armed = fail }
+
+-- a mount found such blocks
+module _ (shown : List ℕ) (found : List Block) (pages : List Page) (cut fail : Bool) (blocks : List Block) (is : found ≡ blocks)
     (seen : List ℕ) (good_blocks : Shows blocks seen) where
   abbrev back : Machine
-  back = restarted (struck cut fail) image
+  back = at_rest found pages cut fail
 
   read_shows : (answers : List Answer) → Later back (Asked (BRead 0 2) ∷ []) answers → reply_text answers ≡ text (line shown ∷ []) → shown ≡ seen
-  unfolding refusal reading
+  unfolding refusal
   read_shows answers later wrote =
       let one = began_working back (BRead 0 2) [] answers later (Bytes (look_blocks blocks 0 2)) back came in
       by_end one.0 one.1 one.2 one.4 (nothing_more one.1 one.2 one.5) (sym (ap reply_text one.3) ∙ wrote)
@@ -162,40 +181,49 @@ module _ (shown : List ℕ) (image : Image) (cut fail : Bool) (blocks : List Blo
           sym (append_cancel_right seen shown (10 ∷ []) (ap (drop 5) same))
       by_end answer next rest (inr stop) last e = absurd (never_stopped stop.0 rest 100 _ (omega arith) (sym (ap (λ a. reply_text (a ∷ rest)) stop.1) ∙ e))
 
-  restart_shows : (answer : Answer) (next : Machine) (rest : List Answer) → bad_lines (read_pages (volume_line small) image (presence_read small image.word)) ≡ 0
-      → Ends (restart_answer (struck cut fail) image) back back answer next → Later next (Asked (BRead 0 2) ∷ []) rest
-      → reply_text (answer ∷ rest) ≡ text (codes "ok bad 0" ∷ line shown ∷ []) → shown ≡ seen
-  unfolding answer_line digits reading
-  restart_shows answer next rest healthy (inl good) later e =
-      let none : restart_answer (struck cut fail) image ≡ DoneBad 0 =
-      ap (λ n. DoneBad (n + bad_lines (read_pages (volume_line small) image (presence_read small image.word)))) (ap bad_block_lines is ∙ good_blocks.whole) ∙ ap (λ n. DoneBad (0 + n)) healthy in
-      let wrote : reply_text (DoneBad 0 ∷ rest) ≡ text (codes "ok bad 0" ∷ line shown ∷ []) = sym (ap (λ a. reply_text (a ∷ rest)) (good.0 ∙ none)) ∙ e in
-      read_shows rest (subst (λ k. Later k (Asked (BRead 0 2) ∷ []) rest) good.1 later) (ap (drop 9) wrote)
-  restart_shows answer next rest healthy (inr stop) later e =
-      absurd (never_stopped stop.0 rest 111 _ (omega arith) (sym (ap (λ a. reply_text (a ∷ rest)) stop.1) ∙ e))
+  back_shows : bad_lines pages ≡ 0 → (rest : List Answer) → Later back (Asked (BRead 0 2) ∷ []) rest
+      → reply_text (mounted_answer back ∷ rest) ≡ text (codes "ok bad 0" ∷ line shown ∷ []) → shown ≡ seen
+  unfolding answer_line digits
+  back_shows healthy rest later e =
+      let none : mounted_answer back ≡ DoneBad 0 =
+      ap (λ n. DoneBad (n + bad_lines pages)) (ap bad_block_lines is ∙ good_blocks.whole) ∙ ap (λ n. DoneBad (0 + n)) healthy in
+      read_shows rest later (ap (drop 9) (sym (ap (λ a. reply_text (a ∷ rest)) none) ∙ e))
 
 -- all or nothing of the write is shown
-abbrev Whole : List ℕ → Type 0
+abbrev pub Whole : List ℕ → Type 0
 Whole shown = (shown ≡ codes "00*1024") ⊎ (shown ≡ codes "11*1024")
 
-back_shows : (shown : List ℕ) (cut fail : Bool) (answers : List Answer) → Later (struck cut fail) (Asked (Restart Firsts) ∷ Asked (BRead 0 2) ∷ []) answers
+-- so it is after a mount that found all or nothing of it
+pub mounted_shows : (shown : List ℕ) (found : List Block) (pages : List Page) (cut fail : Bool) → IsEither (fresh small).blocks (written (fresh small)).blocks found
+    → bad_lines pages ≡ 0 → (rest : List Answer) → Later (at_rest found pages cut fail) (Asked (BRead 0 2) ∷ []) rest
+    → reply_text (mounted_answer (at_rest found pages cut fail) ∷ rest) ≡ text (codes "ok bad 0" ∷ line shown ∷ []) → Whole shown
+mounted_shows shown found pages cut fail (inl old) healthy rest later e =
+    inl (back_shows shown found pages cut fail (fresh small).blocks old (codes "00*1024") old_shows healthy rest later e)
+mounted_shows shown found pages cut fail (inr new) healthy rest later e =
+    inr (back_shows shown found pages cut fail (written (fresh small)).blocks new (codes "11*1024") new_shows healthy rest later e)
+
+restart_shows : (shown : List ℕ) (cut fail : Bool) (answers : List Answer) → Later (struck cut fail) (Asked (Restart Firsts) ∷ Asked (BRead 0 2) ∷ []) answers
     → reply_text answers ≡ text (codes "ok bad 0" ∷ line shown ∷ []) → Whole shown
 unfolding refusal reading
-back_shows shown cut fail answers later wrote =
+restart_shows shown cut fail answers later wrote =
     let one = began_restarting (struck cut fail) (Restart Firsts) (Asked (BRead 0 2) ∷ []) answers later Firsts refl in
-    by_blocks one.0 one.1 one.2 one.3 one.5 one.6 one.7 one.5.blocks (sym (ap reply_text one.4) ∙ wrote)
+    let same : restarted (struck cut fail) one.0 ≡ found one.0 = ap (λ bad. record (read_with bad small one.0) { cut_armed = cut; fail_armed = fail }) one.5.metadata in
+    by_end one.0 one.1 one.2 one.3 (one.5.storage refl) (subst (λ k. Ends (mounted_answer k) k k one.1 one.2) same one.6) one.7 (sym (ap reply_text one.4) ∙ wrote)
   where
-    by_blocks : (image : Image) (answer : Answer) (next : Machine) (rest : List Answer) → RestartMayLeave Firsts image (struck cut fail)
-        → Ends (restart_answer (struck cut fail) image) (restarted (struck cut fail) image) (restarted (struck cut fail) image) answer next
-        → Later next (Asked (BRead 0 2) ∷ []) rest
-        → IsEither (fresh small).blocks (written (fresh small)).blocks (blocks_read small image.is_bad image.word)
+    pages : Image → List Page
+    pages image = read_pages (volume_line small) image (presence_read small image.word)
+
+    found : Image → Machine
+    found image = at_rest (blocks_read small image.is_bad image.word) (pages image) cut fail
+
+    by_end : (image : Image) (answer : Answer) (next : Machine) (rest : List Answer) → MayLeaveStorage Firsts image (struck cut fail)
+        → Ends (mounted_answer (found image)) (found image) (found image) answer next → Later next (Asked (BRead 0 2) ∷ []) rest
         → reply_text (answer ∷ rest) ≡ text (codes "ok bad 0" ∷ line shown ∷ []) → Whole shown
-    by_blocks image answer next rest keeps ends later (inl old) e =
-        inl (restart_shows shown image cut fail (fresh small).blocks old (codes "00*1024") old_shows answer next rest
-        (no_bad_line image (ap presence_of (sym keeps.may) ∙ keeps.there)) ends later e)
-    by_blocks image answer next rest keeps ends later (inr new) e =
-        inr (restart_shows shown image cut fail (written (fresh small)).blocks new (codes "11*1024") new_shows answer next rest
-        (no_bad_line image (ap presence_of (sym keeps.may) ∙ keeps.there)) ends later e)
+    by_end image answer next rest keeps (inl good) later e =
+        mounted_shows shown (blocks_read small image.is_bad image.word) (pages image) cut fail keeps.blocks (no_bad_line image (ap presence_of (sym keeps.may) ∙ keeps.there)) rest
+        (subst (λ k. Later k (Asked (BRead 0 2) ∷ []) rest) good.1 later) (sym (ap (λ a. reply_text (a ∷ rest)) good.0) ∙ e)
+    by_end image answer next rest keeps (inr stop) later e =
+        absurd (never_stopped stop.0 rest 111 _ (omega arith) (sym (ap (λ a. reply_text (a ∷ rest)) stop.1) ∙ e))
 
 struck_shows : (shown : List ℕ) (answers : List Answer) → Later armed (Asked the_write ∷ Asked (BRead 0 1) ∷ Asked (Restart Firsts) ∷ Asked (BRead 0 2) ∷ []) answers
     → reply_text answers ≡ text (codes "power lost" ∷ codes "refused off" ∷ codes "ok bad 0" ∷ line shown ∷ []) → Whole shown
@@ -208,7 +236,7 @@ struck_shows shown answers later wrote =
         → reply_text rest ≡ text (codes "refused off" ∷ codes "ok bad 0" ∷ line shown ∷ []) → Whole shown
     by_rest cut fail rest later e =
         let one = began_giving (struck cut fail) (BRead 0 1) (Asked (Restart Firsts) ∷ Asked (BRead 0 2) ∷ []) rest later (Refused Off) (struck cut fail) refl in
-        back_shows shown cut fail one.0 one.2 (ap (drop 12) (sym (ap reply_text one.1) ∙ e))
+        restart_shows shown cut fail one.0 one.2 (ap (drop 12) (sym (ap reply_text one.1) ∙ e))
 
     by_end : (answer : Answer) (next : Machine) (rest : List Answer) → Ends Done (written armed) (while_interrupted armed the_write) answer next
         → Later next (Asked (BRead 0 1) ∷ Asked (Restart Firsts) ∷ Asked (BRead 0 2) ∷ []) rest
@@ -230,9 +258,9 @@ write_all_or_nothing starts shown may =
     struck_shows shown one.0 one.2 (ap (drop 3) (sym (ap reply_text one.1) ∙ may.written))
 
 -- so no part of it is
+pub never_half : ¬ Whole (codes "11*512,00*512")
+never_half (inl old) = let byte : 49 ≡ 48 = ap (λ (s : List ℕ). slice_index s 0) old in omega (arith, byte)
+never_half (inr new) = let byte : 53 ≡ 49 = ap (λ (s : List ℕ). slice_index s 3) new in omega (arith, byte)
+
 pub write_never_in_part : (starts : List Start) → ¬ MayWrite with_cut_write starts (cut_write_lines (codes "data 11*512,00*512"))
-write_never_in_part starts may = by_case (write_all_or_nothing starts (codes "11*512,00*512") may)
-  where
-    by_case : Whole (codes "11*512,00*512") → ⊥
-    by_case (inl old) = let byte : 49 ≡ 48 = ap (λ (s : List ℕ). slice_index s 0) old in omega (arith, byte)
-    by_case (inr new) = let byte : 53 ≡ 49 = ap (λ (s : List ℕ). slice_index s 3) new in omega (arith, byte)
+write_never_in_part starts may = never_half (write_all_or_nothing starts (codes "11*512,00*512") may)

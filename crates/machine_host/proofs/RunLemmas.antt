@@ -11,8 +11,8 @@ use Rattle.script_text.specs.Script.{Input}
 use Rattle.script_text.specs.Script.Input.{Skipped, Malformed, Asked}
 use Rattle.machine_host.specs.Machine.{Machine, Fate}
 use Rattle.machine_host.specs.Commands.{fate, spending}
-use Rattle.machine_host.specs.Machine.Fate.{Gives, Works, Orders, Cuts, Restarts}
-use Rattle.machine_host.specs.Restarting.{RestartMayLeave, restarted, restart_answer}
+use Rattle.machine_host.specs.Machine.Fate.{Gives, Works, Orders, Cuts, Restarts, Recovers}
+use Rattle.machine_host.specs.Restarting.{RestartMayLeave, mounted_answer, restarted}
 use Rattle.machine_host.specs.Run.{Transcript, Hears, Run, Takes, answered, followed_by, silence, with_cut, with_order, with_start, worked}
 use Rattle.machine_host.specs.Performing.{Performance, Allows, after, perform}
 use Rattle.machine_host.specs.Interrupted.{stop_in}
@@ -30,7 +30,7 @@ same_said a b starts orders cuts calls persists answers =
 followed_by-nil : (a : Transcript) → followed_by a silence ≡ a
 followed_by-nil a = same_said (followed_by a silence) a (append-nil a.starts) (append-nil a.orders) (omega arith) (omega arith) (omega arith) (append-nil a.answers)
 
-followed_by-silence : (a : Transcript) → followed_by silence a ≡ a
+pub followed_by-silence : (a : Transcript) → followed_by silence a ≡ a
 followed_by-silence a = same_said (followed_by silence a) a refl refl (omega arith) (omega arith) (omega arith) refl
 
 followed_by-assoc : (a b c : Transcript) → followed_by (followed_by a b) c ≡ followed_by a (followed_by b c)
@@ -58,7 +58,7 @@ run_of_one h next input said hears = (said, silence, next, sym (followed_by-nil 
 abbrev gone_on : Machine → Action → List Input → List Start → Performance
 gone_on h action inputs starts = elim starts [
   | [] ↦ record { said = silence; state = h }
-  | start ∷ others ↦ after (with_start (spending h action) start (restart_answer h start.image)) (perform (restarted h start.image) inputs others)
+  | start ∷ others ↦ after (with_start (spending h action) start (mounted_answer (restarted h start.image))) (perform (restarted h start.image) inputs others)
 ]
 
 abbrev allows_on : Machine → List Input → Choice → List Start → Type 0
@@ -75,6 +75,7 @@ performed h action f inputs starts = elim f [
   | Orders order next ↦ after (with_order order Done) (perform next inputs starts)
   | Cuts next ↦ after (with_cut Done) (perform next inputs starts)
   | Restarts choice ↦ gone_on h action inputs starts
+  | Recovers ↦ record { said = silence; state = h }
 ]
 
 abbrev allowed : Machine → Fate → List Input → List Start → Type 0
@@ -84,6 +85,7 @@ allowed h f inputs starts = elim f as (λ _. Type 0) [
   | Orders order next ↦ Allows next inputs starts
   | Cuts next ↦ Allows next inputs starts
   | Restarts choice ↦ allows_on h inputs choice starts
+  | Recovers ↦ ⊥
 ]
 
 -- what nothing interrupts is a run
@@ -100,12 +102,12 @@ run_performed h (Asked action ∷ inputs) starts ok = by_fate (λ k others. run_
         → Run h (Asked action ∷ inputs) (gone_on h action inputs all).said (gone_on h action inputs all).state
     by_start rest choice [] is ok = absurd ok
     by_start rest choice (start ∷ others) is ok = (
-      with_start (spending h action) start (restart_answer h start.image),
+      with_start (spending h action) start (mounted_answer (restarted h start.image)),
       (perform (restarted h start.image) inputs others).said,
       restarted h start.image,
       refl,
-      subst (λ f. Takes h action f (with_start (spending h action) start (restart_answer h start.image)) (restarted h start.image)) (sym is)
-          (start, restart_answer h start.image, refl, ok.0, ok.1, inl (refl, refl)),
+      subst (λ f. Takes h action f (with_start (spending h action) start (mounted_answer (restarted h start.image))) (restarted h start.image)) (sym is)
+          (start, mounted_answer (restarted h start.image), refl, ok.0, ok.1, inl (refl, refl)),
       rest (restarted h start.image) others ok.2,
     )
 
@@ -126,6 +128,7 @@ run_performed h (Asked action ∷ inputs) starts ok = by_fate (λ k others. run_
     by_fate rest (Cuts next) is ok =
         (with_cut Done, (perform next inputs starts).said, next, refl, subst (λ f. Takes h action f (with_cut Done) next) (sym is) (refl, refl), rest next starts ok)
     by_fate rest (Restarts choice) is ok = by_start rest choice starts is ok
+    by_fate rest Recovers is ok = absurd ok
 
 -- the lines of answers, one stretch after another
 pub reply_text-append : (x y : List Answer) → reply_text (x ++ y) ≡ reply_text x ++ reply_text y

@@ -73,7 +73,7 @@ pub record CutRows : Type 0 where
       ∷ codes "bmulti 0 11*512 1 22*512 0 33*512" ∷ codes "bread 0 1" ∷ [])) []
       (codes "refused range" ∷ codes "refused length" ∷ codes "refused limit" ∷ codes "refused overlap" ∷ codes "data 00*512" ∷ [])
   pub cut_after_no_calls : Writes (text (codes "cut in 0" ∷ codes "cut in 5" ∷ codes "cut" ∷ codes "cut in 5" ∷ [])) []
-      (codes "refused range" ∷ codes "ok" ∷ codes "ok" ∷ codes "refused off" ∷ [])
+      (codes "refused range" ∷ codes "ok" ∷ codes "ok" ∷ codes "ok" ∷ [])
   pub cut_that_never_came : Writes with_late_cut (leaving_first Lasts 1 72340172838076673 ∷ []) late_cut_lines
 
 -- what may come of a cut

@@ -3,6 +3,7 @@ ghost use Rattle.machine_host.specs.BlockRows.{BlockRows};
 ghost use Rattle.machine_host.specs.CutRows.{CutRows, CutRuns};
 ghost use Rattle.machine_host.specs.VolumeRows.{VolumeRows, VolumeRuns};
 ghost use Rattle.machine_host.specs.MediaRows.{MediaRows};
+ghost use Rattle.machine_host.specs.FailureRows.{FailureRows, FailureRuns};
 
 /// What the machine writes for the worked scripts.
 pub fn worked_scripts()
@@ -17,4 +18,10 @@ pub fn worked_cuts()
     ensures writes { CutRows }
     ensures may_write { CutRuns }
     ensures pages { VolumeRuns }
+{}
+
+/// What it writes for those with bad metadata, and with failures that are armed, and what it may write after a failed call.
+pub fn worked_failures()
+    ensures failures { FailureRows }
+    ensures may_fail { FailureRuns }
 {}
