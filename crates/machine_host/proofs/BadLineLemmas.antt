@@ -6,7 +6,8 @@ use Rattle.std.proofs.lemmas.Bool.{cases_Bool, cases_lt, lt-ltb, le-ltb, ne_eqb,
 use Rattle.std.proofs.lemmas.Option.{same_Some}
 use Rattle.line_device.specs.Medium.{Medium, IsSound, WritesBack, last_image, poisoned, with_at}
 use Rattle.word_tables.specs.declared.geometry.Geometry.{Geometry}
-use Rattle.word_tables.specs.Layout.{meta_lines}
+use Rattle.word_tables.specs.Layout.{meta_lines, total_lines}
+use Rattle.std.specs.Prelude.{unwrap_or}
 use Rattle.word_log.specs.Mount.{Finding}
 use Rattle.word_log.specs.Mount.Finding.{bad_line, wrong_word}
 use Rattle.nvm_model.specs.Blocks.{first_there}
@@ -29,88 +30,89 @@ pub record IsFirst (test : ℕ → Bool) (start len line : ℕ) : Type 0 where
 pub head_of : (x y : ℕ) (xs ys : List ℕ) → x ∷ xs ≡ y ∷ ys → x ≡ y
 head_of x y xs ys is = ap (λ (ns : List ℕ). slice_index ns 0) is
 
+module _ (test : ℕ → Bool) (start len : ℕ) where
+  rest : List ℕ
+  rest = filter test (range_with_len (start + 1) len)
+
+  first_or_later : (line : ℕ) (lines : List ℕ) → (rest ≡ line ∷ lines → IsFirst test (start + 1) len line) → (b : Bool) → test start ≡ b → cond b (start ∷ rest) rest ≡ line ∷ lines → IsFirst test start (suc len) line
+  first_or_later line lines later true e is =
+      let at = head_of start line rest lines is in
+      record { from = omega (arith, at); within = omega (arith, at); here = ap test (sym at) ∙ e; before = λ k from below. absurd (omega (arith, at, from, below)) }
+  first_or_later line lines later false e is =
+      let found = later is in
+      record {
+        from = omega (arith, found.from);
+        within = omega (arith, found.within);
+        here = found.here;
+        before = λ k from below. elim (cases_lt start k) as (λ _. test k ≡ false) [
+          | inl past ↦ found.before k (omega (arith, past)) below
+          | inr up_to ↦ let at : start ≡ k = omega (arith, from, up_to) in ap test (sym at) ∙ e
+        ];
+      }
+
+  none_or_later : (n : ℕ) → start ≤ n → (rest ≡ [] → start + 1 ≤ n → test n ≡ false) → (b : Bool) → test start ≡ b → cond b (start ∷ rest) rest ≡ [] → test n ≡ false
+  none_or_later n from later true e is = cc is
+  none_or_later n from later false e is = elim (cases_lt start n) as (λ _. test n ≡ false) [
+    | inl past ↦ later is (omega (arith, past))
+    | inr up_to ↦ let at : start ≡ n = omega (arith, from, up_to) in ap test (sym at) ∙ e
+  ]
+
 pub first_of : (test : ℕ → Bool) (start len line : ℕ) (lines : List ℕ) → filter test (range_with_len start len) ≡ line ∷ lines → IsFirst test start len line
 first_of test start zero line lines is = cc is
-first_of test start (suc len) line lines is = by_test (test start) refl is
-  where
-    rest : List ℕ
-    rest = filter test (range_with_len (start + 1) len)
-
-    by_test : (b : Bool) → test start ≡ b → cond b (start ∷ rest) rest ≡ line ∷ lines → IsFirst test start (suc len) line
-    by_test true e is =
-        let at = head_of start line rest lines is in
-        record { from = omega (arith, at); within = omega (arith, at); here = ap test (sym at) ∙ e; before = λ k from below. absurd (omega (arith, at, from, below)) }
-    by_test false e is =
-        let later = first_of test (start + 1) len line lines is in
-        record {
-          from = omega (arith, later.from);
-          within = omega (arith, later.within);
-          here = later.here;
-          before = λ k from below. elim (cases_lt start k) as (λ _. test k ≡ false) [
-            | inl past ↦ later.before k (omega (arith, past)) below
-            | inr up_to ↦ let at : start ≡ k = omega (arith, from, up_to) in ap test (sym at) ∙ e
-          ];
-        }
+first_of test start (suc len) line lines is = first_or_later test start len line lines (first_of test (start + 1) len line lines) (test start) refl is
 
 -- where none passes, none of them does
 pub none_of : (test : ℕ → Bool) (start len : ℕ) → filter test (range_with_len start len) ≡ [] → (n : ℕ) → start ≤ n → n < start + len → test n ≡ false
 none_of test start zero is n from below = absurd (omega (arith, from, below))
-none_of test start (suc len) is n from below = by_test (test start) refl is
-  where
-    rest : List ℕ
-    rest = filter test (range_with_len (start + 1) len)
+none_of test start (suc len) is n from below =
+    none_or_later test start len n from (λ none past. none_of test (start + 1) len none n past (omega (arith, below))) (test start) refl is
 
-    by_test : (b : Bool) → test start ≡ b → cond b (start ∷ rest) rest ≡ [] → test n ≡ false
-    by_test true e is = cc is
-    by_test false e is = elim (cases_lt start n) as (λ _. test n ≡ false) [
-      | inl past ↦ none_of test (start + 1) len is n (omega (arith, past)) (omega (arith, below))
-      | inr up_to ↦ let at : start ≡ n = omega (arith, from, up_to) in ap test (sym at) ∙ e
-    ]
+-- one more line is bad: behind it nothing changes
+same_behind : (test : ℕ → Bool) (line from len : ℕ) → line < from → filter (with_at test line true) (range_with_len from len) ≡ filter test (range_with_len from len)
+same_behind test line from zero past = refl
+same_behind test line from (suc len) past =
+    ap₂ (λ b (ns : List ℕ). cond b (from ∷ ns) ns) (ap (λ b. cond b true (test from)) (ne_eqb from line (λ e. omega (arith, past, e)))) (same_behind test line (from + 1) len (omega (arith, past)))
 
--- one more line is bad
+-- it comes before those behind it
+front : (test : ℕ → Bool) (line from len : ℕ) → line < from → (lines : List ℕ) → filter test (range_with_len from len) ≡ lines → line ∷ lines ≡ with_line line lines
+front test line from len past [] is = refl
+front test line from len past (next ∷ lines) is =
+    let first = first_of test from len next lines is in
+    ap (λ b. cond b (line ∷ next ∷ lines) (cond (line == next) (next ∷ lines) (next ∷ with_line line lines))) (sym (lt-ltb line next (let after = first.from in omega (arith, past, after))))
+
+module _ (test : ℕ → Bool) (line start len : ℕ) where
+  before : List ℕ
+  before = filter test (range_with_len (start + 1) len)
+
+  now : List ℕ
+  now = filter (with_at test line true) (range_with_len (start + 1) len)
+
+  here : start ≡ line → (was : Bool) → start ∷ now ≡ with_line line (cond was (start ∷ before) before)
+  here at true =
+      ap (λ ns. start ∷ ns) (same_behind test line (start + 1) len (omega (arith, at)))
+      ∙ ap (λ b. cond b (start ∷ before) (start ∷ with_line line before)) (sym (eq-eqb line start (sym at)))
+      ∙ ap (λ b. cond b (line ∷ start ∷ before) (cond (line == start) (start ∷ before) (start ∷ with_line line before))) (sym (le-ltb line start (omega (arith, at))))
+  here at false =
+      ap (λ ns. start ∷ ns) (same_behind test line (start + 1) len (omega (arith, at))) ∙ ap (λ n. n ∷ before) at ∙ front test line (start + 1) len (omega (arith, at)) before refl
+
+  later : start < line → now ≡ with_line line before → (was : Bool) → cond was (start ∷ now) now ≡ with_line line (cond was (start ∷ before) before)
+  later past more true =
+      ap (λ ns. start ∷ ns) more
+      ∙ ap (λ b. cond b (start ∷ before) (start ∷ with_line line before)) (sym (ne_eqb line start (λ e. omega (arith, past, e))))
+      ∙ ap (λ b. cond b (line ∷ start ∷ before) (cond (line == start) (start ∷ before) (start ∷ with_line line before))) (sym (le-ltb line start (omega (arith, past))))
+  later past more false = more
+
 one_more : (test : ℕ → Bool) (line start len : ℕ) → start ≤ line → line < start + len
     → filter (with_at test line true) (range_with_len start len) ≡ with_line line (filter test (range_with_len start len))
 one_more test line start zero from below = absurd (omega (arith, from, below))
-one_more test line start (suc len) from below = elim (cases_lt start line) as (λ _. more (start == line) (test start) ≡ with_line line (cond (test start) (start ∷ rest) rest)) [
-  | inl past ↦ ap (λ b. more b (test start)) (ne_eqb start line (λ e. omega (arith, past, e))) ∙ later past (test start)
-  | inr up_to ↦ let at : start ≡ line = omega (arith, from, up_to) in ap (λ b. more b (test start)) (eq-eqb start line at) ∙ here at (test start)
-]
-  where
-    rest : List ℕ
-    rest = filter test (range_with_len (start + 1) len)
-
-    more : Bool → Bool → List ℕ
-    more at was = let rest = filter (with_at test line true) (range_with_len (start + 1) len) in cond (cond at true was) (start ∷ rest) rest
-
-    -- behind it nothing changes
-    behind : start ≡ line → filter (with_at test line true) (range_with_len (start + 1) len) ≡ rest
-    behind at = same_from (start + 1) len (omega (arith, at))
-      where
-        same_from : (from len : ℕ) → line < from → filter (with_at test line true) (range_with_len from len) ≡ filter test (range_with_len from len)
-        same_from from zero past = refl
-        same_from from (suc len) past =
-            ap₂ (λ b (ns : List ℕ). cond b (from ∷ ns) ns) (ap (λ b. cond b true (test from)) (ne_eqb from line (λ e. omega (arith, past, e)))) (same_from (from + 1) len (omega (arith, past)))
-
-    front : start ≡ line → (lines : List ℕ) → rest ≡ lines → start ∷ lines ≡ with_line line lines
-    front at [] is = ap (λ n. n ∷ []) at
-    front at (next ∷ lines) is =
-        let first = first_of test (start + 1) len next lines is in
-        ap (λ n. n ∷ next ∷ lines) at
-        ∙ ap (λ b. cond b (line ∷ next ∷ lines) (cond (line == next) (next ∷ lines) (next ∷ with_line line lines))) (sym (lt-ltb line next (let from = first.from in omega (arith, at, from))))
-
-    here : start ≡ line → (was : Bool) → more true was ≡ with_line line (cond was (start ∷ rest) rest)
-    here at true =
-        ap (λ ns. start ∷ ns) (behind at)
-        ∙ ap (λ b. cond b (start ∷ rest) (start ∷ with_line line rest)) (sym (eq-eqb line start (sym at)))
-        ∙ ap (λ b. cond b (line ∷ start ∷ rest) (cond (line == start) (start ∷ rest) (start ∷ with_line line rest))) (sym (le-ltb line start (omega (arith, at))))
-    here at false = ap (λ ns. start ∷ ns) (behind at) ∙ front at rest refl
-
-    later : start < line → (was : Bool) → more false was ≡ with_line line (cond was (start ∷ rest) rest)
-    later past true =
-        ap (λ ns. start ∷ ns) (one_more test line (start + 1) len (omega (arith, past)) (omega (arith, below)))
-        ∙ ap (λ b. cond b (start ∷ rest) (start ∷ with_line line rest)) (sym (ne_eqb line start (λ e. omega (arith, past, e))))
-        ∙ ap (λ b. cond b (line ∷ start ∷ rest) (cond (line == start) (start ∷ rest) (start ∷ with_line line rest))) (sym (le-ltb line start (omega (arith, past))))
-    later past false = one_more test line (start + 1) len (omega (arith, past)) (omega (arith, below))
+one_more test line start (suc len) from below =
+    let step : Bool → List ℕ = λ at. cond (cond at true (test start)) (start ∷ now test line start len) (now test line start len) in
+    elim (cases_lt start line) as (λ _. step (start == line) ≡ with_line line (cond (test start) (start ∷ before test line start len) (before test line start len))) [
+      | inl past ↦
+          ap step (ne_eqb start line (λ e. omega (arith, past, e)))
+          ∙ later test line start len past (one_more test line (start + 1) len (omega (arith, past)) (omega (arith, below))) (test start)
+      | inr up_to ↦ let at : start ≡ line = omega (arith, from, up_to) in ap step (eq-eqb start line at) ∙ here test line start len at (test start)
+    ]
 
 -- the first line that a search finds
 abbrev pub head : List ℕ → Option ℕ
@@ -125,6 +127,27 @@ searched test len = by_list (filter test (range_with_len 0 len)) refl
     by_list (line ∷ lines) is =
         let first = first_of test 0 len line lines is in
         first_below test len line (let w = first.within in omega (arith, w)) (λ k below. first.before k (omega arith) below) first.here
+
+-- so the lowest line, 0 where there is none
+pub lowest_found : (geo : Geometry) (m : Medium) (lines result : ℕ) (found : Option ℕ) → lines ≡ meta_lines geo → found ≡ position m.is_bad (range_with_len 0 lines) → result ≡ unwrap_or found 0
+    → result ≡ lowest (bad_metadata geo m.is_bad)
+lowest_found geo m lines result found many is told =
+    told ∙ ap (λ o. unwrap_or o 0) (is ∙ ap (λ n. position m.is_bad (range_with_len 0 n)) many ∙ searched m.is_bad (meta_lines geo)) ∙ by_list (bad_metadata geo m.is_bad)
+  where
+    by_list : (lines : List ℕ) → unwrap_or (head lines) 0 ≡ lowest lines
+    by_list [] = refl
+    by_list (line ∷ lines) = refl
+
+-- the lines of metadata are on the device
+pub meta_within : (geo : Geometry) → meta_lines geo ≤ total_lines geo
+unfolding total_lines
+meta_within geo = omega arith
+
+pub meta_on_device : (geo : Geometry) (m : Medium) → HasLayout geo m → (lines : ℕ) → lines ≡ meta_lines geo → 0 + lines ≤ m.count
+meta_on_device geo m layout lines many = let within = meta_within geo in omega (arith, many, within, layout.lines)
+
+pub meta_there : (geo : Geometry) (m : Medium) → HasLayout geo m → (line : ℕ) → line < meta_lines geo → line < m.count
+meta_there geo m layout line within = let all = meta_within geo in omega (arith, within, all, layout.lines)
 
 module _ (geo : Geometry) (m : Medium) where
   -- where none is bad

@@ -1,5 +1,5 @@
 -- What a host and its device stand for, after a call on the blocks.
-use Rattle.std.proofs.Common.{◌≡◌, ◌/◌, ◌<◌, ◌≤◌, ℕ, IsTrue, true, position, Option, Some, None, option_map, Result, Ok, Err, OnOk, List, [], ◌∷◌, refl, sym, ap, ap₂, subst, ◌∙◌, arith}
+use Rattle.std.proofs.Common.{◌≡◌, ◌≢◌, ◌/◌, ◌<◌, ◌≤◌, ℕ, IsTrue, true, position, Option, Some, None, option_map, Result, Ok, Err, OnOk, List, [], ◌∷◌, refl, sym, ap, ap₂, subst, ◌∙◌, arith}
 use Rattle.line_device.specs.Medium.{Medium}
 use Rattle.line_device.specs.Panel.{Runs}
 use Rattle.line_device.specs.Device.{Device}
@@ -8,7 +8,7 @@ use Rattle.nvm_model.specs.Storage.{Block}
 use Rattle.block_device.specs.Area.{IsBlockLine}
 use Rattle.block_device.specs.Object.{BlocksState, HasGoodMetadata, blocks_of}
 use Rattle.block_device.specs.Object as object
-use Rattle.block_device.specs.Images.{EachReads}
+use Rattle.block_device.specs.Images.{AreReadable, EachReads}
 use Rattle.block_device.specs.Refusals.{Refusal, told, Answers, OnRefused, OnWorked, block_outcome}
 use Rattle.line_words.specs.Told.{is_done}
 use Rattle.block_device.specs.Refusals.Refusal.{Range, Length, Limit, Overlap, Meta, Unreadable}
@@ -50,7 +50,7 @@ use Rattle.pm_volume.proofs.StandingLemmas.{LineKept, each_pages-then}
 use Rattle.machine_host.proofs.CallLemmas.{IsPart, comes_of_call, printable_after, serves_of_call, short_told}
 use Rattle.machine_host.proofs.BadLineLemmas.{good_lines}
 use Rattle.machine_host.proofs.ElsewhereLemmas.{first_not_blocks, pages_elsewhere, volume_apart, volume_holds_elsewhere, volume_serves_elsewhere}
-use Rattle.machine_host.proofs.LayoutLemmas.{kept-beside, layout-beside, metadata-then}
+use Rattle.machine_host.proofs.LayoutLemmas.{kept-beside, layout-beside, metadata-then, same_bad}
 use Rattle.machine_host.proofs.StepLemmas.{DeviceLeft, is_whole, stands_done, whole_pages}
 
 -- what a call on the blocks says, whichever it is
@@ -236,14 +236,14 @@ unrefused geo m places none n below = fails_below m.is_bad (meta_lines geo) n (n
     not_mapped f None none = refl
     not_mapped f (Some x) none = cc none
 
-pub marks_kept : {Q : Type 0} (geo : Geometry) (old new : Device) (lines : ℕ → Type 0) (r : Result (Unit {0}) BlockFault) (places : Option Refusal) → Answers (first_there places (blocks.meta_refusal geo old.medium)) r → OnRefused r (Q × (new ≡ old))
+pub marks_kept : (Q : Type 0) (geo : Geometry) (old new : Device) (lines : ℕ → Type 0) (r : Result (Unit {0}) BlockFault) (places : Option Refusal) → Answers (first_there places (blocks.meta_refusal geo old.medium)) r → OnRefused r (Q × (new ≡ old))
     → WritesBackBeside lines old.medium new.medium → (n : ℕ) → n < meta_lines geo → new.medium.is_bad n ≡ old.medium.is_bad n
-marks_kept geo old new lines r places answers untouched x n below = by_refusal (first_there places (blocks.meta_refusal geo old.medium)) refl r answers untouched
+marks_kept Q geo old new lines r places answers untouched x n below = by_refusal (first_there places (blocks.meta_refusal geo old.medium)) refl r answers untouched
   where
     worked : first_there places (blocks.meta_refusal geo old.medium) ≡ None → new.medium.is_bad n ≡ old.medium.is_bad n
     worked none = let good = unrefused geo old.medium places none n below in x.stays_good n good ∙ sym good
 
-    by_refusal : {Q : Type 0} (why : Option Refusal) → first_there places (blocks.meta_refusal geo old.medium) ≡ why → (r : Result (Unit {0}) BlockFault) → Answers why r → OnRefused r (Q × (new ≡ old))
+    by_refusal : (why : Option Refusal) → first_there places (blocks.meta_refusal geo old.medium) ≡ why → (r : Result (Unit {0}) BlockFault) → Answers why r → OnRefused r (Q × (new ≡ old))
         → new.medium.is_bad n ≡ old.medium.is_bad n
     by_refusal None is r answers untouched = worked is
     by_refusal (Some w) is (Ok x) answers untouched = absurd answers
@@ -259,7 +259,7 @@ called state host s r P calls persists before after places refused untouched ima
   untouched = on_refused-then r (λ same. (same.0, ap state same.1)) untouched;
   images = λ good. images;
   outside = outside;
-  marks = marks_kept host.blocks.geo (state before) (state after) (IsBlockLine host.blocks.geo) r places refused (on_refused-then r (λ same. (same.0, ap state same.1)) untouched) outside;
+  marks = marks_kept (s ≡ host.blocks) host.blocks.geo (state before) (state after) (IsBlockLine host.blocks.geo) r places refused (on_refused-then r (λ same. (same.0, ap state same.1)) untouched) outside;
   serves = serves;
   object = object;
   runs = runs;
@@ -298,11 +298,38 @@ module _ (now host after : HostState) (s : BlocksState) (r : Result (Unit {0}) B
   serves_inside : HostServes host old
   serves_inside = subst (λ k. HostServes k old) (sym inside) serves
 
+  -- the blocks can be read still
+  readable_after : bad_metadata host.geometry new.medium.is_bad ≡ [] → AreReadable host.geometry new.medium
+  readable_after none = by_result r call.untouched (call.images good)
+    where
+      geo_is : host.blocks.geo ≡ host.geometry
+      geo_is = (serves_inside.mounted on_inside).geometry
+
+      none_was : bad_metadata host.geometry old.medium.is_bad ≡ []
+      none_was = sym (same_bad host.geometry old.medium new.medium (λ n below. call.marks n (subst (λ g. n < meta_lines g) (sym geo_is) below))) ∙ none
+
+      good : HasGoodMetadata host.blocks.geo old.medium
+      good = subst (λ g. HasGoodMetadata g old.medium) (sym geo_is) (good_lines host.geometry old.medium none_was)
+
+      may : List Block → Type 0
+      may = MayLeaveBlocks (Some action) (blocks_of host.blocks old.medium)
+
+      worked : EachReads host.blocks.geo new.medium may → AreReadable host.geometry new.medium
+      worked each = subst (λ g. AreReadable g new.medium) geo_is (each_reads-then host.blocks.geo new.medium may (λ _. Unit {0}) (λ _ _. tt) each)
+
+      by_reason : (why : Option Refusal) → (why ≢ None → (s ≡ host.blocks) × (new ≡ old)) → (why ≡ None → EachReads host.blocks.geo new.medium may) → AreReadable host.geometry new.medium
+      by_reason None untouched each = worked (each refl)
+      by_reason (Some w) untouched each = subst (λ d. AreReadable host.geometry d.medium) (sym (untouched (λ e. cc e)).1) (serves_inside.readable none_was)
+
+      by_result : (r : Result (Unit {0}) BlockFault) → OnRefused r ((s ≡ host.blocks) × (new ≡ old)) → OnWorked r (EachReads host.blocks.geo new.medium may) → AreReadable host.geometry new.medium
+      by_result (Ok x) untouched each = worked each
+      by_result (Err f) untouched each = by_reason (told f) untouched each
+
   pub change_serves : HostServes after new
   change_serves =
       subst (λ k. HostServes k new) (sym state)
       (serves_of_call block_says refusal_answer blocks_part host (host_after host s) old new on_inside (λ m. refl) (λ m. refl) calls persists r serves_inside
-      (same_host host s r old new call.untouched) (layout_after host s old new on_inside serves_inside call.outside)
+      (same_host host s r old new call.untouched) (layout_after host s old new on_inside serves_inside call.outside) readable_after
       (mounted_ok host s r (MayLeaveBlocks (Some action) (blocks_of host.blocks old.medium)) calls persists old new on_inside serves_inside call) call.runs)
 
   pub change_comes : (h : Machine) (good answer : Answer) (why : Option Refusal) (f : List Block → List Block) → stop_in good ≡ None → Stands now old h → MayLeaveVolume h.geometry (Some action) h.volume h.volume

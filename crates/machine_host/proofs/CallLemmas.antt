@@ -1,5 +1,5 @@
 -- What a call on a part of storage comes to, by what its fault tells.
-use Rattle.std.proofs.Common.{◌≡◌, ◌≢◌, ℕ, ◌≤◌, Bool, true, false, Option, Some, None, option_map, Result, Ok, Err, OnOk, refl, sym, ap, subst, ◌∙◌, arith}
+use Rattle.std.proofs.Common.{◌≡◌, ◌≢◌, ℕ, ◌≤◌, Bool, true, false, Option, Some, None, option_map, Result, Ok, Err, OnOk, [], refl, sym, ap, subst, ◌∙◌, arith}
 use Rattle.line_device.specs.Panel.{Runs}
 use Rattle.line_device.specs.Device.{Device}
 use Rattle.line_words.specs.declared.interruption.Interruption.TheVariants.{Failed, PowerLost}
@@ -16,7 +16,8 @@ use Rattle.machine_host.specs.Machine.Fate.{Gives, Works}
 use Rattle.machine_host.specs.Commands.{spending, unless_refused}
 use Rattle.machine_host.specs.Faults.{answer_after, mode_after, told_answer, told_mode}
 use Rattle.machine_host.specs.Interrupted.{interrupted_mode, stop_in}
-use Rattle.machine_host.specs.Lines.{HasLayout}
+use Rattle.block_device.specs.Images.{AreReadable}
+use Rattle.machine_host.specs.Lines.{HasLayout, bad_metadata}
 use Rattle.machine_host.specs.Run.{answered}
 use Rattle.machine_host.specs.Stands.{HostState, HostServes, Stands, AreMounted, Comes, is_powered}
 use Rattle.machine_host.proofs.StepLemmas.{DeviceLeft, comes_of_done, comes_of_interruption}
@@ -101,12 +102,15 @@ module _ {E R : Type 0} (says : E → Told R) (answer : R → Answer) (part : Is
       by_told Starves never none left runs = absurd (never refl)
 
   -- the host may go on
-  pub serves_of_call : {T : Type 0} (r : Result T E) → HostServes host old → OnRefused says r ((after host.mode ≡ host) × (new ≡ old)) → HasLayout host.geometry new.medium
+  pub serves_of_call : {T : Type 0} (r : Result T E) → HostServes host old → OnRefused says r ((after host.mode ≡ host) × (new ≡ old)) → HasLayout host.geometry new.medium → (bad_metadata host.geometry new.medium.is_bad ≡ [] → AreReadable host.geometry new.medium)
       → OnOk r (AreMounted host.geometry (after On).blocks (after On).volume new.medium) → Runs calls persists (outcome_by says r) old.panel new.panel → HostServes (after (mode_after says r)) new
-  serves_of_call {T} r serves untouched layout mounted runs = by_result r untouched mounted runs
+  serves_of_call {T} r serves untouched layout readable mounted runs = by_result r untouched mounted runs
     where
       power_was : old.panel.power ≡ true
       power_was = serves.power ∙ ap is_powered on
+
+      readable_now : (m : Mode) → bad_metadata (after m).geometry new.medium.is_bad ≡ [] → AreReadable (after m).geometry new.medium
+      readable_now m = subst (λ g. bad_metadata g new.medium.is_bad ≡ [] → AreReadable g new.medium) (sym (same m)) readable
 
       layout_now : (m : Mode) → HasLayout (after m).geometry new.medium
       layout_now m = subst (λ g. HasLayout g new.medium) (sym (same m)) layout
@@ -120,12 +124,14 @@ module _ {E R : Type 0} (says : E → Told R) (answer : R → Answer) (part : Is
           subst (λ m. HostServes (after m) new) on (subst (λ k. HostServes k new) (sym here.0) (subst (λ d. HostServes host d) (sym here.1) serves))
       by_told (Stops Failed) never untouched runs = record {
         layout = layout_now (interrupted_mode Failed);
+        readable = readable_now (interrupted_mode Failed);
         power = powered (interrupted_mode Failed) true (runs.cause.0 ∙ power_was) refl;
         mounted = λ e. absurd (never_on Failed (sym (in_mode (interrupted_mode Failed)) ∙ e));
         stopped = λ e. absurd (never_stops Failed (sym (in_mode (interrupted_mode Failed)) ∙ e));
       }
       by_told (Stops PowerLost) never untouched runs = record {
         layout = layout_now (interrupted_mode PowerLost);
+        readable = readable_now (interrupted_mode PowerLost);
         power = powered (interrupted_mode PowerLost) false runs.cause.0 refl;
         mounted = λ e. absurd (never_on PowerLost (sym (in_mode (interrupted_mode PowerLost)) ∙ e));
         stopped = λ e. absurd (never_stops PowerLost (sym (in_mode (interrupted_mode PowerLost)) ∙ e));
@@ -136,6 +142,7 @@ module _ {E R : Type 0} (says : E → Told R) (answer : R → Answer) (part : Is
           → Runs calls persists (outcome_by says r) old.panel new.panel → HostServes (after (mode_after says r)) new
       by_result (Ok x) untouched mounted runs = record {
         layout = layout_now On;
+        readable = readable_now On;
         power = powered On true (runs.cause.0 ∙ power_was) refl;
         mounted = λ _. subst (λ g. AreMounted g (after On).blocks (after On).volume new.medium) (sym (same On)) mounted;
         stopped = λ e. let is = in_mode On in cc (is, e);

@@ -16,6 +16,7 @@ use Rattle.nvm_model.specs.Page.{Page}
 use Rattle.block_device.specs.Area.{block_area, IsBlockLine}
 use Rattle.block_device.specs.Object.{BlocksState}
 use Rattle.block_device.proofs.ReadLemmas.{Stays}
+use Rattle.block_device.proofs.FrameLemmas.{each_reads-write_back}
 use Rattle.block_device.proofs.PlaceLemmas.{area_is_block}
 use Rattle.block_device.proofs.ServesLemmas.{serves-stays, serves-write_back}
 use Rattle.pm_volume.specs.Area.{IsOfVolume, IsVolumePlace, volume_area}
@@ -26,7 +27,7 @@ use Rattle.recovery.specs.Mounting.{IsOfLogs}
 use Rattle.machine_host.specs.declared.mode.Mode.{Mode}
 use Rattle.machine_host.specs.declared.mode.Mode.TheVariants.{On, Stopped}
 use Rattle.machine_host.specs.Stands.{HostState, HostServes, AreMounted, is_powered}
-use Rattle.machine_host.proofs.LayoutLemmas.{kept-outside, layout-write_back, stays_bad}
+use Rattle.machine_host.proofs.LayoutLemmas.{kept-outside, layout-write_back, same_bad, stays_bad}
 use Rattle.machine_host.proofs.VolumeLemmas.{volume_behind}
 
 -- no line of the volume is the blocks'
@@ -140,6 +141,8 @@ pub serves_ordered : (host : HostState) (mode : Mode) (old new : Device) → Hos
     → (mode ≡ Stopped → host.mode ≡ Stopped) → HostServes (record host { mode = mode }) new
 serves_ordered host mode old new serves w power was_on was_stopped = record {
   layout = layout-write_back host.geometry old.medium new.medium serves.layout w;
+  readable = λ none.
+      each_reads-write_back host.geometry old.medium new.medium (λ _. Unit {0}) serves.layout.valid w (serves.readable (sym (same_bad host.geometry old.medium new.medium (λ n below. w.bad n)) ∙ none));
   power = power;
   mounted = λ on. mounted-write_back host.geometry host.blocks host.volume old.medium new.medium serves.layout.valid w (serves.mounted (was_on on));
   stopped = λ stop. stays_bad host.geometry old.medium new.medium (λ n below. w.bad n) (serves.stopped (was_stopped stop));

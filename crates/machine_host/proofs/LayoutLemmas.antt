@@ -37,7 +37,7 @@ none_from test start (suc len) fails =
     ∙ none_from test (start + 1) len (λ n lt. fails n (omega (arith, lt)))
 
 -- the same numbers pass where the tests agree
-filter-same : (one other : ℕ → Bool) (start len : ℕ) → ((n : ℕ) → n < start + len → one n ≡ other n) → filter one (range_with_len start len) ≡ filter other (range_with_len start len)
+pub filter-same : (one other : ℕ → Bool) (start len : ℕ) → ((n : ℕ) → n < start + len → one n ≡ other n) → filter one (range_with_len start len) ≡ filter other (range_with_len start len)
 filter-same one other start zero same = refl
 filter-same one other start (suc len) same =
     ap₂ (λ b (ns : List ℕ). cond b (start ∷ ns) ns) (same start (omega arith)) (filter-same one other (start + 1) len (λ n lt. same n (omega (arith, lt))))

@@ -29,5 +29,6 @@ pub mod SettlingLemmas
 pub mod VolumeFateLemmas
 pub mod LoadLemmas
 pub mod MediaLemmas
+pub mod PoisonLemmas
 pub mod LineLemmas
 mod FailureRunLemmas

@@ -125,7 +125,7 @@ fate_marking host old h action serves stands on needs named full changes readabl
     ∙ ap (λ o. unless_refused h o ((meaning action).comes h)) (first_alone r.places)
 
 -- a line of a unit lies behind the metadata
-data_behind : (geo : Geometry) (n : ℕ) → HasLine geo blocks n → meta_lines geo ≤ n
+pub data_behind : (geo : Geometry) (n : ℕ) → HasLine geo blocks n → meta_lines geo ≤ n
 unfolding first_line size
 data_behind geo n has = omega (arith, has)
 

@@ -39,6 +39,7 @@ use Rattle.machine_host.specs.Run.{answered}
 use Rattle.machine_host.specs.Telling.{Tells}
 use Rattle.machine_host.specs.Stands.{HostState, HostServes, AreMounted, Stands, Comes}
 use Rattle.machine_host.proofs.BadLineLemmas.{good_lines}
+use Rattle.machine_host.proofs.MountedLemmas.{readable_served}
 use Rattle.machine_host.proofs.ElsewhereLemmas.{pages_elsewhere, volume_holds_elsewhere, volume_serves_elsewhere}
 use Rattle.machine_host.proofs.LayoutLemmas.{layout-kept, metadata-then, stays_of_kept}
 use Rattle.machine_host.proofs.StepLemmas.{blocks_elsewhere, is_whole, stands_done, whole_pages}
@@ -114,7 +115,13 @@ module _ (host : HostState) (old new : Device) (serves : HostServes host old) (o
       (metadata_line n there).weak ∙ mounted.serves.strong n (subst (λ k. n < meta_lines k) (sym mounted.geometry) there)
 
   goes_on : AreMounted geo host.blocks host.volume new.medium → HostServes host new
-  goes_on now = record { layout = layout_marked; power = ap (λ p. p.power) panel ∙ serves.power; mounted = λ _. now; stopped = λ stop. cc (on, stop) }
+  goes_on now = record {
+    layout = layout_marked;
+    readable = λ none. readable_served geo host.blocks new.medium now.geometry now.serves (good_lines geo new.medium none);
+    power = ap (λ p. p.power) panel ∙ serves.power;
+    mounted = λ _. now;
+    stopped = λ stop. cc (on, stop);
+  }
 
   metadata_marked : (h : Machine) → Stands host old h → MetadataStands h.geometry new.medium h.bad_meta
   metadata_marked h stands =

@@ -39,11 +39,11 @@ recovered_back h next image may = by_lines (bad_metadata h.geometry image.is_bad
     by_lines : (lines : List ℕ) → bad_metadata h.geometry image.is_bad ≡ lines → next ≡ restarted h image
     by_lines [] none =
         let read = read_whole h.geometry image none in
-        let is = subst (λ k. RecoversTo k.bad_meta (back k) next) read may in
+        let is = subst (λ (k : Machine). RecoversTo k.bad_meta (back k) next) read may in
         is.state
         ∙ ap (λ bs. record (holding h.geometry bs next.volume) { cut_armed = h.cut_armed; fail_armed = h.fail_armed }) is.blocks
         ∙ ap (λ pages. record (holding h.geometry (blocks_read h.geometry image.is_bad image.word) pages) { cut_armed = h.cut_armed; fail_armed = h.fail_armed }) is.volume
-        ∙ ap (λ k. record k { cut_armed = h.cut_armed; fail_armed = h.fail_armed }) (sym read)
+        ∙ ap (λ (k : Machine). record k { cut_armed = h.cut_armed; fail_armed = h.fail_armed }) (sym read)
     by_lines (line ∷ lines) some =
         let read = read_stopped h.geometry image line lines some in
-        subst (λ k. RecoversTo k.bad_meta (back k) next) read may ∙ ap (λ k. record k { cut_armed = h.cut_armed; fail_armed = h.fail_armed }) (sym read)
+        subst (λ (k : Machine). RecoversTo k.bad_meta (back k) next) read may ∙ ap (λ (k : Machine). record k { cut_armed = h.cut_armed; fail_armed = h.fail_armed }) (sym read)

@@ -223,9 +223,6 @@ fate_placed h action mode reasons places =
     ∙ ap (λ r. unless_refused h (first_reason None h.bad_meta r) comes) reasons
     ∙ ap (λ o. unless_refused h (first_reason None h.bad_meta (record no_reasons { places = option_map Refused o })) comes) places
 
-pub on_allowed : {mode : Mode} {bad_meta : List ℕ} → mode ≡ On → mode_refusal mode bad_meta Usable ≡ None
-on_allowed {bad_meta = bad_meta} on = ap (λ m. mode_refusal m bad_meta Usable) on
-
 pub power_allows : (mode : Mode) (bad_meta : List ℕ) → (mode ≡ Off → ⊥) → mode_refusal mode bad_meta Powered ≡ None
 power_allows On bad_meta powered = refl
 power_allows Off bad_meta powered = absurd (powered refl)

@@ -1,5 +1,5 @@
 -- What settling a host comes to.
-use Rattle.std.proofs.Common.{◌≡◌, ◌+◌, ◌≤◌, ℕ, Bool, true, false, IsTrue, List, [], ◌∷◌, Some, None, Result, Ok, Err, refl, sym, ap, ap₂, subst, ◌∙◌, arith}
+use Rattle.std.proofs.Common.{◌≡◌, ◌+◌, ◌≤◌, ℕ, Bool, true, false, IsTrue, List, [], ◌∷◌, Some, None, Result, Ok, Err, MatchResult, refl, sym, ap, ap₂, subst, ◌∙◌, arith}
 use Rattle.std.specs.Prelude.{OnOk, OnErr}
 use Rattle.std.proofs.lemmas.Bool.{false≢true}
 use Rattle.line_device.specs.Medium.{WritesBack, IsSound}
@@ -11,7 +11,8 @@ use Rattle.word_log.specs.Mount.Finding.{bad_line}
 use Rattle.block_device.specs.Object.{BlocksState}
 use Rattle.pm_volume.specs.Object.{VolumeState}
 use Rattle.recovery.specs.Findings.{first_finding}
-use Rattle.recovery.specs.Mounting.{mount_outcome}
+use Rattle.nvm_base.specs.declared.units.LineNo.{LineNo}
+use Rattle.recovery.specs.Mounting.{Finds, mount_outcome}
 use Rattle.recovery.specs.declared.Mounted.{Mounted}
 use Rattle.recovery.specs.declared.fault.MountFault.{MountFault}
 use Rattle.recovery.specs.declared.fault.MountFault.TheVariants as fault
@@ -104,6 +105,12 @@ module _ (host : HostState) (old new : Device) (serves : HostServes host old) (u
     restarts = runs.orders.restarts;
     stands = λ h stands. subst (Stands host new) (sym (already h old host quiet stands)) (kept_unmounted host old new serves unsettled sound x h stands runs);
   }
+
+  -- as the host answers that it was not done
+  pub stops : (f : MountFault) → Finds {T = Mounted} (first_finding old.medium) (Err f) → (after : HostState) → {E : Type 0} (r : Result (Unit {0}) E)
+      → MatchResult r (λ _. (line : LineNo) × (f ≡ fault.Meta line) × (after ≡ record host { mode = modes.Stopped })) (λ _. after ≡ host) → MountsAnew r host after old new
+  stops f finds after (Ok u) is = settled_bad after is.0.0 (subst (λ (f : MountFault). Finds {T = Mounted} (first_finding old.medium) (Err f)) is.1 finds) is.2
+  stops f finds after (Err e) is = subst (λ k. StaysUnmounted host k old new) (sym is) left_unmounted
 
 -- Nothing could stop it.
 pub never_stopped : (f : MountFault) (p q : Panel) {a b : ℕ} → IsQuiet p → Runs a b (mount_outcome {T = Mounted} (Err f)) p q → mount_outcome {T = Mounted} (Err f) ≡ went

@@ -12,7 +12,8 @@ use Rattle.nvm_model.specs.Interrupted.{MaySync}
 use Rattle.nvm_model.specs.Page.{Page, first_bad_line, persist, presence_of}
 use Rattle.nvm_model.specs.Storage.{Block}
 use Rattle.page_lines.specs.Turns.{WritesBackOthers}
-use Rattle.block_device.specs.Images.{EachReads}
+use Rattle.block_device.specs.Images.{AreReadable, EachReads}
+use Rattle.block_device.proofs.FrameLemmas.{each_reads-stays}
 use Rattle.block_device.specs.Area.{IsBlockLine}
 use Rattle.block_device.specs.Object.{blocks_of}
 use Rattle.block_device.proofs.ReadLemmas.{Stays}
@@ -44,7 +45,7 @@ use Rattle.machine_host.specs.Responding.{Answered}
 use Rattle.machine_host.specs.Stands.{HostState, HostServes, AreMounted, Stands, Comes}
 use Rattle.machine_host.proofs.CallLemmas.{IsPart, comes_of_call, on_refused-then, printable_after, serves_of_call, short_told}
 use Rattle.machine_host.proofs.ElsewhereLemmas.{first_not_volume, mounted-worked, volume_apart}
-use Rattle.machine_host.proofs.LayoutLemmas.{kept-others, layout-others, metadata-then, stays_of_kept}
+use Rattle.machine_host.proofs.LayoutLemmas.{kept-others, layout-others, metadata-then, same_bad, stays_of_kept}
 use Rattle.machine_host.proofs.RefusalLemmas.{meta_refused}
 use Rattle.machine_host.proofs.StepLemmas.{DeviceLeft, blocks_elsewhere, is_whole, stands_done}
 
@@ -118,8 +119,14 @@ module _ (host : HostState) (old new : Device) (on : host.mode ≡ On) (serves :
   layout_worked = layout-others host.geometry old.medium new.medium serves.layout (IsOfVolume host.geometry) (λ of. first_not_volume host.geometry 0 (omega arith) of) work_outside
 
   mounted_worked : (s : VolumeState) → s.geo ≡ host.volume.geo → IsTrue s.settled → VolumeServes s new.medium → AreMounted host.geometry host.blocks s new.medium
-  mounted_worked s same settled serves =
-      mounted-worked host.geometry host.blocks host.volume s old.medium new.medium blocks_stay (λ n below. work_outside.stays_strong n (serves.layout.strong n below)) work_outside.count mounted same settled serves
+  mounted_worked s same settled served =
+      mounted-worked host.geometry host.blocks host.volume s old.medium new.medium blocks_stay (λ n below. work_outside.stays_strong n (serves.layout.strong n below)) work_outside.count mounted same settled served
+
+  -- the blocks can be read still
+  readable_worked : KeepsMarks host.volume.geo old.medium new.medium → bad_metadata host.geometry new.medium.is_bad ≡ [] → AreReadable host.geometry new.medium
+  readable_worked marks none =
+      let same = same_bad host.geometry old.medium new.medium (λ n below. marks n (subst (λ g. n < meta_lines g) (sym mounted.volume_geometry) below)) in
+      each_reads-stays host.geometry old.medium new.medium (λ _. Unit {0}) serves.layout.valid blocks_stay (serves.readable (sym same ∙ none))
 
 module _ {E R : Type 0} (says : E → Told R) (host : HostState) (s : VolumeState) (action : Action) (calls persists : ℕ) (h : Machine) (few : calls ≤ (spending h action).calls) (few_persists : persists ≤ (spending h action).persists)
     (old new : Device) (on : host.mode ≡ On) (serves : HostServes host old) (stands : Stands host old h) where
@@ -210,7 +217,7 @@ module _ {E R : Type 0} (says : E → Told R) (answer_to : R → Answer) (part :
   work_serves =
       subst (λ k. HostServes k new) (sym state)
       (serves_of_call says answer_to part host (volume_after host s) old new on_inside (λ m. refl) (λ m. refl) calls persists r serves_inside
-      (same_host says host s r old new call.untouched) (layout_worked host old new on_inside serves_inside call.outside) (mounted_ok says host s r calls persists old new on_inside serves_inside call) call.runs)
+      (same_host says host s r old new call.untouched) (layout_worked host old new on_inside serves_inside call.outside) (readable_worked host old new on_inside serves_inside call.outside call.marks) (mounted_ok says host s r calls persists old new on_inside serves_inside call) call.runs)
 
   pub work_comes : (h : Machine) (good answer : Answer) (why : Option R) (pages : List Page) → stop_in good ≡ None → Stands now old h
       → fate h action ≡ unless_refused h (option_map answer_to why) (Works good (record h { volume = pages })) → Answers says why r → OnOk r (VolumeHolds s new.medium pages)

@@ -50,7 +50,7 @@ pub fn longest_reply(command: &Command) -> u64
 }
 
 impl Host {
-    #[tactic(auto, using(crate::proofs::RefusalLemmas::is_on, crate::proofs::RefusalLemmas::is_off, crate::proofs::RefusalLemmas::is_powered, crate::proofs::RefusalLemmas::places_right, crate::proofs::RefusalLemmas::span_allowed, crate::proofs::RefusalLemmas::read_within, crate::proofs::RefusalLemmas::cut_in_some))]
+    #[tactic(auto, using(crate::proofs::RefusalLemmas::is_on, crate::proofs::RefusalLemmas::is_off, crate::proofs::RefusalLemmas::is_powered, crate::proofs::RefusalLemmas::is_unsettled, crate::proofs::RefusalLemmas::places_right, crate::proofs::RefusalLemmas::span_allowed, crate::proofs::RefusalLemmas::read_within, crate::proofs::RefusalLemmas::calls_some, crate::proofs::RefusalLemmas::line_within))]
     pub fn perform<D: LineDevice>(
         &mut self,
         device: &mut D,

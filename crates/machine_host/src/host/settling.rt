@@ -1,7 +1,9 @@
 // Bringing host and device to rest.
-ghost use Rattle.std.specs.Prelude.{◌≡◌, false, OnOk, OnErr};
+ghost use Rattle.std.specs.Prelude.{◌≡◌, false, MatchResult, OnOk, OnErr};
+ghost use Rattle.nvm_base.specs.declared.units.LineNo.{LineNo};
+ghost use Rattle.recovery.specs.declared.fault.MountFault.TheVariants.{Meta, Device, PowerLost};
 ghost use Rattle.line_device.specs.Panel.{after_disarm};
-ghost use Rattle.machine_host.specs.declared.mode.Mode.TheVariants.{Off, Unsettled};
+ghost use Rattle.machine_host.specs.declared.mode.Mode.TheVariants.{Off, Unsettled, Stopped};
 ghost use Rattle.machine_host.specs.Machine.{Machine};
 ghost use Rattle.machine_host.specs.Stands.{HostServes, Stands};
 ghost use Rattle.machine_host.specs.Settling.{IsQuiet, LeftUnsettled, MountsAnew, Settled, Settles, is_down};
@@ -56,12 +58,23 @@ impl Host {
                 self.take(mounted);
                 Ok(())
             }
-            Err(MountFault::Meta(_)) => {
+            Err(fault) => self.stop(fault),
+        }
+    }
+
+    // A mount that the device did not stop: a bad line of metadata stops the host, and else there was no memory.
+    fn stop(&mut self, fault: MountFault) -> Result<(), AllocError>
+        requires went { fault ≡ Device → ⊥ }
+        requires powered { fault ≡ PowerLost → ⊥ }
+        ensures { MatchResult result (λ _. (line : LineNo) × (fault ≡ Meta line) × (self.new ≡ record self.old { mode = Stopped })) (λ _. self.new ≡ self.old) }
+    {
+        match fault {
+            MountFault::Meta(_) => {
                 self.mode = Mode::Stopped;
                 Ok(())
             }
-            Err(MountFault::Memory | MountFault::Layout(_)) => Err(AllocError),
-            Err(MountFault::Device | MountFault::PowerLost) => unreachable!(),
+            MountFault::Memory | MountFault::Layout(_) => Err(AllocError),
+            MountFault::Device | MountFault::PowerLost => unreachable!(),
         }
     }
 }

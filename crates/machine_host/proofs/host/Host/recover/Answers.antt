@@ -3,7 +3,7 @@ use Rattle.reply_text.specs.Answer.{answer_of}
 use Rattle.script_text.specs.Action.Action.{Recover}
 use Rattle.machine_host.specs.Responding.{Answered}
 use Rattle.machine_host.proofs.MountLemmas.{line_zero, mount_within}
-use Rattle.machine_host.proofs.RemountLemmas.{Gives, durable_mount, none_found}
+use Rattle.machine_host.proofs.RemountLemmas.{Gives, IsMount, durable_mount, none_found}
 use Rattle.machine_host.proofs.RestartAnswerLemmas.{mount_done, recover_answered, recover_unmounted}
 use Rattle.machine_host.proofs.host.Host.recover.Goals as goal
 
@@ -13,7 +13,7 @@ mount-requires-clause-some g c = line_zero c.args.self.now.geometry _ c.requires
 pub mounted-requires-clause-blocks : goal.mounted-requires-clause-blocks
 mounted-requires-clause-blocks g c =
     let x = c.in-Ok.ensures in
-    let mount = record { outside = x.outside; refused = x.refused; reads = x.reads; presence = x.presence } in
+    let mount : IsMount (g.D.Lines.state c.args.device.now) (g.D.Lines.state c.mount.new.dev) = record { outside = x.outside; refused = x.refused; reads = x.reads; presence = x.presence } in
     let layout = c.requires.serves.layout in
     let sound = g.met.D.Lines.sound c.args.device.now in
     x.serves (durable_mount c.args.self.now.geometry _ _ layout sound mount c.requires.serves.readable (none_found c.args.self.now.geometry _ _ layout sound mount x.finds))

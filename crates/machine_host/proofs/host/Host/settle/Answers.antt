@@ -1,10 +1,15 @@
-use Rattle.std.proofs.Common.{ap, sym, ◌∙◌}
+use Rattle.std.proofs.Common.{◌≡◌, false, inl, inr, ap, sym, ◌∙◌}
+use Rattle.machine_host.specs.Settling.{is_down}
 use Rattle.machine_host.proofs.SettlingLemmas.{left_of_back, left_of_mount, settled_of_back, settled_of_mount, settled_on}
 use Rattle.machine_host.proofs.host.Host.settle.Goals as goal
 
 pub returns-in-On-clause-settled : goal.returns-in-On-clause-settled
 returns-in-On-clause-settled g c =
-    settled_on c.args.self.now _ _ c.requires.serves c.disarm.ensures.lines c.disarm.ensures.panel (sym (ap (λ k. k.mode) c.self.view_is) ∙ c.in-On.is)
+    settled_on c.args.self.now _ _ c.requires.serves c.disarm.ensures.lines c.disarm.ensures.panel
+    (elim c.in-On.is as (λ _. is_down c.args.self.now.mode ≡ false) [
+      | inl on ↦ ap is_down (sym (ap (λ k. k.mode) c.self.view_is) ∙ on)
+      | inr stopped ↦ ap is_down (sym (ap (λ k. k.mode) c.self.view_is) ∙ stopped)
+    ])
 
 pub returns-in-Off-clause-settled : goal.returns-in-Off-clause-settled
 returns-in-Off-clause-settled g c =

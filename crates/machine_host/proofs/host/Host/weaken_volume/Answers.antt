@@ -58,5 +58,5 @@ returns-in-Err-Memory g c =
     let written = said.memory (ap (λ (f : WeakenFault). Err f) c.in-Err-Memory.field-0-is) in
     record {
       leaves = (refl, written, said.panel);
-      serves = serves_ordered c.args.self.now c.args.self.now.mode _ _ c.requires.serves written (ap (λ p. p.power) said.panel ∙ c.requires.serves.power) (λ on. on);
+      serves = serves_ordered c.args.self.now c.args.self.now.mode _ _ c.requires.serves written (ap (λ p. p.power) said.panel ∙ c.requires.serves.power) (λ on. on) (λ stop. stop);
     }

@@ -1,0 +1,148 @@
+-- A line of metadata goes bad, while blocks and volume stay mounted, in each mode.
+use Rattle.std.proofs.Common.{◌≡◌, ◌≢◌, ◌*◌, ◌/◌, ◌<◌, ◌≤◌, ◌==◌, ℕ, Bool, true, false, cond, List, [], ◌∷◌, length, nat_lt, refl, sym, ap, subst, ◌∙◌, arith}
+use Rattle.std.proofs.lemmas.List.{length-map}
+use Rattle.line_device.specs.History.{IsIn}
+use Rattle.line_device.specs.Medium.{Medium, WritesBack, poisoned}
+use Rattle.line_device.specs.Device.{Device}
+use Rattle.line_device.proofs.HistoryLemmas.{is_in-word_write_back}
+use Rattle.word_tables.specs.Layout.{meta_lines, volume_line}
+use Rattle.word_log.specs.Area.{IsOf}
+use Rattle.nvm_model.specs.Page.{is_present}
+use Rattle.block_device.specs.Object.{blocks_of}
+use Rattle.block_device.proofs.PlaceLemmas.{named_is_data}
+use Rattle.block_device.proofs.PoisonLemmas.{serves-poisoned}
+use Rattle.block_device.proofs.ReadLemmas.{map_read-stays}
+use Rattle.pm_volume.specs.Area.{volume_area}
+use Rattle.pm_volume.specs.Object.{VolumeHolds}
+use Rattle.pm_volume.proofs.StandingLemmas.{LineKept, pages-kept, volume_serves-kept}
+use Rattle.scrub.specs.Others.{WritesBackBut}
+use Rattle.scrub.proofs.OthersLemmas.{but-renewed}
+use Rattle.reply_text.specs.Answer.Answer.{Done}
+use Rattle.script_text.specs.Action.Action.{PoisonMeta}
+use Rattle.machine_host.specs.declared.mode.Mode.TheVariants as modes
+use Rattle.machine_host.specs.Machine.{Machine}
+use Rattle.machine_host.specs.Lines.{bad_metadata}
+use Rattle.machine_host.specs.OnMedia.{with_line}
+use Rattle.machine_host.specs.Responding.{Answered}
+use Rattle.machine_host.specs.Run.{answered}
+use Rattle.machine_host.specs.Stands.{HostState, HostServes, AreMounted, Stands, is_powered}
+use Rattle.machine_host.specs.Telling.{Tells}
+use Rattle.machine_host.proofs.BadLineLemmas.{layout-poisoned, metadata-poisoned}
+use Rattle.machine_host.proofs.LayoutLemmas.{stays_of_kept}
+use Rattle.machine_host.proofs.LineLemmas.{data_behind}
+use Rattle.machine_host.proofs.MediaLemmas.{kept-but}
+use Rattle.machine_host.proofs.RefusalLemmas.{always_allowed, line_right}
+use Rattle.machine_host.proofs.StepLemmas.{comes_placed}
+use Rattle.machine_host.proofs.TellingLemmas.{tells_nothing}
+use Rattle.machine_host.proofs.VolumeLemmas.{volume_behind}
+
+-- with one more line some are bad
+some_bad : (line : ℕ) (lines : List ℕ) → with_line line lines ≢ []
+some_bad line [] none = cc none
+some_bad line (next ∷ lines) = by_tests (nat_lt line next) (line == next)
+  where
+    by_tests : (below same : Bool) → cond below (line ∷ next ∷ lines) (cond same (next ∷ lines) (next ∷ with_line line lines)) ≡ [] → ⊥
+    by_tests true same none = cc none
+    by_tests false true none = cc none
+    by_tests false false none = cc none
+
+module _ (host : HostState) (old new : Device) (line : ℕ) (serves : HostServes host old) (within : line < meta_lines host.geometry) (w : WritesBack (poisoned old.medium line) new.medium) (panel : new.panel ≡ old.panel) where
+  but : WritesBackBut (λ n. n ≡ line) old.medium new.medium
+  but = but-renewed old.medium new.medium line true false (λ _. []) w
+
+  -- lines behind the metadata are kept
+  behind_kept : (n : ℕ) → meta_lines host.geometry ≤ n → LineKept old.medium new.medium n
+  behind_kept n past = kept-but (λ n. n ≡ line) old.medium new.medium n (λ is. omega (arith, is, past, within)) but
+
+  bad_now : bad_metadata host.geometry new.medium.is_bad ≡ with_line line (bad_metadata host.geometry old.medium.is_bad)
+  bad_now = (metadata-poisoned host.geometry line old.medium new.medium within w (bad_metadata host.geometry old.medium.is_bad) (record { layout = serves.layout; bad = refl })).bad
+
+  -- a word of a line that went bad has no value left
+  fewer : (p v : ℕ) → IsIn v (new.medium.history p) → IsIn v (old.medium.history p)
+  fewer p v at = by_line (p / 8 == line) (is_in-word_write_back ((poisoned old.medium line).is_weak (p / 8)) v ((poisoned old.medium line).history p) (new.medium.history p) (w.word_write_back p) at)
+    where
+      by_line : (b : Bool) → IsIn v (cond b [] (old.medium.history p)) → IsIn v (old.medium.history p)
+      by_line true none = absurd none
+      by_line false was = was
+
+  still_strong : (n : ℕ) → old.medium.is_weak n ≡ false → new.medium.is_weak n ≡ false
+  still_strong n strong = w.weak n ∙ by_line (n == line)
+    where
+      by_line : (b : Bool) → cond b false (old.medium.is_weak n) ≡ false
+      by_line true = refl
+      by_line false = strong
+
+  still_mounted : AreMounted host.geometry host.blocks host.volume old.medium → AreMounted host.geometry host.blocks host.volume new.medium
+  still_mounted mounted = record {
+    geometry = mounted.geometry;
+    settled = mounted.settled;
+    serves = serves-poisoned host.blocks old.medium new.medium line w mounted.serves;
+    volume_geometry = mounted.volume_geometry;
+    volume_settled = mounted.volume_settled;
+    volume_serves = volume_serves-kept host.volume old.medium new.medium (λ p of v at. fewer p v at) (λ n below. still_strong n (mounted.volume_serves.strong n below)) w.count mounted.volume_serves;
+  }
+
+  serves_poisoned : HostServes host new
+  serves_poisoned = record {
+    layout = layout-poisoned host.geometry line old.medium new.medium within w serves.layout;
+    readable = λ none. absurd (some_bad line (bad_metadata host.geometry old.medium.is_bad) (sym bad_now ∙ none));
+    power = ap (λ p. p.power) panel ∙ serves.power;
+    mounted = λ on. still_mounted (serves.mounted on);
+    stopped = λ _ none. some_bad line (bad_metadata host.geometry old.medium.is_bad) (sym bad_now ∙ none);
+  }
+
+  module _ (h : Machine) (stands : Stands host old h) where
+    blocks_same : host.mode ≡ modes.On → blocks_of host.blocks new.medium ≡ h.blocks
+    blocks_same on =
+        let mounted = serves.mounted on in
+        let s = host.blocks in
+        map_read-stays s.geo s.map old.medium new.medium
+        (λ n named. stays_of_kept old.medium new.medium n
+        (behind_kept n (subst (λ g. meta_lines g ≤ n) mounted.geometry (data_behind s.geo n (named_is_data s.geo mounted.serves.valid s.map n mounted.serves.all mounted.serves.is_map named)))))
+        ∙ stands.blocks on
+
+    volume_same : host.mode ≡ modes.On → VolumeHolds host.volume new.medium h.volume
+    volume_same on =
+        let mounted = serves.mounted on in
+        let v = host.volume in
+        let holds = stands.volume on in
+        record {
+          there = holds.there;
+          stand = pages-kept v.geo old.medium new.medium h.volume (sym (length-map h.volume is_present) ∙ ap length holds.there ∙ mounted.volume_serves.all)
+              (λ n lt. behind_kept (volume_line v.geo n) (subst (λ g. meta_lines g ≤ volume_line v.geo n) mounted.volume_geometry (volume_behind v.geo n))) holds.stand;
+        }
+
+    stands_poisoned : Stands host new (record h { bad_meta = with_line line h.bad_meta })
+    stands_poisoned = record {
+      geometry = stands.geometry;
+      mode = stands.mode;
+      blocks = blocks_same;
+      volume = volume_same;
+      device = record {
+        metadata = metadata-poisoned h.geometry line old.medium new.medium (subst (λ g. line < meta_lines g) stands.geometry within) w h.bad_meta stands.device.metadata;
+        blocks = λ none. absurd (some_bad line h.bad_meta none);
+        volume = λ none. absurd (some_bad line h.bad_meta none);
+        power = ap (λ p. p.power) panel ∙ stands.device.power;
+        cut_armed = ap (λ p. p.cut_armed) panel ∙ stands.device.cut_armed;
+        fail_armed = ap (λ p. p.fail_armed) panel ∙ stands.device.fail_armed;
+        whole = stands.device.whole;
+        stopped = λ _. some_bad line h.bad_meta;
+      };
+    }
+
+-- It is answered.
+pub poison_meta_answered : (host : HostState) (old new : Device) (line : ℕ) → HostServes host old → line < meta_lines host.geometry → WritesBack (poisoned old.medium line) new.medium → new.panel ≡ old.panel
+    → Answered (PoisonMeta line) Done host host old new
+poison_meta_answered host old new line serves within w panel = record {
+  step = λ h stands. comes_placed host host old new h (PoisonMeta line) Done stands (always_allowed host.mode) refl (line_right line (meta_lines host.geometry) within) (record {
+    said = answered Done;
+    next = record h { bad_meta = with_line line h.bad_meta };
+    answers = refl;
+    takes = (refl, refl);
+    tells = subst (λ p. Tells (answered Done) old.panel p) (sym panel) (tells_nothing Done refl old.panel);
+    stands = stands_poisoned host old new line serves within w panel h stands;
+  });
+  printable = tt;
+  room = omega arith;
+  serves = serves_poisoned host old new line serves within w panel;
+}
