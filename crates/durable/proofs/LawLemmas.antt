@@ -12,14 +12,14 @@ use Rattle.nvm_model.proofs.PageLemmas.{cell_of-persist, presence_of-persist}
 use Rattle.reply_text.specs.Answer.{Answer}
 use Rattle.reply_text.specs.Answer.Answer.{Done}
 use Rattle.script_text.specs.Action.{Action}
-use Rattle.script_text.specs.Action.Action.{VSync, VPSync, ClearVolume, Cut, CutIn, Restart}
+use Rattle.script_text.specs.Action.Action.{VSync, VPSync, ClearVolume, PoisonMeta, Cut, CutIn, FailIn, Restart, Recover}
 use Rattle.script_text.specs.Script.{Input}
 use Rattle.script_text.specs.Script.Input.{Skipped, Malformed, Asked}
 use Rattle.machine_host.specs.Machine.{Machine}
 use Rattle.word_tables.specs.declared.geometry.Geometry.{Geometry}
 use Rattle.machine_host.specs.Commands.{meaning, refusal}
 use Rattle.machine_host.specs.Interrupted.{interrupted_answer}
-use Rattle.machine_host.specs.Meaning.Needs.{Usable}
+use Rattle.machine_host.specs.declared.needs.Needs.TheVariants.{Usable}
 use Rattle.machine_host.specs.OnVolume.{persist_at}
 use Rattle.pm_volume.specs.Refusals.{physical_offset}
 use Rattle.machine_host.specs.Run.{Hears, Run, Transcript}
@@ -27,9 +27,9 @@ use Rattle.durable.specs.Place.{Place, byte_at_place, line_has}
 use Rattle.durable.specs.Place.{is_line_present}
 use Rattle.durable.specs.Place.Place.{of_volume, of_blocks}
 use Rattle.durable.specs.Touching.{changes, holds, is_begun, is_made_durable, made_durable, poisons, touched_lines_at, weakens}
-use Rattle.durable.specs.Durable.{BringBytes, BringsBytes, Does, HaveLines, IsComplete, IsDurable, IsLineThere, Lasts, Spares}
-use Rattle.durable.proofs.StepLemmas.{Alters, Step, geometry_run, geometry_step, step_of}
-use Rattle.durable.proofs.StepLemmas.Step.{idles, alters, stops, returns}
+use Rattle.durable.specs.Durable.{BringBytes, BringsBytes, Does, HasNothing, HaveLines, IsComplete, IsDurable, IsLineThere, Lasts, Spares}
+use Rattle.durable.proofs.StepLemmas.{Alters, Step, geometry_run, geometry_step, nothing_run, step_of}
+use Rattle.durable.proofs.StepLemmas.Step.{idles, alters, stops, returns, remounts, empties}
 use Rattle.durable.proofs.LineLemmas.{HasOrLost, LineKeeps, MayBe, line_keeps-flushed}
 use Rattle.durable.proofs.VolumeLemmas.{VolumeKeeps, absent-kept}
 use Rattle.durable.proofs.KeepLemmas.{Keeps, PlaceKeeps, SparedBy, SparesPlace, keeps-step, keeps_byte}
@@ -49,8 +49,14 @@ covers_usable h Cut (of_volume i) covered = cc covered
 covers_usable h Cut (of_blocks i) covered = cc covered
 covers_usable h (CutIn calls) (of_volume i) covered = cc covered
 covers_usable h (CutIn calls) (of_blocks i) covered = cc covered
+covers_usable h (FailIn calls) (of_volume i) covered = cc covered
+covers_usable h (FailIn calls) (of_blocks i) covered = cc covered
 covers_usable h (Restart choice) (of_volume i) covered = cc covered
 covers_usable h (Restart choice) (of_blocks i) covered = cc covered
+covers_usable h Recover (of_volume i) covered = cc covered
+covers_usable h Recover (of_blocks i) covered = cc covered
+covers_usable h (PoisonMeta line) (of_volume i) covered = cc covered
+covers_usable h (PoisonMeta line) (of_blocks i) covered = cc covered
 covers_usable h action x covered = refl
 
 pub stop_done : (by : Interruption) → Done ≡ interrupted_answer by → ⊥
@@ -67,6 +73,8 @@ came_by h action answer next x covered done (idles (inl why) to) = absurd (both_
 came_by h action answer next x covered done (idles (inr none) to) = absurd (both_ways _ (none x) covered)
 came_by h action answer next x covered done (stops by is to) = absurd (stop_done by (sym done ∙ is))
 came_by h action answer next x covered done (returns none back) = absurd (both_ways _ (none x) covered)
+came_by h action answer next x covered done (remounts none back) = absurd (both_ways _ (none x) covered)
+came_by h action answer next x covered done (empties none to) = absurd (both_ways _ (none x) covered)
 came_by h action answer next x covered done (alters begun none to) = record { none = none; to = to }
 
 pub done_by : (h next : Machine) (action : Action) (x : Place) → Does h action next → is_made_durable h action x ≡ true → Came h action next
@@ -127,16 +135,20 @@ module _ (since : MayBe) where
         (change.1, poison.1, weaken.1, cover.1),
       )
 
+  -- the place keeps its byte, or nothing is there
+  abbrev KeepsOr : Machine → Place → Option ℕ → Type 0
+  KeepsOr h x v = Keeps since h x v ⊎ HasNothing h
+
   keeps-heard : (input : Input) (inputs : List Input) (h next : Machine) (first : Transcript) (answers : List Answer) (x : Place) (v : Option ℕ) → BringBytes (input ∷ inputs)
       → Hears h input first next → Allowed since h.geometry x (input ∷ inputs) (first.answers ++ answers) → Keeps since h x v
-      → Keeps since next x v × Allowed since next.geometry x inputs answers × BringBytes inputs
+      → KeepsOr next x v × Allowed since next.geometry x inputs answers × BringBytes inputs
   keeps-heard Skipped inputs h next first answers x v bytes heard all keeps = (
-    subst (λ m. Keeps since m x v) (sym heard.1) keeps,
+    inl (subst (λ m. Keeps since m x v) (sym heard.1) keeps),
     subst (λ m. Allowed since m.geometry x inputs answers) (sym heard.1) (subst (λ (s : Transcript). Allowed since h.geometry x inputs (s.answers ++ answers)) heard.0 all),
     bytes,
   )
   keeps-heard Malformed inputs h next first answers x v bytes heard all keeps = (
-    subst (λ m. Keeps since m x v) (sym heard.1) keeps,
+    inl (subst (λ m. Keeps since m x v) (sym heard.1) keeps),
     subst (λ m. Allowed since m.geometry x inputs answers) (sym heard.1)
         (subst (λ (s : Transcript). Allowed since h.geometry x (Malformed ∷ inputs) (s.answers ++ answers)) heard.0 all),
     bytes,
@@ -150,12 +162,17 @@ module _ (since : MayBe) where
       )
 
   keeps-run : (inputs : List Input) (h later : Machine) (said : Transcript) (x : Place) (v : Option ℕ) → BringBytes inputs → Run h inputs said later
-      → Allowed since h.geometry x inputs said.answers → Keeps since h x v → Keeps since later x v
-  keeps-run [] h later said x v bytes run all keeps = subst (λ m. Keeps since m x v) (sym run.1) keeps
-  keeps-run (input ∷ inputs) h later said x v bytes run all keeps =
+      → Allowed since h.geometry x inputs said.answers → KeepsOr h x v → KeepsOr later x v
+  keeps-run inputs h later said x v bytes run all (inr nothing) = inr (nothing_run h later inputs said nothing run)
+  keeps-run [] h later said x v bytes run all (inl keeps) = inl (subst (λ m. Keeps since m x v) (sym run.1) keeps)
+  keeps-run (input ∷ inputs) h later said x v bytes run all (inl keeps) =
       let split = subst (λ (s : Transcript). Allowed since h.geometry x (input ∷ inputs) s.answers) run.3 all in
       let heard = keeps-heard input inputs h run.2 run.0 run.1.answers x v bytes run.4 split keeps in
       keeps-run inputs run.2 later run.1 x v heard.2 run.5 heard.1 heard.0
+
+  byte_or : (h : Machine) (x : Place) (v : Option ℕ) → KeepsOr h x v → HasOrLost since.lost (byte_at_place h x) v ⊎ HasNothing h
+  byte_or h x v (inl keeps) = inl (keeps_byte since h x v keeps)
+  byte_or h x v (inr nothing) = inr nothing
 
   -- what a sync left of a line that it touches
   synced_line : (start len i : ℕ) (pages : List Page) → touches start len (i / 64) ≡ true → HaveLines pages
@@ -223,28 +240,29 @@ unharmed_since = record { weak = false; lost = false }
 abbrev weak_since : MayBe
 weak_since = record { weak = true; lost = false }
 
-not_lost : (found v : Option ℕ) → HasOrLost false found v → found ≡ v
-not_lost found v (inl is) = is
-not_lost found v (inr lost) = cc lost.1
+not_lost : (h : Machine) (x : Place) (v : Option ℕ) → HasOrLost false (byte_at_place h x) v ⊎ HasNothing h → (byte_at_place h x ≡ v) ⊎ HasNothing h
+not_lost h x v (inl (inl is)) = inl is
+not_lost h x v (inl (inr lost)) = cc lost.1
+not_lost h x v (inr nothing) = inr nothing
 
 -- a place that keeps its byte, whatever a run does
 pub lasts : (h : Machine) (x : Place) (v : Option ℕ) → IsComplete h → ((since : MayBe) → Keeps since h x v) → Lasts h x v
 lasts h x v whole keeps inputs said later bytes run = record {
   has = λ spares.
       has true later x v (whole-run inputs h later said whole run)
-      (keeps_byte lost_since later x v
-      (keeps-run lost_since inputs h later said x v bytes run (spares, inr refl, inr refl, inr (λ weak. refl)) (keeps lost_since)));
-  unharmed = λ spares poison weaken. not_lost (byte_at_place later x) v (by_harm spares poison weaken);
+      (byte_or lost_since later x v
+      (keeps-run lost_since inputs h later said x v bytes run (spares, inr refl, inr refl, inr (λ weak. refl)) (inl (keeps lost_since))));
+  unharmed = λ spares poison weaken. not_lost later x v (by_harm spares poison weaken);
 }
   where
     by_harm : Spares changes x inputs said.answers → Spares poisons x inputs said.answers
-        → Spares weakens x inputs said.answers ⊎ Spares (is_made_durable later) x inputs said.answers → HasOrLost false (byte_at_place later x) v
+        → Spares weakens x inputs said.answers ⊎ Spares (is_made_durable later) x inputs said.answers → HasOrLost false (byte_at_place later x) v ⊎ HasNothing later
     by_harm spares poison (inl weaken) =
-        keeps_byte unharmed_since later x v
-        (keeps-run unharmed_since inputs h later said x v bytes run (spares, inl poison, inl weaken, inr (λ weak. cc weak)) (keeps unharmed_since))
+        byte_or unharmed_since later x v
+        (keeps-run unharmed_since inputs h later said x v bytes run (spares, inl poison, inl weaken, inr (λ weak. cc weak)) (inl (keeps unharmed_since)))
     by_harm spares poison (inr cover) =
         let synced = subst (λ g. Spares (λ action y. holds (made_durable g action) y) x inputs said.answers) (geometry_run inputs h later said run) cover in
-        keeps_byte weak_since later x v (keeps-run weak_since inputs h later said x v bytes run (spares, inl poison, inr refl, inl synced) (keeps weak_since))
+        byte_or weak_since later x v (keeps-run weak_since inputs h later said x v bytes run (spares, inl poison, inr refl, inl synced) (inl (keeps weak_since)))
 
 pub durable : (h next : Machine) (action : Action) (x : Place) → Does h action next → is_made_durable h action x ≡ true → IsDurable next x
 durable h next action x does covered =

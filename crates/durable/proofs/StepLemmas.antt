@@ -401,38 +401,38 @@ geometry_step h action answer next (empties none to) = to.geometry
 
 -- nothing is there any more, and nothing comes back
 nothing_as : (h next : Machine) → next.blocks ≡ h.blocks → next.volume ≡ h.volume → (h.bad_meta ≢ [] → next.bad_meta ≢ []) → (next.mode ≡ On → h.mode ≡ On) → HasNothing h → HasNothing next
-nothing_as h next blocks volume metadata mode nothing = record {
-  metadata = metadata nothing.metadata;
-  mode = λ on. nothing.mode (mode on);
-  blocks = blocks ∙ nothing.blocks;
-  volume = volume ∙ nothing.volume;
+nothing_as h next blocks volume metadata mode gone = record {
+  metadata = metadata gone.metadata;
+  mode = λ on. gone.mode (mode on);
+  blocks = blocks ∙ gone.blocks;
+  volume = volume ∙ gone.volume;
 }
 
 pub nothing_idle : (h next : Machine) → Idles h next → HasNothing h → HasNothing next
-nothing_idle h next to nothing = nothing_as h next to.blocks to.volume to.metadata to.mode nothing
+nothing_idle h next to gone = nothing_as h next to.blocks to.volume to.metadata to.mode gone
 
 pub nothing_stopped : (h : Machine) (action : Action) (next : Machine) → Stops h action next → HasNothing h → HasNothing next
-nothing_stopped h action next to nothing =
-    nothing_as h next to.blocks to.volume (λ bad none. bad (sym to.metadata ∙ none)) (λ on. absurd (to.mode on)) nothing
+nothing_stopped h action next to gone =
+    nothing_as h next to.blocks to.volume (λ bad none. bad (sym to.metadata ∙ none)) (λ on. absurd (to.mode on)) gone
 
 pub nothing_step : (h : Machine) (action : Action) (answer : Answer) (next : Machine) → HasNothing h → Step h action answer next → HasNothing next
-nothing_step h action answer next nothing (idles why to) = nothing_idle h next to nothing
-nothing_step h action answer next nothing (alters begun none to) = absurd (nothing.mode (is_on h action to.needs none))
-nothing_step h action answer next nothing (stops by is to) = nothing_stopped h action next to nothing
-nothing_step h action answer next nothing (returns none back) = absurd (nothing.metadata back.metadata)
-nothing_step h action answer next nothing (remounts none back) = absurd (nothing.metadata back.metadata)
-nothing_step h action answer next nothing (empties none to) = to.nothing
+nothing_step h action answer next gone (idles why to) = nothing_idle h next to gone
+nothing_step h action answer next gone (alters begun none to) = absurd (gone.mode (is_on h action to.needs none))
+nothing_step h action answer next gone (stops by is to) = nothing_stopped h action next to gone
+nothing_step h action answer next gone (returns none back) = absurd (gone.metadata back.metadata)
+nothing_step h action answer next gone (remounts none back) = absurd (gone.metadata back.metadata)
+nothing_step h action answer next gone (empties none to) = to.nothing
 
 pub nothing_heard : (h : Machine) (input : Input) (said : Transcript) (next : Machine) → HasNothing h → Hears h input said next → HasNothing next
-nothing_heard h Skipped said next nothing heard = subst HasNothing (sym heard.1) nothing
-nothing_heard h Malformed said next nothing heard = subst HasNothing (sym heard.1) nothing
-nothing_heard h (Asked action) said next nothing heard =
-    let taken = step_of h action said next heard in nothing_step h action taken.answer next nothing taken.step
+nothing_heard h Skipped said next gone heard = subst HasNothing (sym heard.1) gone
+nothing_heard h Malformed said next gone heard = subst HasNothing (sym heard.1) gone
+nothing_heard h (Asked action) said next gone heard =
+    let taken = step_of h action said next heard in nothing_step h action taken.answer next gone taken.step
 
 pub nothing_run : (h later : Machine) (inputs : List Input) (said : Transcript) → HasNothing h → Run h inputs said later → HasNothing later
-nothing_run h later [] said nothing run = subst HasNothing (sym run.1) nothing
-nothing_run h later (input ∷ inputs) said nothing run =
-    nothing_run run.2 later inputs run.1 (nothing_heard h input run.0 run.2 nothing run.4) run.5
+nothing_run h later [] said gone run = subst HasNothing (sym run.1) gone
+nothing_run h later (input ∷ inputs) said gone run =
+    nothing_run run.2 later inputs run.1 (nothing_heard h input run.0 run.2 gone run.4) run.5
 
 geometry_heard : (h : Machine) (input : Input) (said : Transcript) (next : Machine) → Hears h input said next → next.geometry ≡ h.geometry
 geometry_heard h Skipped said next heard = ap (λ m. m.geometry) heard.1

@@ -42,10 +42,10 @@ use Rattle.durable.specs.Place.{block_has, byte_at_place, is_line_present, is_we
 use Rattle.durable.specs.Place.Place.{of_volume, of_blocks}
 use Rattle.durable.specs.Touching.{is_made_durable, touched_lines_at}
 use Rattle.durable.specs.Durable.{Does, IsLineThere, Lasts}
-use Rattle.durable.proofs.RefusalLemmas.{is_refused, places_none, refused_told, unreadable_none}
+use Rattle.durable.proofs.RefusalLemmas.{is_on, is_refused, places_none, refused_told, unreadable_none}
 use Rattle.durable.proofs.LawLemmas.{durable, stop_done, was_bad}
 use Rattle.durable.proofs.LineLemmas.{zero_shown}
-use Rattle.durable.proofs.WholeLemmas.{lines-fill}
+use Rattle.durable.proofs.WholeLemmas.{counted_on, lines-fill}
 
 -- a command that was done
 pub works_done : (h : Machine) (action : Action) (to next : Machine) → (meaning action).comes h ≡ Works Done to → Does h action next → (refusal h action ≡ None) × (next ≡ to)
@@ -120,7 +120,7 @@ written h next block i bytes does among =
     let done = works_done h (BWrite block bytes) (record h { blocks = write block bytes h.blocks }) next refl does in
     let fits = bytes_within h.geometry.blocks block (length bytes) (blocks_none _ (places_none h (BWrite block bytes) done.0)) in
     let is : byte_at_place next (of_blocks i) ≡ Some (slice_index bytes (i - 512 * block)) =
-    ap (λ m. byte_at_place m (of_blocks i)) done.1 ∙ written_byte block i bytes h.blocks among (omega (arith, does.whole.blocks)) in
+    ap (λ m. byte_at_place m (of_blocks i)) done.1 ∙ written_byte block i bytes h.blocks among (omega (arith, fits, (counted_on h does.whole (is_on h (BWrite block bytes) refl done.0)).blocks)) in
     subst (Lasts next (of_blocks i)) is (durable h next (BWrite block bytes) (of_blocks i) does (or_true _ among))
 
 pub written_together : (h next : Machine) (block i : ℕ) (bytes : List ℕ) → Does h (BAtomic block bytes) next → is_among block (length bytes / 512) (i / 512) ≡ true
@@ -131,7 +131,7 @@ written_together h next block i bytes does among =
     let fits = bytes_within h.geometry.blocks block (length bytes)
     (first_none (bytes_refusal h.geometry.blocks block (length bytes)) (where_ (nat_lt 64 (length bytes / 512)) Limit) places) in
     let is : byte_at_place next (of_blocks i) ≡ Some (slice_index bytes (i - 512 * block)) =
-    ap (λ m. byte_at_place m (of_blocks i)) done.1 ∙ written_byte block i bytes h.blocks among (omega (arith, does.whole.blocks)) in
+    ap (λ m. byte_at_place m (of_blocks i)) done.1 ∙ written_byte block i bytes h.blocks among (omega (arith, fits, (counted_on h does.whole (is_on h (BAtomic block bytes) refl done.0)).blocks)) in
     subst (Lasts next (of_blocks i)) is (durable h next (BAtomic block bytes) (of_blocks i) does (or_true _ among))
 
 -- a line that was made durable shows what it had, unless it is lost
@@ -256,7 +256,7 @@ synced_by h stored next action at start len i bytes small stores syncs is good c
     let put_is = works_done h (VStore at bytes) (record h { volume = put at bytes filled }) stored refl stores in
     let within = stored_within h.geometry at (length bytes) (volume_none _ (places_none h (VStore at bytes) put_is.0)) in
     let to : i < at + length bytes = grind (arith, nat_tests) in
-    let there = filled_there at (length bytes) i h.volume among (omega (arith, within, to, stores.whole.pages)) in
+    let there = filled_there at (length bytes) i h.volume among (omega (arith, within, to, (counted_on h stores.whole (is_on h (VStore at bytes) refl put_is.0)).pages)) in
     let volume : stored.volume ≡ put at bytes filled = ap (λ m. m.volume) put_is.1 in
     let shown : byte_at_place next (of_volume i) ≡ line_has (cell_of (persist start len (put at bytes filled)) (i / 64)) (i % 64) =
     ap (λ p. line_has (cell_of p (i / 64)) (i % 64)) (is ∙ ap (persist start len) volume) in

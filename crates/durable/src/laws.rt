@@ -75,10 +75,10 @@ pub fn what_is_lost_stays_lost()
 pub fn reads_name_what_is_lost()
     ensures volume { (h next : Machine) (offset len i : ℕ) (said : Transcript) → byte_at_place h (of_volume i) ≡ None
         → is_among offset len i ≡ true → Hears h (Asked (VLoad offset len)) said next
-        → Names (early_refusal h.mode h.geometry (VLoad offset len)) (NamesLine h.volume offset len) said.answers }
+        → Names (early_refusal h.mode h.bad_meta h.geometry (VLoad offset len)) (NamesLine h.volume offset len) said.answers }
     ensures blocks { (h next : Machine) (block count i : ℕ) (said : Transcript) → IsComplete h → byte_at_place h (of_blocks i) ≡ None
         → is_among block count (i / 512) ≡ true → Hears h (Asked (BRead block count)) said next
-        → Names (early_refusal h.mode h.geometry (BRead block count)) (NamesObstacle h.blocks block count) said.answers }
+        → Names (early_refusal h.mode h.bad_meta h.geometry (BRead block count)) (NamesObstacle h.blocks block count) said.answers }
 {}
 
 /// No more lasts than that: a store that is not synced may be lost, though no later command changes anything. Of a machine as a
