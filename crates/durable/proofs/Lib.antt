@@ -16,3 +16,4 @@ pub mod ScriptLemmas
 pub mod WrittenLemmas
 pub mod UnsyncedLemmas
 pub mod PassLemmas
+pub mod MetadataLemmas

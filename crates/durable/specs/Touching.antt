@@ -1,4 +1,4 @@
--- Which bytes a command makes durable, which it changes, and of which it makes the line bad or weak.
+-- Which bytes a command makes durable, which it changes, of which it makes the line bad or weak, and which it keeps from mounts.
 use Rattle.std.specs.Prelude.{◌+◌, ◌*◌, ◌/◌, ◌==◌, ℕ, Bool, true, false, List, Option, Some, None, length}
 use Rattle.std.specs.List.{list_any}
 use Rattle.nvm_base.specs.declared.units.Span.{Span}
@@ -23,6 +23,9 @@ pub record Region : Type 0 where
 
 abbrev pub nothing : Region
 nothing = record { volume = λ i. false; blocks = λ i. false }
+
+abbrev pub everything : Region
+everything = record { volume = λ i. true; blocks = λ i. true }
 
 -- the bytes of blocks of some spans
 abbrev pub spanned : List Span → Region
@@ -113,13 +116,15 @@ region_changed (FailIn calls) = nothing
 region_changed (Restart choice) = nothing
 region_changed Recover = nothing
 
--- the line that a command makes bad at once, and the one that it makes weak, which a sync makes bad
+-- the line that a command makes bad at once, and the one that it makes weak, which a sync makes bad; and what no mount finds any
+-- more, as a line of metadata is bad
 pub record Harm : Type 0 where
   pub poisoned : Region
   pub weakened : Region
+  pub unmounted : Region
 
 abbrev pub no_harm : Harm
-no_harm = record { poisoned = nothing; weakened = nothing }
+no_harm = record { poisoned = nothing; weakened = nothing; unmounted = nothing }
 
 -- what a command does to lines beside changing them
 abbrev pub harm_done : Action → Harm
@@ -141,7 +146,7 @@ harm_done (VDiscardIf page count) = no_harm
 harm_done (VExists page) = no_harm
 harm_done (PoisonBlock block line) = record no_harm { poisoned = line_of_blocks (8 * block + line) }
 harm_done (PoisonVolume offset) = record no_harm { poisoned = line_of_volume (offset / 64) }
-harm_done (PoisonMeta line) = no_harm
+harm_done (PoisonMeta line) = record no_harm { unmounted = everything }
 harm_done (WeakenVolume offset) = record no_harm { weakened = line_of_volume (offset / 64) }
 harm_done (ClearVolume offset) = no_harm
 harm_done Cut = no_harm
@@ -161,6 +166,9 @@ poisons action x = holds (harm_done action).poisoned x
 
 abbrev pub weakens : Action → Place → Bool
 weakens action x = holds (harm_done action).weakened x
+
+abbrev pub unmounts : Action → Place → Bool
+unmounts action x = holds (harm_done action).unmounted x
 
 -- a command that was answered so was begun: it was done, or stopped on the way
 abbrev pub is_begun : Answer → Bool

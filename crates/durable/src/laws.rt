@@ -1,7 +1,9 @@
 // Laws of whole runs, each a function without a body.
 ghost use Rattle.std.specs.Prelude.{◌≡◌, ◌+◌, ◌-◌, ◌*◌, ◌/◌, ℕ, true, false, List, [], ◌∷◌, ◌++◌, length, slice_index, Some, None};
 ghost use Rattle.word_tables.specs.declared.geometry.Geometry.{Geometry};
-ghost use Rattle.durable.specs.Touching.{is_made_durable};
+ghost use Rattle.std.specs.List.{Contains};
+ghost use Rattle.durable.specs.Touching.{is_made_durable, unmounts};
+ghost use Rattle.reply_text.specs.Answer.Answer.{RefusedMeta};
 ghost use Rattle.nvm_model.specs.Cell.{covers, touches};
 ghost use Rattle.nvm_model.specs.Numbered.{is_among};
 ghost use Rattle.nvm_model.specs.Page.{cell_of, touches_absent};
@@ -14,15 +16,17 @@ ghost use Rattle.script_text.specs.Action.Action.{BRead, BWrite, BAtomic, VLoad,
 ghost use Rattle.script_text.specs.Script.{Input, inputs};
 ghost use Rattle.script_text.specs.Script.Input.{Asked};
 ghost use Rattle.line_device.specs.declared.line.Choice.TheVariants.{Firsts};
-ghost use Rattle.machine_host.specs.declared.mode.Mode.TheVariants.{On};
+ghost use Rattle.machine_host.specs.declared.mode.Mode.TheVariants.{On, Stopped};
+ghost use Rattle.machine_host.specs.declared.needs.Needs.TheVariants.{Usable};
+ghost use Rattle.machine_host.specs.Lines.{lowest};
 ghost use Rattle.machine_host.specs.Machine.{Machine};
 ghost use Rattle.machine_host.specs.Restarting.{reading};
-ghost use Rattle.machine_host.specs.Commands.{early_refusal};
+ghost use Rattle.machine_host.specs.Commands.{early_refusal, meaning};
 ghost use Rattle.machine_host.specs.Run.{Hears, Transcript, Run};
 ghost use Rattle.durable.specs.Place.{Place, byte_at_place, is_weak_line};
 ghost use Rattle.durable.specs.Naming.{Names, NamesLine, NamesObstacle};
 ghost use Rattle.durable.specs.Place.Place.{of_volume, of_blocks};
-ghost use Rattle.durable.specs.Durable.{BringBytes, BringsBytes, Does, IsDurable, IsComplete, KeepsThrough, Lasts};
+ghost use Rattle.durable.specs.Durable.{BringBytes, BringsBytes, Does, HasNothing, IsDurable, IsComplete, KeepsThrough, Lasts, Spares};
 
 /// A command that covers a byte was answered `ok`: in every later state, whatever is cut and restarted, the byte is the same or
 /// its line is lost, until a command that changes it is begun. It isn't lost where no command poisons its line, and none makes
@@ -79,6 +83,18 @@ pub fn reads_name_what_is_lost()
     ensures blocks { (h next : Machine) (block count i : ℕ) (said : Transcript) → IsComplete h → byte_at_place h (of_blocks i) ≡ None
         → is_among block count (i / 512) ≡ true → Hears h (Asked (BRead block count)) said next
         → Names (early_refusal h.mode h.bad_meta h.geometry (BRead block count)) (NamesObstacle h.blocks block count) said.answers }
+{}
+
+/// A line of metadata goes bad only by a command that poisons one, and stays bad. Once a mount finds one bad, nothing of the
+/// storage is there in any later state, and a command on it is answered with the lowest one.
+pub fn what_bad_metadata_stops()
+    ensures same { (h later : Machine) (x : Place) (inputs : List Input) (said : Transcript) → Run h inputs said later
+        → Spares unmounts x inputs said.answers → later.bad_meta ≡ h.bad_meta }
+    ensures stays { (h later : Machine) (line : ℕ) (inputs : List Input) (said : Transcript) → Run h inputs said later
+        → Contains h.bad_meta line → Contains later.bad_meta line }
+    ensures nothing { (h later : Machine) (inputs : List Input) (said : Transcript) → HasNothing h → Run h inputs said later → HasNothing later }
+    ensures named { (h next : Machine) (action : Action) (said : Transcript) → (meaning action).needs ≡ Usable → h.mode ≡ Stopped
+        → Hears h (Asked action) said next → said.answers ≡ RefusedMeta (lowest h.bad_meta) ∷ [] }
 {}
 
 /// No more lasts than that: a store that is not synced may be lost, though no later command changes anything. Of a machine as a
