@@ -10,6 +10,7 @@ pub mod RefusalLemmas
 pub mod WholeLemmas
 pub mod NamingLemmas
 pub mod ReadLemmas
+pub mod PowerLemmas
 pub mod LawLemmas
 pub mod LostLemmas
 pub mod ScriptLemmas

@@ -218,6 +218,16 @@ pub is_on : (h : Machine) (action : Action) → (meaning action).needs ≡ Usabl
 unfolding refusal
 is_on h action needs none = usable_on h.mode h.bad_meta (sym (ap (mode_refusal h.mode h.bad_meta) needs) ∙ (first_none _ _ none).0)
 
+unpowered_off : (mode : Mode) (bad_meta : List ℕ) → mode_refusal mode bad_meta Unpowered ≡ None → mode ≡ Off
+unpowered_off On bad_meta none = cc none
+unpowered_off Off bad_meta none = refl
+unpowered_off Unsettled bad_meta none = cc none
+unpowered_off Stopped bad_meta none = cc none
+
+pub is_off : (h : Machine) (action : Action) → (meaning action).needs ≡ Unpowered → refusal h action ≡ None → h.mode ≡ Off
+unfolding refusal
+is_off h action needs none = unpowered_off h.mode h.bad_meta (sym (ap (mode_refusal h.mode h.bad_meta) needs) ∙ (first_none _ _ none).0)
+
 pub places_none : (h : Machine) (action : Action) → refusal h action ≡ None → ((meaning action).reasons h).places ≡ None
 unfolding refusal
 places_none h action none =

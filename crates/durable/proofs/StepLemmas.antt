@@ -16,8 +16,8 @@ use Rattle.reply_text.specs.Answer.{Answer}
 use Rattle.reply_text.specs.Answer.Answer.{Done}
 use Rattle.script_text.specs.Action.{Action}
 use Rattle.script_text.specs.Action.Action.{BRead, BWrite, BAtomic, BMulti, BDiscard, BDiscardIf, BExists, BScar, VLoad, VStore, VSync, VRanges, VPSync, VDiscard, VDiscardIf, VExists, PoisonBlock, PoisonVolume, PoisonMeta, WeakenVolume, ClearVolume, Cut, CutIn, FailIn, Restart, Recover}
-use Rattle.machine_host.specs.declared.mode.Mode.TheVariants.{On, Stopped}
-use Rattle.machine_host.specs.declared.needs.Needs.TheVariants.{Usable}
+use Rattle.machine_host.specs.declared.mode.Mode.TheVariants.{On, Off, Stopped}
+use Rattle.machine_host.specs.declared.needs.Needs.TheVariants.{Usable, Unpowered}
 use Rattle.machine_host.specs.Machine.{Machine, Fate}
 use Rattle.machine_host.specs.Machine.Fate.{Gives, Works, Orders, Cuts, Restarts, Recovers}
 use Rattle.machine_host.specs.Commands.{MayLeaveBlocks, MayLeaveVolume, fate, meaning, refusal, unless_refused, while_interrupted}
@@ -34,7 +34,7 @@ use Rattle.durable.specs.Place.{Place}
 use Rattle.durable.specs.Place.Place.{of_volume, of_blocks}
 use Rattle.durable.specs.Touching.{changes, holds, is_made_durable, made_durable, nothing, poisons, weakens}
 use Rattle.durable.specs.Durable.{HasNothing}
-use Rattle.durable.proofs.RefusalLemmas.{is_on}
+use Rattle.durable.proofs.RefusalLemmas.{is_off, is_on}
 
 -- it leaves blocks and volume, and what is interrupted
 pub record Idles (h next : Machine) : Type 0 where
@@ -77,6 +77,7 @@ pub record Stops (h : Machine) (action : Action) (next : Machine) : Type 0 where
 
 -- the power returned
 pub record Returns (h next : Machine) : Type 0 where
+  pub off : h.mode ≡ Off
   pub metadata : h.bad_meta ≡ []
   pub choice : Choice
   pub image : Image
@@ -126,7 +127,7 @@ Suits h action (Gives good to) = (CoversNothing h action × Idles h to) ⊎ ((go
 Suits h action (Works good to) = ((good ≡ Done) ⊎ TouchesNothing action) × Alters h action to
 Suits h action (Orders order to) = CoversNothing h action × Idles h to
 Suits h action (Cuts to) = CoversNothing h action × Idles h to
-Suits h action (Restarts choice) = CoversNothing h action
+Suits h action (Restarts choice) = CoversNothing h action × ((meaning action).needs ≡ Unpowered)
 Suits h action Recovers = CoversNothing h action
 
 nowhere : (x : Place) → holds nothing x ≡ false
@@ -208,7 +209,7 @@ suits h Cut =
     (nowhere, record { geometry = refl; blocks = refl; volume = refl; interrupted = refl; metadata = λ bad. bad; mode = λ on. cc on; stopped = λ is. cc is })
 suits h (CutIn calls) = (nowhere, armed h _ refl refl refl refl refl refl)
 suits h (FailIn calls) = (nowhere, armed h _ refl refl refl refl refl refl)
-suits h (Restart choice) = nowhere
+suits h (Restart choice) = (nowhere, refl)
 suits h Recover = nowhere
 
 stops_on : (by : Interruption) → interrupted_mode by ≡ On → ⊥
@@ -289,10 +290,10 @@ is_read read to good answer next of (inr end) = record {
   mode = inr (end.0, ap (λ m. m.mode) end.2.state);
 }
 
-returned : (h : Machine) (action : Action) (choice : Choice) (image : Image) (answer : Answer) (next : Machine) → CoversNothing h action → RestartMayLeave choice image h
+returned : (h : Machine) (action : Action) (choice : Choice) (image : Image) (answer : Answer) (next : Machine) → CoversNothing h action → h.mode ≡ Off → RestartMayLeave choice image h
     → Ends (mounted_answer (restarted h image)) (restarted h image) (restarted h image) answer next → Step h action answer next
 unfolding reading
-returned h action choice image answer next covers may ends = by_metadata h.bad_meta refl
+returned h action choice image answer next covers off may ends = by_metadata h.bad_meta refl
   where
     from : IsRead (reading h.geometry image) next
     from = is_read (reading h.geometry image) (restarted h image) (mounted_answer (restarted h image)) answer next refl ends
@@ -304,6 +305,7 @@ returned h action choice image answer next covers may ends = by_metadata h.bad_m
     by_metadata [] is =
         let read = read_as [] is in
         returns covers (record {
+          off = off;
           metadata = is;
           choice = choice;
           image = image;
@@ -372,7 +374,7 @@ by_fate h action (Orders order to) said next none suit takes =
 by_fate h action (Cuts to) said next none suit takes =
     record { answer = Done; answers = ap (λ s. s.answers) takes.0; step = idles (inr suit.0) (idle_at h to next suit.1 takes.1) }
 by_fate h action (Restarts choice) said next none suit takes =
-    record { answer = takes.1; answers = ap (λ s. s.answers) takes.2; step = returned h action choice takes.0.image takes.1 next suit takes.4 takes.5 }
+    record { answer = takes.1; answers = ap (λ s. s.answers) takes.2; step = returned h action choice takes.0.image takes.1 next suit.0 (is_off h action suit.1 none) takes.4 takes.5 }
 by_fate h action Recovers said next none suit takes = record {
   answer = takes.0;
   answers = ap (λ s. s.answers) takes.1;

@@ -8,7 +8,7 @@ use Rattle.nvm_model.specs.Page.{Page, cell_of}
 use Rattle.nvm_model.specs.Storage.{Block}
 use Rattle.nvm_model.specs.Storage.Block.{Absent, Scarred, Data}
 use Rattle.reply_text.specs.Answer.{Answer}
-use Rattle.reply_text.specs.Answer.Answer.{Done, Bytes}
+use Rattle.reply_text.specs.Answer.Answer.{Done, Bytes, PowerLost}
 use Rattle.script_text.specs.Action.{Action}
 use Rattle.script_text.specs.Action.Action.{BRead, BWrite, BAtomic, BMulti, BDiscard, BDiscardIf, BExists, BScar, VLoad, VStore, VSync, VRanges, VPSync, VDiscard, VDiscardIf, VExists, PoisonBlock, PoisonVolume, PoisonMeta, WeakenVolume, ClearVolume, Cut, CutIn, FailIn, Restart, Recover}
 use Rattle.script_text.specs.Script.{Input}
@@ -131,6 +131,21 @@ pub record Remains (inputs : List Input) (answers : List Answer) (later : Machin
 -- so it is in every later state of every run, whatever is cut and restarted
 abbrev pub Lasts : Machine → Place → Option ℕ → Type 0
 Lasts h x byte = (inputs : List Input) (said : Transcript) (later : Machine) → BringBytes inputs → Run h inputs said later
+    → Remains inputs said.answers later x byte
+
+-- no command was stopped by a loss of power
+abbrev pub LostNone : List Answer → Type 0
+LostNone [] = Unit {0}
+LostNone (answer ∷ answers) = (answer ≢ PowerLost) × LostNone answers
+
+-- the power stayed on: it was not cut, and no command was stopped by its loss
+pub record StaysPowered (said : Transcript) : Type 0 where
+  pub uncut : said.cuts ≡ 0
+  pub kept : LostNone said.answers
+
+-- so it is in every run in which the power stays on, whatever fails and is recovered
+abbrev pub LastsPowered : Machine → Place → Option ℕ → Type 0
+LastsPowered h x byte = (inputs : List Input) (said : Transcript) (later : Machine) → BringBytes inputs → Run h inputs said later → StaysPowered said
     → Remains inputs said.answers later x byte
 
 -- it has the byte that it has now
