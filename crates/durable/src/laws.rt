@@ -23,10 +23,10 @@ ghost use Rattle.machine_host.specs.Machine.{Machine};
 ghost use Rattle.machine_host.specs.Restarting.{reading};
 ghost use Rattle.machine_host.specs.Commands.{early_refusal, meaning};
 ghost use Rattle.machine_host.specs.Run.{Hears, Transcript, Run};
-ghost use Rattle.durable.specs.Place.{Place, byte_at_place, is_weak_line};
+ghost use Rattle.durable.specs.Place.{Place, byte_at_place, is_weak_at, is_weak_line};
 ghost use Rattle.durable.specs.Naming.{Names, NamesLine, NamesObstacle};
 ghost use Rattle.durable.specs.Place.Place.{of_volume, of_blocks};
-ghost use Rattle.durable.specs.Durable.{BringBytes, BringsBytes, Does, HasNothing, IsDurable, IsComplete, KeepsThrough, Lasts, Spares};
+ghost use Rattle.durable.specs.Durable.{BringBytes, BringsBytes, Does, HasNothing, IsDurable, IsComplete, KeepsThrough, Lasts, LastsPowered, Spares};
 
 /// A command that covers a byte was answered `ok`: in every later state, whatever is cut and restarted, the byte is the same or
 /// its line is lost, until a command that changes it is begun. It isn't lost where no command poisons its line, and none makes
@@ -60,6 +60,15 @@ pub fn what_was_written_lasts()
         → Lasts next (of_volume i) (Some (slice_index bytes (i - offset))) }
     ensures cleared { (h next : Machine) (offset i : ℕ) → Does h (ClearVolume offset) next → i / 64 ≡ offset / 64
         → Lasts next (of_volume i) (Some 0) }
+{}
+
+/// While the power stays on, whatever calls fail and however often the storage is recovered, a byte is the one that was last
+/// stored, synced or not, until a command that changes it is begun. It is lost only as one that was made durable may be.
+pub fn what_is_there_stays_while_powered()
+    ensures stays { (h : Machine) (x : Place) → IsComplete h → h.mode ≡ On → is_weak_at h x ≡ false → LastsPowered h x (byte_at_place h x) }
+    ensures stored { (h stored : Machine) (offset i : ℕ) (bytes : List ℕ) → BringsBytes (VStore offset bytes)
+        → Does h (VStore offset bytes) stored → is_among offset (length bytes) i ≡ true → is_weak_line (cell_of stored.volume (i / 64)) ≡ false
+        → LastsPowered stored (of_volume i) (Some (slice_index bytes (i - offset))) }
 {}
 
 /// A line that is poisoned is lost at once, and so is one that was weak when it was synced, though the answer is `ok`. What is
