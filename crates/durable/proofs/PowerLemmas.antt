@@ -6,7 +6,6 @@ use Rattle.line_words.specs.declared.interruption.Interruption.{Interruption}
 use Rattle.line_words.specs.declared.interruption.Interruption.TheVariants.{Failed, PowerLost as Lost}
 use Rattle.word_tables.specs.declared.geometry.Geometry.{Geometry}
 use Rattle.reply_text.specs.Answer.{Answer}
-use Rattle.reply_text.specs.Answer.Answer.{PowerLost}
 use Rattle.script_text.specs.Action.{Action}
 use Rattle.script_text.specs.Action.Action.{Cut, Restart, Recover}
 use Rattle.script_text.specs.Script.{Input}
@@ -14,8 +13,8 @@ use Rattle.script_text.specs.Script.Input.{Skipped, Malformed, Asked}
 use Rattle.machine_host.specs.declared.mode.Mode.TheVariants.{Off}
 use Rattle.machine_host.specs.Machine.{Machine, Fate}
 use Rattle.machine_host.specs.Machine.Fate.{Gives, Works, Orders, Cuts, Restarts, Recovers}
-use Rattle.machine_host.specs.Commands.{fate, meaning, refusal, unless_refused}
-use Rattle.machine_host.specs.Interrupted.{Interrupts, interrupted_answer, interrupted_mode}
+use Rattle.machine_host.specs.Commands.{meaning, refusal, unless_refused}
+use Rattle.machine_host.specs.Interrupted.{Interrupts, interrupted_answer}
 use Rattle.machine_host.specs.Restarting.{read_with, reading}
 use Rattle.machine_host.specs.Recovering.{RecoversTo}
 use Rattle.machine_host.specs.Lines.{bad_metadata}

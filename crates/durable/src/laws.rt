@@ -28,9 +28,9 @@ ghost use Rattle.durable.specs.Naming.{Names, NamesLine, NamesObstacle};
 ghost use Rattle.durable.specs.Place.Place.{of_volume, of_blocks};
 ghost use Rattle.durable.specs.Durable.{BringBytes, BringsBytes, Does, HasNothing, IsDurable, IsComplete, KeepsThrough, Lasts, LastsPowered, Spares};
 
-/// A command that covers a byte was answered `ok`: in every later state, whatever is cut and restarted, the byte is the same or
-/// its line is lost, until a command that changes it is begun. It isn't lost where no command poisons its line, and none makes
-/// the line weak or none syncs it.
+/// A command that covers a byte was answered `ok`: in every later state, whatever is cut, fails, and is restarted or recovered,
+/// the byte is the same or its line is lost, until a command that changes it is begun; or nothing is there, since metadata is bad.
+/// It isn't lost where no command poisons its line, and none makes the line weak or none syncs it.
 pub fn what_was_made_durable_stays()
     ensures stays { (h next : Machine) (action : Action) (x : Place) → Does h action next → is_made_durable h action x ≡ true → IsDurable next x }
     ensures whole { (h end : Machine) (before after : List Input) (action : Action) (said : Transcript) (x : Place) → IsComplete h
@@ -72,7 +72,7 @@ pub fn what_is_there_stays_while_powered()
 {}
 
 /// A line that is poisoned is lost at once, and so is one that was weak when it was synced, though the answer is `ok`. What is
-/// lost stays lost, whatever is cut and restarted, until a command that changes it is begun.
+/// lost stays lost, whatever is cut, fails, and is restarted or recovered, until a command that changes it is begun.
 pub fn what_is_lost_stays_lost()
     ensures poisoned { (h next : Machine) (offset i : ℕ) → Does h (PoisonVolume offset) next → i / 64 ≡ offset / 64
         → byte_at_place next (of_volume i) ≡ None }
