@@ -128,7 +128,7 @@ const CUT_BEFORE_ANOTHER: [Step; 7] = [
     (Act::Line("cut in 0"), "refused range\n", Mode::On),
     (Act::Line("cut in 3"), "ok\n", Mode::On),
     (Act::Line("cut"), "ok\n", Mode::Off),
-    (Act::Line("cut in 3"), "refused off\n", Mode::Off),
+    (Act::Line("cut in 0"), "refused range\n", Mode::Off),
     (Act::Line("restart none"), "ok bad 0\n", Mode::On),
     (Act::Line("bwrite 7 aa*512"), "ok\n", Mode::On),
     (Act::Line("bread 7 1"), "data aa*512\n", Mode::On),
@@ -145,7 +145,7 @@ const CUT_RESTART: [Step; 7] = [
     (Act::Line("bread 2 2"), "data aa*1024\n", Mode::On),
 ];
 
-// After a failed call only a cut is done.
+// After a failed call a cut leads on too.
 const FAILED_CALL: [Step; 9] = [
     (Act::Line("vstore 0 00"), "ok\n", Mode::On),
     (Act::Arm(Order::Fail(2)), "", Mode::On),
@@ -200,6 +200,40 @@ const WORN_AND_CLEARED: [Step; 9] = [
     (Act::Line("vload 0 1"), "data 00\n", Mode::On),
 ];
 
+// A recovery goes on with all that was stored, and finds the failed write done or not.
+const RECOVERED: [Step; 8] = [
+    (Act::Line("batomic 2 aa*1024"), "ok\n", Mode::On),
+    (Act::Line("vstore 0 05"), "ok\n", Mode::On),
+    (Act::Line("fail in 3"), "ok\n", Mode::On),
+    (
+        Act::Line("batomic 2 bb*1024"),
+        "refused device\n",
+        Mode::Unsettled,
+    ),
+    (Act::Line("recover"), "ok bad 0\n", Mode::On),
+    (Act::Line("bread 2 2"), "data aa*1024\n", Mode::On),
+    (Act::Line("vload 0 1"), "data 05\n", Mode::On),
+    (Act::Line("recover"), "refused on\n", Mode::On),
+];
+
+// A bad line of metadata stops the next mount, and nothing before it but changes.
+const STOPPED: [Step; 14] = [
+    (Act::Line("vstore 0 05"), "ok\n", Mode::On),
+    (Act::Line("poison meta 2304"), "refused range\n", Mode::On),
+    (Act::Line("poison meta 7"), "ok\n", Mode::On),
+    (Act::Line("vsync 0 1"), "ok\n", Mode::On),
+    (Act::Line("vload 0 1"), "data 05\n", Mode::On),
+    (Act::Line("bscar 8 1"), "refused range\n", Mode::On),
+    (Act::Line("bscar 0 1"), "refused meta 7\n", Mode::On),
+    (Act::Line("cut"), "ok\n", Mode::Off),
+    (Act::Line("cut in 0"), "refused range\n", Mode::Off),
+    (Act::Line("restart all"), "stopped meta 7\n", Mode::Stopped),
+    (Act::Line("poison meta 3"), "ok\n", Mode::Stopped),
+    (Act::Line("vload 0 1"), "refused meta 3\n", Mode::Stopped),
+    (Act::Line("recover"), "refused meta 3\n", Mode::Stopped),
+    (Act::Settle, "", Mode::Stopped),
+];
+
 #[test]
 fn each_step_of_a_story_has_its_reply(rt: HostRuntime) -> Result<(), Fail> {
     follow(&rt, rt.alloc(), &SYNCED)?;
@@ -209,5 +243,7 @@ fn each_step_of_a_story_has_its_reply(rt: HostRuntime) -> Result<(), Fail> {
     follow(&rt, rt.alloc(), &FAILED_CALL)?;
     follow(&rt, rt.alloc(), &SETTLED)?;
     follow(&rt, rt.alloc(), &WORN_AND_CLEARED)?;
+    follow(&rt, rt.alloc(), &RECOVERED)?;
+    follow(&rt, rt.alloc(), &STOPPED)?;
     Ok(())
 }
