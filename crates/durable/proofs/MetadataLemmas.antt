@@ -5,23 +5,30 @@ use Rattle.std.proofs.lemmas.Bool.{both_ways}
 use Rattle.line_device.specs.Panel.{Image}
 use Rattle.word_tables.specs.declared.geometry.Geometry.{Geometry}
 use Rattle.reply_text.specs.Answer.{Answer}
-use Rattle.reply_text.specs.Answer.Answer.{Done}
+use Rattle.reply_text.specs.Answer.Answer.{Done, Stopped as StoppedMeta}
+use Rattle.std.specs.Prelude.{◌≢◌}
+use Rattle.line_words.specs.declared.interruption.Interruption.{Interruption}
+use Rattle.line_words.specs.declared.interruption.Interruption.TheVariants.{Failed, PowerLost as Lost}
+use Rattle.machine_host.specs.Interrupted.{interrupted_answer}
+use Rattle.machine_host.specs.OnVolume.{yes_or_no}
+use Rattle.machine_host.specs.declared.mode.Mode.TheVariants.{Stopped}
 use Rattle.script_text.specs.Action.{Action}
-use Rattle.script_text.specs.Action.Action.{BExists, VRanges, VExists, PoisonBlock, PoisonVolume, PoisonMeta, WeakenVolume, Restart, Recover}
+use Rattle.script_text.specs.Action.Action.{BExists, VRanges, VExists, PoisonBlock, PoisonVolume, PoisonMeta, WeakenVolume, Cut, CutIn, FailIn, Restart, Recover}
 use Rattle.script_text.specs.Script.{Input}
 use Rattle.script_text.specs.Script.Input.{Skipped, Malformed, Asked}
 use Rattle.machine_host.specs.Machine.{Machine, Fate}
 use Rattle.machine_host.specs.Machine.Fate.{Gives, Works, Orders, Cuts, Restarts, Recovers}
 use Rattle.machine_host.specs.Commands.{fate, meaning, refusal, unless_refused}
-use Rattle.machine_host.specs.Lines.{bad_metadata}
+use Rattle.machine_host.specs.Lines.{bad_metadata, lowest}
 use Rattle.machine_host.specs.OnMedia.{with_line}
-use Rattle.machine_host.specs.Restarting.{read_with, reading}
+use Rattle.machine_host.specs.Restarting.{mounted_answer, read_with, reading, restarted}
 use Rattle.machine_host.specs.Recovering.{RecoversTo}
 use Rattle.machine_host.specs.Run.{Hears, Run, Takes, Transcript}
 use Rattle.durable.specs.Place.{Place}
 use Rattle.durable.specs.Place.Place.{of_volume, of_blocks}
 use Rattle.durable.specs.Touching.{is_begun, unmounts}
-use Rattle.durable.specs.Durable.{Spares}
+use Rattle.durable.specs.Durable.{HasNothing, Spares}
+use Rattle.durable.proofs.RefusalLemmas.{is_refused, refused_told}
 
 -- a command that made a line of metadata bad
 record Poisoned (h : Machine) (action : Action) (answer : Answer) (next : Machine) : Type 0 where
@@ -174,3 +181,90 @@ contains_heard line h next (Asked action) said has heard =
 pub still_bad : (h later : Machine) (line : ℕ) (inputs : List Input) (said : Transcript) → Run h inputs said later → Contains h.bad_meta line → Contains later.bad_meta line
 still_bad h later line [] said run has = subst (λ (m : Machine). Contains m.bad_meta line) (sym run.1) has
 still_bad h later line (input ∷ inputs) said run has = still_bad run.2 later line inputs run.1 run.5 (contains_heard line h run.2 input run.0 has run.4)
+
+-- what a mount that was stopped leaves
+abbrev StopsAt : ℕ → Machine → Type 0
+StopsAt line m = HasNothing m × (m.mode ≡ Stopped) × (line ≡ lowest m.bad_meta)
+
+-- no other command is answered so
+abbrev NoStop : Fate → Type 0
+NoStop (Gives good to) = (line : ℕ) → good ≢ StoppedMeta line
+NoStop (Works good to) = (line : ℕ) → good ≢ StoppedMeta line
+NoStop (Orders order to) = Unit {0}
+NoStop (Cuts to) = Unit {0}
+NoStop (Restarts choice) = Unit {0}
+NoStop Recovers = Unit {0}
+
+yes_or_no-stop : (there : Bool) (line : ℕ) → yes_or_no there ≢ StoppedMeta line
+yes_or_no-stop true line is = cc is
+yes_or_no-stop false line is = cc is
+
+no_stop : (h : Machine) (action : Action) → NoStop ((meaning action).comes h)
+no_stop h (BExists block) = yes_or_no-stop _
+no_stop h (VExists page) = yes_or_no-stop _
+no_stop h Cut = tt
+no_stop h (CutIn calls) = tt
+no_stop h (FailIn calls) = tt
+no_stop h (Restart choice) = tt
+no_stop h Recover = tt
+no_stop h action = λ line is. cc is
+
+stop-interrupted : (by : Interruption) (line : ℕ) → interrupted_answer by ≢ StoppedMeta line
+stop-interrupted Failed line is = cc is
+stop-interrupted Lost line is = cc is
+
+stop-restarted : (h : Machine) (image : Image) (line : ℕ) → mounted_answer (restarted h image) ≡ StoppedMeta line → StopsAt line (restarted h image)
+unfolding reading
+stop-restarted h image line = by_list (bad_metadata h.geometry image.is_bad)
+  where
+    by_list : (bad : List ℕ) → mounted_answer (record (read_with bad h.geometry image) { cut_armed = h.cut_armed; fail_armed = h.fail_armed }) ≡ StoppedMeta line
+        → StopsAt line (record (read_with bad h.geometry image) { cut_armed = h.cut_armed; fail_armed = h.fail_armed })
+    by_list [] is = cc is
+    by_list (first ∷ lines) is = (record { metadata = λ none. cc none; mode = λ on. cc on; blocks = refl; volume = refl }, refl, cc is)
+
+stop-recovered : (h next : Machine) (line : ℕ) (bad : List ℕ) → RecoversTo bad h next → mounted_answer next ≡ StoppedMeta line → StopsAt line next
+stop-recovered h next line [] to is = cc (is, ap mounted_answer to.state)
+stop-recovered h next line (first ∷ lines) to is = (
+  record {
+    metadata = λ none. cc (none, ap (λ m. m.bad_meta) to);
+    mode = λ on. cc (on, ap (λ m. m.mode) to);
+    blocks = ap (λ m. m.blocks) to;
+    volume = ap (λ m. m.volume) to;
+  },
+  ap (λ m. m.mode) to,
+  cc (is, ap mounted_answer to, ap (λ (m : Machine). lowest m.bad_meta) to),
+)
+
+stop_by : (h : Machine) (action : Action) (f : Fate) (line : ℕ) (said : Transcript) (next : Machine) → NoStop f → Takes h action f said next
+    → said.answers ≡ StoppedMeta line ∷ [] → StopsAt line next
+stop_by h action (Gives good to) line said next none takes told = absurd (none line (cc (ap (λ s. s.answers) takes.0, told)))
+stop_by h action (Works good to) line said next none takes told =
+    let same : takes.0 ≡ StoppedMeta line = cc (ap (λ s. s.answers) takes.1, told) in
+    elim takes.2 as (λ _. StopsAt line next) [
+      | inl end ↦ absurd (none line (sym end.0 ∙ same))
+      | inr end ↦ absurd (stop-interrupted end.0 line (sym end.1 ∙ same))
+    ]
+stop_by h action (Orders order to) line said next none takes told = cc (ap (λ s. s.answers) takes.0, told)
+stop_by h action (Cuts to) line said next none takes told = cc (ap (λ s. s.answers) takes.0, told)
+stop_by h action (Restarts choice) line said next none takes told =
+    let same : takes.1 ≡ StoppedMeta line = cc (ap (λ s. s.answers) takes.2, told) in
+    elim takes.5 as (λ _. StopsAt line next) [
+      | inl end ↦ subst (StopsAt line) (sym end.1) (stop-restarted h takes.0.image line (sym end.0 ∙ same))
+      | inr end ↦ absurd (stop-interrupted end.0 line (sym end.1 ∙ same))
+    ]
+stop_by h action Recovers line said next none takes told =
+    let same : takes.0 ≡ StoppedMeta line = cc (ap (λ s. s.answers) takes.1, told) in
+    elim takes.2 as (λ _. StopsAt line next) [
+      | inl end ↦ stop-recovered h next line h.bad_meta end.1 (sym end.0 ∙ same)
+      | inr end ↦ absurd (stop-interrupted end.0 line (sym end.1 ∙ same))
+    ]
+
+pub stopped_at : (h next : Machine) (action : Action) (line : ℕ) (said : Transcript) → Hears h (Asked action) said next → said.answers ≡ StoppedMeta line ∷ []
+    → HasNothing next × (next.mode ≡ Stopped) × (line ≡ lowest next.bad_meta)
+stopped_at h next action line said heard told = by_refusal (refusal h action) refl heard
+  where
+    by_refusal : (o : Option Answer) → refusal h action ≡ o → Takes h action (unless_refused h o ((meaning action).comes h)) said next → StopsAt line next
+    by_refusal None is takes = stop_by h action ((meaning action).comes h) line said next (no_stop h action) takes told
+    by_refusal (Some answer) is takes =
+        let same : answer ≡ StoppedMeta line = cc (ap (λ s. s.answers) takes.0, told) in
+        absurd (both_ways (is_refused answer) (ap is_refused same) (refused_told h action answer is))

@@ -128,7 +128,7 @@ pub record Remains (inputs : List Input) (answers : List Answer) (later : Machin
   pub unharmed : Spares changes x inputs answers → Spares poisons x inputs answers
       → Spares weakens x inputs answers ⊎ Spares (is_made_durable later) x inputs answers → (byte_at_place later x ≡ byte) ⊎ HasNothing later
 
--- so it is in every later state of every run, whatever is cut and restarted
+-- so it is in every later state of every run, whatever is cut, fails, and is restarted or recovered
 abbrev pub Lasts : Machine → Place → Option ℕ → Type 0
 Lasts h x byte = (inputs : List Input) (said : Transcript) (later : Machine) → BringBytes inputs → Run h inputs said later
     → Remains inputs said.answers later x byte

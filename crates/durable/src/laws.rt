@@ -3,7 +3,7 @@ ghost use Rattle.std.specs.Prelude.{◌≡◌, ◌+◌, ◌-◌, ◌*◌, ◌/�
 ghost use Rattle.word_tables.specs.declared.geometry.Geometry.{Geometry};
 ghost use Rattle.std.specs.List.{Contains};
 ghost use Rattle.durable.specs.Touching.{is_made_durable, unmounts};
-ghost use Rattle.reply_text.specs.Answer.Answer.{RefusedMeta};
+ghost use Rattle.reply_text.specs.Answer.Answer.{RefusedMeta, Stopped as StoppedMeta};
 ghost use Rattle.nvm_model.specs.Cell.{covers, touches};
 ghost use Rattle.nvm_model.specs.Numbered.{is_among};
 ghost use Rattle.nvm_model.specs.Page.{cell_of, touches_absent};
@@ -94,13 +94,15 @@ pub fn reads_name_what_is_lost()
         → Names (early_refusal h.mode h.bad_meta h.geometry (BRead block count)) (NamesObstacle h.blocks block count) said.answers }
 {}
 
-/// A line of metadata goes bad only by a command that poisons one, and stays bad. Once a mount finds one bad, nothing of the
-/// storage is there in any later state, and a command on it is answered with the lowest one.
+/// A line of metadata goes bad only by a command that poisons one, and stays bad. Where a mount is stopped by one, nothing of the
+/// storage is there, then and in any later state, and a command on it is answered with the lowest one.
 pub fn what_bad_metadata_stops()
     ensures same { (h later : Machine) (x : Place) (inputs : List Input) (said : Transcript) → Run h inputs said later
         → Spares unmounts x inputs said.answers → later.bad_meta ≡ h.bad_meta }
     ensures stays { (h later : Machine) (line : ℕ) (inputs : List Input) (said : Transcript) → Run h inputs said later
         → Contains h.bad_meta line → Contains later.bad_meta line }
+    ensures stopped { (h next : Machine) (action : Action) (line : ℕ) (said : Transcript) → Hears h (Asked action) said next
+        → said.answers ≡ StoppedMeta line ∷ [] → HasNothing next × (next.mode ≡ Stopped) × (line ≡ lowest next.bad_meta) }
     ensures nothing { (h later : Machine) (inputs : List Input) (said : Transcript) → HasNothing h → Run h inputs said later → HasNothing later }
     ensures named { (h next : Machine) (action : Action) (said : Transcript) → (meaning action).needs ≡ Usable → h.mode ≡ Stopped
         → Hears h (Asked action) said next → said.answers ≡ RefusedMeta (lowest h.bad_meta) ∷ [] }
