@@ -5,6 +5,7 @@ pub mod CommitLemmas
 pub mod FillLemmas
 pub mod HoldLemmas
 pub mod HoleLemmas
+pub mod ListingLemmas
 pub mod MountLemmas
 pub mod ReplaceLemmas
 pub mod RunLemmas

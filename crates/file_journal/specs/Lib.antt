@@ -7,4 +7,5 @@ pub mod Object
 pub mod Images
 pub mod Reading
 pub mod Refusals
+pub mod Listing
 pub mod Mounting

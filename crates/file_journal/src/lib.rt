@@ -10,6 +10,7 @@ mod changing;
 mod checks;
 mod fault;
 mod files;
+mod listing;
 mod mounting;
 mod queries;
 #[cfg(test)]
