@@ -4,7 +4,7 @@ ghost use Rattle.line_device.specs.Plain.{device_of};
 ghost use Rattle.machine_host.specs.Settling.{GoesOn};
 
 use crate::{Host, Mode};
-use line_device::{LineDevice, Order, Plain};
+use line_device::Plain;
 use nvm_base::Bytes;
 use script_text::parse;
 use std::alloc::{AllocError, Global};
@@ -44,23 +44,10 @@ fn tell(
     }
 }
 
-// Arms a cut or a failure at so many counted calls from now on.
-fn arm(host: &Host, device: &mut Plain, order: Order)
-    requires { GoesOn host.now (device_of device.old) }
-    ensures { GoesOn host.now (device_of device.new) }
-{
-    match order {
-        Order::Cut(calls) => device.arm_cut(calls.max(1)),
-        Order::Fail(calls) => device.arm_fail(calls.max(1)),
-        Order::Evict(lines) => device.evict(lines),
-    }
-}
-
-// What is done in a story: a script's line, a cut or a failure that is armed, or the end of a run.
+// What is done in a story: a script's line, or the end of a run.
 #[derive(Clone, Copy, Debug)]
 enum Act {
     Line(&'static str),
-    Arm(Order),
     Settle,
 }
 
@@ -80,10 +67,6 @@ fn perform(
 {
     match act {
         Act::Line(line) => tell(host, device, alloc, line, out),
-        Act::Arm(order) => {
-            arm(host, device, order);
-            Ok(())
-        }
         Act::Settle => host.settle(device),
     }
 }
@@ -138,7 +121,7 @@ const CUT_BEFORE_ANOTHER: [Step; 7] = [
 const CUT_RESTART: [Step; 7] = [
     (Act::Line("batomic 2 aa*1024"), "ok\n", Mode::On),
     (Act::Line("cut"), "ok\n", Mode::Off),
-    (Act::Arm(Order::Cut(9)), "", Mode::Off),
+    (Act::Line("cut in 9"), "ok\n", Mode::Off),
     (Act::Line("restart none"), "power lost\n", Mode::Off),
     (Act::Line("bread 2 2"), "refused off\n", Mode::Off),
     (Act::Line("restart all"), "ok bad 0\n", Mode::On),
@@ -148,7 +131,7 @@ const CUT_RESTART: [Step; 7] = [
 // After a failed call a cut leads on too.
 const FAILED_CALL: [Step; 9] = [
     (Act::Line("vstore 0 00"), "ok\n", Mode::On),
-    (Act::Arm(Order::Fail(2)), "", Mode::On),
+    (Act::Line("fail in 2"), "ok\n", Mode::On),
     (
         Act::Line("vstore 60 aa*8"),
         "refused device\n",
@@ -173,7 +156,7 @@ const SETTLED: [Step; 9] = [
     (Act::Line("cut"), "ok\n", Mode::Off),
     (Act::Settle, "", Mode::On),
     (Act::Line("vload 58 12"), "data 00*2,aa*8,00*2\n", Mode::On),
-    (Act::Arm(Order::Fail(2)), "", Mode::On),
+    (Act::Line("fail in 2"), "ok\n", Mode::On),
     (
         Act::Line("vstore 60 bb*8"),
         "refused device\n",
