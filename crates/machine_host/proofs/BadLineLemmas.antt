@@ -1,12 +1,12 @@
 -- Which lines of metadata are bad: the lowest one, what a search for it finds, and one more.
-use Rattle.std.proofs.Common.{◌≡◌, ◌≢◌, inl, inr, ℕ, ◌+◌, ◌<◌, ◌≤◌, ◌==◌, Bool, zero, suc, true, false, cond, List, [], ◌∷◌, Option, Some, None, option_map, position, nat_lt, slice_index, refl, sym, ◌∙◌, ap, ap₂, subst, arith}
+use Rattle.std.proofs.Common.{◌≡◌, ◌≢◌, inl, inr, ℕ, ◌+◌, ◌*◌, ◌<◌, ◌≤◌, ◌==◌, Bool, zero, suc, true, false, cond, List, [], ◌∷◌, Option, Some, None, option_map, position, nat_lt, slice_index, refl, sym, ◌∙◌, ap, ap₂, subst, arith}
 use Rattle.std.specs.Prelude.{filter}
 use Rattle.std.specs.List.{range_with_len}
 use Rattle.std.proofs.lemmas.Bool.{cases_Bool, cases_lt, lt-ltb, le-ltb, ne_eqb, eq-eqb, false≢true}
 use Rattle.std.proofs.lemmas.Option.{same_Some}
 use Rattle.line_device.specs.Medium.{Medium, IsSound, WritesBack, last_image, poisoned, with_at}
 use Rattle.word_tables.specs.declared.geometry.Geometry.{Geometry}
-use Rattle.word_tables.specs.Layout.{meta_lines, total_lines}
+use Rattle.word_tables.specs.Layout.{first_line, meta_lines, size, total_lines}
 use Rattle.std.specs.Prelude.{unwrap_or}
 use Rattle.word_log.specs.Mount.{Finding}
 use Rattle.word_log.specs.Mount.Finding.{bad_line, wrong_word}
@@ -31,7 +31,7 @@ pub head_of : (x y : ℕ) (xs ys : List ℕ) → x ∷ xs ≡ y ∷ ys → x ≡
 head_of x y xs ys is = ap (λ (ns : List ℕ). slice_index ns 0) is
 
 module _ (test : ℕ → Bool) (start len : ℕ) where
-  rest : List ℕ
+  abbrev rest : List ℕ
   rest = filter test (range_with_len (start + 1) len)
 
   first_or_later : (line : ℕ) (lines : List ℕ) → (rest ≡ line ∷ lines → IsFirst test (start + 1) len line) → (b : Bool) → test start ≡ b → cond b (start ∷ rest) rest ≡ line ∷ lines → IsFirst test start (suc len) line
@@ -81,10 +81,10 @@ front test line from len past (next ∷ lines) is =
     ap (λ b. cond b (line ∷ next ∷ lines) (cond (line == next) (next ∷ lines) (next ∷ with_line line lines))) (sym (lt-ltb line next (let after = first.from in omega (arith, past, after))))
 
 module _ (test : ℕ → Bool) (line start len : ℕ) where
-  before : List ℕ
+  abbrev before : List ℕ
   before = filter test (range_with_len (start + 1) len)
 
-  now : List ℕ
+  abbrev now : List ℕ
   now = filter (with_at test line true) (range_with_len (start + 1) len)
 
   here : start ≡ line → (was : Bool) → start ∷ now ≡ with_line line (cond was (start ∷ before) before)
@@ -140,7 +140,7 @@ lowest_found geo m lines result found many is told =
 
 -- the lines of metadata are on the device
 pub meta_within : (geo : Geometry) → meta_lines geo ≤ total_lines geo
-unfolding total_lines
+unfolding first_line size total_lines
 meta_within geo = omega arith
 
 pub meta_on_device : (geo : Geometry) (m : Medium) → HasLayout geo m → (lines : ℕ) → lines ≡ meta_lines geo → 0 + lines ≤ m.count
@@ -170,7 +170,7 @@ module _ (geo : Geometry) (m : Medium) where
     unfolding early_finding
     bad_early line lines is = elim (cases_Bool (m.is_bad 0)) as (λ _. first_there (superblock_finding m) (meta_finding (geometry_told m) m) ≡ Some (bad_line line)) [
       | inl bad ↦
-          let at : line ≡ 0 = elim (cases_lt 0 line) as (λ _. line ≡ 0) [ inl past ↦ absurd (false≢true (sym (first.before 0 (omega arith) past) ∙ bad)) | inr zero ↦ omega (arith, zero) ] in
+          let at : line ≡ 0 = elim (cases_lt 0 line) as (λ _. line ≡ 0) [ inl past ↦ absurd (false≢true (sym (first.before 0 (omega arith) past) ∙ bad)) | inr none ↦ omega (arith, none) ] in
           ap (λ o. first_there o (meta_finding (geometry_told m) m)) (superblock_bad m bad) ∙ ap (λ n. Some (bad_line n)) (sym at)
       | inr good ↦
           ap (λ o. first_there o (meta_finding (geometry_told m) m)) (superblock_none geo m sound some good layout.superblock layout.valid layout.lines)

@@ -39,7 +39,7 @@ use Rattle.machine_host.proofs.VolumeLemmas.{volume_behind}
 -- with one more line some are bad
 some_bad : (line : ℕ) (lines : List ℕ) → with_line line lines ≢ []
 some_bad line [] none = cc none
-some_bad line (next ∷ lines) = by_tests (nat_lt line next) (line == next)
+some_bad line (next ∷ lines) none = by_tests (nat_lt line next) (line == next) none
   where
     by_tests : (below same : Bool) → cond below (line ∷ next ∷ lines) (cond same (next ∷ lines) (next ∷ with_line line lines)) ≡ [] → ⊥
     by_tests true same none = cc none

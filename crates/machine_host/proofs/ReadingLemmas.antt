@@ -13,6 +13,7 @@ use Rattle.machine_host.specs.Machine.{Machine}
 use Rattle.machine_host.specs.Recovering.{RecoveryMayLeave, RecoversTo}
 use Rattle.machine_host.specs.Restarting.{holding, read_with, reading, restarted, stopped_by}
 use Rattle.machine_host.specs.declared.mode.Mode.TheVariants as modes
+use Rattle.machine_host.proofs.BadLineLemmas.{meta_within}
 use Rattle.machine_host.proofs.LayoutLemmas.{filter-same}
 
 pub read_whole : (geo : Geometry) (image : Image) → bad_metadata geo image.is_bad ≡ []
@@ -26,8 +27,7 @@ read_stopped geo image line lines some = ap (λ lines. read_with lines geo image
 
 -- an image that shows a medium has its bad lines
 pub bad_shown : (geo : Geometry) (m : Medium) (image : Image) → m.count ≡ total_lines geo → Depicts m image → bad_metadata geo image.is_bad ≡ bad_metadata geo m.is_bad
-unfolding total_lines
-bad_shown geo m image lines shows = filter-same image.is_bad m.is_bad 0 (meta_lines geo) (λ n below. shows.bad n (omega (arith, lines, below)))
+bad_shown geo m image lines shows = filter-same image.is_bad m.is_bad 0 (meta_lines geo) (λ n below. let within = meta_within geo in shows.bad n (omega (arith, lines, below, within)))
 
 -- where the power came back and nothing was mounted yet, a recovery finds what the restart left
 pub recovered_back : (h next : Machine) (image : Image) → RecoveryMayLeave (record (restarted h image) { mode = modes.Unsettled }) next → next ≡ restarted h image

@@ -1,5 +1,5 @@
 -- What is known of a command that nothing refuses, and what comes of it.
-use Rattle.std.proofs.Common.{◌≡◌, ℕ, ◌+◌, ◌≤◌, Bool, true, false, cond, ltb, eqb, ◌<◌, Option, Some, None, option_map, position, List, [], ◌∷◌, refl, sym, ap, ◌∙◌, arith}
+use Rattle.std.proofs.Common.{◌≡◌, ℕ, ◌+◌, ◌≤◌, Bool, true, false, cond, ltb, eqb, ◌<◌, Option, Some, None, option_map, position, List, [], ◌∷◌, refl, sym, ap, subst, ◌∙◌, arith}
 use Rattle.std.specs.List.{range_with_len}
 use Rattle.std.proofs.lemmas.Option.{same_Some}
 use Rattle.std.proofs.lemmas.Bool.{le-ltb, lt-ltb, ne_eqb}
@@ -13,14 +13,15 @@ use Rattle.script_text.specs.Action.{Action}
 use Rattle.script_text.specs.Action.Action.{BRead, BWrite, BAtomic, BMulti, BDiscard, BDiscardIf, BExists, BScar, VLoad, VStore, VSync, VRanges, VPSync, VDiscard, VDiscardIf, VExists, PoisonBlock, PoisonVolume, PoisonMeta, WeakenVolume, ClearVolume, Cut, CutIn, FailIn, Restart, Recover}
 use Rattle.reply_text.specs.declared.reply.Why.{Why}
 use Rattle.reply_text.specs.declared.reply.Why.TheVariants.{Range, Length, Limit}
-use Rattle.reply_text.specs.Answer.{Answer}
+use Rattle.reply_text.specs.declared.reply.Why.TheVariants as because
+use Rattle.reply_text.specs.Answer.{Answer, IsPrintable}
 use Rattle.reply_text.specs.Answer.Answer.{Done, Bytes, Refused, RefusedMeta}
 use Rattle.machine_host.specs.declared.mode.Mode.{Mode}
 use Rattle.machine_host.specs.declared.mode.Mode.TheVariants.{On, Off, Unsettled, Stopped}
 use Rattle.machine_host.specs.declared.needs.Needs.{Needs}
 use Rattle.machine_host.specs.declared.needs.Needs.TheVariants.{Usable, Anytime, Powered, Unpowered, Failed}
 use Rattle.machine_host.specs.Interrupted.{stop_in}
-use Rattle.machine_host.specs.Lines.{bad_metadata}
+use Rattle.machine_host.specs.Lines.{bad_metadata, lowest}
 use Rattle.machine_host.specs.Machine.{Machine, Fate}
 use Rattle.machine_host.specs.Machine.Fate.{Works}
 use Rattle.machine_host.specs.Meaning.{BlocksLeft, Reasons, first_reason, metadata_refusal, mode_refusal, most_refusal, no_reasons, span_refusal}
@@ -166,51 +167,68 @@ places_refused h (FailIn calls) why is = (refl, ap (option_map Refused) is)
 places_refused h (Restart choice) why is = cc is
 places_refused h Recover why is = cc is
 
--- no refusal by the mode tells of an interruption
-mode_quiet : (mode : Mode) (bad_meta : List ℕ) (needs : Needs) (answer : Answer) → mode_refusal mode bad_meta needs ≡ Some answer → stop_in answer ≡ None
-mode_quiet On bad_meta Usable answer is = cc is
-mode_quiet On bad_meta Anytime answer is = cc is
-mode_quiet On bad_meta Powered answer is = cc is
-mode_quiet On bad_meta Unpowered answer is = ap stop_in (sym (same_Some _ _ is))
-mode_quiet On bad_meta Failed answer is = ap stop_in (sym (same_Some _ _ is))
-mode_quiet Off bad_meta Usable answer is = ap stop_in (sym (same_Some _ _ is))
-mode_quiet Off bad_meta Anytime answer is = cc is
-mode_quiet Off bad_meta Powered answer is = ap stop_in (sym (same_Some _ _ is))
-mode_quiet Off bad_meta Unpowered answer is = cc is
-mode_quiet Off bad_meta Failed answer is = ap stop_in (sym (same_Some _ _ is))
-mode_quiet Unsettled bad_meta Usable answer is = ap stop_in (sym (same_Some _ _ is))
-mode_quiet Unsettled bad_meta Anytime answer is = cc is
-mode_quiet Unsettled bad_meta Powered answer is = cc is
-mode_quiet Unsettled bad_meta Unpowered answer is = ap stop_in (sym (same_Some _ _ is))
-mode_quiet Unsettled bad_meta Failed answer is = cc is
-mode_quiet Stopped bad_meta Usable answer is = ap stop_in (sym (same_Some _ _ is))
-mode_quiet Stopped bad_meta Anytime answer is = cc is
-mode_quiet Stopped bad_meta Powered answer is = cc is
-mode_quiet Stopped bad_meta Unpowered answer is = ap stop_in (sym (same_Some _ _ is))
-mode_quiet Stopped bad_meta Failed answer is = ap stop_in (sym (same_Some _ _ is))
+-- an answer that can be printed and tells of no interruption
+pub record IsPlain (answer : Answer) : Type 0 where
+  pub printable : IsPrintable answer
+  pub quiet : stop_in answer ≡ None
+
+plain_refused : (why : Why) (answer : Answer) → Some (Refused why) ≡ Some answer → IsPlain answer
+plain_refused why answer is = subst IsPlain (same_Some (Refused why) answer is) (record { printable = tt; quiet = refl })
+
+plain_meta : (line : ℕ) (answer : Answer) → Some (RefusedMeta line) ≡ Some answer → IsPlain answer
+plain_meta line answer is = subst IsPlain (same_Some (RefusedMeta line) answer is) (record { printable = tt; quiet = refl })
+
+mode_plain : (mode : Mode) (bad_meta : List ℕ) (needs : Needs) (answer : Answer) → mode_refusal mode bad_meta needs ≡ Some answer → IsPlain answer
+mode_plain On bad_meta Usable answer is = cc is
+mode_plain On bad_meta Anytime answer is = cc is
+mode_plain On bad_meta Powered answer is = cc is
+mode_plain On bad_meta Unpowered answer is = plain_refused because.On answer is
+mode_plain On bad_meta Failed answer is = plain_refused because.On answer is
+mode_plain Off bad_meta Usable answer is = plain_refused because.Off answer is
+mode_plain Off bad_meta Anytime answer is = cc is
+mode_plain Off bad_meta Powered answer is = plain_refused because.Off answer is
+mode_plain Off bad_meta Unpowered answer is = cc is
+mode_plain Off bad_meta Failed answer is = plain_refused because.Off answer is
+mode_plain Unsettled bad_meta Usable answer is = plain_refused because.Recover answer is
+mode_plain Unsettled bad_meta Anytime answer is = cc is
+mode_plain Unsettled bad_meta Powered answer is = cc is
+mode_plain Unsettled bad_meta Unpowered answer is = plain_refused because.On answer is
+mode_plain Unsettled bad_meta Failed answer is = cc is
+mode_plain Stopped bad_meta Usable answer is = plain_meta (lowest bad_meta) answer is
+mode_plain Stopped bad_meta Anytime answer is = cc is
+mode_plain Stopped bad_meta Powered answer is = cc is
+mode_plain Stopped bad_meta Unpowered answer is = plain_refused because.On answer is
+mode_plain Stopped bad_meta Failed answer is = plain_meta (lowest bad_meta) answer is
+
+pub early_plain : (mode : Mode) (bad_meta : List ℕ) (geo : Geometry) (action : Action) (answer : Answer) → early_refusal mode bad_meta geo action ≡ Some answer → IsPlain answer
+unfolding early_refusal
+early_plain mode bad_meta geo action answer = by_mode (mode_refusal mode bad_meta (meaning action).needs) refl
+  where
+    by_places : (o : Option Why) → option_map Refused o ≡ Some answer → IsPlain answer
+    by_places None is = cc is
+    by_places (Some why) is = plain_refused why answer is
+
+    by_mode : (o : Option Answer) → mode_refusal mode bad_meta (meaning action).needs ≡ o → first_there o (option_map Refused ((meaning action).checked geo)) ≡ Some answer → IsPlain answer
+    by_mode None refused is = by_places ((meaning action).checked geo) is
+    by_mode (Some first) refused is = mode_plain mode bad_meta (meaning action).needs answer (refused ∙ is)
 
 -- so what the host refuses by itself, the machine refuses for the same reason
-pub early_first : (h : Machine) (action : Action) (answer : Answer) → early_refusal h.mode h.bad_meta h.geometry action ≡ Some answer
-    → (refusal h action ≡ Some answer) × (stop_in answer ≡ None)
+pub early_first : (h : Machine) (action : Action) (answer : Answer) → early_refusal h.mode h.bad_meta h.geometry action ≡ Some answer → refusal h action ≡ Some answer
 unfolding early_refusal refusal
-early_first h action answer = by_mode (mode_refusal h.mode h.bad_meta (meaning action).needs) refl
+early_first h action answer = by_mode (mode_refusal h.mode h.bad_meta (meaning action).needs)
   where
     r : Reasons
     r = (meaning action).reasons h
 
-    by_places : (o : Option Why) → (meaning action).checked h.geometry ≡ o → option_map Refused o ≡ Some answer → (first_reason None h.bad_meta r ≡ Some answer) × (stop_in answer ≡ None)
+    by_places : (o : Option Why) → (meaning action).checked h.geometry ≡ o → option_map Refused o ≡ Some answer → first_reason None h.bad_meta r ≡ Some answer
     by_places None checked is = cc is
     by_places (Some why) checked is =
         let wrong = places_refused h action why checked in
-        let same = same_Some (Refused why) answer is in (
-          ap (λ n. first_reason None h.bad_meta (record r { named = n })) wrong.0 ∙ ap (λ p. first_reason None h.bad_meta (record r { named = None; places = p })) wrong.1 ∙ is,
-          ap stop_in (sym same),
-        )
+        ap (λ n. first_reason None h.bad_meta (record r { named = n })) wrong.0 ∙ ap (λ p. first_reason None h.bad_meta (record r { named = None; places = p })) wrong.1 ∙ is
 
-    by_mode : (o : Option Answer) → mode_refusal h.mode h.bad_meta (meaning action).needs ≡ o → first_there o (option_map Refused ((meaning action).checked h.geometry)) ≡ Some answer
-        → (first_reason o h.bad_meta r ≡ Some answer) × (stop_in answer ≡ None)
-    by_mode None mode is = by_places ((meaning action).checked h.geometry) refl is
-    by_mode (Some first) mode is = (is, mode_quiet h.mode h.bad_meta (meaning action).needs answer (mode ∙ is))
+    by_mode : (o : Option Answer) → first_there o (option_map Refused ((meaning action).checked h.geometry)) ≡ Some answer → first_reason o h.bad_meta r ≡ Some answer
+    by_mode None is = by_places ((meaning action).checked h.geometry) refl is
+    by_mode (Some first) is = is
 
 -- What comes of a command whose places the host looks at, where mode and places are right.
 pub fate_placed : (h : Machine) (action : Action) → mode_refusal h.mode h.bad_meta (meaning action).needs ≡ None

@@ -307,6 +307,7 @@ module _ (host : HostState) (old new : Device) (serves : HostServes host old) (u
             }
 
         pub mounts_bad : MountsTo h (Stopped line) (in_mode modes.Stopped) old new
+        unfolding stopped_up
         mounts_bad = record {
           next = stopped_up.next;
           ends = inl (refl, stopped_up.may);
@@ -371,6 +372,7 @@ module _ (host : HostState) (old new : Device) (serves : HostServes host old) (u
             }
 
         pub mounts_done : (answer : Answer) → CountsBad s v new.medium answer → MountsTo h answer (taken runs found s v given) old new
+        unfolding done_up
         mounts_done answer counts = record {
           next = done_up.next;
           ends = inl (counts.told ∙ ap (λ n. DoneBad n) (counts.count pages_last.pages holds), done_up.may);

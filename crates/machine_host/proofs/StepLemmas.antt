@@ -40,7 +40,7 @@ use Rattle.machine_host.specs.Stands.{HostState, HostServes, Stands, Comes, is_p
 use Rattle.machine_host.proofs.CostLemmas.{opens-none}
 use Rattle.machine_host.proofs.ElsewhereLemmas.{pages_elsewhere, volume_holds_elsewhere}
 use Rattle.machine_host.proofs.LayoutLemmas.{layout-write_back, metadata-then, stays_of_kept}
-use Rattle.machine_host.proofs.RefusalLemmas.{early_first, fate_placed}
+use Rattle.machine_host.proofs.RefusalLemmas.{early_first, early_plain, fate_placed}
 use Rattle.machine_host.proofs.TellingLemmas.{interrupts, never_on, never_stops, power_struck, struck, tells_interrupted, tells_nothing, tells_work}
 
 -- of a state that is whole, what blocks and volume stand for
@@ -301,13 +301,12 @@ leaves_all Unrecovered host d = record { same = refl; opens = opens-none d.panel
 pub comes_of_refusal : (host : HostState) (d : Device) (h : Machine) (action : Action) (answer : Answer) → Stands host d h
     → early_refusal host.mode (bad_metadata host.geometry d.medium.is_bad) host.geometry action ≡ Some answer → Comes h action (fate h action) answer host d d
 comes_of_refusal host d h action answer stands is =
-    let first = early_first h action answer there in
-    subst (λ r. Comes h action (unless_refused h r ((meaning action).comes h)) answer host d d) (sym first.0) (record {
+    subst (λ r. Comes h action (unless_refused h r ((meaning action).comes h)) answer host d d) (sym (early_first h action answer there)) (record {
       said = answered answer;
       next = h;
       answers = refl;
       takes = (refl, refl);
-      tells = tells_nothing answer first.1 d.panel;
+      tells = tells_nothing answer (early_plain h.mode h.bad_meta h.geometry action answer there).quiet d.panel;
       stands = stands;
     })
   where

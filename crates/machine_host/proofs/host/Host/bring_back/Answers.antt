@@ -3,6 +3,8 @@ use Rattle.std.proofs.lemmas.Result.{err_from_is_err_and}
 use Rattle.machine_host.specs.Settling.{Settles}
 use Rattle.machine_host.specs.Stands.{HostServes, HostState}
 use Rattle.machine_host.proofs.SettlingLemmas.{left_waiting, settles_back}
+use Rattle.line_device.specs.declared.line.Choice.TheVariants.{Lasts}
+use Rattle.machine_host.proofs.RestartLemmas.{serves_back}
 use Rattle.machine_host.proofs.host.Host.bring_back.Goals as goal
 
 pub returns-in_err-restart : goal.returns-in_err-restart
@@ -20,3 +22,10 @@ returns g c =
     subst (λ k. Settles c.mount_anew.result k c.mount_anew.new.self old new) c.self.view_is
     (settles_back host old mid new left.0 (subst (λ k. HostServes k old) (sym c.self.view_is) c.requires.serves) (ap (λ k. k.mode) c.self.view_is ∙ c.requires.off) c.requires.quiet left.1
     (g.met.D.Lines.sound c.args.device.now) (g.met.D.Lines.sound c.restart.new.self) c.mount_anew.result c.mount_anew.new.self c.mount_anew.ensures)
+
+pub mount_anew-requires-clause-serves : goal.mount_anew-requires-clause-serves
+mount_anew-requires-clause-serves g c =
+    let host : HostState = record { geometry = c.self.inside.geometry; mode = c.self.inside.mode; blocks = c.self.inside.blocks; volume = c.self.inside.volume } in
+    let old = (g.D.Lines.state c.args.device.now) in
+    let left = c.in_ok-restart.ensures in
+    serves_back host Lasts old (g.D.Lines.state c.restart.new.self) left.0 (subst (λ k. HostServes k old) (sym c.self.view_is) c.requires.serves) left.1 (g.met.D.Lines.sound c.args.device.now) (g.met.D.Lines.sound c.restart.new.self)

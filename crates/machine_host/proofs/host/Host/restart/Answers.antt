@@ -1,6 +1,7 @@
 use Rattle.std.proofs.Common.{inl, inr, refl}
 use Rattle.std.proofs.lemmas.Result.{err_from_is_err_and}
 use Rattle.reply_text.specs.Answer.{answer_of}
+use Rattle.script_text.specs.Action.Action.{Restart}
 use Rattle.machine_host.specs.Responding.{Answered}
 use Rattle.machine_host.proofs.MountLemmas.{durable_flushed, flushed-restarted, line_zero, mount_within}
 use Rattle.machine_host.proofs.RemountLemmas.{Gives}
@@ -44,7 +45,7 @@ returns-in-Ok g c =
       volume_settled = x.settled.1;
       volume_serves = x.volume;
     } in
-    subst (λ k. Answered _ (answer_of c.mounted.result) now k old new) (sym c.mounted.ensures.state)
+    subst (λ k. Answered (Restart c.args.choice) (answer_of c.mounted.result) now k old new) (sym c.mounted.ensures.state)
     (restart_answered now c.args.choice old mid new left.0 c.requires.serves c.requires.off left.1 sound_old sound _ (answer_of c.mounted.result)
     (mount_done _ mid new (serves_back now c.args.choice old mid left.0 c.requires.serves left.1 sound_old sound) refl sound
     (record { outside = x.outside; refused = x.refused; reads = x.reads; presence = x.presence })

@@ -4,7 +4,11 @@ use Rattle.script_text.specs.Action.{action_of}
 use Rattle.machine_host.specs.Commands.{meaning}
 use Rattle.reply_text.specs.Answer.{answer_of}
 use Rattle.machine_host.proofs.StepLemmas.{comes_of_refusal, leaves_all, on_err, on_err-with}
+use Rattle.machine_host.proofs.RefusalLemmas.{early_plain}
 use Rattle.machine_host.proofs.host.Host.step.Goals as goal
+
+pub print-requires : goal.print-requires
+print-requires g c = record { printable = (early_plain _ _ _ (action_of c.args.command.now) (answer_of c.in-Some.reply) (sym c.in-Some.ensures)).printable }
 
 pub returns-in-Some-clause-step : goal.returns-in-Some-clause-step
 returns-in-Some-clause-step g c = IfOk-weaker c.print.result _ _ (λ _ line h stands. record {
