@@ -24,10 +24,10 @@ use Rattle.machine_host.specs.Lines.{HasLayout, MetadataStands, bad_metadata}
 use Rattle.machine_host.specs.Commands.{MayLeaveBlocks, MayLeaveVolume}
 use Rattle.machine_host.specs.Machine.{Machine}
 use Rattle.machine_host.proofs.BackLemmas.{kept_back, nothing_back, told_back}
-use Rattle.machine_host.proofs.BadLineLemmas.{bad_found, good_lines}
 use Rattle.machine_host.proofs.ElsewhereLemmas.{pages_elsewhere, volume_within}
 use Rattle.machine_host.proofs.LayoutLemmas.{IsGood, is_good, layout-kept, layout-restarted, same_bad, stays_of_kept}
 use Rattle.nvmhost.specs.Storing.{IsReadAgain, finding_of}
+use Rattle.nvmhost.proofs.BadMetadataLemmas.{bad_found, good_lines}
 
 -- a device has no more lines than an image may have
 pub fit_image : (geo : Geometry) → IsValid geo → FitImage (total_lines geo)
