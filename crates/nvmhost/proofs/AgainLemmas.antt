@@ -20,14 +20,14 @@ use Rattle.block_device.proofs.RestartLemmas.{block_on_device}
 use Rattle.pm_volume.specs.Images.{EachReadsPages}
 use Rattle.pm_volume.proofs.StandingLemmas.{LineKept}
 use Rattle.recovery.proofs.SuperblockLemmas.{some_lines, some_meta}
-use Rattle.machine_host.specs.Lines.{HasLayout}
+use Rattle.machine_host.specs.Lines.{HasLayout, MetadataStands, bad_metadata}
 use Rattle.machine_host.specs.Commands.{MayLeaveBlocks, MayLeaveVolume}
 use Rattle.machine_host.specs.Machine.{Machine}
-use Rattle.machine_host.specs.Stands.{MetadataStands}
 use Rattle.machine_host.proofs.BackLemmas.{kept_back, nothing_back, told_back}
-use Rattle.machine_host.proofs.ElsewhereLemmas.{pages_elsewhere, stays_of_kept, volume_within}
-use Rattle.machine_host.proofs.MetadataLemmas.{metadata-kept}
-use Rattle.nvmhost.specs.Storing.{IsReadAgain}
+use Rattle.machine_host.proofs.ElsewhereLemmas.{pages_elsewhere, volume_within}
+use Rattle.machine_host.proofs.LayoutLemmas.{IsGood, is_good, layout-kept, layout-restarted, same_bad, stays_of_kept}
+use Rattle.nvmhost.specs.Storing.{IsReadAgain, finding_of}
+use Rattle.nvmhost.proofs.BadMetadataLemmas.{bad_found, good_lines}
 
 -- a device has no more lines than an image may have
 pub fit_image : (geo : Geometry) → IsValid geo → FitImage (total_lines geo)
@@ -100,45 +100,70 @@ own_survivors m lines sound quiet last = record {
     none_past n past = slice_get_past lines n (omega (arith, past, last.count))
 
 -- the device's last values, once more
-pub is_read_again : (h : Machine) (m : Medium) (lines : List LineState) → HasLayout h.geometry m → IsSound m → IsLastImage m lines → MetadataStands h.geometry m h.bad_meta
-    → EachReads h.geometry m (MayLeaveBlocks h.interrupted h.blocks) → EachReadsPages h.geometry m (MayLeaveVolume h.geometry h.interrupted h.volume) → IsReadAgain lines h
-unfolding total_lines
-is_read_again h m lines layout sound last stands each_block each_page = record {
-  right = nothing_back h Lasts own n (image_of lines) own_layout own_metadata own_blocks own_pages left (depicted lines) (own_sound m sound) quiet;
-  sizes = (told_back h Lasts own n (image_of lines) own_layout own_metadata own_blocks own_pages left (depicted lines) (own_sound m sound) quiet).sizes;
-  left = kept_back h Lasts own n (image_of lines) own_layout own_metadata own_blocks own_pages left (depicted lines) (own_sound m sound) quiet;
-}
-  where
-    geo : Geometry
-    geo = h.geometry
+module _ (h : Machine) (m : Medium) (lines : List LineState) (sound : IsSound m) (last : IsLastImage m lines) (stands : MetadataStands h.geometry m h.bad_meta) where
+  abbrev geo : Geometry
+  geo = h.geometry
 
-    n : Medium
-    n = medium_of lines
+  abbrev n : Medium
+  n = medium_of lines
 
-    own : Medium
-    own = with_own_marks m
+  abbrev own : Medium
+  own = with_own_marks m
 
-    on_device : (k : ℕ) → k < total_lines geo → k < m.count
-    on_device k below = subst (λ c. k < c) (sym layout.lines) below
+  on_device : (k : ℕ) → k < total_lines geo → k < m.count
+  on_device k below = subst (λ c. k < c) (sym stands.layout.lines) below
 
-    quiet : IsSound n
-    quiet = sound_image lines (omega (arith, (fit_image geo layout.valid).1, last.count, layout.lines))
+  kept_of : (k : ℕ) → k < total_lines geo → LineKept m own k
+  kept_of k below = own_kept m k (on_device k below)
 
-    left : Survivors Lasts own n
-    left = own_survivors m lines sound quiet last
+  quiet : IsSound n
+  quiet = sound_image lines (omega (arith, (fit_image geo stands.layout.valid).1, last.count, stands.layout.lines))
 
-    meta_line : (k : ℕ) → k < meta_lines geo → LineKept m own k
-    meta_line k below = own_kept m k (on_device k (omega (arith, below, meta_within geo)))
+  left : Survivors Lasts own n
+  left = own_survivors m lines sound quiet last
 
-    own_layout : HasLayout geo own
-    own_layout = record { valid = layout.valid; lines = layout.lines; good = λ k below. (meta_line k below).bad ∙ layout.good k below }
+  meta_line : (k : ℕ) → k < meta_lines geo → LineKept m own k
+  meta_line k below = kept_of k (let within = meta_within geo in omega (arith, below, within))
 
-    own_metadata : MetadataStands geo own h.bad_meta
-    own_metadata = metadata-kept geo h.bad_meta m own stands refl meta_line (some_meta geo)
+  own_layout : HasLayout geo own
+  own_layout = layout-kept geo m own stands.layout refl meta_line (some_meta geo)
 
-    own_blocks : EachReads geo own (MayLeaveBlocks h.interrupted h.blocks)
-    own_blocks =
-        each_reads-stays geo m own (MayLeaveBlocks h.interrupted h.blocks) layout.valid (λ k of. stays_of_kept m own k (own_kept m k (on_device k (block_on_device geo layout.valid k of)))) each_block
+  own_bad : bad_metadata geo own.is_bad ≡ h.bad_meta
+  own_bad = same_bad geo m own (λ k below. (meta_line k below).bad) ∙ stands.bad
 
-    own_pages : EachReadsPages geo own (MayLeaveVolume geo h.interrupted h.volume)
-    own_pages = pages_elsewhere geo m own layout.valid (λ k of. own_kept m k (on_device k (volume_within geo k of))) (MayLeaveVolume geo h.interrupted h.volume) each_page
+  image_layout : HasLayout geo n
+  image_layout = layout-restarted geo own n own_layout Lasts (own_sound m sound) left
+
+  image_bad : bad_metadata geo n.is_bad ≡ h.bad_meta
+  image_bad = same_bad geo own n (λ k below. left.bad k) ∙ own_bad
+
+  good : h.bad_meta ≡ [] → IsGood geo own
+  good none = is_good own_layout (good_lines geo own (own_bad ∙ none))
+
+  module _ (each_block : h.bad_meta ≡ [] → EachReads geo m (MayLeaveBlocks h.interrupted h.blocks))
+      (each_page : h.bad_meta ≡ [] → EachReadsPages geo m (MayLeaveVolume geo h.interrupted h.volume)) where
+    own_blocks : h.bad_meta ≡ [] → EachReads geo own (MayLeaveBlocks h.interrupted h.blocks)
+    own_blocks none =
+        let valid = stands.layout.valid in
+        each_reads-stays geo m own (MayLeaveBlocks h.interrupted h.blocks) valid (λ k of. stays_of_kept m own k (kept_of k (block_on_device geo valid k of))) (each_block none)
+
+    own_pages : h.bad_meta ≡ [] → EachReadsPages geo own (MayLeaveVolume geo h.interrupted h.volume)
+    own_pages none = pages_elsewhere geo m own stands.layout.valid (λ k of. kept_of k (volume_within geo k of)) (MayLeaveVolume geo h.interrupted h.volume) (each_page none)
+
+    pub is_read_again : IsReadAgain lines h
+    is_read_again = by_lines h.bad_meta refl
+      where
+        by_lines : (bad : List ℕ) → h.bad_meta ≡ bad → IsReadAgain lines h
+        by_lines [] none = record {
+          found = nothing_back h Lasts own n (image_of lines) (good none) (own_blocks none) (own_pages none) left (depicted lines) (own_sound m sound) quiet ∙ sym (ap finding_of none);
+          sizes = λ _. (told_back h Lasts own n (image_of lines) (good none) (own_blocks none) (own_pages none) left (depicted lines) (own_sound m sound) quiet).sizes;
+          left = record {
+            metadata = image_bad;
+            storage = λ _. kept_back h Lasts own n (image_of lines) (good none) (own_blocks none) (own_pages none) left (depicted lines) (own_sound m sound) quiet;
+          };
+        }
+        by_lines (line ∷ rest) some = record {
+          found = bad_found geo n image_layout quiet line rest (image_bad ∙ some) ∙ sym (ap finding_of some);
+          sizes = λ none. cc (none, some);
+          left = record { metadata = image_bad; storage = λ none. cc (none, some) };
+        }

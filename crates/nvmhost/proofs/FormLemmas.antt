@@ -17,8 +17,6 @@ use Rattle.line_device.specs.Panel.{KeepsPower, Panel, SetsUp, after_disarm}
 use Rattle.word_tables.specs.declared.geometry.Geometry.{Geometry}
 use Rattle.machine_host.specs.declared.mode.Mode.TheVariants as modes
 use Rattle.machine_host.specs.Machine.{Machine, bad_of}
-use Rattle.machine_host.specs.Lines.{HasLayout}
-use Rattle.machine_host.specs.Restarting.{reading}
 use Rattle.machine_host.specs.Settling.{Settled}
 use Rattle.machine_host.specs.Stands.{HostServes, HostState, Stands}
 use Rattle.machine_host.proofs.RunLemmas.{tells_then}
@@ -34,6 +32,7 @@ use Rattle.nvmhost.specs.declared.ending.Ending.{Ending}
 use Rattle.nvmhost.specs.declared.ending.Ending.TheVariants.{Usage, Write}
 use Rattle.nvmhost.proofs.AgainLemmas.{is_read_again}
 use Rattle.nvmhost.proofs.BytesLemmas.{appends-none}
+use Rattle.nvmhost.proofs.OpenLemmas.{on_opened}
 use Rattle.nvmhost.proofs.RestLemmas.{rests-settled, stands-read_out}
 use Rattle.nvmhost.proofs.RunLemmas.{all_lines, halts-unstored, is_run}
 use Rattle.nvmhost.proofs.StoreLemmas.{last-write_back}
@@ -117,8 +116,7 @@ checked_ready name held host old new ready count bad is counted =
 
 -- a host that opened an image is on
 pub on_ready : (name : List ℕ) (held : Option Held) (host : HostState) (old new : Device) → IsReady name held host old new → host.mode ≡ modes.On
-unfolding reading
-on_ready name held host old new ready = ready.stands.mode ∙ ap (λ (h : Machine). h.mode) ready.begins.state
+on_ready name held host old new ready = ready.stands.mode ∙ ap (λ (h : Machine). h.mode) ready.begins.state ∙ on_opened ready.lines ready.right
 
 -- what is held, held on for a while
 keeps-then : (which : List ℕ → Type 0) (a b c : Option Held) → KeepsHeld (λ _. ⊤) a b → KeepsHeld which b c → KeepsHeld which a c
@@ -149,9 +147,9 @@ served_settled name held host after settled script written answered old opened_a
 -- A script that was performed to its end: host and device were brought to rest, and the image was stored or not.
 pub run_over : (from to : List ℕ) (host after settled : HostState) (script : Stock ℕ) (opened_as ran rest : Device) (held : Option Held) (counted : ImageCounts) (r : Result (Unit {0}) Ending) (old new : World)
     → IsReady from old.held host old.device opened_as → ReadsScript old.left new.left (Ok script) → Performs host after script.items (Ok tt) old.written new.written opened_as ran
-    → ((h : Machine) → Stands after ran h → Settled h settled (after_disarm ran.panel) rest) → settled.mode ≡ modes.On → IsSound rest.medium
+    → ((h : Machine) → Stands after ran h → Settled h settled (after_disarm ran.panel) rest) → IsSound rest.medium
     → KeepsHeld (λ _. ⊤) old.held held → CountsOpening old.images counted → Stores to r held new.held counted new.images rest new.device → Outcome (of_run from to) r old new
-run_over from to host after settled script opened_as ran rest held counted (Ok x) old new ready reads performs settles on sound kept counts stores =
+run_over from to host after settled script opened_as ran rest held counted (Ok x) old new ready reads performs settles sound kept counts stores =
     let says = performs.says ready.begin ready.stands in
     let comes = settles says.end says.outcome.stands in
     let done = stores.outcome in
@@ -193,12 +191,12 @@ run_over from to host after settled script opened_as ran rest held counted (Ok x
           text = subst (λ t. IfSome new.held (λ look. look to ≡ Some t)) image.is done.4;
           others = keeps-then (λ other. other ≢ to) old.held held new.held kept done.5;
         };
-        again = is_read_again comes.next rest.medium image.lines (subst (λ g. HasLayout g rest.medium) comes.stands.geometry comes.serves.layout) sound image.last stands.metadata stands.blocks stands.volume;
+        again = is_read_again comes.next rest.medium image.lines sound image.last stands.metadata stands.blocks stands.volume;
       };
       fetches = stores.fetches ∙ counts.fetches;
       replaces = done.1 ∙ ap raised counts.replaces;
     }
-run_over from to host after settled script opened_as ran rest held counted (Err e) old new ready reads performs settles on sound kept counts stores =
+run_over from to host after settled script opened_as ran rest held counted (Err e) old new ready reads performs settles sound kept counts stores =
     let says = performs.says ready.begin ready.stands in
     let comes = settles says.end says.outcome.stands in
     let left = stores.outcome in

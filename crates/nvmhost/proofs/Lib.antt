@@ -5,6 +5,7 @@ mod ReadLemmas
 mod TellLemmas
 mod OpenLemmas
 mod StoreLemmas
+mod BadMetadataLemmas
 mod AgainLemmas
 mod RestLemmas
 mod RunLemmas

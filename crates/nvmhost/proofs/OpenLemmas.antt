@@ -1,5 +1,5 @@
 -- An image that is opened, and one that is not.
-use Rattle.std.proofs.Common.{◌≡◌, ℕ, ◌/◌, ◌%◌, List, slice_get, Option, Some, None, refl, sym, ap, subst, ◌∙◌, arith}
+use Rattle.std.proofs.Common.{◌≡◌, ℕ, ◌/◌, ◌%◌, List, [], slice_get, Option, Some, None, refl, sym, ap, subst, ◌∙◌, arith}
 use Rattle.host_io.specs.Images.{Held}
 use Rattle.image_file.specs.Devices.{image_of, medium_of, told_values}
 use Rattle.line_device.specs.History.{newest}
@@ -14,10 +14,16 @@ use Rattle.line_device.specs.declared.line.LineState.{LineState}
 use Rattle.line_device.specs.declared.line.LineState.TheVariants.{Healthy, Weak, Bad}
 use Rattle.line_device.proofs.PanelLemmas.{arms_nothing-trans, same_orders-trans}
 use Rattle.machine_host.specs.Costs.{Opens, mount_calls, mount_persists}
+use Rattle.machine_host.specs.declared.mode.Mode.TheVariants as modes
+use Rattle.machine_host.specs.Lines.{bad_metadata}
+use Rattle.machine_host.specs.Machine.{Machine}
 use Rattle.machine_host.specs.Restarting.{reading}
 use Rattle.machine_host.specs.Stands.{HostState, HostServes, IsFlushed, Stands}
+use Rattle.machine_host.proofs.LayoutLemmas.{none_bad}
+use Rattle.machine_host.proofs.MountedLemmas.{layout_found}
+use Rattle.machine_host.proofs.ReadingLemmas.{read_whole}
 use Rattle.recovery.specs.Findings.{first_finding, geometry_told}
-use Rattle.nvmhost.specs.Opening.{IsHeld, IsReady}
+use Rattle.nvmhost.specs.Opening.{IsHeld, IsReady, opened}
 use Rattle.nvmhost.proofs.TellLemmas.{tells_opening}
 
 -- each word of an image has one value
@@ -29,6 +35,14 @@ flushed_of_image lines p there = by_line (slice_get lines (p / 8)) (p % 8)
     by_line (Some (Healthy bytes)) w v at = is_in-one v (word_at bytes w) at
     by_line (Some (Weak bytes)) w v at = is_in-one v (word_at bytes w) at
     by_line (Some Bad) w v at = absurd at
+
+-- a right image has no bad line of metadata
+pub good_image : (lines : List LineState) → first_finding (medium_of lines) ≡ None → bad_metadata (geometry_told (medium_of lines)) (medium_of lines).is_bad ≡ []
+good_image lines right = let m = medium_of lines in none_bad (geometry_told m) m (layout_found m (flushed_of_image lines) right).good
+
+-- so the machine is on as it begins
+pub on_opened : (lines : List LineState) → first_finding (medium_of lines) ≡ None → (opened lines).mode ≡ modes.On
+on_opened lines right = ap (λ (h : Machine). h.mode) (read_whole (geometry_told (medium_of lines)) (image_of lines) (good_image lines right))
 
 -- set up and mounted
 pub opens-mounted : (end : Outcome) (p q r : Panel) → SetsUp went p q → Runs mount_calls mount_persists end q r → Opens p r
@@ -47,7 +61,6 @@ pub is_ready : (name : List ℕ) (held : Option Held) (lines : List LineState) (
     → first_finding mid.medium ≡ None → new.medium.count ≡ mid.medium.count → HostServes host new
     → Stands host new (record (reading (geometry_told mid.medium) (image_of lines)) { cut_armed = new.panel.cut_armed; fail_armed = new.panel.fail_armed })
     → Runs mount_calls mount_persists went mid.panel new.panel → IsReady name held host old new
-unfolding reading
 is_ready name held lines host old mid new there is sets found count serves stands runs =
     let armed = arms_nothing-trans old.panel mid.panel new.panel sets.armed runs.armed in
     record {

@@ -5,7 +5,6 @@ use Rattle.line_device.specs.Medium.{WritesBack}
 use Rattle.line_device.specs.Panel.{ArmsNothing, Panel, SetsUp, Outcome, Start, after_disarm}
 use Rattle.line_device.specs.Panel.Outcome.{went}
 use Rattle.line_device.specs.Device.{Device}
-use Rattle.line_words.proofs.FrameLemmas.{outside-write_back}
 use Rattle.image_file.specs.Text.{FitImage}
 use Rattle.word_tables.specs.Layout.{volume_line}
 use Rattle.block_device.proofs.ReachLemmas.{each_reads-write_back}
@@ -17,8 +16,8 @@ use Rattle.machine_host.specs.Machine.{Machine}
 use Rattle.machine_host.specs.Settling.{Asks, LeftUnsettled, SettlesTo}
 use Rattle.machine_host.specs.Stands.{DeviceStands, HostServes, HostState}
 use Rattle.machine_host.specs.Telling.{bumped_by}
-use Rattle.machine_host.proofs.MetadataLemmas.{metadata-outside}
-use Rattle.machine_host.proofs.RemountLemmas.{stays_off}
+use Rattle.machine_host.proofs.LayoutLemmas.{layout-write_back, metadata-then}
+use Rattle.machine_host.proofs.SettlingLemmas.{stays_off}
 use Rattle.nvmhost.specs.Whole.{GoesToRest}
 use Rattle.nvmhost.proofs.AgainLemmas.{fit_image}
 
@@ -31,6 +30,7 @@ few_starts : (mode : Mode) (h next : Machine) (starts : List Start) → SettlesT
 few_starts modes.On h next starts comes = omega (arith, ap length comes.0)
 few_starts modes.Off h next starts comes = omega (arith, ap length comes.1)
 few_starts modes.Unsettled h next starts comes = omega (arith, ap length comes.0)
+few_starts modes.Stopped h next starts comes = omega (arith, ap length comes.0)
 
 bumped_once : (starts : List Start) (count : ℕ) → length starts ≤ 1 → bumped_by starts count ≤ count + 1
 bumped_once [] count few = omega arith
@@ -81,7 +81,7 @@ rests-settled mode h next starts end old rest new comes asks restarts sets =
       disarms = sets.orders.disarms ∙ asks.disarms;
     }
 
--- A host that is on may have its device read out.
+-- A host that serves may have its device read out.
 pub fit_served : (host : HostState) (d : Device) → HostServes host d → FitImage d.medium.count
 fit_served host d serves = subst FitImage (sym serves.layout.lines) (fit_image host.geometry serves.layout.valid)
 
@@ -89,13 +89,15 @@ fit_served host d serves = subst FitImage (sym serves.layout.lines) (fit_image h
 pub stands-read_out : (h : Machine) (old new : Device) → DeviceStands old h → WritesBack old.medium new.medium → SetsUp went old.panel new.panel → new.panel.power ≡ old.panel.power
     → h.cut_armed ≡ false → h.fail_armed ≡ false → DeviceStands new h
 stands-read_out h old new stands w sets power cut fail = record {
-  metadata = metadata-outside h.geometry h.bad_meta old.medium new.medium stands.metadata (λ _. ⊥) (outside-write_back (λ _. ⊥) old.medium new.medium w) (λ p below at. at);
-  blocks = each_reads-write_back h.geometry old.medium new.medium (MayLeaveBlocks h.interrupted h.blocks) w stands.blocks;
-  volume = each_pages-kept h.geometry old.medium new.medium (MayLeaveVolume h.geometry h.interrupted h.volume)
+  metadata = metadata-then h.geometry old.medium new.medium h.bad_meta (layout-write_back h.geometry old.medium new.medium stands.metadata.layout w) (λ n below. w.bad n) stands.metadata;
+  blocks = λ none. each_reads-write_back h.geometry old.medium new.medium (MayLeaveBlocks h.interrupted h.blocks) w (stands.blocks none);
+  volume = λ none.
+      each_pages-kept h.geometry old.medium new.medium (MayLeaveVolume h.geometry h.interrupted h.volume)
       (λ image is. images-kept h.geometry old.medium new.medium (λ p of. line_kept-write_back old.medium new.medium (p / 8) w) image is)
-      (λ n below. line_kept-write_back old.medium new.medium (volume_line h.geometry n) w) stands.volume;
+      (λ n below. line_kept-write_back old.medium new.medium (volume_line h.geometry n) w) (stands.volume none);
   power = power ∙ stands.power;
   cut_armed = stays_off old.panel.cut_armed new.panel.cut_armed (stands.cut_armed ∙ cut) sets.armed.cut ∙ sym cut;
   fail_armed = stays_off old.panel.fail_armed new.panel.fail_armed (stands.fail_armed ∙ fail) sets.armed.fail ∙ sym fail;
   whole = stands.whole;
+  stopped = stands.stopped;
 }

@@ -13,7 +13,7 @@ use Rattle.machine_host.specs.Costs.{Opens}
 use Rattle.machine_host.specs.Commands.{meaning}
 use Rattle.machine_host.specs.Faults.{Leaves, LeavesStarved, LeftUnmounted}
 use Rattle.machine_host.specs.Meaning.{Starved}
-use Rattle.machine_host.specs.Meaning.Starved.{Untouched, WrittenBack, Unmounted}
+use Rattle.machine_host.specs.Meaning.Starved.{Untouched, WrittenBack, Unmounted, Unrecovered}
 use Rattle.machine_host.proofs.RunLemmas.{tells_then}
 use Rattle.nvmhost.specs.Whole.{TellsFirst, GoesUnanswered}
 use Rattle.nvmhost.specs.Opening.{opening}
@@ -101,6 +101,26 @@ unanswered-unmounted choice host state old new left =
       disarms = opens.orders.disarms ∙ ap (λ c. c.disarms) counts;
     }
 
+-- a mount that was not done
+unanswered-opens : (p q : Panel) → Opens p q → GoesUnanswered p q
+unanswered-opens p q opens = record {
+  more = [];
+  few = omega arith;
+  starts = opens.orders.starts;
+  restarts = omega (arith, opens.orders.restarts);
+  once = omega (arith, opens.orders.restarts);
+  armed = opens.armed;
+  last_order = opens.orders.last_order;
+  arms = opens.orders.arms;
+  offs = opens.orders.offs;
+  faults = opens.faults;
+  cuts = opens.cuts;
+  calls = opens.calls;
+  persists = opens.persists;
+  evicts = opens.orders.evicts;
+  disarms = opens.orders.disarms;
+}
+
 -- what was left where memory ran out, by its row
 unanswered-starved : (starved : Starved) (host after : HostState) (old new : Device) → LeavesStarved starved host after old new → GoesUnanswered old.panel new.panel
 unanswered-starved Untouched host after old new left = subst (λ (d : Device). GoesUnanswered old.panel d.panel) (sym left.1) (unanswered-none old.panel)
@@ -127,6 +147,7 @@ unanswered-starved (Unmounted choice) host after old new (inl (same, inr waits))
       disarms = ap (λ c. c.disarms) counts;
     }
 unanswered-starved (Unmounted choice) host after old new (inr left) = unanswered-unmounted choice host after old new left
+unanswered-starved Unrecovered host after old new left = unanswered-opens old.panel new.panel left.opens
 
 -- a command that had no memory for its answer
 pub unanswered-left : (action : Action) (host after : HostState) (old new : Device) → Leaves action host after old new → GoesUnanswered old.panel new.panel

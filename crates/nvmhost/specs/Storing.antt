@@ -1,5 +1,5 @@
 -- What is held once an image was stored.
-use Rattle.std.specs.Prelude.{◌≡◌, ◌≢◌, ◌⊎◌, ℕ, List, Option, Some, None, IfSome, Result, MatchResult, ⊤}
+use Rattle.std.specs.Prelude.{◌≡◌, ◌≢◌, ◌⊎◌, ℕ, List, [], ◌∷◌, Option, Some, None, IfSome, Result, MatchResult, ⊤}
 use Rattle.nvm_base.specs.Counts.{Rose, raised}
 use Rattle.nvm_base.specs.Stock.{Stock}
 use Rattle.host_io.specs.Images.{Held, KeepsHeld}
@@ -15,6 +15,8 @@ use Rattle.line_device.specs.declared.line.LineState.{LineState}
 use Rattle.machine_host.specs.Machine.{Machine}
 use Rattle.machine_host.specs.Restarting.{RestartMayLeave}
 use Rattle.recovery.specs.Findings.{first_finding, geometry_told}
+use Rattle.word_log.specs.Mount.{Finding}
+use Rattle.word_log.specs.Mount.Finding.{bad_line}
 use Rattle.nvmhost.specs.Opening.{snapshot}
 use Rattle.nvmhost.specs.declared.ending.Ending.{Ending}
 use Rattle.nvmhost.specs.declared.ending.Ending.TheVariants.{Memory, Write}
@@ -25,10 +27,16 @@ pub record Holds (name : List ℕ) (image : Snapshot) (old new : Option Held) : 
   pub text : IfSome new (λ look. look name ≡ Some (image_text image))
   pub others : KeepsHeld (λ other. other ≢ name) old new
 
--- The image is a right one of these sizes, and what is read in it again is what a restart leaves of the state that loses nothing.
+-- what is found first in what a state is stored as: its lowest bad line of metadata, or nothing
+abbrev pub finding_of : List ℕ → Option Finding
+finding_of [] = None
+finding_of (line ∷ lines) = Some (bad_line line)
+
+-- What is read in the image again is what a restart leaves of the state that loses nothing. Where a line of metadata is bad, the
+-- image tells the lowest one, as it is checked too: `error meta` and its number. Else the image is a right one of these sizes.
 pub record IsReadAgain (lines : List LineState) (h : Machine) : Type 0 where
-  pub right : first_finding (medium_of lines) ≡ None
-  pub sizes : geometry_told (medium_of lines) ≡ h.geometry
+  pub found : first_finding (medium_of lines) ≡ finding_of h.bad_meta
+  pub sizes : h.bad_meta ≡ [] → geometry_told (medium_of lines) ≡ h.geometry
   pub left : RestartMayLeave Lasts (image_of lines) h
 
 -- All lines of the device are held under the name, as they were last stored, and are read again as the state that it stands for.

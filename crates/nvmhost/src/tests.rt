@@ -135,29 +135,78 @@ fn a_recorder_tells_what_the_script_asked_for(rt: HostRuntime) -> Result<(), Fai
     Ok(())
 }
 
-// Runs over one image, one after the other, the first of which ends without power: words, script, and what is written.
-static WITHOUT_POWER: [(&str, &str, &str); 3] = [
+// Calls one after the other: words, script, status, and what is written. Each run of a fresh image ends in another state.
+static ENDS_OF_RUNS: [(&str, &str, u8, &str); 16] = [
+    // Without power.
     (
-        "run img img",
-        "bwrite 1 07*512\nvstore 0 01\nvstore 0 02\ncut\n",
-        "ok\nok\nok\nok\n",
+        "run img dark",
+        "bwrite 1 07*512\nvstore 0 01\nvstore 0 02\nfail in 1\ncut in 9\ncut\n",
+        0,
+        "ok\nok\nok\nok\nok\nok\n",
     ),
     (
-        "run img out",
+        "run dark dark",
         "vload 0 2\nbread 1 1\nbread 0 1\n",
+        0,
         "data 02,00\ndata 07*512\ndata 00*512\n",
     ),
-    ("check out", "", "ok 5056 bad 0\n"),
+    ("check dark", "", 0, "ok 5056 bad 0\n"),
+    // After a failed call, with one more to come.
+    (
+        "run img failed",
+        "vstore 0 01\nvstore 0 02\nfail in 1\nvsync 0 1\nfail in 1\n",
+        0,
+        "ok\nok\nok\nrefused device\nok\n",
+    ),
+    (
+        "run failed failed",
+        "vload 0 2\nrecover\n",
+        0,
+        "data 02,00\nrefused on\n",
+    ),
+    ("check failed", "", 0, "ok 5056 bad 0\n"),
+    // Stopped by bad metadata.
+    (
+        "run img stopped",
+        "vstore 0 01\npoison meta 9\ncut\nrestart all\n",
+        0,
+        "ok\nok\nok\nstopped meta 9\n",
+    ),
+    ("check stopped", "", 3, "error meta 9\n"),
+    ("run stopped out", "vload 0 1\n", 3, "error meta 9\n"),
+    // With bad metadata that no mount has found yet.
+    (
+        "run img on",
+        "vstore 0 01\npoison meta 0\nvload 0 1\n",
+        0,
+        "ok\nok\ndata 01\n",
+    ),
+    ("check on", "", 3, "error meta 0\n"),
+    (
+        "run img off",
+        "poison meta 2303\npoison meta 18\ncut\n",
+        0,
+        "ok\nok\nok\n",
+    ),
+    ("check off", "", 3, "error meta 18\n"),
+    (
+        "run img unsettled",
+        "vstore 0 01\nfail in 1\nvsync 0 1\npoison meta 2303\n",
+        0,
+        "ok\nok\nrefused device\nok\n",
+    ),
+    ("check unsettled", "", 3, "error meta 2303\n"),
+    ("check img", "", 0, "ok 5056 bad 0\n"),
 ];
 
 #[test]
-fn a_run_that_ends_without_power_keeps_the_last_values(rt: HostRuntime) -> Result<(), Fail> {
+fn a_run_is_stored_whatever_state_it_ends_in(rt: HostRuntime) -> Result<(), Fail> {
     let alloc = rt.alloc();
     let mut images = fresh(alloc)?;
-    for &(words, script, wanted) in &WITHOUT_POWER {
+    for &(words, script, wanted, text) in &ENDS_OF_RUNS {
         let (status, sink) = outcome(alloc, words, &mut images, script, 1)?;
-        assert_eq!(rt; status, 0, "{words}");
-        assert_eq!(rt; sink.written(), wanted.as_bytes(), "{words}");
+        assert_eq!(rt; status, wanted, "{words}");
+        assert_eq!(rt; sink.written(), text.as_bytes(), "{words}");
     }
     Ok(())
 }

@@ -6,10 +6,10 @@ use line_device::Plain;
 use nvm_base::Words;
 use std::alloc::{AllocError, Global};
 use std::test::Fail;
-use test_devices::Fuse;
+use test_devices::{Faulty, Fuse};
 
-// So many lines that are no commands; and the read, the write, the call of the images and that of the device that fail, 0 for
-// none.
+// So many lines that are no commands; and the read, the write, the call of the images and that of the device that fail, and the
+// call of the device that is cut, 0 for none.
 #[derive(Clone, Copy)]
 struct Trial {
     words: &'static str,
@@ -17,6 +17,7 @@ struct Trial {
     read: u64,
     write: u64,
     image: u64,
+    fail: u64,
     cut: u64,
 }
 
@@ -27,6 +28,7 @@ const RUN: Trial = Trial {
     read: 0,
     write: 0,
     image: 0,
+    fail: 0,
     cut: 0,
 };
 
@@ -62,7 +64,8 @@ fn outcome(alloc: Global, trial: &Trial) -> Result<(u8, MemSink, bool), AllocErr
     let mut images = MemImages::new(alloc, only(alloc, trial.image)?);
     let before = held.get("img").unwrap_or(&[]);
     images.put("img", before)?;
-    let mut device = Fuse::new(Plain::new(alloc), trial.cut.wrapping_sub(1));
+    let fuse = Fuse::new(Plain::new(alloc), trial.cut.wrapping_sub(1));
+    let mut device = Faulty::new(fuse, only(alloc, trial.fail)?);
     let script = repeated(alloc, "x\n", trial.lines, "")?;
     let mut source = MemSource::new(script, 7, only(alloc, trial.read)?);
     let mut sink = MemSink::new(alloc, only(alloc, trial.write)?);
@@ -80,7 +83,7 @@ fn outcome(alloc: Global, trial: &Trial) -> Result<(u8, MemSink, bool), AllocErr
 
 // Each with its status, how many replies there are, and the line behind them. A write is made once 65,536 bytes wait, which
 // are 4,370 replies of 15 bytes.
-static TRIALS: [(Trial, u8, u64, &str); 20] = [
+static TRIALS: [(Trial, u8, u64, &str); 25] = [
     (RUN, 0, 8, ""),
     (Trial { read: 1, ..RUN }, 4, 0, "error read\n"),
     // The first piece ends inside the fourth line.
@@ -89,6 +92,27 @@ static TRIALS: [(Trial, u8, u64, &str); 20] = [
     (Trial { write: 5, ..LONG }, 5, 4 * 4370, ""),
     (Trial { cut: 1, ..RUN }, 8, 0, "error device\n"),
     (Trial { cut: 20, ..RUN }, 8, 0, "error device\n"),
+    // The image was not set up, or not mounted: nothing is read of the script.
+    (
+        Trial {
+            fail: 1,
+            read: 1,
+            ..RUN
+        },
+        8,
+        0,
+        "error device\n",
+    ),
+    (
+        Trial {
+            fail: 20,
+            read: 1,
+            ..RUN
+        },
+        8,
+        0,
+        "error device\n",
+    ),
     (Trial { image: 1, ..RUN }, 4, 0, "error read\n"),
     // The image was not replaced, once all was written.
     (Trial { image: 2, ..RUN }, 5, 8, ""),
@@ -119,7 +143,11 @@ static TRIALS: [(Trial, u8, u64, &str); 20] = [
     (Trial { image: 1, ..CHECK }, 4, 0, "error read\n"),
     (Trial { write: 1, ..CHECK }, 5, 0, ""),
     (Trial { cut: 3, ..CHECK }, 8, 0, "error device\n"),
+    (Trial { fail: 1, ..CHECK }, 8, 0, "error device\n"),
+    (Trial { fail: 3, ..CHECK }, 8, 0, "error device\n"),
     (NEW, 0, 0, "ok 5056\n"),
+    // No device is asked.
+    (Trial { fail: 1, ..NEW }, 0, 0, "ok 5056\n"),
     (Trial { write: 1, ..NEW }, 5, 0, ""),
     // The line comes before the image.
     (Trial { image: 1, ..NEW }, 5, 0, "ok 5056\n"),

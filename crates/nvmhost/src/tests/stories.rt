@@ -4,8 +4,15 @@
 pub const TWO_RESTARTS: &str =
     "vstore 0 07*8\ncut\nrestart none\ncut in 2\nvstore 60 aa*8\nrestart all\nvload 60 8\n";
 
+// Cuts, failures and media errors, each in the mode that the one before left.
+const ALL_KINDS: &str =
+    "vstore 60 aa*8\ncut in 2\nvsync 60 8\nfail in 1\nrestart none\nrecover\nbwrite 1 11*512\nfail in 2\nbwrite 1 22*512\ncut\nrestart all\nbread 1 1\npoison meta 9\nvload 60 8\nbwrite 2 05*512\nfail in 1\nvload 60 8\nrecover\npoison meta 3\nbread 1 1\ncut\nrestart none\ncut in 1\n";
+
+const TO_ALL_KINDS: &str =
+    "ok\nok\npower lost\nok\nrefused device\nok bad 0\nok\nok\nrefused device\nok\nok bad 0\ndata 11*512\nok\ndata aa*4,00*4\nrefused meta 9\nok\nrefused device\nstopped meta 9\nok\nrefused meta 3\nok\nstopped meta 3\nok\n";
+
 /// Each script with its replies.
-pub static STORIES: [(&str, &str); 22] = [
+pub static STORIES: [(&str, &str); 31] = [
     // What is not synced may be lost, or kept.
     (
         "vstore 0 07*8\ncut\nrestart none\nvload 0 8\n",
@@ -70,8 +77,8 @@ pub static STORIES: [(&str, &str); 22] = [
     ),
     // The later of two is the one to come, and `cut` takes it away.
     (
-        "cut in 1\ncut in 2\nvload 0 1\ncut\ncut in 1\nrestart none\nvload 0 2\ncut in 0\n",
-        "ok\nok\ndata 00\nok\nrefused off\nok bad 0\ndata 00*2\nrefused range\n",
+        "cut in 1\ncut in 2\nvload 0 1\ncut\nrestart none\nvload 0 2\ncut in 0\n",
+        "ok\nok\ndata 00\nok\nok bad 0\ndata 00*2\nrefused range\n",
     ),
     // Pages that are absent, there and discarded, and physical addresses.
     (
@@ -98,4 +105,41 @@ pub static STORIES: [(&str, &str); 22] = [
         "vstore 4096 11*8\nvsync 4096 8\ncut\nrestart none\nvexists 0\nvexists 1\nvload 4095 9\n",
         "ok\nok\nok\nok bad 0\nno\nyes\ndata 00,11*8\n",
     ),
+    // A restart that is cut, and one in which a call fails.
+    (
+        "bwrite 0 05*512\ncut\ncut in 1\nrestart all\nbread 0 1\nrestart all\nbread 0 1\n",
+        "ok\nok\nok\npower lost\nrefused off\nok bad 0\ndata 05*512\n",
+    ),
+    (
+        "cut\nfail in 1\nrestart all\nrecover\n",
+        "ok\nok\nrefused device\nok bad 0\n",
+    ),
+    // A failed call, and a recovery that fails too. The power stays on, so what was stored is there.
+    (
+        "fail in 1\nbatomic 0 01*512\nfail in 1\nbread 0 1\nrecover\nrecover\nbread 0 1\n",
+        "ok\nrefused device\nok\nrefused recover\nrefused device\nok bad 0\ndata 00*512\n",
+    ),
+    (
+        "vstore 0 00*64\nvsync 0 64\nvstore 0 07*8\nfail in 1\nvsync 0 8\nrestart all\nrecover\nvload 0 8\n",
+        "ok\nok\nok\nok\nrefused device\nrefused on\nok bad 0\ndata 07*8\n",
+    ),
+    // Of both in one call the cut comes.
+    (
+        "cut in 1\nfail in 1\nbatomic 0 01*512\nrestart all\n",
+        "ok\nok\npower lost\nrefused device\n",
+    ),
+    // Bad metadata is read no more once the device is mounted anew.
+    (
+        "poison meta 0\nbwrite 0 01*512\nbread 0 1\ncut\nrestart all\nbread 0 1\n",
+        "ok\nrefused meta 0\ndata 00*512\nok\nstopped meta 0\nrefused meta 0\n",
+    ),
+    (
+        "poison meta 2304\npoison meta 2303\nbexists 0\nbscar 0 1\nrecover\n",
+        "refused range\nok\nno\nrefused meta 2303\nrefused on\n",
+    ),
+    (
+        "poison meta 7\ncut\nrestart all\nfail in 3\ncut in 3\nfail in 0\nrestart all\nrecover\n",
+        "ok\nok\nstopped meta 7\nok\nok\nrefused range\nrefused on\nrefused meta 7\n",
+    ),
+    (ALL_KINDS, TO_ALL_KINDS),
 ];

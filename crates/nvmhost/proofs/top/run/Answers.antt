@@ -59,4 +59,4 @@ returns g c =
     let ready = c.in_ok-host.ensures in
     let performs = subst (λ script. Performs c.in_ok-host.host c.run_script.new.host script (Ok tt) old.written new.written opened ran) c.as_slice.ensures c.in_ok-run_script.ensures.performs in
     run_over c.args.from.now c.args.to.now c.in_ok-host.host c.run_script.new.host c.settle.new.self c.in_ok-text.text opened ran rest (g.F.Images.held c.open.new.images) (g.F.Images.count c.open.new.images) c.store.result old new
-    ready.ready c.in_ok-text.ensures.reads performs c.in_ok-settle.ensures.settled c.in_ok-settle.ensures.on (g.met.D.Lines.sound c.settle.new.device) ready.held ready.counts c.store.ensures
+    ready.ready c.in_ok-text.ensures.reads performs c.in_ok-settle.ensures.settled (g.met.D.Lines.sound c.settle.new.device) ready.held ready.counts c.store.ensures
