@@ -1,9 +1,9 @@
 -- Blocks that have lines have eight of them, whatever is made of them.
-use Rattle.std.proofs.Common.{ℕ, zero, suc, ◌*◌, ◌-◌, ◌/◌, Some, ◌==◌, Bool, true, false, cond, List, [], ◌∷◌, length, take, drop, map, ◌∙◌}
+use Rattle.std.proofs.Common.{inl, inr, ℕ, zero, suc, ◌*◌, ◌-◌, ◌/◌, Option, None, Some, ◌==◌, Bool, true, false, cond, List, [], ◌∷◌, length, take, drop, map, sym, subst, ◌∙◌}
 use Rattle.std.specs.Prelude.{slice_index}
 use Rattle.std.specs.List.{list_any}
 use Rattle.nvm_base.specs.declared.units.Span.{Span}
-use Rattle.nvm_model.specs.Blocks.{change, change_block, data_from, lose, lose_line, lose_line_of, write, write_block, write_ranges}
+use Rattle.nvm_model.specs.Blocks.{change, change_block, data_from, lose, lose_line, lose_line_of, nth, write, write_block, write_ranges}
 use Rattle.nvm_model.specs.Numbered.{is_among, list_from, map_from}
 use Rattle.nvm_model.specs.Storage.{Block}
 use Rattle.nvm_model.specs.Storage.Block.{Absent, Scarred, Data}
@@ -15,6 +15,9 @@ use Rattle.block_map.specs.declared.state.BlockState.TheVariants as state
 use Rattle.block_device.specs.Reading.{block_read, blocks_read, line_read, states_read}
 use Rattle.script_text.specs.Action.{Action}
 use Rattle.script_text.specs.Action.Action.{BWrite, BAtomic, BMulti, BDiscard, BDiscardIf, BScar, PoisonBlock}
+use Rattle.machine_host.specs.Commands.{LeavesBlocks, MayLeaveBlocks, meaning}
+use Rattle.machine_host.specs.Meaning.{BlocksLeft}
+use Rattle.machine_host.specs.Meaning.BlocksLeft.{Same, Either, Mixed}
 use Rattle.machine_host.specs.OnBlocks.{blocks_from}
 use Rattle.durable.specs.Durable.{HasEightLines, HaveEightLines}
 use Rattle.durable.proofs.StepLemmas.{blocks_after}
@@ -60,15 +63,31 @@ eight-lose block line blocks eight = eight-map (lose_line_of block line) 0 block
     by_test old had true = lost old had
     by_test old had false = had
 
+eight-made : (action : Action) (blocks : List Block) → HaveEightLines blocks → HaveEightLines ((meaning action).blocks blocks)
+eight-made (BWrite block bytes) blocks eight = eight-write block bytes blocks eight
+eight-made (BAtomic block bytes) blocks eight = eight-write block bytes blocks eight
+eight-made (BMulti ranges bytes) blocks eight = eight-write_ranges ranges bytes blocks eight
+eight-made (BDiscard block count) blocks eight = eight-change (blocks_from block count) Absent blocks tt eight
+eight-made (BDiscardIf block count) blocks eight = eight-change (blocks_from block count) Absent blocks tt eight
+eight-made (BScar ranges) blocks eight = eight-change ranges Scarred blocks tt eight
+eight-made action blocks eight = eight
+
 pub eight-altered : (action : Action) (blocks : List Block) → HaveEightLines blocks → HaveEightLines (blocks_after action blocks)
-eight-altered (BWrite block bytes) blocks eight = eight-write block bytes blocks eight
-eight-altered (BAtomic block bytes) blocks eight = eight-write block bytes blocks eight
-eight-altered (BMulti ranges bytes) blocks eight = eight-write_ranges ranges bytes blocks eight
-eight-altered (BDiscard block count) blocks eight = eight-change (blocks_from block count) Absent blocks tt eight
-eight-altered (BDiscardIf block count) blocks eight = eight-change (blocks_from block count) Absent blocks tt eight
-eight-altered (BScar ranges) blocks eight = eight-change ranges Scarred blocks tt eight
 eight-altered (PoisonBlock block line) blocks eight = eight-lose block line blocks eight
-eight-altered action blocks eight = eight
+eight-altered action blocks eight = eight-made action blocks eight
+
+-- and so have those that an interruption leaves
+eight-leaves : (left : BlocksLeft) (old to new : List Block) → HaveEightLines old → HaveEightLines to → LeavesBlocks left old to new → HaveEightLines new
+eight-leaves Same old to new eight made is = subst HaveEightLines {x = old} (sym is) eight
+eight-leaves Either old to new eight made (inl is) = subst HaveEightLines {x = old} (sym is) eight
+eight-leaves Either old to new eight made (inr is) = subst HaveEightLines {x = to} (sym is) made
+eight-leaves Mixed old to new eight made may =
+    λ n. elim (may.each n) as (λ _. HasEightLines (nth new n)) [ inl is ↦ subst HasEightLines (sym is) (eight n) | inr is ↦ subst HasEightLines (sym is) (made n) ]
+
+pub eight-left : (o : Option Action) (old new : List Block) → HaveEightLines old → MayLeaveBlocks o old new → HaveEightLines new
+eight-left None old new eight is = subst HaveEightLines {x = old} (sym is) eight
+eight-left (Some action) old new eight may =
+    eight-leaves (meaning action).blocks_left old ((meaning action).blocks old) new eight (eight-made action old eight) may
 
 pub eight-read : (geo : Geometry) (bad : ℕ → Bool) (word : ℕ → ℕ) → HaveEightLines (blocks_read geo bad word)
 unfolding blocks_read

@@ -1,4 +1,4 @@
--- What a step keeps: the byte at a place that it spares, and that the state is whole.
+-- What a step keeps: the byte at a place that it spares.
 use Rattle.std.proofs.Common.{◌≡◌, ◌⊎◌, inl, inr, ℕ, ◌/◌, ◌%◌, true, false, Option, Some, None, List, refl, sym, ap, subst, ◌∙◌, arith}
 use Rattle.std.proofs.lemmas.Bool.{both_ways, eq-eqb, eqb-false}
 use Rattle.std.proofs.lemmas.Bool.Decides.{nat_tests}
@@ -13,7 +13,7 @@ use Rattle.reply_text.specs.Answer.{Answer}
 use Rattle.reply_text.specs.Answer.Answer.{Done}
 use Rattle.script_text.specs.Action.{Action}
 use Rattle.script_text.specs.Action.Action.{VStore, VSync, VPSync, VDiscard, VDiscardIf, PoisonBlock, PoisonVolume, WeakenVolume, ClearVolume}
-use Rattle.machine_host.specs.declared.mode.Mode.TheVariants.{On}
+use Rattle.machine_host.specs.declared.mode.Mode.TheVariants.{On, Off}
 use Rattle.machine_host.specs.Machine.{Machine}
 use Rattle.machine_host.specs.Commands.{LeavesVolume, MayLeaveBlocks, MayLeaveVolume, meaning}
 use Rattle.machine_host.specs.OnVolume.{part_synced_at, persist_at}
@@ -25,9 +25,9 @@ use Rattle.pm_volume.specs.Refusals.{physical_offset}
 use Rattle.durable.specs.Place.{Place, block_has, byte_at_place}
 use Rattle.durable.specs.Place.Place.{of_volume, of_blocks}
 use Rattle.durable.specs.Touching.{changes, holds, is_begun, made_durable, poisons, touched_lines_at, weakens}
-use Rattle.durable.specs.Durable.{BringsBytes}
-use Rattle.durable.proofs.StepLemmas.{Alters, Returns, Step, TouchesNothing, blocks_after, volume_after}
-use Rattle.durable.proofs.StepLemmas.Step.{idles, alters, stops, returns}
+use Rattle.durable.specs.Durable.{BringsBytes, HasNothing}
+use Rattle.durable.proofs.StepLemmas.{Alters, Remounts, Returns, Step, TouchesNothing, blocks_after, volume_after}
+use Rattle.durable.proofs.StepLemmas.Step.{idles, alters, stops, returns, remounts, empties}
 use Rattle.durable.proofs.LineLemmas.{HasOrLost, MayBe}
 use Rattle.durable.proofs.VolumeLemmas.{VolumeKeeps, byte-kept, keeps-clear, keeps-lose, keeps-weaken, keeps-persist, keeps-stored, keeps-may_store, keeps-may_sync, keeps-discard, keeps-may_discard, keeps-read}
 use Rattle.durable.proofs.BlockLemmas.{has-lost, nth-spared, nth-left}
@@ -132,14 +132,19 @@ module _ (since : MayBe) where
       subst (λ bs. HasOrLost since.lost (block_has (nth bs (i / 512)) (i % 512)) v) {x = blocks_after action h.blocks} (sym to.blocks)
       (altered_blocks h.geometry action i v h.blocks spared keeps)
 
-  returned_place : (h next : Machine) (x : Place) (v : Option ℕ) → Returns h next → SparedBy since h.geometry h.interrupted x → PlaceKeeps h x v → PlaceKeeps next x v
-  returned_place h next (of_volume i) v back spared keeps =
+  returned_place : (h next : Machine) (x : Place) (v : Option ℕ) → since.cut ≡ true → Returns h next → SparedBy since h.geometry h.interrupted x → PlaceKeeps h x v → PlaceKeeps next x v
+  returned_place h next (of_volume i) v cuts back spared keeps =
       subst (λ p. VolumeKeeps since p i v) (sym back.volume)
-      (keeps-read since back.choice (volume_line h.geometry) back.image (presence_read h.geometry back.image.word) i v back.may.left
+      (keeps-read since back.choice (volume_line h.geometry) back.image (presence_read h.geometry back.image.word) i v back.may.left cuts
       (volume_left h.geometry h.interrupted i v h.volume back.may.left spared keeps back.may.may) back.may.there back.may.volume)
-  returned_place h next (of_blocks i) v back spared keeps =
+  returned_place h next (of_blocks i) v cuts back spared keeps =
       subst (λ bs. HasOrLost since.lost (block_has (nth bs (i / 512)) (i % 512)) v) {x = blocks_read h.geometry back.image.is_bad back.image.word} (sym back.blocks)
       (subst (λ b. HasOrLost since.lost (block_has b (i % 512)) v) (sym (blocks_left h.geometry h.interrupted i h.blocks _ spared back.may.blocks)) keeps)
+
+  remounted_place : (h next : Machine) (x : Place) (v : Option ℕ) → Remounts h next → SparedBy since h.geometry h.interrupted x → PlaceKeeps h x v → PlaceKeeps next x v
+  remounted_place h next (of_volume i) v back spared keeps = volume_left h.geometry h.interrupted i v h.volume next.volume spared keeps back.volume
+  remounted_place h next (of_blocks i) v back spared keeps =
+      subst (λ b. HasOrLost since.lost (block_has b (i % 512)) v) (sym (blocks_left h.geometry h.interrupted i h.blocks next.blocks spared back.blocks)) keeps
 
   pub stop_begun : (by : Interruption) → is_begun (interrupted_answer by) ≡ true
   stop_begun Failed = refl
@@ -163,27 +168,34 @@ module _ (since : MayBe) where
   spared_as h next x geometry interrupted spared =
       subst (λ g. SparedBy since g next.interrupted x) (sym geometry) (subst (λ o. SparedBy since h.geometry o x) (sym interrupted) spared)
 
-  -- A step that spares the place keeps its byte.
+  -- A step that spares the place keeps its byte, unless nothing is there after it.
   pub keeps-step : (h : Machine) (action : Action) (answer : Answer) (next : Machine) (x : Place) (v : Option ℕ) → BringsBytes action
-      → (is_begun answer ≡ true → SparesPlace since h.geometry action x) → Keeps h x v → Step h action answer next → Keeps next x v
-  keeps-step h action answer next x v small spares keeps (idles why to) = record {
+      → (is_begun answer ≡ true → SparesPlace since h.geometry action x) → (h.mode ≡ Off → since.cut ≡ true) → Keeps h x v
+      → Step h action answer next → Keeps next x v ⊎ HasNothing next
+  keeps-step h action answer next x v small spares off keeps (idles why to) = inl (record {
     place = same_place h next x v to.blocks to.volume keeps.place;
     spared = spared_as h next x to.geometry to.interrupted keeps.spared;
     settled = λ on. to.interrupted ∙ keeps.settled (to.mode on);
-  }
-  keeps-step h action answer next x v small spares keeps (alters begun none to) = record {
+  })
+  keeps-step h action answer next x v small spares off keeps (alters begun none to) = inl (record {
     place = altered_place h action next x v to (spared_when h.geometry action x answer small spares begun) keeps.place;
     spared = spared_as h next x to.geometry to.interrupted keeps.spared;
     settled = λ on. to.interrupted ∙ keeps.settled (sym to.mode ∙ on);
-  }
-  keeps-step h action answer next x v small spares keeps (stops by is to) = record {
+  })
+  keeps-step h action answer next x v small spares off keeps (stops by is to) = inl (record {
     place = same_place h next x v to.blocks to.volume keeps.place;
     spared = subst (λ g. SparedBy since g next.interrupted x) (sym to.geometry)
         (subst (λ o. SparedBy since h.geometry o x) {x = Some action} (sym to.interrupted) (spares (ap is_begun is ∙ stop_begun by)));
     settled = λ on. absurd (to.mode on);
-  }
-  keeps-step h action answer next x v small spares keeps (returns covers_nothing back) = record {
-    place = returned_place h next x v back keeps.spared keeps.place;
+  })
+  keeps-step h action answer next x v small spares off keeps (returns covers_nothing back) = inl (record {
+    place = returned_place h next x v (off back.off) back keeps.spared keeps.place;
     spared = subst (λ o. SparedBy since next.geometry o x) (sym back.interrupted) tt;
     settled = λ on. back.interrupted;
-  }
+  })
+  keeps-step h action answer next x v small spares off keeps (remounts covers_nothing back) = inl (record {
+    place = remounted_place h next x v back keeps.spared keeps.place;
+    spared = subst (λ o. SparedBy since next.geometry o x) (sym back.interrupted) tt;
+    settled = λ on. back.interrupted;
+  })
+  keeps-step h action answer next x v small spares off keeps (empties covers_nothing to) = inr to.nothing

@@ -12,26 +12,29 @@ use Rattle.nvm_model.proofs.PageLemmas.{cell_of-persist, presence_of-persist}
 use Rattle.reply_text.specs.Answer.{Answer}
 use Rattle.reply_text.specs.Answer.Answer.{Done}
 use Rattle.script_text.specs.Action.{Action}
-use Rattle.script_text.specs.Action.Action.{VSync, VPSync, ClearVolume, Cut, CutIn, Restart}
+use Rattle.script_text.specs.Action.Action.{VSync, VPSync, ClearVolume, PoisonMeta, Cut, CutIn, FailIn, Restart, Recover}
 use Rattle.script_text.specs.Script.{Input}
 use Rattle.script_text.specs.Script.Input.{Skipped, Malformed, Asked}
 use Rattle.machine_host.specs.Machine.{Machine}
 use Rattle.word_tables.specs.declared.geometry.Geometry.{Geometry}
 use Rattle.machine_host.specs.Commands.{meaning, refusal}
 use Rattle.machine_host.specs.Interrupted.{interrupted_answer}
-use Rattle.machine_host.specs.Meaning.Needs.{Usable}
+use Rattle.machine_host.specs.declared.needs.Needs.TheVariants.{Usable}
 use Rattle.machine_host.specs.OnVolume.{persist_at}
 use Rattle.pm_volume.specs.Refusals.{physical_offset}
-use Rattle.machine_host.specs.Run.{Hears, Run, Transcript}
+use Rattle.machine_host.specs.Run.{Hears, Run, Transcript, followed_by}
+use Rattle.machine_host.specs.declared.mode.Mode.TheVariants.{On, Off}
+use Rattle.std.specs.Prelude.{◌≢◌}
+use Rattle.durable.proofs.PowerLemmas.{powered_first, powered_heard, powered_rest}
 use Rattle.durable.specs.Place.{Place, byte_at_place, line_has}
-use Rattle.durable.specs.Place.{is_line_present}
+use Rattle.durable.specs.Place.{is_line_present, is_weak_at}
 use Rattle.durable.specs.Place.Place.{of_volume, of_blocks}
 use Rattle.durable.specs.Touching.{changes, holds, is_begun, is_made_durable, made_durable, poisons, touched_lines_at, weakens}
-use Rattle.durable.specs.Durable.{BringBytes, BringsBytes, Does, HaveLines, IsComplete, IsDurable, IsLineThere, Lasts, Spares}
-use Rattle.durable.proofs.StepLemmas.{Alters, Step, geometry_run, geometry_step, step_of}
-use Rattle.durable.proofs.StepLemmas.Step.{idles, alters, stops, returns}
+use Rattle.durable.specs.Durable.{BringBytes, BringsBytes, Does, HasNothing, HaveLines, IsComplete, IsDurable, IsLineThere, Lasts, LastsPowered, Remains, Spares, StaysPowered}
+use Rattle.durable.proofs.StepLemmas.{Alters, Step, geometry_run, geometry_step, nothing_run, step_of}
+use Rattle.durable.proofs.StepLemmas.Step.{idles, alters, stops, returns, remounts, empties}
 use Rattle.durable.proofs.LineLemmas.{HasOrLost, LineKeeps, MayBe, line_keeps-flushed}
-use Rattle.durable.proofs.VolumeLemmas.{VolumeKeeps, absent-kept}
+use Rattle.durable.proofs.VolumeLemmas.{VolumeKeeps, absent-kept, there-kept}
 use Rattle.durable.proofs.KeepLemmas.{Keeps, PlaceKeeps, SparedBy, SparesPlace, keeps-step, keeps_byte}
 use Rattle.durable.proofs.ReadLemmas.{has}
 use Rattle.durable.proofs.RefusalLemmas.{is_on, is_refused, line_none, places_none, refused_told, within_none}
@@ -49,8 +52,14 @@ covers_usable h Cut (of_volume i) covered = cc covered
 covers_usable h Cut (of_blocks i) covered = cc covered
 covers_usable h (CutIn calls) (of_volume i) covered = cc covered
 covers_usable h (CutIn calls) (of_blocks i) covered = cc covered
+covers_usable h (FailIn calls) (of_volume i) covered = cc covered
+covers_usable h (FailIn calls) (of_blocks i) covered = cc covered
 covers_usable h (Restart choice) (of_volume i) covered = cc covered
 covers_usable h (Restart choice) (of_blocks i) covered = cc covered
+covers_usable h Recover (of_volume i) covered = cc covered
+covers_usable h Recover (of_blocks i) covered = cc covered
+covers_usable h (PoisonMeta line) (of_volume i) covered = cc covered
+covers_usable h (PoisonMeta line) (of_blocks i) covered = cc covered
 covers_usable h action x covered = refl
 
 pub stop_done : (by : Interruption) → Done ≡ interrupted_answer by → ⊥
@@ -67,6 +76,8 @@ came_by h action answer next x covered done (idles (inl why) to) = absurd (both_
 came_by h action answer next x covered done (idles (inr none) to) = absurd (both_ways _ (none x) covered)
 came_by h action answer next x covered done (stops by is to) = absurd (stop_done by (sym done ∙ is))
 came_by h action answer next x covered done (returns none back) = absurd (both_ways _ (none x) covered)
+came_by h action answer next x covered done (remounts none back) = absurd (both_ways _ (none x) covered)
+came_by h action answer next x covered done (empties none to) = absurd (both_ways _ (none x) covered)
 came_by h action answer next x covered done (alters begun none to) = record { none = none; to = to }
 
 pub done_by : (h next : Machine) (action : Action) (x : Place) → Does h action next → is_made_durable h action x ≡ true → Came h action next
@@ -127,35 +138,59 @@ module _ (since : MayBe) where
         (change.1, poison.1, weaken.1, cover.1),
       )
 
+  -- the power may be cut, or it is on and stays so
+  abbrev Power : Machine → Transcript → Type 0
+  Power h said = (since.cut ≡ true) ⊎ ((h.mode ≢ Off) × StaysPowered said)
+
+  power_off : (h : Machine) (said : Transcript) → Power h said → h.mode ≡ Off → since.cut ≡ true
+  power_off h said (inl cuts) off = cuts
+  power_off h said (inr on) off = absurd (on.0 off)
+
+  power_next : (h next : Machine) (input : Input) (first rest : Transcript) → Hears h input first next → Power h (followed_by first rest) → Power next rest
+  power_next h next input first rest heard (inl cuts) = inl cuts
+  power_next h next input first rest heard (inr on) =
+      inr (powered_heard h next input first on.0 (powered_first first rest on.1) heard, powered_rest first rest on.1)
+
+  -- the place keeps its byte, or nothing is there
+  abbrev KeepsOr : Machine → Place → Option ℕ → Type 0
+  KeepsOr h x v = Keeps since h x v ⊎ HasNothing h
+
   keeps-heard : (input : Input) (inputs : List Input) (h next : Machine) (first : Transcript) (answers : List Answer) (x : Place) (v : Option ℕ) → BringBytes (input ∷ inputs)
+      → (h.mode ≡ Off → since.cut ≡ true)
       → Hears h input first next → Allowed since h.geometry x (input ∷ inputs) (first.answers ++ answers) → Keeps since h x v
-      → Keeps since next x v × Allowed since next.geometry x inputs answers × BringBytes inputs
-  keeps-heard Skipped inputs h next first answers x v bytes heard all keeps = (
-    subst (λ m. Keeps since m x v) (sym heard.1) keeps,
+      → KeepsOr next x v × Allowed since next.geometry x inputs answers × BringBytes inputs
+  keeps-heard Skipped inputs h next first answers x v bytes off heard all keeps = (
+    inl (subst (λ m. Keeps since m x v) (sym heard.1) keeps),
     subst (λ m. Allowed since m.geometry x inputs answers) (sym heard.1) (subst (λ (s : Transcript). Allowed since h.geometry x inputs (s.answers ++ answers)) heard.0 all),
     bytes,
   )
-  keeps-heard Malformed inputs h next first answers x v bytes heard all keeps = (
-    subst (λ m. Keeps since m x v) (sym heard.1) keeps,
+  keeps-heard Malformed inputs h next first answers x v bytes off heard all keeps = (
+    inl (subst (λ m. Keeps since m x v) (sym heard.1) keeps),
     subst (λ m. Allowed since m.geometry x inputs answers) (sym heard.1)
         (subst (λ (s : Transcript). Allowed since h.geometry x (Malformed ∷ inputs) (s.answers ++ answers)) heard.0 all),
     bytes,
   )
-  keeps-heard (Asked action) inputs h next first answers x v bytes heard all keeps =
+  keeps-heard (Asked action) inputs h next first answers x v bytes off heard all keeps =
       let taken = step_of h action first next heard in
       let each = allowed-asked h.geometry action inputs first taken.answer answers x bytes.0 taken.answers all in (
-        keeps-step since h action taken.answer next x v bytes.0 each.0 keeps taken.step,
+        keeps-step since h action taken.answer next x v bytes.0 each.0 off keeps taken.step,
         subst (λ g. Allowed since g x inputs answers) (sym (geometry_step h action taken.answer next taken.step)) each.1,
         bytes.1,
       )
 
-  keeps-run : (inputs : List Input) (h later : Machine) (said : Transcript) (x : Place) (v : Option ℕ) → BringBytes inputs → Run h inputs said later
-      → Allowed since h.geometry x inputs said.answers → Keeps since h x v → Keeps since later x v
-  keeps-run [] h later said x v bytes run all keeps = subst (λ m. Keeps since m x v) (sym run.1) keeps
-  keeps-run (input ∷ inputs) h later said x v bytes run all keeps =
+  keeps-run : (inputs : List Input) (h later : Machine) (said : Transcript) (x : Place) (v : Option ℕ) → BringBytes inputs → Run h inputs said later → Power h said
+      → Allowed since h.geometry x inputs said.answers → KeepsOr h x v → KeepsOr later x v
+  keeps-run inputs h later said x v bytes run power all (inr nothing) = inr (nothing_run h later inputs said nothing run)
+  keeps-run [] h later said x v bytes run power all (inl keeps) = inl (subst (λ m. Keeps since m x v) (sym run.1) keeps)
+  keeps-run (input ∷ inputs) h later said x v bytes run power all (inl keeps) =
       let split = subst (λ (s : Transcript). Allowed since h.geometry x (input ∷ inputs) s.answers) run.3 all in
-      let heard = keeps-heard input inputs h run.2 run.0 run.1.answers x v bytes run.4 split keeps in
-      keeps-run inputs run.2 later run.1 x v heard.2 run.5 heard.1 heard.0
+      let on = subst (Power h) run.3 power in
+      let heard = keeps-heard input inputs h run.2 run.0 run.1.answers x v bytes (power_off h (followed_by run.0 run.1) on) run.4 split keeps in
+      keeps-run inputs run.2 later run.1 x v heard.2 run.5 (power_next h run.2 input run.0 run.1 run.4 on) heard.1 heard.0
+
+  byte_or : (h : Machine) (x : Place) (v : Option ℕ) → KeepsOr h x v → HasOrLost since.lost (byte_at_place h x) v ⊎ HasNothing h
+  byte_or h x v (inl keeps) = inl (keeps_byte since h x v keeps)
+  byte_or h x v (inr nothing) = inr nothing
 
   -- what a sync left of a line that it touches
   synced_line : (start len i : ℕ) (pages : List Page) → touches start len (i / 64) ≡ true → HaveLines pages
@@ -214,37 +249,61 @@ module _ (since : MayBe) where
       }
 
 -- the line may be lost; it was not harmed; it is weak, and was not synced
-abbrev lost_since : MayBe
-lost_since = record { weak = true; lost = true }
+abbrev lost_since : Bool → MayBe
+lost_since cut = record { weak = true; lost = true; cut = cut }
 
-abbrev unharmed_since : MayBe
-unharmed_since = record { weak = false; lost = false }
+abbrev unharmed_since : Bool → MayBe
+unharmed_since cut = record { weak = false; lost = false; cut = cut }
 
-abbrev weak_since : MayBe
-weak_since = record { weak = true; lost = false }
+abbrev weak_since : Bool → MayBe
+weak_since cut = record { weak = true; lost = false; cut = cut }
 
-not_lost : (found v : Option ℕ) → HasOrLost false found v → found ≡ v
-not_lost found v (inl is) = is
-not_lost found v (inr lost) = cc lost.1
+not_lost : (h : Machine) (x : Place) (v : Option ℕ) → HasOrLost false (byte_at_place h x) v ⊎ HasNothing h → (byte_at_place h x ≡ v) ⊎ HasNothing h
+not_lost h x v (inl (inl is)) = inl is
+not_lost h x v (inl (inr lost)) = cc lost.1
+not_lost h x v (inr nothing) = inr nothing
 
--- a place that keeps its byte, whatever a run does
-pub lasts : (h : Machine) (x : Place) (v : Option ℕ) → IsComplete h → ((since : MayBe) → Keeps since h x v) → Lasts h x v
-lasts h x v whole keeps inputs said later bytes run = record {
+-- a place that keeps its byte, whatever a run does, where the power may be cut or is not
+remains : (cut : Bool) (h : Machine) (x : Place) (v : Option ℕ) → IsComplete h → ((weak lost : Bool) → Keeps (record { weak = weak; lost = lost; cut = cut }) h x v)
+    → (inputs : List Input) (said : Transcript) (later : Machine) → BringBytes inputs → Run h inputs said later → (cut ≡ true) ⊎ ((h.mode ≢ Off) × StaysPowered said)
+    → Remains inputs said.answers later x v
+remains cut h x v whole keeps inputs said later bytes run power = record {
   has = λ spares.
       has true later x v (whole-run inputs h later said whole run)
-      (keeps_byte lost_since later x v
-      (keeps-run lost_since inputs h later said x v bytes run (spares, inr refl, inr refl, inr (λ weak. refl)) (keeps lost_since)));
-  unharmed = λ spares poison weaken. not_lost (byte_at_place later x) v (by_harm spares poison weaken);
+      (byte_or (lost_since cut) later x v
+      (keeps-run (lost_since cut) inputs h later said x v bytes run power (spares, inr refl, inr refl, inr (λ weak. refl)) (inl (keeps true true))));
+  unharmed = λ spares poison weaken. not_lost later x v (by_harm spares poison weaken);
 }
   where
     by_harm : Spares changes x inputs said.answers → Spares poisons x inputs said.answers
-        → Spares weakens x inputs said.answers ⊎ Spares (is_made_durable later) x inputs said.answers → HasOrLost false (byte_at_place later x) v
+        → Spares weakens x inputs said.answers ⊎ Spares (is_made_durable later) x inputs said.answers → HasOrLost false (byte_at_place later x) v ⊎ HasNothing later
     by_harm spares poison (inl weaken) =
-        keeps_byte unharmed_since later x v
-        (keeps-run unharmed_since inputs h later said x v bytes run (spares, inl poison, inl weaken, inr (λ weak. cc weak)) (keeps unharmed_since))
+        byte_or (unharmed_since cut) later x v
+        (keeps-run (unharmed_since cut) inputs h later said x v bytes run power (spares, inl poison, inl weaken, inr (λ weak. cc weak)) (inl (keeps false false)))
     by_harm spares poison (inr cover) =
         let synced = subst (λ g. Spares (λ action y. holds (made_durable g action) y) x inputs said.answers) (geometry_run inputs h later said run) cover in
-        keeps_byte weak_since later x v (keeps-run weak_since inputs h later said x v bytes run (spares, inl poison, inr refl, inl synced) (keeps weak_since))
+        byte_or (weak_since cut) later x v
+        (keeps-run (weak_since cut) inputs h later said x v bytes run power (spares, inl poison, inr refl, inl synced) (inl (keeps true false)))
+
+pub lasts : (h : Machine) (x : Place) (v : Option ℕ) → IsComplete h → ((since : MayBe) → Keeps since h x v) → Lasts h x v
+lasts h x v whole keeps inputs said later bytes run =
+    remains true h x v whole (λ weak lost. keeps (record { weak = weak; lost = lost; cut = true })) inputs said later bytes run (inl refl)
+
+-- any place in mode On, while the power stays on
+there : (h : Machine) (x : Place) (weak lost : Bool) → IsComplete h → is_weak_at h x ≡ false → PlaceKeeps (record { weak = weak; lost = lost; cut = false }) h x (byte_at_place h x)
+there h (of_volume i) weak lost whole strong =
+    there-kept (record { weak = weak; lost = lost; cut = false }) h.volume i refl (λ is. absurd (both_ways _ strong is)) whole.lines
+there h (of_blocks i) weak lost whole strong = inl refl
+
+pub lasts_powered : (h : Machine) (x : Place) → IsComplete h → h.mode ≡ On → is_weak_at h x ≡ false → LastsPowered h x (byte_at_place h x)
+lasts_powered h x whole on strong inputs said later bytes run powered =
+    remains false h x (byte_at_place h x) whole
+    (λ weak lost. record {
+      place = there h x weak lost whole strong;
+      spared = subst (λ o. SparedBy (record { weak = weak; lost = lost; cut = false }) h.geometry o x) (sym (whole.settled on)) tt;
+      settled = whole.settled;
+    })
+    inputs said later bytes run (inr (λ off. cc (on, off), powered))
 
 pub durable : (h next : Machine) (action : Action) (x : Place) → Does h action next → is_made_durable h action x ≡ true → IsDurable next x
 durable h next action x does covered =

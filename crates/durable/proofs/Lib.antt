@@ -10,9 +10,11 @@ pub mod RefusalLemmas
 pub mod WholeLemmas
 pub mod NamingLemmas
 pub mod ReadLemmas
+pub mod PowerLemmas
 pub mod LawLemmas
 pub mod LostLemmas
 pub mod ScriptLemmas
 pub mod WrittenLemmas
 pub mod UnsyncedLemmas
 pub mod PassLemmas
+pub mod MetadataLemmas

@@ -12,17 +12,12 @@ use Rattle.nvm_model.specs.Cell.{Cell, KeepsCell, covers, flush_cell, persist_ce
 use Rattle.nvm_model.specs.Cell.Cell.{Bad, Kept}
 use Rattle.nvm_model.specs.Interrupted.{MayPut}
 use Rattle.nvm_model.proofs.NumberedLemmas.{slice_get-list_from, slice_get-map_from}
-use Rattle.durable.specs.Place.{line_has}
+use Rattle.durable.specs.Place.{is_weak_line, line_has}
+use Rattle.std.proofs.lemmas.Bool.{both_ways}
 use Rattle.durable.specs.Durable.{IsLineThere}
 use Rattle.std.proofs.lemmas.List.{get_or-replicate}
 use native.Mathlib.Nat.{zero-div}
 use Rattle.durable.proofs.WordLemmas.{WordKeeps, word_keeps-flushed, word_keeps-latest, word_keeps-one, word_keeps-stored}
-
--- byte i of the words is v, in each value
-pub record WordsKeep (words : List (List ℕ)) (i : ℕ) (v : Option ℕ) : Type 0 where
-  pub history : List ℕ
-  pub there : slice_get words (i / 8) ≡ Some history
-  pub word : WordKeeps history (i % 8) v
 
 -- a line of zeros has no other byte
 byte_at-zero : (k : ℕ) → byte_at k 0 ≡ 0
@@ -36,12 +31,19 @@ zero_shown i lt = ap (λ h. Some (byte_at (i % 8) (newest h))) (get_or-replicate
 abbrev pub HasOrLost : Bool → Option ℕ → Option ℕ → Type 0
 HasOrLost lost found v = (found ≡ v) ⊎ ((found ≡ None) × (lost ≡ true))
 
--- what may have become of a line since: whether it may be weak, and whether it may be lost
+-- what may have become of a line since: whether it may be weak, and whether it may be lost; and whether the power may be cut
 pub record MayBe : Type 0 where
   pub weak : Bool
   pub lost : Bool
+  pub cut : Bool
 
 module _ (since : MayBe) where
+  -- byte i of the words is v, in each value that a cut may leave
+  pub record WordsKeep (words : List (List ℕ)) (i : ℕ) (v : Option ℕ) : Type 0 where
+    pub history : List ℕ
+    pub there : slice_get words (i / 8) ≡ Some history
+    pub word : WordKeeps since.cut history (i % 8) v
+
   -- The line is bad and has no byte, or it has this byte in each value. It is lost or weak only where it may be.
   abbrev pub LineKeeps : Option Cell → ℕ → Option ℕ → Type 0
   LineKeeps None i v = ⊥
@@ -70,7 +72,7 @@ module _ (since : MayBe) where
         record {
           history = latest history;
           there = found;
-          word = subst (λ h. WordKeeps (latest history) (i % 8) (Some (byte_at (i % 8) (newest h)))) (sym same) (word_keeps-latest history (i % 8));
+          word = subst (λ h. WordKeeps since.cut (latest history) (i % 8) (Some (byte_at (i % 8) (newest h)))) (sym same) (word_keeps-latest since.cut history (i % 8));
         },
       )
 
@@ -87,7 +89,7 @@ module _ (since : MayBe) where
         record {
           history = latest k.1.history;
           there = slice_get-map latest words (i / 8) ∙ ap (option_map latest) k.1.there;
-          word = word_keeps-flushed k.1.history (i % 8) v k.1.word;
+          word = word_keeps-flushed since.cut k.1.history (i % 8) v k.1.word;
         },
       )
 
@@ -107,7 +109,7 @@ module _ (since : MayBe) where
         history = word_stored at bytes (8 * (i / 64) + (i % 64) / 8) keeps.history;
         there = slice_get-map_from (word_stored at bytes) (8 * (i / 64)) words ((i % 64) / 8)
             ∙ ap (option_map (word_stored at bytes (8 * (i / 64) + (i % 64) / 8))) keeps.there;
-        word = word_keeps-stored at (8 * (i / 64) + (i % 64) / 8) ((i % 64) % 8) bytes keeps.history v small (omega arith)
+        word = word_keeps-stored since.cut at (8 * (i / 64) + (i % 64) / 8) ((i % 64) % 8) bytes keeps.history v small (omega arith)
             (ap (is_among at (length bytes)) place ∙ out) keeps.word;
       }
 
@@ -138,22 +140,37 @@ module _ (since : MayBe) where
       )
 
   -- what a restart left of it
-  pub line_keeps-read : (choice : Choice) (image : Image) (n i : ℕ) (v : Option ℕ) (cell : Cell) → i < 64 → LineKeeps (Some cell) i v → KeepsCell choice image n cell
+  pub line_keeps-read : (choice : Choice) (image : Image) (n i : ℕ) (v : Option ℕ) (cell : Cell) → since.cut ≡ true → i < 64 → LineKeeps (Some cell) i v
+      → KeepsCell choice image n cell
       → LineKeeps (Some (read_cell image n)) i v
-  line_keeps-read choice image n i v Bad lt keeps bad =
+  line_keeps-read choice image n i v Bad cuts lt keeps bad =
       subst (λ b. LineKeeps (Some (cond b Bad (Kept (image.is_weak n) (list_from (λ p. image.word p ∷ []) (8 * n) 8)))) i v) (sym bad) keeps
-  line_keeps-read choice image n i v (Kept weak words) lt keeps kept =
+  line_keeps-read choice image n i v (Kept weak words) cuts lt keeps kept =
       subst (λ b. LineKeeps (Some (cond b Bad (Kept (image.is_weak n) (list_from (λ p. image.word p ∷ []) (8 * n) 8)))) i v) (sym kept.0) (
         λ weak. keeps.0 (sym kept.1 ∙ weak),
         record {
           history = image.word (8 * n + i / 8) ∷ [];
           there = slice_get-list_from (λ p. image.word p ∷ []) (8 * n) 8 (i / 8) (omega arith);
-          word = word_keeps-one keeps.1.history (i % 8) (image.word (8 * n + i / 8)) v keeps.1.word (kept.2 (i / 8) keeps.1.history keeps.1.there).was;
+          word = word_keeps-one since.cut keeps.1.history (i % 8) (image.word (8 * n + i / 8)) v keeps.1.word cuts (kept.2 (i / 8) keeps.1.history keeps.1.there).was;
         },
       )
 
   pub line_keeps-zero : (i : ℕ) (v : Option ℕ) → i < 64 → v ≡ Some 0 → LineKeeps (Some zero_cell) i v
   line_keeps-zero i v lt is = subst (LineKeeps (Some zero_cell) i) (zero_shown i lt ∙ sym is) (line_keeps-flushed zero_cell i lt refl)
+
+  -- what a line has is kept while no cut may come
+  pub line_keeps-there : (cell : Cell) (i : ℕ) → since.cut ≡ false → (is_weak_line (Some cell) ≡ true → since.weak ≡ true) → i < 64 → IsLineThere (Some cell)
+      → LineKeeps (Some cell) i (line_has (Some cell) i)
+  line_keeps-there Bad i uncut may lt size = inl refl
+  line_keeps-there (Kept weak words) i uncut may lt size =
+      let history = slice_index_or words (i / 8) [] in (
+        may,
+        record {
+          history = history;
+          there = slice_get-get_or words (i / 8) [] (omega (arith, size));
+          word = record { each = λ cuts. absurd (both_ways since.cut uncut cuts); last = refl };
+        },
+      )
 
   -- what a lost line has is kept
   pub lost-kept : (o : Option Cell) (i : ℕ) → line_has o i ≡ None → LineKeeps o i None

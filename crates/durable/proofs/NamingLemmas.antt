@@ -21,13 +21,18 @@ use Rattle.block_device.specs.Refusals.Refusal.{Unreadable}
 use Rattle.pm_volume.specs.Refusals.{poisoned_at}
 use Rattle.reply_text.specs.declared.reply.Why.{Why}
 use Rattle.reply_text.specs.Answer.{Answer}
-use Rattle.reply_text.specs.Answer.Answer.{PoisonVolume, Refused}
+use Rattle.reply_text.specs.Answer.Answer.{PoisonVolume, Refused, RefusedMeta}
+use Rattle.machine_host.specs.declared.mode.Mode.{Mode}
+use Rattle.machine_host.specs.declared.mode.Mode.TheVariants.{Stopped}
+use Rattle.machine_host.specs.declared.needs.Needs.{Needs}
+use Rattle.machine_host.specs.declared.needs.Needs.TheVariants.{Usable}
+use Rattle.machine_host.specs.Lines.{lowest}
 use Rattle.script_text.specs.Action.{Action}
 use Rattle.script_text.specs.Action.Action.{BRead, VLoad}
 use Rattle.script_text.specs.Script.Input.{Asked}
 use Rattle.machine_host.specs.Machine.{Machine}
 use Rattle.machine_host.specs.Commands.{early_refusal, meaning, refusal, unless_refused}
-use Rattle.machine_host.specs.Meaning.{first_reason, mode_refusal}
+use Rattle.machine_host.specs.Meaning.{Reasons, first_reason, mode_refusal}
 use Rattle.machine_host.specs.OnBlocks.{refusal_answer}
 use Rattle.machine_host.specs.OnVolume.{volume_answer}
 use Rattle.machine_host.specs.Run.{Hears, Takes, Transcript}
@@ -37,31 +42,40 @@ use Rattle.durable.specs.Naming.{IsLowestBad, IsLowestObstacle, Names, NamesLine
 use Rattle.durable.specs.Durable.{HasEightLines, IsComplete}
 
 -- a read is refused by its mode, its span, or what can't be read
-read_refusal : Option Why → Option Answer → Option Answer
-read_refusal None unreadable = unreadable
-read_refusal (Some why) unreadable = Some (Refused why)
-
-refused_by : (mode past : Option Why) (bad_meta : List ℕ) (unreadable : Option Answer)
+refused_by : (mode : Option Answer) (past : Option Why) (bad_meta : List ℕ) (unreadable : Option Answer)
     → first_reason mode bad_meta (record { named = None; places = option_map Refused past; full = None; changes_metadata = false; unreadable = unreadable })
-    ≡ read_refusal (first_there mode past) unreadable
-unfolding read_refusal
+    ≡ first_there (first_there mode (option_map Refused past)) unreadable
 refused_by None None bad_meta unreadable = refl
 refused_by None (Some why) bad_meta unreadable = refl
-refused_by (Some why) past bad_meta unreadable = refl
+refused_by (Some answer) past bad_meta unreadable = refl
+
+-- what a refused command is answered
+told : (h : Machine) (action : Action) (answer : Answer) (said : Transcript) (next : Machine) → refusal h action ≡ Some answer → Hears h (Asked action) said next
+    → said.answers ≡ answer ∷ []
+told h action answer said next some heard =
+    let t = subst (λ o. Takes h action (unless_refused h o ((meaning action).comes h)) said next) some heard in ap (λ s. s.answers) t.0
 
 -- so where something can't be read it is refused
 named : (h : Machine) (action : Action) (this : Answer → Type 0) (answer : Answer) (said : Transcript) (next : Machine)
-    → refusal h action ≡ read_refusal (early_refusal h.mode h.geometry action) (Some answer) → this answer → Hears h (Asked action) said next
-    → Names (early_refusal h.mode h.geometry action) this said.answers
-unfolding read_refusal
-named h action this answer said next is names heard = by_early (early_refusal h.mode h.geometry action) is
+    → refusal h action ≡ first_there (early_refusal h.mode h.bad_meta h.geometry action) (Some answer) → this answer → Hears h (Asked action) said next
+    → Names (early_refusal h.mode h.bad_meta h.geometry action) this said.answers
+named h action this answer said next is names heard = by_early (early_refusal h.mode h.bad_meta h.geometry action) is
   where
-    told : (a : Answer) → refusal h action ≡ Some a → said.answers ≡ a ∷ []
-    told a some = let t = subst (λ o. Takes h action (unless_refused h o ((meaning action).comes h)) said next) some heard in ap (λ s. s.answers) t.0
+    by_early : (o : Option Answer) → refusal h action ≡ first_there o (Some answer) → Names o this said.answers
+    by_early None some = (answer, told h action answer said next some heard, names)
+    by_early (Some refused) some = told h action refused said next some heard
 
-    by_early : (o : Option Why) → refusal h action ≡ read_refusal o (Some answer) → Names o this said.answers
-    by_early None some = (answer, told answer some, names)
-    by_early (Some why) some = told (Refused why) some
+-- in mode Stopped the lowest bad line of metadata is named
+stopped_refusal : (mode : Mode) (bad_meta : List ℕ) (needs : Needs) (r : Reasons) → mode ≡ Stopped → needs ≡ Usable
+    → first_reason (mode_refusal mode bad_meta needs) bad_meta r ≡ Some (RefusedMeta (lowest bad_meta))
+stopped_refusal mode bad_meta needs r stopped usable =
+    ap (λ m. first_reason (mode_refusal m bad_meta needs) bad_meta r) stopped ∙ ap (λ n. first_reason (mode_refusal Stopped bad_meta n) bad_meta r) usable
+
+pub names_metadata : (h next : Machine) (action : Action) (said : Transcript) → (meaning action).needs ≡ Usable → h.mode ≡ Stopped → Hears h (Asked action) said next
+    → said.answers ≡ RefusedMeta (lowest h.bad_meta) ∷ []
+unfolding refusal
+names_metadata h next action said usable stopped heard =
+    told h action (RefusedMeta (lowest h.bad_meta)) said next (stopped_refusal h.mode h.bad_meta (meaning action).needs ((meaning action).reasons h) stopped usable) heard
 
 lost_line : (o : Option Cell) (i : ℕ) → line_has o i ≡ None → is_bad_cell o ≡ true
 lost_line None i none = cc none
@@ -102,14 +116,14 @@ lowest_bad pages offset len i among bad = by_place (position p (range_with_len (
         )
 
 pub names_line : (h next : Machine) (offset len i : ℕ) (said : Transcript) → byte_at_place h (of_volume i) ≡ None → is_among offset len i ≡ true
-    → Hears h (Asked (VLoad offset len)) said next → Names (early_refusal h.mode h.geometry (VLoad offset len)) (NamesLine h.volume offset len) said.answers
+    → Hears h (Asked (VLoad offset len)) said next → Names (early_refusal h.mode h.bad_meta h.geometry (VLoad offset len)) (NamesLine h.volume offset len) said.answers
 unfolding refusal early_refusal
 names_line h next offset len i said lost among heard =
     let bad = lowest_bad h.volume offset len i among (lost_line (cell_of h.volume (i / 64)) (i % 64) lost) in
     named h (VLoad offset len) (NamesLine h.volume offset len) (PoisonVolume (64 * bad.0)) said next
-    (refused_by (mode_refusal h.mode (meaning (VLoad offset len)).needs) ((meaning (VLoad offset len)).checked h.geometry) h.bad_meta
+    (refused_by (mode_refusal h.mode h.bad_meta (meaning (VLoad offset len)).needs) ((meaning (VLoad offset len)).checked h.geometry) h.bad_meta
     (option_map volume_answer (poisoned_at (first_bad_line h.volume offset len)))
-    ∙ ap (λ o. read_refusal (early_refusal h.mode h.geometry (VLoad offset len)) (option_map volume_answer (poisoned_at o))) bad.2)
+    ∙ ap (λ o. first_there (early_refusal h.mode h.bad_meta h.geometry (VLoad offset len)) (option_map volume_answer (poisoned_at o))) bad.2)
     (bad.0, bad.1, refl) heard
 
 -- the lowest of some blocks that can't be read
@@ -184,12 +198,12 @@ lost_block n i (Data lines) lt eight lost none =
     gone (Some bytes) is = cc is
 
 pub names_obstacle : (h next : Machine) (block count i : ℕ) (said : Transcript) → IsComplete h → byte_at_place h (of_blocks i) ≡ None → is_among block count (i / 512) ≡ true
-    → Hears h (Asked (BRead block count)) said next → Names (early_refusal h.mode h.geometry (BRead block count)) (NamesObstacle h.blocks block count) said.answers
+    → Hears h (Asked (BRead block count)) said next → Names (early_refusal h.mode h.bad_meta h.geometry (BRead block count)) (NamesObstacle h.blocks block count) said.answers
 unfolding refusal early_refusal
 names_obstacle h next block count i said whole lost among heard =
     let found = lowest_obstacle h.blocks block count (i / 512) among (lost_block (i / 512) (i % 512) (nth h.blocks (i / 512)) (omega arith) (whole.eight (i / 512)) lost) in
     named h (BRead block count) (NamesObstacle h.blocks block count) (refusal_answer (Unreadable found.1)) said next
-    (refused_by (mode_refusal h.mode (meaning (BRead block count)).needs) ((meaning (BRead block count)).checked h.geometry) h.bad_meta
+    (refused_by (mode_refusal h.mode h.bad_meta (meaning (BRead block count)).needs) ((meaning (BRead block count)).checked h.geometry) h.bad_meta
     (option_map (λ obstacle. refusal_answer (Unreadable obstacle)) (first_obstacle h.blocks block count))
-    ∙ ap (λ o. read_refusal (early_refusal h.mode h.geometry (BRead block count)) (option_map (λ obstacle. refusal_answer (Unreadable obstacle)) o)) found.3)
+    ∙ ap (λ o. first_there (early_refusal h.mode h.bad_meta h.geometry (BRead block count)) (option_map (λ obstacle. refusal_answer (Unreadable obstacle)) o)) found.3)
     (found.0, found.1, found.2, refl) heard

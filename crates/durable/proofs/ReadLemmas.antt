@@ -1,6 +1,6 @@
 -- What a read shows.
-use Rattle.std.proofs.Common.{◌≡◌, inl, inr, ℕ, ◌+◌, ◌-◌, ◌*◌, ◌/◌, ◌%◌, ◌<◌, ◌≤◌, Bool, true, Option, Some, None, option_map, List, [], ◌∷◌, slice_index_or, refl, sym, ap, subst, ◌∙◌, arith}
-use Rattle.std.specs.Prelude.{IfSome, slice_index}
+use Rattle.std.proofs.Common.{◌≡◌, ◌⊎◌, inl, inr, ℕ, ◌+◌, ◌-◌, ◌*◌, ◌/◌, ◌%◌, ◌<◌, ◌≤◌, Bool, true, Option, Some, None, option_map, List, [], ◌∷◌, slice_index_or, refl, sym, ap, subst, ◌∙◌, arith}
+use Rattle.std.specs.Prelude.{◌≢◌, IfSome, slice_index}
 use Rattle.std.proofs.lemmas.Bool.{both_ways}
 use Rattle.std.proofs.lemmas.Bool.Decides.{nat_tests}
 use Rattle.std.proofs.lemmas.Option.{get_or_from_slice_get, same_Some}
@@ -16,7 +16,6 @@ use Rattle.nvm_model.specs.Storage.{Block}
 use Rattle.nvm_model.specs.Storage.Block.{Absent, Scarred, Data}
 use Rattle.nvm_model.proofs.NumberedLemmas.{slice_get-list_from}
 use Rattle.block_device.specs.Refusals.Refusal.{Unreadable}
-use Rattle.reply_text.specs.declared.reply.Why.{Why}
 use Rattle.reply_text.specs.Answer.{Answer}
 use Rattle.reply_text.specs.Answer.Answer.{Bytes}
 use Rattle.script_text.specs.Action.{Action}
@@ -30,9 +29,11 @@ use Rattle.machine_host.specs.Run.{Takes, Transcript}
 use Rattle.durable.specs.Place.{Place, block_has, byte_at_place, line_has}
 use Rattle.durable.specs.Place.Place.{of_volume, of_blocks}
 use Rattle.durable.specs.Naming.{Names, NamesLine, NamesObstacle}
-use Rattle.durable.specs.Durable.{Has, IsComplete, Reads}
+use Rattle.durable.specs.Durable.{Has, HasNothing, IsComplete, Reads}
+use Rattle.machine_host.specs.declared.mode.Mode.TheVariants.{On}
+use Rattle.machine_host.specs.declared.needs.Needs.TheVariants.{Usable}
 use Rattle.durable.proofs.LineLemmas.{HasOrLost}
-use Rattle.durable.proofs.RefusalLemmas.{is_refused, refused_told}
+use Rattle.durable.proofs.RefusalLemmas.{Refuses, is_on, is_refused, refused_told, refuses_early}
 use Rattle.durable.proofs.NamingLemmas.{names_line, names_obstacle}
 
 -- what a read shows
@@ -104,10 +105,11 @@ reads h (of_volume i) byte is = reads_volume h i byte is
 reads h (of_blocks i) byte is = reads_blocks h i byte is
 
 -- what names something gives no data
-no_data : (early : Option Why) (this : Answer → Type 0) (answers : List Answer) (bytes : List ℕ) → ((answer : Answer) → this answer → answer ≡ Bytes bytes → ⊥)
+no_data : (early : Option Answer) (this : Answer → Type 0) (answers : List Answer) (bytes : List ℕ) → Refuses early → ((answer : Answer) → this answer → answer ≡ Bytes bytes → ⊥)
     → Names early this answers → answers ≡ Bytes bytes ∷ [] → ⊥
-no_data (Some why) this answers bytes other names told = cc (names, told)
-no_data None this answers bytes other names told = other names.0 names.2 (cc (names.1, told))
+no_data (Some refused) this answers bytes un other names told =
+    let same : refused ≡ Bytes bytes = cc (names, told) in both_ways (is_refused refused) (ap is_refused same) un
+no_data None this answers bytes un other names told = other names.0 names.2 (cc (names.1, told))
 
 obstacle_told : (obstacle : Obstacle) (bytes : List ℕ) → refusal_answer (Unreadable obstacle) ≡ Bytes bytes → ⊥
 obstacle_told (scar block) bytes is = cc is
@@ -115,21 +117,43 @@ obstacle_told (bad_line block line) bytes is = cc is
 
 reads_lost : (h : Machine) (x : Place) (byte : ℕ) → IsComplete h → byte_at_place h x ≡ None → Reads h x byte
 reads_lost h (of_volume i) byte whole lost = λ offset len bytes said next heard told among.
-    absurd (no_data (early_refusal h.mode h.geometry (VLoad offset len)) (NamesLine h.volume offset len) said.answers bytes (λ answer names is. cc (names.2, is))
+    absurd (no_data (early_refusal h.mode h.bad_meta h.geometry (VLoad offset len)) (NamesLine h.volume offset len) said.answers bytes (refuses_early h.mode h.bad_meta h.geometry (VLoad offset len)) (λ answer names is. cc (names.2, is))
     (names_line h next offset len i said lost among heard) told)
 reads_lost h (of_blocks i) byte whole lost = λ block count bytes said next heard told among.
-    absurd (no_data (early_refusal h.mode h.geometry (BRead block count)) (NamesObstacle h.blocks block count) said.answers bytes
-    (λ answer names is. obstacle_told names.1 bytes (sym names.3 ∙ is)) (names_obstacle h next block count i said whole lost among heard) told)
+    absurd (no_data (early_refusal h.mode h.bad_meta h.geometry (BRead block count)) (NamesObstacle h.blocks block count) said.answers bytes
+    (refuses_early h.mode h.bad_meta h.geometry (BRead block count)) (λ answer names is. obstacle_told names.1 bytes (sym names.3 ∙ is)) (names_obstacle h next block count i said whole lost among heard) told)
 
--- a byte that is there or lost
-pub has : (harmed : Bool) (h : Machine) (x : Place) (v : Option ℕ) → IsComplete h → HasOrLost harmed (byte_at_place h x) v → Has h x v
-has harmed h x v whole (inl is) = record { kept = inl is; shown = by_value v is }
+-- a command on the storage that was refused, since the machine is not on, gives no data
+no_data_off : (h : Machine) (action : Action) (bytes : List ℕ) (said : Transcript) (next : Machine) → (meaning action).needs ≡ Usable → h.mode ≢ On
+    → Takes h action (fate h action) said next → said.answers ≡ Bytes bytes ∷ [] → ⊥
+no_data_off h action bytes said next needs off takes told = by_refusal (refusal h action) refl takes
+  where
+    by_refusal : (o : Option Answer) → refusal h action ≡ o → Takes h action (unless_refused h o ((meaning action).comes h)) said next → ⊥
+    by_refusal (Some answer) is took =
+        let same : answer ≡ Bytes bytes = cc (ap (λ s. s.answers) took.0, told) in
+        both_ways (is_refused answer) (ap is_refused same) (refused_told h action answer is)
+    by_refusal None is took = off (is_on h action needs is)
+
+reads_nothing : (h : Machine) (x : Place) (byte : ℕ) → HasNothing h → Reads h x byte
+reads_nothing h (of_volume i) byte nothing = λ offset len bytes said next heard told among.
+    absurd (no_data_off h (VLoad offset len) bytes said next refl nothing.mode heard told)
+reads_nothing h (of_blocks i) byte nothing = λ block count bytes said next heard told among.
+    absurd (no_data_off h (BRead block count) bytes said next refl nothing.mode heard told)
+
+-- a byte that is there or lost, or nothing is there
+pub has : (harmed : Bool) (h : Machine) (x : Place) (v : Option ℕ) → IsComplete h → HasOrLost harmed (byte_at_place h x) v ⊎ HasNothing h → Has h x v
+has harmed h x v whole (inl (inl is)) = record { kept = inl (inl is); shown = by_value v is }
   where
     by_value : (o : Option ℕ) → byte_at_place h x ≡ o → IfSome o (Reads h x)
     by_value None none = tt
     by_value (Some byte) some = reads h x byte some
-has harmed h x v whole (inr lost) = record { kept = inr lost.0; shown = by_value v }
+has harmed h x v whole (inl (inr lost)) = record { kept = inl (inr lost.0); shown = by_value v }
   where
     by_value : (o : Option ℕ) → IfSome o (Reads h x)
     by_value None = tt
     by_value (Some byte) = reads_lost h x byte whole lost.0
+has harmed h x v whole (inr nothing) = record { kept = inr nothing; shown = by_value v }
+  where
+    by_value : (o : Option ℕ) → IfSome o (Reads h x)
+    by_value None = tt
+    by_value (Some byte) = reads_nothing h x byte nothing

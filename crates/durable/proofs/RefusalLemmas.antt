@@ -7,23 +7,25 @@ use Rattle.block_device.specs.Refusals.Refusal.{Range, Length, Limit, Overlap, M
 use Rattle.pm_volume.specs.Refusals.{VolumeRefusal, physical_offset, poisoned_at}
 use Rattle.pm_volume.specs.Refusals.VolumeRefusal.{Range as Past, Length as Empty, Address, Meta as BadMeta, Poison}
 use Rattle.nvm_model.specs.Page.{first_bad_line, first_uncovered_line}
+use Rattle.word_tables.specs.declared.geometry.Geometry.{Geometry}
 use Rattle.reply_text.specs.declared.reply.Why.{Why}
 use Rattle.reply_text.specs.Answer.{Answer}
-use Rattle.reply_text.specs.Answer.Answer.{Done, DoneBad, Bytes, Ranges, Yes, No, Scarred, PoisonBlock as PoisonedBlock, PoisonVolume as PoisonedVolume, DeviceFailed, PowerLost, Refused, RefusedMeta}
+use Rattle.reply_text.specs.Answer.Answer.{Done, DoneBad, Bytes, Ranges, Yes, No, Scarred, PoisonBlock as PoisonedBlock, PoisonVolume as PoisonedVolume, DeviceFailed, PowerLost, Stopped as MountStopped, Refused, RefusedMeta}
 use Rattle.reply_text.specs.declared.reply.Why.TheVariants as because
 use Rattle.script_text.specs.Action.{Action}
-use Rattle.script_text.specs.Action.Action.{BRead, BWrite, BAtomic, BMulti, BDiscard, BDiscardIf, BExists, BScar, VLoad, VStore, VSync, VRanges, VPSync, VDiscard, VDiscardIf, VExists, PoisonBlock, PoisonVolume, WeakenVolume, ClearVolume, Cut, CutIn, Restart}
+use Rattle.script_text.specs.Action.Action.{BRead, BWrite, BAtomic, BMulti, BDiscard, BDiscardIf, BExists, BScar, VLoad, VStore, VSync, VRanges, VPSync, VDiscard, VDiscardIf, VExists, PoisonBlock, PoisonVolume, PoisonMeta, WeakenVolume, ClearVolume, Cut, CutIn, FailIn, Restart, Recover}
 use Rattle.machine_host.specs.declared.mode.Mode.{Mode}
-use Rattle.machine_host.specs.declared.mode.Mode.TheVariants.{On, Off, Unsettled}
+use Rattle.machine_host.specs.declared.mode.Mode.TheVariants.{On, Off, Unsettled, Stopped}
 use Rattle.machine_host.specs.Machine.{Machine}
 use Rattle.machine_host.specs.Meaning.{Reasons, first_reason, metadata_refusal, mode_refusal}
-use Rattle.machine_host.specs.Meaning.Needs.{Usable}
+use Rattle.machine_host.specs.declared.needs.Needs.{Needs}
+use Rattle.machine_host.specs.declared.needs.Needs.TheVariants.{Usable, Anytime, Powered, Unpowered, Failed}
 use Rattle.scrub.specs.Refusals.{ScrubRefusal}
 use Rattle.scrub.specs.Refusals.ScrubRefusal.{Range as Beyond, Nothing, NotPoisoned}
 use Rattle.machine_host.specs.OnMedia.{line_answer}
 use Rattle.machine_host.specs.OnBlocks.{refusal_answer}
 use Rattle.machine_host.specs.OnVolume.{volume_answer}
-use Rattle.machine_host.specs.Commands.{meaning, refusal}
+use Rattle.machine_host.specs.Commands.{early_refusal, meaning, refusal}
 
 -- the answers of refusals
 abbrev pub is_refused : Answer → Bool
@@ -38,11 +40,12 @@ is_refused (PoisonedBlock block line) = true
 is_refused (PoisonedVolume offset) = true
 is_refused DeviceFailed = false
 is_refused PowerLost = false
+is_refused (MountStopped line) = false
 is_refused (Refused why) = true
 is_refused (RefusedMeta line) = true
 
 -- none, or one of a refusal
-abbrev Refuses : Option Answer → Type 0
+abbrev pub Refuses : Option Answer → Type 0
 Refuses None = Unit {0}
 Refuses (Some answer) = is_refused answer ≡ true
 
@@ -103,6 +106,32 @@ refuses_metadata false lines = tt
 refuses_metadata true [] = tt
 refuses_metadata true (line ∷ lines) = refl
 
+refuses_mode : (mode : Mode) (bad_meta : List ℕ) (needs : Needs) → Refuses (mode_refusal mode bad_meta needs)
+refuses_mode On bad_meta Usable = tt
+refuses_mode On bad_meta Anytime = tt
+refuses_mode On bad_meta Powered = tt
+refuses_mode On bad_meta Unpowered = refl
+refuses_mode On bad_meta Failed = refl
+refuses_mode Off bad_meta Usable = refl
+refuses_mode Off bad_meta Anytime = tt
+refuses_mode Off bad_meta Powered = refl
+refuses_mode Off bad_meta Unpowered = tt
+refuses_mode Off bad_meta Failed = refl
+refuses_mode Unsettled bad_meta Usable = refl
+refuses_mode Unsettled bad_meta Anytime = tt
+refuses_mode Unsettled bad_meta Powered = tt
+refuses_mode Unsettled bad_meta Unpowered = refl
+refuses_mode Unsettled bad_meta Failed = tt
+refuses_mode Stopped bad_meta Usable = refl
+refuses_mode Stopped bad_meta Anytime = tt
+refuses_mode Stopped bad_meta Powered = tt
+refuses_mode Stopped bad_meta Unpowered = refl
+refuses_mode Stopped bad_meta Failed = refl
+
+pub refuses_early : (mode : Mode) (bad_meta : List ℕ) (geo : Geometry) (action : Action) → Refuses (early_refusal mode bad_meta geo action)
+unfolding early_refusal
+refuses_early mode bad_meta geo action = refuses_first _ _ (refuses_mode mode bad_meta (meaning action).needs) (refuses_why ((meaning action).checked geo))
+
 refuses_past : (b : Bool) → Refuses (cond b None (Some (Refused because.Range)))
 refuses_past true = tt
 refuses_past false = refl
@@ -149,22 +178,26 @@ refusing_reasons h (VDiscardIf page count) = volume_reasons _ None true
 refusing_reasons h (VExists page) = past_reasons _
 refusing_reasons h (PoisonBlock block line) = line_reasons _
 refusing_reasons h (PoisonVolume offset) = line_reasons _
+refusing_reasons h (PoisonMeta line) = why_reasons _
 refusing_reasons h (WeakenVolume offset) = line_reasons _
 refusing_reasons h (ClearVolume offset) = line_reasons _
 refusing_reasons h Cut = why_reasons None
 refusing_reasons h (CutIn calls) = why_reasons _
+refusing_reasons h (FailIn calls) = why_reasons _
 refusing_reasons h (Restart choice) = why_reasons None
+refusing_reasons h Recover = why_reasons None
 
-refuses : (mode : Option Why) (bad_meta : List ℕ) (r : Reasons) → RefusingReasons r → Refuses (first_reason mode bad_meta r)
-refuses mode bad_meta r parts =
-    refuses_first _ _ (refuses_why mode) (refuses_first r.named _ parts.named (refuses_first r.places _ parts.places (refuses_first r.full _ parts.full
+refuses : (mode : Option Answer) (bad_meta : List ℕ) (r : Reasons) → Refuses mode → RefusingReasons r → Refuses (first_reason mode bad_meta r)
+refuses mode bad_meta r first parts =
+    refuses_first _ _ first (refuses_first r.named _ parts.named (refuses_first r.places _ parts.places (refuses_first r.full _ parts.full
     (refuses_first _ r.unreadable (refuses_metadata r.changes_metadata bad_meta) parts.unreadable))))
 
 pub refused_told : (h : Machine) (action : Action) (answer : Answer) → refusal h action ≡ Some answer → is_refused answer ≡ true
 unfolding refusal
 refused_told h action answer is =
-    by_answer (first_reason (mode_refusal h.mode (meaning action).needs) h.bad_meta ((meaning action).reasons h))
-    (refuses (mode_refusal h.mode (meaning action).needs) h.bad_meta ((meaning action).reasons h) (refusing_reasons h action)) is
+    by_answer (first_reason (mode_refusal h.mode h.bad_meta (meaning action).needs) h.bad_meta ((meaning action).reasons h))
+    (refuses (mode_refusal h.mode h.bad_meta (meaning action).needs) h.bad_meta ((meaning action).reasons h) (refuses_mode h.mode h.bad_meta (meaning action).needs)
+    (refusing_reasons h action)) is
   where
     by_answer : (o : Option Answer) → Refuses o → o ≡ Some answer → is_refused answer ≡ true
     by_answer None un same = cc same
@@ -175,31 +208,37 @@ first_none : (a b : Option Answer) → first_there a b ≡ None → (a ≡ None)
 first_none None b none = (refl, none)
 first_none (Some answer) b none = cc none
 
-why_none : (o : Option Why) → option_map Refused o ≡ None → o ≡ None
-why_none None none = refl
-why_none (Some why) none = cc none
-
-usable_on : (mode : Mode) → mode_refusal mode Usable ≡ None → mode ≡ On
-usable_on On none = refl
-usable_on Off none = cc none
-usable_on Unsettled none = cc none
+usable_on : (mode : Mode) (bad_meta : List ℕ) → mode_refusal mode bad_meta Usable ≡ None → mode ≡ On
+usable_on On bad_meta none = refl
+usable_on Off bad_meta none = cc none
+usable_on Unsettled bad_meta none = cc none
+usable_on Stopped bad_meta none = cc none
 
 pub is_on : (h : Machine) (action : Action) → (meaning action).needs ≡ Usable → refusal h action ≡ None → h.mode ≡ On
 unfolding refusal
-is_on h action needs none =
-    usable_on h.mode (sym (ap (mode_refusal h.mode) needs) ∙ why_none (mode_refusal h.mode (meaning action).needs) (first_none _ _ none).0)
+is_on h action needs none = usable_on h.mode h.bad_meta (sym (ap (mode_refusal h.mode h.bad_meta) needs) ∙ (first_none _ _ none).0)
+
+unpowered_off : (mode : Mode) (bad_meta : List ℕ) → mode_refusal mode bad_meta Unpowered ≡ None → mode ≡ Off
+unpowered_off On bad_meta none = cc none
+unpowered_off Off bad_meta none = refl
+unpowered_off Unsettled bad_meta none = cc none
+unpowered_off Stopped bad_meta none = cc none
+
+pub is_off : (h : Machine) (action : Action) → (meaning action).needs ≡ Unpowered → refusal h action ≡ None → h.mode ≡ Off
+unfolding refusal
+is_off h action needs none = unpowered_off h.mode h.bad_meta (sym (ap (mode_refusal h.mode h.bad_meta) needs) ∙ (first_none _ _ none).0)
 
 pub places_none : (h : Machine) (action : Action) → refusal h action ≡ None → ((meaning action).reasons h).places ≡ None
 unfolding refusal
 places_none h action none =
-    let rest = (first_none (option_map Refused (mode_refusal h.mode (meaning action).needs)) _ none).1 in
+    let rest = (first_none (mode_refusal h.mode h.bad_meta (meaning action).needs) _ none).1 in
     (first_none ((meaning action).reasons h).places _ (first_none ((meaning action).reasons h).named _ rest).1).0
 
 pub unreadable_none : (h : Machine) (action : Action) → refusal h action ≡ None → ((meaning action).reasons h).unreadable ≡ None
 unfolding refusal
 unreadable_none h action none =
     let r = (meaning action).reasons h in
-    let rest = (first_none (option_map Refused (mode_refusal h.mode (meaning action).needs)) _ none).1 in
+    let rest = (first_none (mode_refusal h.mode h.bad_meta (meaning action).needs) _ none).1 in
     let full = (first_none r.places _ (first_none r.named _ rest).1).1 in
     (first_none (metadata_refusal r.changes_metadata h.bad_meta) r.unreadable (first_none r.full _ full).1).1
 

@@ -13,8 +13,8 @@ use Rattle.line_device.specs.declared.line.Choice.TheVariants.{Firsts, Lasts, Se
 use Rattle.nvm_base.specs.Data.{ByteRun, byte_count, data_within, followed, item_of, items_of, pair_of, pairs_of, repeated, run, runs_of, spelled, within}
 use Rattle.nvm_base.specs.Numbers.{number_of}
 use Rattle.script_text.specs.Action.{Action}
-use Rattle.script_text.specs.Action.Action.{BRead, BWrite, BAtomic, BMulti, BDiscard, BDiscardIf, BExists, BScar, VLoad, VStore, VSync, VRanges, VPSync, VDiscard, VDiscardIf, VExists, PoisonBlock, PoisonVolume, WeakenVolume, ClearVolume, CutIn, Restart}
-use Rattle.script_text.specs.Script.{Input, asked, bare_action, command_action, cut_action, data_action, fitting, in_volume_action, inputs, inputs_of, is_comment, line_input, lines_of, media_action, number_action, of_data, of_numbers, plain_action, poison_action, power_action, ranges_action, ranges_of, restart_action, span_action, spans_action, spans_of, volume_action, words_input, words_of}
+use Rattle.script_text.specs.Action.Action.{BRead, BWrite, BAtomic, BMulti, BDiscard, BDiscardIf, BExists, BScar, VLoad, VStore, VSync, VRanges, VPSync, VDiscard, VDiscardIf, VExists, PoisonBlock, PoisonVolume, PoisonMeta, WeakenVolume, ClearVolume, CutIn, FailIn, Restart, Recover}
+use Rattle.script_text.specs.Script.{Input, asked, bare_action, command_action, cut_action, data_action, fail_action, fitting, in_volume_action, inputs, inputs_of, is_comment, line_input, lines_of, media_action, number_action, of_data, of_numbers, plain_action, poison_action, power_action, ranges_action, ranges_of, restart_action, span_action, spans_action, spans_of, volume_action, words_input, words_of}
 use Rattle.script_text.specs.Script.Input.{Skipped, Malformed, Asked}
 use Rattle.durable.specs.Durable.{BringBytes, BringsBytes}
 
@@ -180,6 +180,10 @@ brings-cut : (words : List (List ℕ)) → Brings (cut_action words)
 brings-cut [] = tt
 brings-cut (x ∷ words) = brings-cond (bytes_eq x (codes "in")) (number_action CutIn words) None (brings-number CutIn words (λ a. tt)) tt
 
+brings-fail : (words : List (List ℕ)) → Brings (fail_action words)
+brings-fail [] = tt
+brings-fail (x ∷ words) = brings-cond (bytes_eq x (codes "in")) (number_action FailIn words) None (brings-number FailIn words (λ a. tt)) tt
+
 brings-bare : (action : Action) (words : List (List ℕ)) → BringsBytes action → Brings (bare_action action words)
 brings-bare action [] small = small
 brings-bare action (x ∷ words) small = tt
@@ -199,12 +203,15 @@ brings-poison : (words : List (List ℕ)) → Brings (poison_action words)
 brings-poison [] = tt
 brings-poison (x ∷ words) =
     brings-cond (bytes_eq x (codes "block")) (span_action PoisonBlock words) _ (brings-span PoisonBlock words (λ a b. tt))
-    (brings-cond (bytes_eq x (codes "volume")) (number_action PoisonVolume words) None (brings-number PoisonVolume words (λ a. tt)) tt)
+    (brings-cond (bytes_eq x (codes "volume")) (number_action PoisonVolume words) _ (brings-number PoisonVolume words (λ a. tt))
+    (brings-cond (bytes_eq x (codes "meta")) (number_action PoisonMeta words) None (brings-number PoisonMeta words (λ a. tt)) tt))
 
 brings-power : (name : List ℕ) (words : List (List ℕ)) → Brings (power_action name words)
 brings-power name words =
     brings-cond (bytes_eq name (codes "cut")) (cut_action words) _ (brings-cut words)
-    (brings-cond (bytes_eq name (codes "restart")) (restart_action words) None (brings-restart words) tt)
+    (brings-cond (bytes_eq name (codes "fail")) (fail_action words) _ (brings-fail words)
+    (brings-cond (bytes_eq name (codes "restart")) (restart_action words) _ (brings-restart words)
+    (brings-cond (bytes_eq name (codes "recover")) (bare_action Recover words) None (brings-bare Recover words tt) tt)))
 
 brings-media : (name : List ℕ) (words : List (List ℕ)) → Brings (media_action name words)
 brings-media name words =

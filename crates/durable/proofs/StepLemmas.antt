@@ -1,5 +1,7 @@
--- A step of a run is one of four: it leaves all as it is, it is done, it is stopped, or the power returned.
-use Rattle.std.proofs.Common.{◌≡◌, ◌⊎◌, inl, inr, ◌/◌, false, Option, Some, None, List, [], ◌∷◌, refl, sym, ap, ◌∙◌}
+-- A step of a run is one of six: it leaves all as it is, it is done, it is stopped, the power returned, the storage was mounted
+-- anew, or metadata was bad as it was to be mounted.
+use Rattle.std.proofs.Common.{◌≡◌, ◌⊎◌, inl, inr, ℕ, ◌/◌, ◌==◌, Bool, true, false, cond, nat_lt, Option, Some, None, List, [], ◌∷◌, refl, sym, ap, subst, ◌∙◌}
+use Rattle.std.specs.Prelude.{◌≢◌}
 use Rattle.line_device.specs.Panel.{Image}
 use Rattle.line_device.specs.declared.line.Choice.{Choice}
 use Rattle.line_words.specs.declared.interruption.Interruption.{Interruption}
@@ -13,13 +15,16 @@ use Rattle.block_device.specs.Reading.{blocks_read}
 use Rattle.reply_text.specs.Answer.{Answer}
 use Rattle.reply_text.specs.Answer.Answer.{Done}
 use Rattle.script_text.specs.Action.{Action}
-use Rattle.script_text.specs.Action.Action.{BRead, BWrite, BAtomic, BMulti, BDiscard, BDiscardIf, BExists, BScar, VLoad, VStore, VSync, VRanges, VPSync, VDiscard, VDiscardIf, VExists, PoisonBlock, PoisonVolume, WeakenVolume, ClearVolume, Cut, CutIn, Restart}
-use Rattle.machine_host.specs.declared.mode.Mode.TheVariants.{On}
+use Rattle.script_text.specs.Action.Action.{BRead, BWrite, BAtomic, BMulti, BDiscard, BDiscardIf, BExists, BScar, VLoad, VStore, VSync, VRanges, VPSync, VDiscard, VDiscardIf, VExists, PoisonBlock, PoisonVolume, PoisonMeta, WeakenVolume, ClearVolume, Cut, CutIn, FailIn, Restart, Recover}
+use Rattle.machine_host.specs.declared.mode.Mode.TheVariants.{On, Off, Stopped}
+use Rattle.machine_host.specs.declared.needs.Needs.TheVariants.{Usable, Unpowered}
 use Rattle.machine_host.specs.Machine.{Machine, Fate}
-use Rattle.machine_host.specs.Machine.Fate.{Gives, Works, Orders, Cuts, Restarts}
-use Rattle.machine_host.specs.Commands.{fate, meaning, refusal, unless_refused, while_interrupted}
-use Rattle.machine_host.specs.Interrupted.{interrupted_answer, interrupted_mode}
-use Rattle.machine_host.specs.Restarting.{RestartMayLeave, reading, restarted, restart_answer}
+use Rattle.machine_host.specs.Machine.Fate.{Gives, Works, Orders, Cuts, Restarts, Recovers}
+use Rattle.machine_host.specs.Commands.{MayLeaveBlocks, MayLeaveVolume, fate, meaning, refusal, unless_refused, while_interrupted}
+use Rattle.machine_host.specs.OnMedia.{with_line}
+use Rattle.machine_host.specs.Interrupted.{Interrupts, interrupted_answer, interrupted_mode}
+use Rattle.machine_host.specs.Restarting.{MayLeaveStorage, RestartMayLeave, mounted_answer, read_with, reading, restarted}
+use Rattle.machine_host.specs.Recovering.{RecoversTo}
 use Rattle.word_tables.specs.Layout.{volume_line}
 use Rattle.pm_volume.specs.Presence.{presence_read}
 use Rattle.machine_host.specs.Run.{Ends, Hears, Run, Takes, Transcript}
@@ -28,6 +33,8 @@ use Rattle.script_text.specs.Script.Input.{Skipped, Malformed, Asked}
 use Rattle.durable.specs.Place.{Place}
 use Rattle.durable.specs.Place.Place.{of_volume, of_blocks}
 use Rattle.durable.specs.Touching.{changes, holds, is_made_durable, made_durable, nothing, poisons, weakens}
+use Rattle.durable.specs.Durable.{HasNothing}
+use Rattle.durable.proofs.RefusalLemmas.{is_off, is_on}
 
 -- it leaves blocks and volume, and what is interrupted
 pub record Idles (h next : Machine) : Type 0 where
@@ -35,7 +42,9 @@ pub record Idles (h next : Machine) : Type 0 where
   pub blocks : next.blocks ≡ h.blocks
   pub volume : next.volume ≡ h.volume
   pub interrupted : next.interrupted ≡ h.interrupted
+  pub metadata : h.bad_meta ≢ [] → next.bad_meta ≢ []
   pub mode : next.mode ≡ On → h.mode ≡ On
+  pub stopped : next.mode ≡ Stopped → h.mode ≡ Stopped
 
 -- what a command makes of blocks and volume
 abbrev pub blocks_after : Action → List Block → List Block
@@ -54,6 +63,7 @@ pub record Alters (h : Machine) (action : Action) (next : Machine) : Type 0 wher
   pub volume : next.volume ≡ volume_after h.geometry action h.volume
   pub interrupted : next.interrupted ≡ h.interrupted
   pub mode : next.mode ≡ h.mode
+  pub needs : (meaning action).needs ≡ Usable
 
 -- it is stopped
 pub record Stops (h : Machine) (action : Action) (next : Machine) : Type 0 where
@@ -61,17 +71,36 @@ pub record Stops (h : Machine) (action : Action) (next : Machine) : Type 0 where
   pub blocks : next.blocks ≡ h.blocks
   pub volume : next.volume ≡ h.volume
   pub interrupted : next.interrupted ≡ Some action
-  pub mode : next.mode ≡ On → ⊥
+  pub metadata : next.bad_meta ≡ h.bad_meta
+  pub mode : next.mode ≢ On
+  pub stopped : next.mode ≢ Stopped
 
 -- the power returned
 pub record Returns (h next : Machine) : Type 0 where
+  pub off : h.mode ≡ Off
+  pub metadata : h.bad_meta ≡ []
   pub choice : Choice
   pub image : Image
-  pub may : RestartMayLeave choice image h
+  pub may : MayLeaveStorage choice image h
   pub geometry : next.geometry ≡ h.geometry
   pub blocks : next.blocks ≡ blocks_read h.geometry image.is_bad image.word
   pub volume : next.volume ≡ read_pages (volume_line h.geometry) image (presence_read h.geometry image.word)
   pub interrupted : next.interrupted ≡ None
+  pub stopped : next.mode ≢ Stopped
+
+-- the storage was mounted anew while the power was on
+pub record Remounts (h next : Machine) : Type 0 where
+  pub metadata : h.bad_meta ≡ []
+  pub geometry : next.geometry ≡ h.geometry
+  pub blocks : MayLeaveBlocks h.interrupted h.blocks next.blocks
+  pub volume : MayLeaveVolume h.geometry h.interrupted h.volume next.volume
+  pub interrupted : next.interrupted ≡ None
+  pub stopped : next.mode ≢ Stopped
+
+-- metadata was bad as it was to be mounted
+pub record Empties (h next : Machine) : Type 0 where
+  pub geometry : next.geometry ≡ h.geometry
+  pub nothing : HasNothing next
 
 -- it makes nothing durable
 abbrev pub CoversNothing : Machine → Action → Type 0
@@ -89,6 +118,8 @@ pub data Step (h : Machine) (action : Action) (answer : Answer) (next : Machine)
   alters : (answer ≡ Done) ⊎ TouchesNothing action → refusal h action ≡ None → Alters h action next → Step h action answer next
   stops : (by : Interruption) → answer ≡ interrupted_answer by → Stops h action next → Step h action answer next
   returns : CoversNothing h action → Returns h next → Step h action answer next
+  remounts : CoversNothing h action → Remounts h next → Step h action answer next
+  empties : CoversNothing h action → Empties h next → Step h action answer next
 
 -- what comes of a command that is not refused
 abbrev Suits : Machine → Action → Fate → Type 0
@@ -96,48 +127,98 @@ Suits h action (Gives good to) = (CoversNothing h action × Idles h to) ⊎ ((go
 Suits h action (Works good to) = ((good ≡ Done) ⊎ TouchesNothing action) × Alters h action to
 Suits h action (Orders order to) = CoversNothing h action × Idles h to
 Suits h action (Cuts to) = CoversNothing h action × Idles h to
-Suits h action (Restarts choice) = CoversNothing h action
+Suits h action (Restarts choice) = CoversNothing h action × ((meaning action).needs ≡ Unpowered)
+Suits h action Recovers = CoversNothing h action
 
 nowhere : (x : Place) → holds nothing x ≡ false
 nowhere (of_volume i) = refl
 nowhere (of_blocks i) = refl
 
 same : (h : Machine) → Idles h h
-same h = record { geometry = refl; blocks = refl; volume = refl; interrupted = refl; mode = λ on. on }
+same h = record {
+  geometry = refl;
+  blocks = refl;
+  volume = refl;
+  interrupted = refl;
+  metadata = λ bad. bad;
+  mode = λ on. on;
+  stopped = λ is. is;
+}
 
 works : (h to : Machine) (action : Action) → to.geometry ≡ h.geometry → to.blocks ≡ blocks_after action h.blocks → to.volume ≡ volume_after h.geometry action h.volume
-    → to.interrupted ≡ h.interrupted → to.mode ≡ h.mode → Alters h action to
-works h to action geometry blocks volume interrupted mode =
-    record { geometry = geometry; blocks = blocks; volume = volume; interrupted = interrupted; mode = mode }
+    → to.interrupted ≡ h.interrupted → to.mode ≡ h.mode → (meaning action).needs ≡ Usable → Alters h action to
+works h to action geometry blocks volume interrupted mode needs =
+    record { geometry = geometry; blocks = blocks; volume = volume; interrupted = interrupted; mode = mode; needs = needs }
+
+armed : (h to : Machine) → to.geometry ≡ h.geometry → to.blocks ≡ h.blocks → to.volume ≡ h.volume → to.interrupted ≡ h.interrupted → to.bad_meta ≡ h.bad_meta
+    → to.mode ≡ h.mode → Idles h to
+armed h to geometry blocks volume interrupted metadata mode = record {
+  geometry = geometry;
+  blocks = blocks;
+  volume = volume;
+  interrupted = interrupted;
+  metadata = λ bad none. bad (sym metadata ∙ none);
+  mode = λ on. sym mode ∙ on;
+  stopped = λ is. sym mode ∙ is;
+}
+
+-- a line more is bad
+with_line-some : (line : ℕ) (lines : List ℕ) → with_line line lines ≡ [] → ⊥
+with_line-some line [] is = cc is
+with_line-some line (next ∷ lines) is = by_order (nat_lt line next) (line == next) is
+  where
+    by_order : (less same : Bool) → cond less (line ∷ next ∷ lines) (cond same (next ∷ lines) (next ∷ with_line line lines)) ≡ [] → ⊥
+    by_order true same is = cc is
+    by_order false true is = cc is
+    by_order false false is = cc is
 
 suits : (h : Machine) (action : Action) → Suits h action ((meaning action).comes h)
-suits h (BRead block count) = (inr (record { change = nowhere; poison = nowhere; weaken = nowhere; cover = λ geo. nowhere }), works h h (BRead block count) refl refl refl refl refl)
-suits h (BWrite block bytes) = (inl refl, works h _ (BWrite block bytes) refl refl refl refl refl)
-suits h (BAtomic block bytes) = (inl refl, works h _ (BAtomic block bytes) refl refl refl refl refl)
-suits h (BMulti ranges bytes) = (inl refl, works h _ (BMulti ranges bytes) refl refl refl refl refl)
-suits h (BDiscard block count) = (inl refl, works h _ (BDiscard block count) refl refl refl refl refl)
-suits h (BDiscardIf block count) = (inl refl, works h _ (BDiscardIf block count) refl refl refl refl refl)
+suits h (BRead block count) = (inr (record { change = nowhere; poison = nowhere; weaken = nowhere; cover = λ geo. nowhere }), works h h (BRead block count) refl refl refl refl refl refl)
+suits h (BWrite block bytes) = (inl refl, works h _ (BWrite block bytes) refl refl refl refl refl refl)
+suits h (BAtomic block bytes) = (inl refl, works h _ (BAtomic block bytes) refl refl refl refl refl refl)
+suits h (BMulti ranges bytes) = (inl refl, works h _ (BMulti ranges bytes) refl refl refl refl refl refl)
+suits h (BDiscard block count) = (inl refl, works h _ (BDiscard block count) refl refl refl refl refl refl)
+suits h (BDiscardIf block count) = (inl refl, works h _ (BDiscardIf block count) refl refl refl refl refl refl)
 suits h (BExists block) = inl (nowhere, same h)
-suits h (BScar ranges) = (inl refl, works h _ (BScar ranges) refl refl refl refl refl)
-suits h (VLoad offset len) = (inr (record { change = nowhere; poison = nowhere; weaken = nowhere; cover = λ geo. nowhere }), works h h (VLoad offset len) refl refl refl refl refl)
-suits h (VStore offset bytes) = (inl refl, works h _ (VStore offset bytes) refl refl refl refl refl)
-suits h (VSync offset len) = (inl refl, works h _ (VSync offset len) refl refl refl refl refl)
+suits h (BScar ranges) = (inl refl, works h _ (BScar ranges) refl refl refl refl refl refl)
+suits h (VLoad offset len) = (inr (record { change = nowhere; poison = nowhere; weaken = nowhere; cover = λ geo. nowhere }), works h h (VLoad offset len) refl refl refl refl refl refl)
+suits h (VStore offset bytes) = (inl refl, works h _ (VStore offset bytes) refl refl refl refl refl refl)
+suits h (VSync offset len) = (inl refl, works h _ (VSync offset len) refl refl refl refl refl refl)
 suits h VRanges = inl (nowhere, same h)
-suits h (VPSync address len) = (inl refl, works h _ (VPSync address len) refl refl refl refl refl)
-suits h (VDiscard page count) = (inl refl, works h _ (VDiscard page count) refl refl refl refl refl)
-suits h (VDiscardIf page count) = (inl refl, works h _ (VDiscardIf page count) refl refl refl refl refl)
+suits h (VPSync address len) = (inl refl, works h _ (VPSync address len) refl refl refl refl refl refl)
+suits h (VDiscard page count) = (inl refl, works h _ (VDiscard page count) refl refl refl refl refl refl)
+suits h (VDiscardIf page count) = (inl refl, works h _ (VDiscardIf page count) refl refl refl refl refl refl)
 suits h (VExists page) = inl (nowhere, same h)
-suits h (PoisonBlock block line) = inr (refl, works h _ (PoisonBlock block line) refl refl refl refl refl)
-suits h (PoisonVolume offset) = inr (refl, works h _ (PoisonVolume offset) refl refl refl refl refl)
-suits h (WeakenVolume offset) = inr (refl, works h _ (WeakenVolume offset) refl refl refl refl refl)
-suits h (ClearVolume offset) = (inl refl, works h _ (ClearVolume offset) refl refl refl refl refl)
-suits h Cut = (nowhere, record { geometry = refl; blocks = refl; volume = refl; interrupted = refl; mode = λ on. cc on })
-suits h (CutIn calls) = (nowhere, record { geometry = refl; blocks = refl; volume = refl; interrupted = refl; mode = λ on. on })
-suits h (Restart choice) = nowhere
+suits h (PoisonBlock block line) = inr (refl, works h _ (PoisonBlock block line) refl refl refl refl refl refl)
+suits h (PoisonVolume offset) = inr (refl, works h _ (PoisonVolume offset) refl refl refl refl refl refl)
+suits h (PoisonMeta line) = inl (
+  nowhere,
+  record {
+    geometry = refl;
+    blocks = refl;
+    volume = refl;
+    interrupted = refl;
+    metadata = λ bad. with_line-some line h.bad_meta;
+    mode = λ on. on;
+    stopped = λ is. is;
+  },
+)
+suits h (WeakenVolume offset) = inr (refl, works h _ (WeakenVolume offset) refl refl refl refl refl refl)
+suits h (ClearVolume offset) = (inl refl, works h _ (ClearVolume offset) refl refl refl refl refl refl)
+suits h Cut =
+    (nowhere, record { geometry = refl; blocks = refl; volume = refl; interrupted = refl; metadata = λ bad. bad; mode = λ on. cc on; stopped = λ is. cc is })
+suits h (CutIn calls) = (nowhere, armed h _ refl refl refl refl refl refl)
+suits h (FailIn calls) = (nowhere, armed h _ refl refl refl refl refl refl)
+suits h (Restart choice) = (nowhere, refl)
+suits h Recover = nowhere
 
 stops_on : (by : Interruption) → interrupted_mode by ≡ On → ⊥
 stops_on Failed on = cc on
 stops_on Lost on = cc on
+
+stops_stopped : (by : Interruption) → interrupted_mode by ≡ Stopped → ⊥
+stops_stopped Failed is = cc is
+stops_stopped Lost is = cc is
 
 -- the step that a command takes, and its answer
 pub record Taken (h : Machine) (action : Action) (said : Transcript) (next : Machine) : Type 0 where
@@ -151,7 +232,9 @@ idle_at h to next idle is = record {
   blocks = ap (λ m. m.blocks) is ∙ idle.blocks;
   volume = ap (λ m. m.volume) is ∙ idle.volume;
   interrupted = ap (λ m. m.interrupted) is ∙ idle.interrupted;
+  metadata = λ bad none. idle.metadata bad (sym (ap (λ m. m.bad_meta) is) ∙ none);
   mode = λ on. idle.mode (sym (ap (λ m. m.mode) is) ∙ on);
+  stopped = λ at. idle.stopped (sym (ap (λ m. m.mode) is) ∙ at);
 }
 
 altered_at : (h : Machine) (action : Action) (to next : Machine) → Alters h action to → next ≡ to → Alters h action next
@@ -161,6 +244,7 @@ altered_at h action to next done is = record {
   volume = ap (λ m. m.volume) is ∙ done.volume;
   interrupted = ap (λ m. m.interrupted) is ∙ done.interrupted;
   mode = ap (λ m. m.mode) is ∙ done.mode;
+  needs = done.needs;
 }
 
 ended : (h : Machine) (action : Action) (good : Answer) (to : Machine) (answer : Answer) (next : Machine) → refusal h action ≡ None → (good ≡ Done) ⊎ TouchesNothing action → Alters h action to
@@ -172,29 +256,109 @@ ended h action good to answer next none begun done (inr end) = stops end.0 end.1
   blocks = ap (λ m. m.blocks) end.2.state;
   volume = ap (λ m. m.volume) end.2.state;
   interrupted = ap (λ m. m.interrupted) end.2.state;
+  metadata = ap (λ m. m.bad_meta) end.2.state;
   mode = λ on. stops_on end.0 (sym (ap (λ m. m.mode) end.2.state) ∙ on);
+  stopped = λ is. stops_stopped end.0 (sym (ap (λ m. m.mode) end.2.state) ∙ is);
 })
 
-returned : (h : Machine) (choice : Choice) (image : Image) (answer : Answer) (next : Machine) → RestartMayLeave choice image h
-    → Ends (restart_answer h image) (restarted h image) (restarted h image) answer next → Returns h next
-unfolding reading
-returned h choice image answer next may (inl end) = record {
-  choice = choice;
-  image = image;
-  may = may;
-  geometry = ap (λ m. m.geometry) end.1;
-  blocks = ap (λ m. m.blocks) end.1;
-  volume = ap (λ m. m.volume) end.1;
-  interrupted = ap (λ m. m.interrupted) end.1;
+-- a state that is read from a medium, or was interrupted there
+record IsRead (read next : Machine) : Type 0 where
+  geometry : next.geometry ≡ read.geometry
+  blocks : next.blocks ≡ read.blocks
+  volume : next.volume ≡ read.volume
+  metadata : next.bad_meta ≡ read.bad_meta
+  interrupted : next.interrupted ≡ read.interrupted
+  mode : (next.mode ≡ read.mode) ⊎ ((by : Interruption) × (next.mode ≡ interrupted_mode by))
+
+is_read : (read to : Machine) (good answer : Answer) (next : Machine) → to ≡ record read { cut_armed = to.cut_armed; fail_armed = to.fail_armed } → Ends good to to answer next → IsRead read next
+is_read read to good answer next of (inl end) =
+    let is = end.1 ∙ of in
+    record {
+      geometry = ap (λ m. m.geometry) is;
+      blocks = ap (λ m. m.blocks) is;
+      volume = ap (λ m. m.volume) is;
+      metadata = ap (λ m. m.bad_meta) is;
+      interrupted = ap (λ m. m.interrupted) is;
+      mode = inl (ap (λ m. m.mode) is);
+    }
+is_read read to good answer next of (inr end) = record {
+  geometry = ap (λ m. m.geometry) end.2.state ∙ ap (λ m. m.geometry) of;
+  blocks = ap (λ m. m.blocks) end.2.state ∙ ap (λ m. m.blocks) of;
+  volume = ap (λ m. m.volume) end.2.state ∙ ap (λ m. m.volume) of;
+  metadata = ap (λ m. m.bad_meta) end.2.state ∙ ap (λ m. m.bad_meta) of;
+  interrupted = ap (λ m. m.interrupted) end.2.state ∙ ap (λ m. m.interrupted) of;
+  mode = inr (end.0, ap (λ m. m.mode) end.2.state);
 }
-returned h choice image answer next may (inr end) = record {
-  choice = choice;
-  image = image;
-  may = may;
-  geometry = ap (λ m. m.geometry) end.2.state;
-  blocks = ap (λ m. m.blocks) end.2.state;
-  volume = ap (λ m. m.volume) end.2.state;
-  interrupted = ap (λ m. m.interrupted) end.2.state;
+
+returned : (h : Machine) (action : Action) (choice : Choice) (image : Image) (answer : Answer) (next : Machine) → CoversNothing h action → h.mode ≡ Off → RestartMayLeave choice image h
+    → Ends (mounted_answer (restarted h image)) (restarted h image) (restarted h image) answer next → Step h action answer next
+unfolding reading
+returned h action choice image answer next covers off may ends = by_metadata h.bad_meta refl
+  where
+    from : IsRead (reading h.geometry image) next
+    from = is_read (reading h.geometry image) (restarted h image) (mounted_answer (restarted h image)) answer next refl ends
+
+    read_as : (bad : List ℕ) → h.bad_meta ≡ bad → IsRead (read_with bad h.geometry image) next
+    read_as bad is = subst (λ b. IsRead (read_with b h.geometry image) next) (may.metadata ∙ is) from
+
+    by_metadata : (bad : List ℕ) → h.bad_meta ≡ bad → Step h action answer next
+    by_metadata [] is =
+        let read = read_as [] is in
+        returns covers (record {
+          off = off;
+          metadata = is;
+          choice = choice;
+          image = image;
+          may = may.storage is;
+          geometry = read.geometry;
+          blocks = read.blocks;
+          volume = read.volume;
+          interrupted = read.interrupted;
+          stopped = λ at. elim read.mode as (λ _. ⊥) [ inl on ↦ cc (at, on) | inr by ↦ stops_stopped by.0 (sym by.1 ∙ at) ];
+        })
+    by_metadata (line ∷ lines) is =
+        let read = read_as (line ∷ lines) is in
+        empties covers (record {
+          geometry = read.geometry;
+          nothing = record {
+            metadata = λ none. cc (none, read.metadata);
+            mode = λ on. elim read.mode as (λ _. ⊥) [ inl at ↦ cc (at, on) | inr by ↦ stops_on by.0 (sym by.1 ∙ on) ];
+            blocks = read.blocks;
+            volume = read.volume;
+          };
+        })
+
+-- a recovery
+remounted : (h : Machine) (action : Action) (answer : Answer) (next : Machine) → CoversNothing h action → (bad : List ℕ) → h.bad_meta ≡ bad → RecoversTo bad h next
+    → Step h action answer next
+remounted h action answer next covers [] is to = remounts covers (record {
+  metadata = is;
+  geometry = ap (λ m. m.geometry) to.state;
+  blocks = to.blocks;
+  volume = to.volume;
+  interrupted = ap (λ m. m.interrupted) to.state;
+  stopped = λ at. cc (at, ap (λ m. m.mode) to.state);
+})
+remounted h action answer next covers (line ∷ lines) is to = empties covers (record {
+  geometry = ap (λ m. m.geometry) to;
+  nothing = record {
+    metadata = λ none. cc (none, ap (λ m. m.bad_meta) to);
+    mode = λ on. cc (on, ap (λ m. m.mode) to);
+    blocks = ap (λ m. m.blocks) to;
+    volume = ap (λ m. m.volume) to;
+  };
+})
+
+-- or one that was interrupted
+unmounted : (by : Interruption) (h next : Machine) → Interrupts by h next → Idles h next
+unmounted by h next at = record {
+  geometry = ap (λ m. m.geometry) at.state;
+  blocks = ap (λ m. m.blocks) at.state;
+  volume = ap (λ m. m.volume) at.state;
+  interrupted = ap (λ m. m.interrupted) at.state;
+  metadata = λ bad none. bad (sym (ap (λ m. m.bad_meta) at.state) ∙ none);
+  mode = λ on. absurd (stops_on by (sym (ap (λ m. m.mode) at.state) ∙ on));
+  stopped = λ is. absurd (stops_stopped by (sym (ap (λ m. m.mode) at.state) ∙ is));
 }
 
 by_fate : (h : Machine) (action : Action) (f : Fate) (said : Transcript) (next : Machine) → refusal h action ≡ None → Suits h action f → Takes h action f said next
@@ -209,10 +373,15 @@ by_fate h action (Orders order to) said next none suit takes =
     record { answer = Done; answers = ap (λ s. s.answers) takes.0; step = idles (inr suit.0) (idle_at h to next suit.1 takes.1) }
 by_fate h action (Cuts to) said next none suit takes =
     record { answer = Done; answers = ap (λ s. s.answers) takes.0; step = idles (inr suit.0) (idle_at h to next suit.1 takes.1) }
-by_fate h action (Restarts choice) said next none suit takes = record {
-  answer = takes.1;
-  answers = ap (λ s. s.answers) takes.2;
-  step = returns suit (returned h choice takes.0.image takes.1 next takes.4 takes.5);
+by_fate h action (Restarts choice) said next none suit takes =
+    record { answer = takes.1; answers = ap (λ s. s.answers) takes.2; step = returned h action choice takes.0.image takes.1 next suit.0 (is_off h action suit.1 none) takes.4 takes.5 }
+by_fate h action Recovers said next none suit takes = record {
+  answer = takes.0;
+  answers = ap (λ s. s.answers) takes.1;
+  step = elim takes.2 as (λ _. Step h action takes.0 next) [
+    | inl end ↦ remounted h action takes.0 next suit h.bad_meta refl end.1
+    | inr end ↦ idles (inr suit) (unmounted end.0 h next end.2)
+  ];
 }
 
 pub step_of : (h : Machine) (action : Action) (said : Transcript) (next : Machine) → Takes h action (fate h action) said next → Taken h action said next
@@ -229,6 +398,43 @@ geometry_step h action answer next (idles why to) = to.geometry
 geometry_step h action answer next (alters begun none to) = to.geometry
 geometry_step h action answer next (stops by is to) = to.geometry
 geometry_step h action answer next (returns none back) = back.geometry
+geometry_step h action answer next (remounts none back) = back.geometry
+geometry_step h action answer next (empties none to) = to.geometry
+
+-- nothing is there any more, and nothing comes back
+nothing_as : (h next : Machine) → next.blocks ≡ h.blocks → next.volume ≡ h.volume → (h.bad_meta ≢ [] → next.bad_meta ≢ []) → (next.mode ≡ On → h.mode ≡ On) → HasNothing h → HasNothing next
+nothing_as h next blocks volume metadata mode gone = record {
+  metadata = metadata gone.metadata;
+  mode = λ on. gone.mode (mode on);
+  blocks = blocks ∙ gone.blocks;
+  volume = volume ∙ gone.volume;
+}
+
+pub nothing_idle : (h next : Machine) → Idles h next → HasNothing h → HasNothing next
+nothing_idle h next to gone = nothing_as h next to.blocks to.volume to.metadata to.mode gone
+
+pub nothing_stopped : (h : Machine) (action : Action) (next : Machine) → Stops h action next → HasNothing h → HasNothing next
+nothing_stopped h action next to gone =
+    nothing_as h next to.blocks to.volume (λ bad none. bad (sym to.metadata ∙ none)) (λ on. absurd (to.mode on)) gone
+
+pub nothing_step : (h : Machine) (action : Action) (answer : Answer) (next : Machine) → HasNothing h → Step h action answer next → HasNothing next
+nothing_step h action answer next gone (idles why to) = nothing_idle h next to gone
+nothing_step h action answer next gone (alters begun none to) = absurd (gone.mode (is_on h action to.needs none))
+nothing_step h action answer next gone (stops by is to) = nothing_stopped h action next to gone
+nothing_step h action answer next gone (returns none back) = absurd (gone.metadata back.metadata)
+nothing_step h action answer next gone (remounts none back) = absurd (gone.metadata back.metadata)
+nothing_step h action answer next gone (empties none to) = to.nothing
+
+pub nothing_heard : (h : Machine) (input : Input) (said : Transcript) (next : Machine) → HasNothing h → Hears h input said next → HasNothing next
+nothing_heard h Skipped said next gone heard = subst HasNothing (sym heard.1) gone
+nothing_heard h Malformed said next gone heard = subst HasNothing (sym heard.1) gone
+nothing_heard h (Asked action) said next gone heard =
+    let taken = step_of h action said next heard in nothing_step h action taken.answer next gone taken.step
+
+pub nothing_run : (h later : Machine) (inputs : List Input) (said : Transcript) → HasNothing h → Run h inputs said later → HasNothing later
+nothing_run h later [] said gone run = subst HasNothing (sym run.1) gone
+nothing_run h later (input ∷ inputs) said gone run =
+    nothing_run run.2 later inputs run.1 (nothing_heard h input run.0 run.2 gone run.4) run.5
 
 geometry_heard : (h : Machine) (input : Input) (said : Transcript) (next : Machine) → Hears h input said next → next.geometry ≡ h.geometry
 geometry_heard h Skipped said next heard = ap (λ m. m.geometry) heard.1

@@ -19,10 +19,12 @@ use Rattle.std.proofs.lemmas.Bool.{both_ways}
 use Rattle.reply_text.specs.Answer.Answer.{Done}
 use Rattle.script_text.specs.Action.Action.{Cut, Restart, VStore}
 use Rattle.script_text.specs.Script.Input.{Asked}
-use Rattle.machine_host.specs.declared.mode.Mode.TheVariants.{Off}
+use Rattle.machine_host.specs.declared.mode.Mode.TheVariants.{On, Off}
 use Rattle.machine_host.specs.Machine.{Machine}
 use Rattle.machine_host.specs.Commands.{refusal, spending}
-use Rattle.machine_host.specs.Restarting.{reading, restart_answer}
+use Rattle.machine_host.specs.Restarting.{mounted_answer, read_with, reading, restarted}
+use Rattle.machine_host.specs.Lines.{bad_metadata}
+use Rattle.durable.proofs.RefusalLemmas.{is_on}
 use Rattle.pm_volume.specs.Presence.{presence_read}
 use Rattle.machine_host.specs.Run.{Run, Transcript, followed_by, silence, with_cut, with_start}
 use Rattle.durable.specs.Durable.{Does}
@@ -89,50 +91,76 @@ again image = record { choice = Firsts; image = image }
 abbrev off : Machine → Machine
 off h = record h { mode = Off; cut_armed = false; fail_armed = false }
 
+abbrev held : Geometry → Image → Machine
+held geo image = read_with [] geo image
+
 abbrev stored_over : Geometry → Image → ℕ → List ℕ → Machine
-stored_over geo image at bytes = record (reading geo image) { volume = put at bytes (reading geo image).volume }
+stored_over geo image at bytes = record (held geo image) { volume = put at bytes (held geo image).volume }
 
 abbrev told : Machine → Image → Transcript
-told h image = followed_by (with_cut Done) (followed_by (with_start (spending (off h) (Restart Firsts)) (again image) (restart_answer (off h) image)) silence)
+told h image =
+    followed_by (with_cut Done)
+    (followed_by (with_start (spending (off h) (Restart Firsts)) (again image) (mounted_answer (restarted (off h) image))) silence)
 
-lost : (geo : Geometry) (image : Image) (at : ℕ) (bytes : List ℕ) → ((n : ℕ) → covers at (length bytes) n ≡ true → image.is_bad (volume_line geo n) ≡ false)
+-- no line of metadata is bad where a machine that was read is on
+good_metadata : (geo : Geometry) (image : Image) → (reading geo image).mode ≡ On → bad_metadata geo image.is_bad ≡ []
+unfolding reading
+good_metadata geo image on = by_list (bad_metadata geo image.is_bad) on
+  where
+    by_list : (bad : List ℕ) → (read_with bad geo image).mode ≡ On → bad ≡ []
+    by_list [] on = refl
+    by_list (line ∷ lines) on = cc on
+
+held_is : (geo : Geometry) (image : Image) → bad_metadata geo image.is_bad ≡ [] → reading geo image ≡ held geo image
+unfolding reading
+held_is geo image none = ap (λ b. read_with b geo image) none
+
+-- a restart comes back to it
+back_at : (geo : Geometry) (image : Image) (h : Machine) → bad_metadata geo image.is_bad ≡ [] → reading geo image ≡ record (reading geo image) { cut_armed = false; fail_armed = false }
+back_at geo image h none =
+    held_is geo image none ∙ sym (ap (λ (m : Machine). record m { cut_armed = false; fail_armed = false }) (held_is geo image none))
+
+lost : (geo : Geometry) (image : Image) (at : ℕ) (bytes : List ℕ) → bad_metadata geo image.is_bad ≡ []
+    → ((n : ℕ) → covers at (length bytes) n ≡ true → image.is_bad (volume_line geo n) ≡ false)
     → Run (stored_over geo image at bytes) (Asked Cut ∷ Asked (Restart Firsts) ∷ []) (told (stored_over geo image at bytes) image) (reading geo image)
-unfolding refusal reading
-lost geo image at bytes good =
+unfolding refusal
+lost geo image at bytes none good =
     let h = stored_over geo image at bytes in
     let there = presence_read geo image.word in
     let pages = read_pages (volume_line geo) image there in (
       with_cut Done,
-      followed_by (with_start (spending (off h) (Restart Firsts)) (again image) (restart_answer (off h) image)) silence,
+      followed_by (with_start (spending (off h) (Restart Firsts)) (again image) (mounted_answer (restarted (off h) image))) silence,
       off h,
       refl,
       (refl, refl),
       (
-        with_start (spending (off h) (Restart Firsts)) (again image) (restart_answer (off h) image),
+        with_start (spending (off h) (Restart Firsts)) (again image) (mounted_answer (restarted (off h) image)),
         silence,
         reading geo image,
         refl,
         (
           again image,
-          restart_answer (off h) image,
+          mounted_answer (restarted (off h) image),
           refl,
           refl,
           record {
-            blocks = refl;
-            left = put at bytes pages;
-            may = refl;
-            there = presence_of-put at bytes pages ∙ presence_of-read_pages (volume_line geo) image there;
-            volume = before_kept (volume_line geo) image there at bytes good;
+            metadata = none;
+            storage = λ same. record {
+              blocks = refl;
+              left = put at bytes pages;
+              may = refl;
+              there = presence_of-put at bytes pages ∙ presence_of-read_pages (volume_line geo) image there;
+              volume = before_kept (volume_line geo) image there at bytes good;
+            };
           },
-          inl (refl, refl),
+          inl (refl, back_at geo image h none),
         ),
         (refl, refl),
       ),
     )
 
 nothing_filled : (geo : Geometry) (image : Image) (at len : ℕ) → touches_absent at len (presence_read geo image.word) ≡ false
-    → fill at len (reading geo image).volume ≡ (reading geo image).volume
-unfolding reading
+    → fill at len (held geo image).volume ≡ (held geo image).volume
 nothing_filled geo image at len none =
     let there = presence_read geo image.word in
     fill-nothing at len (read_pages (volume_line geo) image there) (ap (touches_absent at len) (presence_of-read_pages (volume_line geo) image there) ∙ none)
@@ -143,6 +171,9 @@ pub unsynced : (geo : Geometry) (image : Image) (stored : Machine) (at : ℕ) (b
 unsynced geo image stored at bytes present good does =
     let h = reading geo image in
     let done = works_done h (VStore at bytes) (record h { volume = put at bytes (fill at (length bytes) h.volume) }) stored refl does in
-    let is : stored ≡ stored_over geo image at bytes = done.1 ∙ ap (λ p. record h { volume = put at bytes p }) (nothing_filled geo image at (length bytes) present) in
+    let none : bad_metadata geo image.is_bad ≡ [] = good_metadata geo image (is_on h (VStore at bytes) refl done.0) in
+    let is : stored ≡ stored_over geo image at bytes =
+    done.1 ∙ ap (λ (m : Machine). record m { volume = put at bytes (fill at (length bytes) m.volume) }) (held_is geo image none)
+    ∙ ap (λ p. record (held geo image) { volume = put at bytes p }) (nothing_filled geo image at (length bytes) present) in
     subst (λ m. (said : Transcript) × Run m (Asked Cut ∷ Asked (Restart Firsts) ∷ []) said (reading geo image)) {x = stored_over geo image at bytes} (sym is)
-    (told (stored_over geo image at bytes) image, lost geo image at bytes good)
+    (told (stored_over geo image at bytes) image, lost geo image at bytes none good)

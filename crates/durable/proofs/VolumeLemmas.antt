@@ -13,9 +13,10 @@ use Rattle.nvm_model.proofs.NumberedLemmas.{slice_get-map_from}
 use Rattle.nvm_model.proofs.MediaLemmas.{cell_of-changed, cell_of-unchanged, presence_of-change}
 use Rattle.std.proofs.lemmas.Bool.{cases_eq}
 use Rattle.nvm_model.proofs.PageLemmas.{cell_of-fill, cell_of-persist, cell_of-put, cell_of-read_pages, presence_of-persist, presence_of-put, presence_of-read_pages}
-use Rattle.durable.specs.Place.{is_line_present, line_has}
+use Rattle.durable.specs.Place.{is_line_present, is_weak_line, line_has}
+use Rattle.durable.specs.Durable.{HaveLines, IsLineThere}
 use Rattle.durable.proofs.PresenceLemmas.{has_lines, line_in, page_present, zero_at}
-use Rattle.durable.proofs.LineLemmas.{HasOrLost, LineKeeps, MayBe, line_has-kept, line_keeps-may_put, line_keeps-persist, line_keeps-put, line_keeps-read, line_keeps-zero}
+use Rattle.durable.proofs.LineLemmas.{HasOrLost, LineKeeps, MayBe, line_has-kept, line_keeps-may_put, line_keeps-persist, line_keeps-put, line_keeps-read, line_keeps-there, line_keeps-zero}
 
 module _ (since : MayBe) where
   -- the page of the byte is absent, where it reads as 0
@@ -67,6 +68,19 @@ module _ (since : MayBe) where
       inr (subst (λ o. LineKeeps since o (i % 64) v)
       (sym (cell_of-persist start len pages (i / 64) ∙ ap (option_map (persist_cell start len (i / 64))) line.is))
       (line_keeps-persist since start len (i / 64) (i % 64) v line.cell loses line.keeps))
+
+  -- and what any page has, while no cut may come
+  pub there-kept : (pages : List Page) (i : ℕ) → since.cut ≡ false → (is_weak_line (cell_of pages (i / 64)) ≡ true → since.weak ≡ true) → HaveLines pages
+      → VolumeKeeps pages i (line_has (cell_of pages (i / 64)) (i % 64))
+  there-kept pages i uncut may lines = by_page (is_line_present pages (i / 64)) refl
+    where
+      by_cell : (o : Option Cell) → IsLineThere o → (is_weak_line o ≡ true → since.weak ≡ true) → LineKeeps since o (i % 64) (line_has o (i % 64))
+      by_cell None none weak = absurd none
+      by_cell (Some cell) size weak = line_keeps-there since cell (i % 64) uncut weak (omega arith) size
+
+      by_page : (b : Bool) → is_line_present pages (i / 64) ≡ b → VolumeKeeps pages i (line_has (cell_of pages (i / 64)) (i % 64))
+      by_page true there = inr (by_cell (cell_of pages (i / 64)) (lines (i / 64) there) may)
+      by_page false absent = absent-kept pages i absent
 
   -- pages that a store fills
   page_of-fill : (at len : ℕ) (pages : List Page) (k : ℕ) → slice_get (fill at len pages) k ≡ option_map (fill_page at len (0 + k)) (slice_get pages k)
@@ -223,12 +237,12 @@ module _ (since : MayBe) where
       by_page (Some Absent) none = cc none
       by_page (Some (Present cells)) found = refl
 
-  pub keeps-read : (choice : Choice) (place : ℕ → ℕ) (image : Image) (there : List Bool) (i : ℕ) (v : Option ℕ) (pages : List Page) → VolumeKeeps pages i v
-      → presence_of pages ≡ there → KeepsPages choice place image pages → VolumeKeeps (read_pages place image there) i v
-  keeps-read choice place image there i v pages (inl keeps) present kept =
+  pub keeps-read : (choice : Choice) (place : ℕ → ℕ) (image : Image) (there : List Bool) (i : ℕ) (v : Option ℕ) (pages : List Page) → since.cut ≡ true
+      → VolumeKeeps pages i v → presence_of pages ≡ there → KeepsPages choice place image pages → VolumeKeeps (read_pages place image there) i v
+  keeps-read choice place image there i v pages cuts (inl keeps) present kept =
       inl (absent_as i v pages (read_pages place image there) (presence_of-read_pages place image there ∙ sym present) keeps)
-  keeps-read choice place image there i v pages (inr keeps) present kept =
+  keeps-read choice place image there i v pages cuts (inr keeps) present kept =
       let line = kept_line (cell_of pages (i / 64)) (i % 64) v keeps in
       let is : slice_get there (i / 64 / 64) ≡ Some true = ap (λ bs. slice_get bs (i / 64 / 64)) (sym present) ∙ page_there pages (i / 64) line.cell line.is in
       inr (subst (λ o. LineKeeps since o (i % 64) v) (sym (cell_of-read_pages place image there (i / 64) is))
-      (line_keeps-read since choice image (place (i / 64)) (i % 64) v line.cell (omega arith) line.keeps (kept (i / 64) line.cell line.is)))
+      (line_keeps-read since choice image (place (i / 64)) (i % 64) v line.cell cuts (omega arith) line.keeps (kept (i / 64) line.cell line.is)))

@@ -1,22 +1,23 @@
 -- Whole states lead to whole states.
-use Rattle.std.proofs.Common.{◌≡◌, ℕ, zero, suc, ◌+◌, ◌*◌, ◌/◌, ◌%◌, ◌==◌, Bool, true, false, cond, Option, Some, None, option_map, List, [], ◌∷◌, length, take, drop, replicate, slice_get, slice_index_or, refl, sym, ap, subst, ◌∙◌, arith}
+use Rattle.std.proofs.Common.{◌≡◌, ◌⊎◌, inl, inr, ℕ, zero, suc, ◌+◌, ◌*◌, ◌/◌, ◌%◌, ◌==◌, Bool, true, false, cond, Option, Some, None, option_map, List, [], ◌∷◌, length, take, drop, replicate, slice_get, slice_index_or, refl, sym, ap, subst, ◌∙◌, arith}
 use Rattle.std.proofs.lemmas.List.{length-map}
 use Rattle.line_device.specs.History.{latest}
 use Rattle.line_device.specs.Medium.{word_stored}
 use Rattle.line_device.specs.Panel.{Image}
 use Rattle.word_tables.specs.declared.geometry.Geometry.{Geometry}
 use Rattle.word_tables.specs.Layout.{total_lines, volume_line}
-use Rattle.nvm_model.specs.Numbered.{is_among, list_from, map_from}
+use Rattle.nvm_model.specs.Numbered.{AreMixed, is_among, list_from, map_from}
+use Rattle.nvm_model.specs.Interrupted.{Became, LineByLine, MayPersist, MayPut}
 use Rattle.nvm_model.specs.Cell.{Cell, clear_cell, covers, flush_cell, lose_cell, persist_cell, put_cell, touches, weaken_cell, zero_cell}
 use Rattle.nvm_model.specs.Cell.Cell.{Bad, Kept}
-use Rattle.nvm_model.specs.Page.{Page, at_line, cell_in, cell_of, change_line, discard, discard_page, fill, fill_page, is_present, persist, put, read_pages, touches_page}
+use Rattle.nvm_model.specs.Page.{Page, at_line, cell_in, cell_of, change_line, discard, discard_page, fill, fill_page, is_present, persist, presence_of, put, read_pages, touches_page}
 use Rattle.nvm_model.specs.Page.Page.{Absent as Missing, Present}
 use Rattle.nvm_model.proofs.NumberedLemmas.{length-list_from, length-map_from, slice_get-map_from}
-use Rattle.nvm_model.proofs.PageLemmas.{cell_of-persist, cell_of-put, cell_of-read_pages, length-discard, length-persist, length-put_fill, length-read_pages, presence_of-persist, presence_of-put, presence_of-read_pages}
+use Rattle.nvm_model.proofs.PageLemmas.{cell_of-persist, cell_of-put, cell_of-read_pages, length-discard, length-fill, length-persist, length-put_fill, length-read_pages, presence_of-persist, presence_of-put, presence_of-read_pages}
 use Rattle.nvm_model.proofs.LostLemmas.{length-lose}
 use Rattle.nvm_model.proofs.MediaLemmas.{cell_of-change, length-change as length-change_line, presence_of-change}
 use Rattle.nvm_base.specs.declared.units.Span.{Span}
-use Rattle.nvm_model.specs.Blocks.{change, change_block, write, write_block, write_ranges}
+use Rattle.nvm_model.specs.Blocks.{change, change_block, nth, write, write_block, write_ranges}
 use Rattle.nvm_model.specs.Storage.{Block}
 use Rattle.nvm_model.specs.Storage.Block.{Absent, Scarred}
 use Rattle.block_device.specs.Reading.{block_read, blocks_read, states_read}
@@ -27,17 +28,23 @@ use Rattle.script_text.specs.Action.Action.{BWrite, BAtomic, BMulti, BDiscard, B
 use Rattle.script_text.specs.Script.{Input}
 use Rattle.script_text.specs.Script.Input.{Skipped, Malformed, Asked}
 use Rattle.machine_host.specs.Machine.{Machine}
-use Rattle.machine_host.specs.Restarting.{fresh, reading, zero_image}
-use Rattle.machine_host.specs.declared.mode.Mode.TheVariants.{On}
+use Rattle.machine_host.specs.Commands.{LeavesBlocks, LeavesVolume, MayLeaveBlocks, MayLeaveVolume, meaning}
+use Rattle.machine_host.specs.Lines.{bad_metadata}
+use Rattle.machine_host.specs.Meaning.{BlocksLeft, VolumeLeft}
+use Rattle.machine_host.specs.Meaning.BlocksLeft.{Same, Either, Mixed}
+use Rattle.machine_host.specs.Meaning.VolumeLeft.{Kept as Unchanged, PartStored, PartSynced, AllOrNone, PageByPage}
+use Rattle.machine_host.specs.Restarting.{fresh, read_with, reading, stopped_by, zero_image}
+use Rattle.machine_host.specs.declared.mode.Mode.TheVariants.{On, Stopped}
 use Rattle.machine_host.specs.OnVolume.{persist_at}
 use Rattle.pm_volume.specs.Presence.{presence_read, words_read}
 use Rattle.pm_volume.specs.Refusals.{physical_offset}
 use Rattle.machine_host.specs.Run.{Hears, Run, Transcript}
-use Rattle.durable.specs.Durable.{HaveEightLines, HaveLines, IsLineThere, IsComplete}
+use Rattle.durable.specs.Durable.{HasEightLines, HasNothing, HaveEightLines, HaveLines, IsComplete, IsCounted, IsLineThere}
 use Rattle.durable.proofs.PresenceLemmas.{has_lines, line_in, page_present, zero_at}
-use Rattle.durable.proofs.EightLemmas.{eight-altered, eight-read}
-use Rattle.durable.proofs.StepLemmas.{Step, blocks_after, step_of, volume_after}
-use Rattle.durable.proofs.StepLemmas.Step.{idles, alters, stops, returns}
+use Rattle.durable.proofs.EightLemmas.{eight-altered, eight-left, eight-read}
+use Rattle.durable.proofs.RefusalLemmas.{is_on}
+use Rattle.durable.proofs.StepLemmas.{Alters, Remounts, Returns, Step, blocks_after, nothing_idle, nothing_stopped, step_of, volume_after}
+use Rattle.durable.proofs.StepLemmas.Step.{idles, alters, stops, returns, remounts, empties}
 
 there-persist : (start len n : ℕ) (o : Option Cell) → IsLineThere o → IsLineThere (option_map (persist_cell start len n) o)
 there-persist start len n None there = there
@@ -154,32 +161,103 @@ there-clear : (cell : Cell) → IsLineThere (Some cell) → IsLineThere (Some (c
 there-clear Bad has = refl
 there-clear (Kept weak words) has = has
 
+lines-made : (geo : Geometry) (action : Action) (pages : List Page) → HaveLines pages → HaveLines ((meaning action).volume geo pages)
+lines-made geo (VStore offset bytes) pages whole = lines-put offset bytes (fill offset (length bytes) pages) (lines-fill offset (length bytes) pages whole)
+lines-made geo (VSync offset len) pages whole = lines-persist offset len pages whole
+lines-made geo (VPSync address len) pages whole = lines-persist_at (physical_offset geo address len) len pages whole
+lines-made geo (VDiscard page count) pages whole = lines-discard page count pages whole
+lines-made geo (VDiscardIf page count) pages whole = lines-discard page count pages whole
+lines-made geo (ClearVolume offset) pages whole = lines-change clear_cell (offset / 64) pages there-clear whole
+lines-made geo action pages whole = whole
+
 lines-altered : (geo : Geometry) (action : Action) (pages : List Page) → HaveLines pages → HaveLines (volume_after geo action pages)
-lines-altered geo (VStore offset bytes) pages whole = lines-put offset bytes (fill offset (length bytes) pages) (lines-fill offset (length bytes) pages whole)
-lines-altered geo (VSync offset len) pages whole = lines-persist offset len pages whole
-lines-altered geo (VPSync address len) pages whole = lines-persist_at (physical_offset geo address len) len pages whole
-lines-altered geo (VDiscard page count) pages whole = lines-discard page count pages whole
-lines-altered geo (VDiscardIf page count) pages whole = lines-discard page count pages whole
 lines-altered geo (PoisonVolume offset) pages whole = lines-change lose_cell (offset / 64) pages (λ cell has. tt) whole
 lines-altered geo (WeakenVolume offset) pages whole = lines-change weaken_cell (offset / 64) pages there-weaken whole
-lines-altered geo (ClearVolume offset) pages whole = lines-change clear_cell (offset / 64) pages there-clear whole
-lines-altered geo action pages whole = whole
+lines-altered geo action pages whole = lines-made geo action pages whole
+
+-- pages that an interruption leaves
+became : (R : Cell → Cell → Type 0) (old new : Option Cell) → ((cell c : Cell) → IsLineThere (Some cell) → R cell c → IsLineThere (Some c)) → IsLineThere old → Became R old new
+    → IsLineThere new
+became R None new each there may = absurd there
+became R (Some old) None each there may = absurd may
+became R (Some old) (Some new) each there may = each old new there may
+
+by_lines : (R : ℕ → Cell → Cell → Type 0) (pages left : List Page) → ((n : ℕ) (cell c : Cell) → IsLineThere (Some cell) → R n cell c → IsLineThere (Some c))
+    → HaveLines pages → LineByLine R pages left → HaveLines left
+by_lines R pages left each whole lines n there =
+    became (R n) (cell_of pages n) (cell_of left n) (each n) (whole n (ap (λ bs. slice_index_or bs (n / 64) false) (sym lines.there) ∙ there)) (lines.each n)
+
+there-may_put : (at : ℕ) (bytes : List ℕ) (n : ℕ) (cell c : Cell) → IsLineThere (Some cell) → MayPut at bytes n cell c → IsLineThere (Some c)
+there-may_put at bytes n Bad c there (inl is) = subst (λ o. IsLineThere (Some o)) {x = Bad} (sym is) tt
+there-may_put at bytes n Bad Bad there (inr may) = tt
+there-may_put at bytes n Bad (Kept mark mixed) there (inr may) = may.1.1.length
+there-may_put at bytes n (Kept weak words) Bad there may = tt
+there-may_put at bytes n (Kept weak words) (Kept mark mixed) there may = may.1.length ∙ there
+
+there-may_persist : (start len n : ℕ) (cell c : Cell) → IsLineThere (Some cell) → MayPersist start len n cell c → IsLineThere (Some c)
+there-may_persist start len n cell c there (inl is) = subst (λ o. IsLineThere (Some o)) {x = cell} (sym is) there
+there-may_persist start len n cell c there (inr is) =
+    subst (λ o. IsLineThere (Some o)) {x = persist_cell start len n cell} (sym is) (there-persist start len n (Some cell) there)
+
+lines-mixed : (pages to left : List Page) → HaveLines pages → HaveLines to → AreMixed Page pages to left → HaveLines left
+lines-mixed pages to left whole made may n there = elim (may.each (n / 64)) as (λ _. IsLineThere (cell_of left n)) [ inl is ↦ taken pages whole is | inr is ↦ taken to made is ]
+  where
+    taken : (other : List Page) → HaveLines other → slice_get left (n / 64) ≡ slice_get other (n / 64) → IsLineThere (cell_of left n)
+    taken other has is =
+        subst (λ o. IsLineThere (line_in n o)) (sym is) (has n (page_present other n ∙ ap has_lines (sym is) ∙ sym (page_present left n) ∙ there))
+
+lines-leaves : (left : VolumeLeft) (pages to new : List Page) → HaveLines pages → HaveLines to → LeavesVolume left pages to new → HaveLines new
+lines-leaves Unchanged pages to new whole made is = subst HaveLines {x = pages} (sym is) whole
+lines-leaves (PartStored offset bytes) pages to new whole made (inl is) = subst HaveLines {x = pages} (sym is) whole
+lines-leaves (PartStored offset bytes) pages to new whole made (inr lines) =
+    by_lines (MayPut offset bytes) (fill offset (length bytes) pages) new (there-may_put offset bytes) (lines-fill offset (length bytes) pages whole) lines
+lines-leaves (PartSynced offset len) pages to new whole made lines = by_lines (MayPersist offset len) pages new (there-may_persist offset len) whole lines
+lines-leaves AllOrNone pages to new whole made (inl is) = subst HaveLines {x = pages} (sym is) whole
+lines-leaves AllOrNone pages to new whole made (inr is) = subst HaveLines {x = to} (sym is) made
+lines-leaves PageByPage pages to new whole made may = lines-mixed pages to new whole made may
+
+lines-left : (geo : Geometry) (o : Option Action) (pages new : List Page) → HaveLines pages → MayLeaveVolume geo o pages new → HaveLines new
+lines-left geo None pages new whole is = subst HaveLines {x = pages} (sym is) whole
+lines-left geo (Some action) pages new whole may =
+    lines-leaves ((meaning action).volume_left geo) pages ((meaning action).volume geo pages) new whole (lines-made geo action pages whole) may
 
 -- how many pages there are
 length-persist_at : (o : Option ℕ) (len : ℕ) (pages : List Page) → length (persist_at o len pages) ≡ length pages
 length-persist_at None len pages = refl
 length-persist_at (Some start) len pages = length-persist start len pages
 
+pages-made : (geo : Geometry) (action : Action) (pages : List Page) → length ((meaning action).volume geo pages) ≡ length pages
+pages-made geo (VStore offset bytes) pages = length-put_fill offset (length bytes) bytes pages
+pages-made geo (VSync offset len) pages = length-persist offset len pages
+pages-made geo (VPSync address len) pages = length-persist_at (physical_offset geo address len) len pages
+pages-made geo (VDiscard page count) pages = length-discard page count pages
+pages-made geo (VDiscardIf page count) pages = length-discard page count pages
+pages-made geo (ClearVolume offset) pages = length-change_line clear_cell (offset / 64) pages
+pages-made geo action pages = refl
+
 pages-altered : (geo : Geometry) (action : Action) (pages : List Page) → length (volume_after geo action pages) ≡ length pages
-pages-altered geo (VStore offset bytes) pages = length-put_fill offset (length bytes) bytes pages
-pages-altered geo (VSync offset len) pages = length-persist offset len pages
-pages-altered geo (VPSync address len) pages = length-persist_at (physical_offset geo address len) len pages
-pages-altered geo (VDiscard page count) pages = length-discard page count pages
-pages-altered geo (VDiscardIf page count) pages = length-discard page count pages
 pages-altered geo (PoisonVolume offset) pages = length-change_line lose_cell (offset / 64) pages
 pages-altered geo (WeakenVolume offset) pages = length-change_line weaken_cell (offset / 64) pages
-pages-altered geo (ClearVolume offset) pages = length-change_line clear_cell (offset / 64) pages
-pages-altered geo action pages = refl
+pages-altered geo action pages = pages-made geo action pages
+
+-- and those that an interruption leaves
+pages-there : (old new : List Page) → presence_of new ≡ presence_of old → length new ≡ length old
+pages-there old new there = sym (length-map new is_present) ∙ ap length there ∙ length-map old is_present
+
+pages-leaves : (left : VolumeLeft) (pages to new : List Page) → length to ≡ length pages → LeavesVolume left pages to new → length new ≡ length pages
+pages-leaves Unchanged pages to new same is = ap length is
+pages-leaves (PartStored offset bytes) pages to new same (inl is) = ap length is
+pages-leaves (PartStored offset bytes) pages to new same (inr lines) =
+    pages-there (fill offset (length bytes) pages) new lines.there ∙ length-fill offset (length bytes) pages
+pages-leaves (PartSynced offset len) pages to new same lines = pages-there pages new lines.there
+pages-leaves AllOrNone pages to new same (inl is) = ap length is
+pages-leaves AllOrNone pages to new same (inr is) = ap length is ∙ same
+pages-leaves PageByPage pages to new same may = may.length
+
+pages-left : (geo : Geometry) (o : Option Action) (pages new : List Page) → MayLeaveVolume geo o pages new → length new ≡ length pages
+pages-left geo None pages new is = ap length is
+pages-left geo (Some action) pages new may =
+    pages-leaves ((meaning action).volume_left geo) pages ((meaning action).volume geo pages) new (pages-made geo action pages) may
 
 pages-read : (geo : Geometry) (image : Image) → length (read_pages (volume_line geo) image (presence_read geo image.word)) ≡ geo.vpages
 unfolding words_read
@@ -199,49 +277,119 @@ length-change : (spans : List Span) (to : Block) (blocks : List Block) → lengt
 unfolding change
 length-change spans to blocks = length-map_from (change_block spans to) 0 blocks
 
+length-made : (action : Action) (blocks : List Block) → length ((meaning action).blocks blocks) ≡ length blocks
+length-made (BWrite block bytes) blocks = length-write block bytes blocks
+length-made (BAtomic block bytes) blocks = length-write block bytes blocks
+length-made (BMulti ranges bytes) blocks = length-write_ranges ranges bytes blocks
+length-made (BDiscard block count) blocks = length-change (blocks_from block count) Absent blocks
+length-made (BDiscardIf block count) blocks = length-change (blocks_from block count) Absent blocks
+length-made (BScar ranges) blocks = length-change ranges Scarred blocks
+length-made action blocks = refl
+
 length-altered : (action : Action) (blocks : List Block) → length (blocks_after action blocks) ≡ length blocks
-length-altered (BWrite block bytes) blocks = length-write block bytes blocks
-length-altered (BAtomic block bytes) blocks = length-write block bytes blocks
-length-altered (BMulti ranges bytes) blocks = length-write_ranges ranges bytes blocks
-length-altered (BDiscard block count) blocks = length-change (blocks_from block count) Absent blocks
-length-altered (BDiscardIf block count) blocks = length-change (blocks_from block count) Absent blocks
-length-altered (BScar ranges) blocks = length-change ranges Scarred blocks
 length-altered (PoisonBlock block line) blocks = length-lose block line blocks
-length-altered action blocks = refl
+length-altered action blocks = length-made action blocks
+
+length-leaves : (left : BlocksLeft) (old to new : List Block) → length to ≡ length old → LeavesBlocks left old to new → length new ≡ length old
+length-leaves Same old to new same is = ap length is
+length-leaves Either old to new same (inl is) = ap length is
+length-leaves Either old to new same (inr is) = ap length is ∙ same
+length-leaves Mixed old to new same may = may.length
+
+length-left : (o : Option Action) (old new : List Block) → MayLeaveBlocks o old new → length new ≡ length old
+length-left None old new is = ap length is
+length-left (Some action) old new may = length-leaves (meaning action).blocks_left old ((meaning action).blocks old) new (length-made action old) may
 
 length-read : (geo : Geometry) (bad : ℕ → Bool) (word : ℕ → ℕ) → length (blocks_read geo bad word) ≡ geo.blocks
 unfolding blocks_read states_read
 length-read geo bad word = length-map (states_read geo word) (block_read geo bad word) ∙ length-list_from _ 0 geo.blocks
 
+-- in mode On all are there
+pub counted_on : (h : Machine) → IsComplete h → h.mode ≡ On → IsCounted h
+counted_on h whole on = elim whole.counted as (λ _. IsCounted h) [ inl counted ↦ counted | inr nothing ↦ absurd (nothing.mode on) ]
+
 -- a step that leaves blocks and volume
-same_storage : (h next : Machine) → IsComplete h → next.geometry ≡ h.geometry → next.blocks ≡ h.blocks → next.volume ≡ h.volume → (next.mode ≡ On → next.interrupted ≡ None)
-    → IsComplete next
-same_storage h next whole geometry blocks volume settled = record {
-  blocks = ap length blocks ∙ whole.blocks ∙ sym (ap (λ g. g.blocks) geometry);
+same_storage : (h next : Machine) → IsComplete h → next.geometry ≡ h.geometry → next.blocks ≡ h.blocks → next.volume ≡ h.volume → (HasNothing h → HasNothing next)
+    → (next.mode ≡ On → next.interrupted ≡ None) → (next.mode ≡ Stopped → h.mode ≡ Stopped) → IsComplete next
+same_storage h next whole geometry blocks volume still settled stopped = record {
+  counted = elim whole.counted as (λ _. IsCounted next ⊎ HasNothing next) [
+    | inl counted ↦ inl (record {
+      blocks = ap length blocks ∙ counted.blocks ∙ sym (ap (λ g. g.blocks) geometry);
+      pages = ap length volume ∙ counted.pages ∙ sym (ap (λ g. g.vpages) geometry);
+    })
+    | inr nothing ↦ inr (still nothing)
+  ];
   eight = subst HaveEightLines {x = h.blocks} (sym blocks) whole.eight;
-  pages = ap length volume ∙ whole.pages ∙ sym (ap (λ g. g.vpages) geometry);
   lines = subst HaveLines {x = h.volume} (sym volume) whole.lines;
   settled = settled;
+  stopped = λ at. still (whole.stopped (stopped at));
+}
+
+-- nothing is there
+empty_blocks : (n : ℕ) → HasEightLines (nth [] n)
+empty_blocks n = tt
+
+whole-nothing : (h : Machine) → HasNothing h → IsComplete h
+whole-nothing h nothing = record {
+  counted = inr nothing;
+  eight = subst HaveEightLines {x = []} (sym nothing.blocks) empty_blocks;
+  lines = subst HaveLines {x = []} (sym nothing.volume) (λ n there. cc there);
+  settled = λ on. absurd (nothing.mode on);
+  stopped = λ at. nothing;
+}
+
+-- an action that is done in mode On
+whole-altered : (h : Machine) (action : Action) (next : Machine) → IsComplete h → h.mode ≡ On → Alters h action next → IsComplete next
+whole-altered h action next whole on to =
+    let counted = counted_on h whole on in
+    record {
+      counted = inl (record {
+        blocks = ap length to.blocks ∙ length-altered action h.blocks ∙ counted.blocks ∙ sym (ap (λ g. g.blocks) to.geometry);
+        pages = ap length to.volume ∙ pages-altered h.geometry action h.volume ∙ counted.pages ∙ sym (ap (λ g. g.vpages) to.geometry);
+      });
+      eight = subst HaveEightLines {x = blocks_after action h.blocks} (sym to.blocks) (eight-altered action h.blocks whole.eight);
+      lines = subst HaveLines {x = volume_after h.geometry action h.volume} (sym to.volume) (lines-altered h.geometry action h.volume whole.lines);
+      settled = λ at. to.interrupted ∙ whole.settled on;
+      stopped = λ at. cc (at, to.mode, on);
+    }
+
+-- a mount
+whole-returned : (h next : Machine) → Returns h next → IsComplete next
+whole-returned h next back = record {
+  counted = inl (record {
+    blocks = ap length back.blocks ∙ length-read h.geometry back.image.is_bad back.image.word ∙ sym (ap (λ g. g.blocks) back.geometry);
+    pages = ap length back.volume ∙ pages-read h.geometry back.image ∙ sym (ap (λ g. g.vpages) back.geometry);
+  });
+  eight = subst HaveEightLines (sym back.blocks) (eight-read h.geometry back.image.is_bad back.image.word);
+  lines = subst HaveLines (sym back.volume) (lines-read (volume_line h.geometry) back.image (presence_read h.geometry back.image.word));
+  settled = λ on. back.interrupted;
+  stopped = λ at. absurd (back.stopped at);
+}
+
+whole-remounted : (h next : Machine) → IsComplete h → Remounts h next → IsComplete next
+whole-remounted h next whole back = record {
+  counted = elim whole.counted as (λ _. IsCounted next ⊎ HasNothing next) [
+    | inl counted ↦ inl (record {
+      blocks = length-left h.interrupted h.blocks next.blocks back.blocks ∙ counted.blocks ∙ sym (ap (λ g. g.blocks) back.geometry);
+      pages = pages-left h.geometry h.interrupted h.volume next.volume back.volume ∙ counted.pages ∙ sym (ap (λ g. g.vpages) back.geometry);
+    })
+    | inr nothing ↦ absurd (nothing.metadata back.metadata)
+  ];
+  eight = eight-left h.interrupted h.blocks next.blocks whole.eight back.blocks;
+  lines = lines-left h.geometry h.interrupted h.volume next.volume whole.lines back.volume;
+  settled = λ on. back.interrupted;
+  stopped = λ at. absurd (back.stopped at);
 }
 
 pub whole-step : (h : Machine) (action : Action) (answer : Answer) (next : Machine) → IsComplete h → Step h action answer next → IsComplete next
 whole-step h action answer next whole (idles why to) =
-    same_storage h next whole to.geometry to.blocks to.volume (λ on. to.interrupted ∙ whole.settled (to.mode on))
-whole-step h action answer next whole (alters begun none to) = record {
-  blocks = ap length to.blocks ∙ length-altered action h.blocks ∙ whole.blocks ∙ sym (ap (λ g. g.blocks) to.geometry);
-  eight = subst HaveEightLines {x = blocks_after action h.blocks} (sym to.blocks) (eight-altered action h.blocks whole.eight);
-  pages = ap length to.volume ∙ pages-altered h.geometry action h.volume ∙ whole.pages ∙ sym (ap (λ g. g.vpages) to.geometry);
-  lines = subst HaveLines {x = volume_after h.geometry action h.volume} (sym to.volume) (lines-altered h.geometry action h.volume whole.lines);
-  settled = λ on. to.interrupted ∙ whole.settled (sym to.mode ∙ on);
-}
-whole-step h action answer next whole (stops by is to) = same_storage h next whole to.geometry to.blocks to.volume (λ on. absurd (to.mode on))
-whole-step h action answer next whole (returns covered back) = record {
-  blocks = ap length back.blocks ∙ length-read h.geometry back.image.is_bad back.image.word ∙ sym (ap (λ g. g.blocks) back.geometry);
-  eight = subst HaveEightLines (sym back.blocks) (eight-read h.geometry back.image.is_bad back.image.word);
-  pages = ap length back.volume ∙ pages-read h.geometry back.image ∙ sym (ap (λ g. g.vpages) back.geometry);
-  lines = subst HaveLines (sym back.volume) (lines-read (volume_line h.geometry) back.image (presence_read h.geometry back.image.word));
-  settled = λ on. back.interrupted;
-}
+    same_storage h next whole to.geometry to.blocks to.volume (nothing_idle h next to) (λ on. to.interrupted ∙ whole.settled (to.mode on)) to.stopped
+whole-step h action answer next whole (alters begun none to) = whole-altered h action next whole (is_on h action to.needs none) to
+whole-step h action answer next whole (stops by is to) =
+    same_storage h next whole to.geometry to.blocks to.volume (nothing_stopped h action next to) (λ on. absurd (to.mode on)) (λ at. absurd (to.stopped at))
+whole-step h action answer next whole (returns covered back) = whole-returned h next back
+whole-step h action answer next whole (remounts covered back) = whole-remounted h next whole back
+whole-step h action answer next whole (empties covered to) = whole-nothing next to.nothing
 
 -- a step, whatever is heard
 pub whole-heard : (h : Machine) (input : Input) (said : Transcript) (next : Machine) → IsComplete h → Hears h input said next → IsComplete next
@@ -255,20 +403,27 @@ whole-run [] h later said whole run = subst IsComplete (sym run.1) whole
 whole-run (input ∷ inputs) h later said whole run =
     whole-run inputs run.2 later run.1 (whole-heard h input run.0 run.2 whole run.4) run.5
 
-whole-armed : (geo : Geometry) (image : Image) (cut fail : Bool) → IsComplete (record (reading geo image) { cut_armed = cut; fail_armed = fail })
-unfolding reading
-whole-armed geo image cut fail = record {
-  blocks = length-read geo image.is_bad image.word;
+whole-armed : (bad : List ℕ) (geo : Geometry) (image : Image) (cut fail : Bool) → IsComplete (record (read_with bad geo image) { cut_armed = cut; fail_armed = fail })
+whole-armed [] geo image cut fail = record {
+  counted = inl (record { blocks = length-read geo image.is_bad image.word; pages = pages-read geo image });
   eight = eight-read geo image.is_bad image.word;
-  pages = pages-read geo image;
   lines = lines-read (volume_line geo) image (presence_read geo image.word);
   settled = λ on. refl;
+  stopped = λ at. cc at;
 }
+whole-armed (line ∷ lines) geo image cut fail =
+    whole-nothing (record (stopped_by geo (line ∷ lines)) { cut_armed = cut; fail_armed = fail })
+    (record { metadata = λ none. cc none; mode = λ on. cc on; blocks = refl; volume = refl })
 
 -- a machine that is read from an image
 pub whole-reading : (geo : Geometry) (image : Image) (h : Machine) → h ≡ record (reading geo image) { cut_armed = h.cut_armed; fail_armed = h.fail_armed } → IsComplete h
-whole-reading geo image h is = subst IsComplete {x = record (reading geo image) { cut_armed = h.cut_armed; fail_armed = h.fail_armed }} (sym is) (whole-armed geo image h.cut_armed h.fail_armed)
+unfolding reading
+whole-reading geo image h is =
+    subst IsComplete {x = record (reading geo image) { cut_armed = h.cut_armed; fail_armed = h.fail_armed }} (sym is)
+    (whole-armed (bad_metadata geo image.is_bad) geo image h.cut_armed h.fail_armed)
 
 -- and one over zeros
 pub whole-fresh : (geo : Geometry) (h : Machine) → h ≡ record (fresh geo) { cut_armed = h.cut_armed; fail_armed = h.fail_armed } → IsComplete h
-whole-fresh geo h is = whole-reading geo (zero_image (total_lines geo)) h is
+whole-fresh geo h is =
+    subst IsComplete {x = record (fresh geo) { cut_armed = h.cut_armed; fail_armed = h.fail_armed }} (sym is)
+    (whole-armed [] geo (zero_image (total_lines geo)) h.cut_armed h.fail_armed)

@@ -1,5 +1,5 @@
 -- What was written is what lasts.
-use Rattle.std.proofs.Common.{◌≡◌, inl, inr, ℕ, zero, suc, ◌||◌, ◌==◌, ◌+◌, ◌-◌, ◌*◌, ◌/◌, ◌%◌, ◌<◌, ◌≤◌, Bool, true, false, cond, Option, Some, None, option_map, option_and_then, List, [], ◌∷◌, length, map, replicate, get_or, nat_lt, slice_get, slice_index_or, refl, sym, ap, subst, ◌∙◌, arith}
+use Rattle.std.proofs.Common.{◌≡◌, inl, inr, ℕ, zero, suc, not, ◌&&◌, ◌||◌, ◌==◌, ◌+◌, ◌-◌, ◌*◌, ◌/◌, ◌%◌, ◌<◌, ◌≤◌, Bool, true, false, cond, Option, Some, None, option_map, option_and_then, List, [], ◌∷◌, length, map, replicate, get_or, nat_lt, slice_get, slice_index_or, refl, sym, ap, subst, ◌∙◌, arith}
 use Rattle.std.specs.Prelude.{slice_index}
 use Rattle.std.proofs.lemmas.Bool.{both_ways, eq-eqb, eqb-false}
 use Rattle.std.proofs.lemmas.Bool.Decides.{nat_tests}
@@ -13,11 +13,12 @@ use Rattle.nvm_model.specs.Blocks.{data_from, first_there, nth, write, write_blo
 use Rattle.nvm_model.specs.Cell.{Cell, TakesPut, cell_byte, clear_cell, zero_cell, covers as holds_line, flush_cell, persist_cell, put_cell, touches}
 use Rattle.nvm_model.specs.Cell.Cell.{Bad, Kept}
 use Rattle.nvm_model.specs.Numbered.{is_among, list_from, map_from}
-use Rattle.nvm_model.specs.Page.{Page, byte_in, cell_of, change_line, fill, first_bad_line, is_bad_cell, is_present, persist, presence_of, put, touches_page}
+use Rattle.nvm_model.specs.Page.{Page, byte_in, cell_in, cell_of, change_line, fill, fill_page, first_bad_line, first_uncovered_line, is_bad_cell, is_present, persist, presence_of, put, touches_page}
+use Rattle.nvm_model.specs.Page.Page.{Absent as Missing, Present}
 use Rattle.nvm_model.specs.Storage.{Block}
 use Rattle.nvm_model.specs.Storage.Block.{Absent}
 use Rattle.nvm_model.proofs.NumberedLemmas.{slice_get-list_from, slice_get-map_from}
-use Rattle.nvm_model.proofs.PageLemmas.{cell_of-persist, cell_of-put}
+use Rattle.nvm_model.proofs.PageLemmas.{cell_of-fill, cell_of-persist, cell_of-put}
 use Rattle.nvm_model.proofs.FillLemmas.{presence_of-fill}
 use Rattle.std.proofs.lemmas.List.{length-map}
 use Rattle.word_tables.specs.declared.geometry.Geometry.{Geometry}
@@ -41,11 +42,13 @@ use Rattle.machine_host.specs.Run.{Takes}
 use Rattle.durable.specs.Place.{block_has, byte_at_place, is_line_present, is_weak_line, line_has}
 use Rattle.durable.specs.Place.Place.{of_volume, of_blocks}
 use Rattle.durable.specs.Touching.{is_made_durable, touched_lines_at}
-use Rattle.durable.specs.Durable.{Does, IsLineThere, Lasts}
-use Rattle.durable.proofs.RefusalLemmas.{is_refused, places_none, refused_told, unreadable_none}
-use Rattle.durable.proofs.LawLemmas.{durable, stop_done, was_bad}
+use Rattle.durable.specs.Durable.{Does, HaveLines, IsLineThere, Lasts, LastsPowered}
+use Rattle.script_text.specs.Script.Input.{Asked}
+use Rattle.durable.proofs.PresenceLemmas.{has_lines, line_in, page_present, zero_at}
+use Rattle.durable.proofs.RefusalLemmas.{is_on, is_refused, places_none, refused_told, unreadable_none}
+use Rattle.durable.proofs.LawLemmas.{durable, lasts_powered, stop_done, was_bad}
 use Rattle.durable.proofs.LineLemmas.{zero_shown}
-use Rattle.durable.proofs.WholeLemmas.{lines-fill}
+use Rattle.durable.proofs.WholeLemmas.{counted_on, lines-fill, whole-heard}
 
 -- a command that was done
 pub works_done : (h : Machine) (action : Action) (to next : Machine) → (meaning action).comes h ≡ Works Done to → Does h action next → (refusal h action ≡ None) × (next ≡ to)
@@ -120,7 +123,7 @@ written h next block i bytes does among =
     let done = works_done h (BWrite block bytes) (record h { blocks = write block bytes h.blocks }) next refl does in
     let fits = bytes_within h.geometry.blocks block (length bytes) (blocks_none _ (places_none h (BWrite block bytes) done.0)) in
     let is : byte_at_place next (of_blocks i) ≡ Some (slice_index bytes (i - 512 * block)) =
-    ap (λ m. byte_at_place m (of_blocks i)) done.1 ∙ written_byte block i bytes h.blocks among (omega (arith, does.whole.blocks)) in
+    ap (λ m. byte_at_place m (of_blocks i)) done.1 ∙ written_byte block i bytes h.blocks among (omega (arith, fits, (counted_on h does.whole (is_on h (BWrite block bytes) refl done.0)).blocks)) in
     subst (Lasts next (of_blocks i)) is (durable h next (BWrite block bytes) (of_blocks i) does (or_true _ among))
 
 pub written_together : (h next : Machine) (block i : ℕ) (bytes : List ℕ) → Does h (BAtomic block bytes) next → is_among block (length bytes / 512) (i / 512) ≡ true
@@ -131,7 +134,7 @@ written_together h next block i bytes does among =
     let fits = bytes_within h.geometry.blocks block (length bytes)
     (first_none (bytes_refusal h.geometry.blocks block (length bytes)) (where_ (nat_lt 64 (length bytes / 512)) Limit) places) in
     let is : byte_at_place next (of_blocks i) ≡ Some (slice_index bytes (i - 512 * block)) =
-    ap (λ m. byte_at_place m (of_blocks i)) done.1 ∙ written_byte block i bytes h.blocks among (omega (arith, does.whole.blocks)) in
+    ap (λ m. byte_at_place m (of_blocks i)) done.1 ∙ written_byte block i bytes h.blocks among (omega (arith, fits, (counted_on h does.whole (is_on h (BAtomic block bytes) refl done.0)).blocks)) in
     subst (Lasts next (of_blocks i)) is (durable h next (BAtomic block bytes) (of_blocks i) does (or_true _ among))
 
 -- a line that was made durable shows what it had, unless it is lost
@@ -145,6 +148,20 @@ flush_shown Bad k good strong = cc good
 flush_shown (Kept true words) k good strong = cc strong
 flush_shown (Kept false words) k good strong =
     ap (λ h. Some (byte_at (k % 8) (newest h))) (get_or-latest words (k / 8)) ∙ ap (λ v. Some (byte_at (k % 8) v)) (newest-latest (slice_index_or words (k / 8) []))
+
+-- a byte that was stored in a line that takes it
+put_byte : (at i : ℕ) (bytes : List ℕ) (pages : List Page) (cell : Cell) → ((k : ℕ) → get_or bytes k 0 < 256) → is_among at (length bytes) i ≡ true
+    → cell_of pages (i / 64) ≡ Some cell → TakesPut at (length bytes) (i / 64) cell → cell_byte (put_cell at bytes (i / 64) cell) (i % 64) ≡ slice_index bytes (i - at)
+put_byte at i bytes pages cell small among is takes =
+    let put_is : cell_of (put at bytes pages) (i / 64) ≡ Some (put_cell at bytes (i / 64) cell) =
+    cell_of-put at bytes pages (i / 64) ∙ ap (option_map (put_cell at bytes (i / 64))) is in
+    let from : at ≤ i = grind (arith, nat_tests) in
+    let to : i < at + length bytes = grind (arith, nat_tests) in
+    sym (ap seen put_is) ∙ byte_in-put at i bytes pages cell small is takes ∙ byte_over-in at i (byte_in pages i) bytes from to
+  where
+    seen : Option Cell → ℕ
+    seen None = 0
+    seen (Some cell) = cell_byte cell (i % 64)
 
 -- a byte that was stored in a line that is there, and then synced
 synced_byte : (at start len i : ℕ) (bytes : List ℕ) (pages : List Page) → ((k : ℕ) → get_or bytes k 0 < 256) → is_among at (length bytes) i ≡ true
@@ -160,19 +177,12 @@ synced_byte at start len i bytes pages small among touched there good strong = b
     synced cell is =
         cell_of-persist start len stored (i / 64) ∙ ap (option_map (persist_cell start len (i / 64))) is ∙ ap (λ t. Some (cond t (flush_cell cell) cell)) touched
 
-    seen : Option Cell → ℕ
-    seen None = 0
-    seen (Some cell) = cell_byte cell (i % 64)
-
     taken : (cell : Cell) → cell_of pages (i / 64) ≡ Some cell → TakesPut at (length bytes) (i / 64) cell
         → line_has (cell_of (persist start len stored) (i / 64)) (i % 64) ≡ Some (slice_index bytes (i - at))
     taken cell is takes =
         let put_is : cell_of stored (i / 64) ≡ Some (put_cell at bytes (i / 64) cell) =
         cell_of-put at bytes pages (i / 64) ∙ ap (option_map (put_cell at bytes (i / 64))) is in
-        let from : at ≤ i = grind (arith, nat_tests) in
-        let to : i < at + length bytes = grind (arith, nat_tests) in
-        let byte : cell_byte (put_cell at bytes (i / 64) cell) (i % 64) ≡ slice_index bytes (i - at) =
-        sym (ap seen put_is) ∙ byte_in-put at i bytes pages cell small is takes ∙ byte_over-in at i (byte_in pages i) bytes from to in
+        let byte = put_byte at i bytes pages cell small among is takes in
         ap (λ o. line_has o (i % 64)) (synced (put_cell at bytes (i / 64) cell) put_is)
         ∙ flush_shown (put_cell at bytes (i / 64) cell) (i % 64) (sym (ap is_bad_cell put_is) ∙ good) (sym (ap is_weak_line put_is) ∙ strong) ∙ ap Some byte
 
@@ -245,6 +255,96 @@ filled_there at len i pages among within =
     either true b is = refl
     either false b is = is
 
+-- pages that it fills have zeros
+filled_zero : (at len n : ℕ) (pages : List Page) → is_line_present pages n ≡ false → is_line_present (fill at len pages) n ≡ true
+    → cell_of (fill at len pages) n ≡ Some zero_cell
+unfolding fill
+filled_zero at len n pages absent there =
+    ap (line_in n) found
+    ∙ by_page (slice_get pages (n / 64)) (sym (page_present pages n) ∙ absent) (sym (ap has_lines found) ∙ sym (page_present (fill at len pages) n) ∙ there)
+  where
+    found : slice_get (fill at len pages) (n / 64) ≡ option_map (fill_page at len (0 + n / 64)) (slice_get pages (n / 64))
+    found = slice_get-map_from (fill_page at len) 0 pages (n / 64)
+
+    by_page : (o : Option Page) → has_lines o ≡ false → has_lines (option_map (fill_page at len (0 + n / 64)) o) ≡ true
+        → line_in n (option_map (fill_page at len (0 + n / 64)) o) ≡ Some zero_cell
+    by_page None none there = cc there
+    by_page (Some Missing) none there = by_test (touches_page at len (0 + n / 64)) there
+      where
+        by_test : (t : Bool) → is_present (cond t (Present (replicate 64 zero_cell)) Missing) ≡ true
+            → cell_in (cond t (Present (replicate 64 zero_cell)) Missing) (n % 64) ≡ Some zero_cell
+        by_test true there = zero_at 64 (n % 64) (omega arith)
+        by_test false none = cc none
+    by_page (Some (Present cells)) none there = cc none
+
+-- a store that is not refused covers each bad line that it touches
+bad_covered : (at len n : ℕ) (pages : List Page) → HaveLines pages → 1 ≤ len → option_map volume_answer (poisoned_at (first_uncovered_line pages at len)) ≡ None
+    → touches at len n ≡ true → is_line_present (fill at len pages) n ≡ true → cell_of (fill at len pages) n ≡ Some Bad → holds_line at len n ≡ true
+unfolding first_uncovered_line
+bad_covered at len n pages lines some none touched present bad = by_page (is_line_present pages n) refl
+  where
+    covered : (b c : Bool) → b ≡ true → (b && not c) ≡ false → c ≡ true
+    covered b true is out = refl
+    covered true false is out = cc out
+    covered false false is out = cc is
+
+    by_cell : (o : Option Cell) → cell_of pages n ≡ o → IsLineThere o → holds_line at len n ≡ true
+    by_cell None is none_there = absurd none_there
+    by_cell (Some cell) is size =
+        covered (is_bad_cell (cell_of pages n)) (holds_line at len n) (ap is_bad_cell (is ∙ sym (cell_of-fill at len pages n cell is) ∙ bad))
+        (none_touched (λ k. is_bad_cell (cell_of pages k) && not (holds_line at len k)) at len n some (no_bad_line _ none) touched)
+
+    by_page : (b : Bool) → is_line_present pages n ≡ b → holds_line at len n ≡ true
+    by_page true there = by_cell (cell_of pages n) refl (lines n there)
+    by_page false absent = absurd (both_ways (is_bad_cell (cell_of (fill at len pages) n)) (ap is_bad_cell (filled_zero at len n pages absent present)) (ap is_bad_cell bad))
+
+-- it shows what was stored
+stored_byte : (at i : ℕ) (bytes : List ℕ) (pages : List Page) → ((k : ℕ) → get_or bytes k 0 < 256) → is_among at (length bytes) i ≡ true → IsLineThere (cell_of pages (i / 64))
+    → (cell_of pages (i / 64) ≡ Some Bad → holds_line at (length bytes) (i / 64) ≡ true) → line_has (cell_of (put at bytes pages) (i / 64)) (i % 64) ≡ Some (slice_index bytes (i - at))
+stored_byte at i bytes pages small among there covers = by_line (cell_of pages (i / 64)) refl there
+  where
+    shown : (cell : Cell) → TakesPut at (length bytes) (i / 64) cell → line_has (Some (put_cell at bytes (i / 64) cell)) (i % 64) ≡ Some (cell_byte (put_cell at bytes (i / 64) cell) (i % 64))
+    shown (Kept weak words) takes = refl
+    shown Bad takes = by_cover (holds_line at (length bytes) (i / 64)) takes
+      where
+        by_cover : (c : Bool) → c ≡ true
+            → line_has (Some (cond c (Kept false (map_from (word_stored at bytes) (8 * (i / 64)) (replicate 8 (0 ∷ [])))) Bad)) (i % 64)
+            ≡ Some (cell_byte (cond c (Kept false (map_from (word_stored at bytes) (8 * (i / 64)) (replicate 8 (0 ∷ [])))) Bad) (i % 64))
+        by_cover true is = refl
+        by_cover false is = cc is
+
+    taken : (cell : Cell) → cell_of pages (i / 64) ≡ Some cell → TakesPut at (length bytes) (i / 64) cell
+        → line_has (cell_of (put at bytes pages) (i / 64)) (i % 64) ≡ Some (slice_index bytes (i - at))
+    taken cell is takes =
+        ap (λ o. line_has o (i % 64)) (cell_of-put at bytes pages (i / 64) ∙ ap (option_map (put_cell at bytes (i / 64))) is) ∙ shown cell takes
+        ∙ ap Some (put_byte at i bytes pages cell small among is takes)
+
+    by_line : (o : Option Cell) → cell_of pages (i / 64) ≡ o → IsLineThere o → line_has (cell_of (put at bytes pages) (i / 64)) (i % 64) ≡ Some (slice_index bytes (i - at))
+    by_line None is none = absurd none
+    by_line (Some (Kept weak words)) is size = taken (Kept weak words) is size
+    by_line (Some Bad) is size = taken Bad is (covers is)
+
+pub stored_powered : (h stored : Machine) (at i : ℕ) (bytes : List ℕ) → ((k : ℕ) → get_or bytes k 0 < 256) → Does h (VStore at bytes) stored → is_among at (length bytes) i ≡ true
+    → is_weak_line (cell_of stored.volume (i / 64)) ≡ false → LastsPowered stored (of_volume i) (Some (slice_index bytes (i - at)))
+stored_powered h stored at i bytes small stores among strong =
+    let len = length bytes in
+    let filled = fill at len h.volume in
+    let put_is = works_done h (VStore at bytes) (record h { volume = put at bytes filled }) stored refl stores in
+    let on = is_on h (VStore at bytes) refl put_is.0 in
+    let within = stored_within h.geometry at len (volume_none _ (places_none h (VStore at bytes) put_is.0)) in
+    let to : i < at + length bytes = grind (arith, nat_tests) in
+    let from : at ≤ i = grind (arith, nat_tests) in
+    let present = filled_there at len i h.volume among (omega (arith, within, to, (counted_on h stores.whole on).pages)) in
+    let covers = bad_covered at len (i / 64) h.volume stores.whole.lines (omega (arith, from, to)) (unreadable_none h (VStore at bytes) put_is.0) (touched at len i among) present in
+    let shown : byte_at_place stored (of_volume i) ≡ Some (slice_index bytes (i - at)) =
+    ap (λ m. byte_at_place m (of_volume i)) put_is.1
+    ∙ stored_byte at i bytes filled small among (lines-fill at len h.volume stores.whole.lines (i / 64) present) covers in
+    subst (LastsPowered stored (of_volume i)) shown
+    (lasts_powered stored (of_volume i) (whole-heard h (Asked (VStore at bytes)) stores.said stored stores.whole stores.came) (ap (λ m. m.mode) put_is.1 ∙ on) strong)
+  where
+    touched : (at len i : ℕ) → is_among at len i ≡ true → touches at len (i / 64) ≡ true
+    touched at len i among = grind (arith, nat_tests)
+
 -- a store, and a command after it that syncs a line of it
 synced_by : (h stored next : Machine) (action : Action) (at start len i : ℕ) (bytes : List ℕ) → ((k : ℕ) → get_or bytes k 0 < 256) → Does h (VStore at bytes) stored
     → Does stored action next → next.volume ≡ persist start len stored.volume
@@ -256,7 +356,7 @@ synced_by h stored next action at start len i bytes small stores syncs is good c
     let put_is = works_done h (VStore at bytes) (record h { volume = put at bytes filled }) stored refl stores in
     let within = stored_within h.geometry at (length bytes) (volume_none _ (places_none h (VStore at bytes) put_is.0)) in
     let to : i < at + length bytes = grind (arith, nat_tests) in
-    let there = filled_there at (length bytes) i h.volume among (omega (arith, within, to, stores.whole.pages)) in
+    let there = filled_there at (length bytes) i h.volume among (omega (arith, within, to, (counted_on h stores.whole (is_on h (VStore at bytes) refl put_is.0)).pages)) in
     let volume : stored.volume ≡ put at bytes filled = ap (λ m. m.volume) put_is.1 in
     let shown : byte_at_place next (of_volume i) ≡ line_has (cell_of (persist start len (put at bytes filled)) (i / 64)) (i % 64) =
     ap (λ p. line_has (cell_of p (i / 64)) (i % 64)) (is ∙ ap (persist start len) volume) in

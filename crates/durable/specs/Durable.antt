@@ -1,5 +1,5 @@
 -- What was made durable stays.
-use Rattle.std.specs.Prelude.{◌≡◌, ◌⊎◌, ◌*◌, ◌-◌, ◌/◌, ◌<◌, ℕ, Bool, true, false, List, [], ◌∷◌, ◌++◌, length, slice_index, Option, None, Some, IfSome}
+use Rattle.std.specs.Prelude.{◌≡◌, ◌≢◌, ◌⊎◌, ◌*◌, ◌-◌, ◌/◌, ◌<◌, ℕ, Bool, true, false, List, [], ◌∷◌, ◌++◌, length, slice_index, Option, None, Some, IfSome}
 use Rattle.nvm_model.specs.Blocks.{nth}
 use Rattle.nvm_model.specs.Cell.{Cell}
 use Rattle.nvm_model.specs.Cell.Cell.{Bad, Kept}
@@ -8,12 +8,12 @@ use Rattle.nvm_model.specs.Page.{Page, cell_of}
 use Rattle.nvm_model.specs.Storage.{Block}
 use Rattle.nvm_model.specs.Storage.Block.{Absent, Scarred, Data}
 use Rattle.reply_text.specs.Answer.{Answer}
-use Rattle.reply_text.specs.Answer.Answer.{Done, Bytes}
+use Rattle.reply_text.specs.Answer.Answer.{Done, Bytes, PowerLost}
 use Rattle.script_text.specs.Action.{Action}
-use Rattle.script_text.specs.Action.Action.{BRead, BWrite, BAtomic, BMulti, BDiscard, BDiscardIf, BExists, BScar, VLoad, VStore, VSync, VRanges, VPSync, VDiscard, VDiscardIf, VExists, PoisonBlock, PoisonVolume, WeakenVolume, ClearVolume, Cut, CutIn, Restart}
+use Rattle.script_text.specs.Action.Action.{BRead, BWrite, BAtomic, BMulti, BDiscard, BDiscardIf, BExists, BScar, VLoad, VStore, VSync, VRanges, VPSync, VDiscard, VDiscardIf, VExists, PoisonBlock, PoisonVolume, PoisonMeta, WeakenVolume, ClearVolume, Cut, CutIn, FailIn, Restart, Recover}
 use Rattle.script_text.specs.Script.{Input}
 use Rattle.script_text.specs.Script.Input.{Skipped, Malformed, Asked}
-use Rattle.machine_host.specs.declared.mode.Mode.TheVariants.{On}
+use Rattle.machine_host.specs.declared.mode.Mode.TheVariants.{On, Stopped}
 use Rattle.machine_host.specs.Machine.{Machine}
 use Rattle.machine_host.specs.Run.{Transcript, Hears, Run}
 use Rattle.durable.specs.Place.{Place, byte_at_place, is_line_present}
@@ -39,14 +39,26 @@ HasEightLines (Data lines) = length lines ≡ 8
 abbrev pub HaveEightLines : List Block → Type 0
 HaveEightLines blocks = (n : ℕ) → HasEightLines (nth blocks n)
 
--- A state that a run may come to: all blocks and pages are counted, those that are there have their lines, and nothing is
--- interrupted in mode On.
-pub record IsComplete (h : Machine) : Type 0 where
+-- all blocks and pages are there
+pub record IsCounted (h : Machine) : Type 0 where
   pub blocks : length h.blocks ≡ h.geometry.blocks
-  pub eight : HaveEightLines h.blocks
   pub pages : length h.volume ≡ h.geometry.vpages
+
+-- A line of metadata was bad as the storage was to be mounted: nothing of it is there.
+pub record HasNothing (h : Machine) : Type 0 where
+  pub metadata : h.bad_meta ≢ []
+  pub mode : h.mode ≢ On
+  pub blocks : h.blocks ≡ []
+  pub volume : h.volume ≡ []
+
+-- A state that a run may come to: all blocks and pages are there, unless metadata was bad as they were to be mounted, and they
+-- have their lines. Nothing is interrupted in mode On, and nothing is there in mode Stopped.
+pub record IsComplete (h : Machine) : Type 0 where
+  pub counted : IsCounted h ⊎ HasNothing h
+  pub eight : HaveEightLines h.blocks
   pub lines : HaveLines h.volume
   pub settled : h.mode ≡ On → h.interrupted ≡ None
+  pub stopped : h.mode ≡ Stopped → HasNothing h
 
 -- what a store to the volume brings are bytes; nothing is asked of other data
 abbrev pub BringsBytes : Action → Type 0
@@ -68,11 +80,14 @@ BringsBytes (VDiscardIf page count) = Unit {0}
 BringsBytes (VExists page) = Unit {0}
 BringsBytes (PoisonBlock block line) = Unit {0}
 BringsBytes (PoisonVolume offset) = Unit {0}
+BringsBytes (PoisonMeta line) = Unit {0}
 BringsBytes (WeakenVolume offset) = Unit {0}
 BringsBytes (ClearVolume offset) = Unit {0}
 BringsBytes Cut = Unit {0}
 BringsBytes (CutIn calls) = Unit {0}
+BringsBytes (FailIn calls) = Unit {0}
 BringsBytes (Restart choice) = Unit {0}
+BringsBytes Recover = Unit {0}
 
 -- the same of all commands that are asked for
 abbrev pub BringBytes : List Input → Type 0
@@ -100,21 +115,37 @@ Reads h (of_blocks i) byte = (block count : ℕ) (bytes : List ℕ) (said : Tran
     → Hears h (Asked (BRead block count)) said next → said.answers ≡ Bytes bytes ∷ [] → is_among block count (i / 512) ≡ true
     → slice_index bytes (i - 512 * block) ≡ byte
 
--- The place has this byte, or can't be read any more; None is a byte that couldn't be read. What a read shows there is the byte.
+-- The place has this byte, or can't be read any more, or nothing is there; None is a byte that couldn't be read. What a read
+-- shows there is the byte.
 pub record Has (h : Machine) (x : Place) (byte : Option ℕ) : Type 0 where
-  pub kept : (byte_at_place h x ≡ byte) ⊎ (byte_at_place h x ≡ None)
+  pub kept : ((byte_at_place h x ≡ byte) ⊎ (byte_at_place h x ≡ None)) ⊎ HasNothing h
   pub shown : IfSome byte (Reads h x)
 
--- What these inputs, answered so, left of a byte that none of them changed: the place has it still, or was lost. It was not lost
--- where none poisoned its line, and none made the line weak or none made it durable.
+-- What these inputs, answered so, left of a byte that none of them changed: the place has it still, or was lost, or nothing is
+-- there. It was not lost where none poisoned its line, and none made the line weak or none made it durable.
 pub record Remains (inputs : List Input) (answers : List Answer) (later : Machine) (x : Place) (byte : Option ℕ) : Type 0 where
   pub has : Spares changes x inputs answers → Has later x byte
   pub unharmed : Spares changes x inputs answers → Spares poisons x inputs answers
-      → Spares weakens x inputs answers ⊎ Spares (is_made_durable later) x inputs answers → byte_at_place later x ≡ byte
+      → Spares weakens x inputs answers ⊎ Spares (is_made_durable later) x inputs answers → (byte_at_place later x ≡ byte) ⊎ HasNothing later
 
--- so it is in every later state of every run, whatever is cut and restarted
+-- so it is in every later state of every run, whatever is cut, fails, and is restarted or recovered
 abbrev pub Lasts : Machine → Place → Option ℕ → Type 0
 Lasts h x byte = (inputs : List Input) (said : Transcript) (later : Machine) → BringBytes inputs → Run h inputs said later
+    → Remains inputs said.answers later x byte
+
+-- no command was stopped by a loss of power
+abbrev pub LostNone : List Answer → Type 0
+LostNone [] = Unit {0}
+LostNone (answer ∷ answers) = (answer ≢ PowerLost) × LostNone answers
+
+-- the power stayed on: it was not cut, and no command was stopped by its loss
+pub record StaysPowered (said : Transcript) : Type 0 where
+  pub uncut : said.cuts ≡ 0
+  pub kept : LostNone said.answers
+
+-- so it is in every run in which the power stays on, whatever fails and is recovered
+abbrev pub LastsPowered : Machine → Place → Option ℕ → Type 0
+LastsPowered h x byte = (inputs : List Input) (said : Transcript) (later : Machine) → BringBytes inputs → Run h inputs said later → StaysPowered said
     → Remains inputs said.answers later x byte
 
 -- it has the byte that it has now

@@ -6,9 +6,8 @@ use Rattle.nvm_model.specs.Numbered.{is_among}
 use Rattle.nvm_model.specs.Page.{Page, cell_of, is_bad_cell}
 use Rattle.nvm_model.specs.Storage.{Block}
 use Rattle.block_device.specs.Refusals.Refusal.{Unreadable}
-use Rattle.reply_text.specs.declared.reply.Why.{Why}
 use Rattle.reply_text.specs.Answer.{Answer}
-use Rattle.reply_text.specs.Answer.Answer.{PoisonVolume, Refused}
+use Rattle.reply_text.specs.Answer.Answer.{PoisonVolume}
 use Rattle.machine_host.specs.OnBlocks.{refusal_answer}
 
 -- the lowest line of a span of the volume that is bad
@@ -32,6 +31,6 @@ NamesObstacle blocks at count answer =
     (n : ℕ) × (obstacle : Obstacle) × IsLowestObstacle blocks at count n obstacle × (answer ≡ refusal_answer (Unreadable obstacle))
 
 -- what the host finds wrong itself is the answer; where that is nothing, the answer names this
-abbrev pub Names : Option Why → (Answer → Type 0) → List Answer → Type 0
-Names (Some why) this answers = answers ≡ Refused why ∷ []
+abbrev pub Names : Option Answer → (Answer → Type 0) → List Answer → Type 0
+Names (Some refused) this answers = answers ≡ refused ∷ []
 Names None this answers = (answer : Answer) × (answers ≡ answer ∷ []) × this answer

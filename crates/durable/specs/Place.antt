@@ -38,3 +38,8 @@ block_has (Data lines) i = option_map (λ bytes. slice_index bytes (i % 64)) (sl
 abbrev pub byte_at_place : Machine → Place → Option ℕ
 byte_at_place h (of_volume i) = line_has (cell_of h.volume (i / 64)) (i % 64)
 byte_at_place h (of_blocks i) = block_has (nth h.blocks (i / 512)) (i % 512)
+
+-- whether the place is of a weak line
+abbrev pub is_weak_at : Machine → Place → Bool
+is_weak_at h (of_volume i) = is_weak_line (cell_of h.volume (i / 64))
+is_weak_at h (of_blocks i) = false

@@ -1,4 +1,4 @@
--- Which bytes a command makes durable, which it changes, and of which it makes the line bad or weak.
+-- Which bytes a command makes durable, which it changes, of which it makes the line bad or weak, and which it keeps from mounts.
 use Rattle.std.specs.Prelude.{◌+◌, ◌*◌, ◌/◌, ◌==◌, ℕ, Bool, true, false, List, Option, Some, None, length}
 use Rattle.std.specs.List.{list_any}
 use Rattle.nvm_base.specs.declared.units.Span.{Span}
@@ -7,9 +7,9 @@ use Rattle.nvm_model.specs.Numbered.{is_among}
 use Rattle.block_device.specs.Refusals.{block_spans}
 use Rattle.pm_volume.specs.Refusals.{physical_offset}
 use Rattle.reply_text.specs.Answer.{Answer}
-use Rattle.reply_text.specs.Answer.Answer.{Done, DoneBad, Bytes, Ranges, Yes, No, Scarred, PoisonBlock as PoisonedBlock, PoisonVolume as PoisonedVolume, DeviceFailed, PowerLost, Refused, RefusedMeta}
+use Rattle.reply_text.specs.Answer.Answer.{Done, DoneBad, Bytes, Ranges, Yes, No, Scarred, PoisonBlock as PoisonedBlock, PoisonVolume as PoisonedVolume, DeviceFailed, PowerLost, Stopped, Refused, RefusedMeta}
 use Rattle.script_text.specs.Action.{Action}
-use Rattle.script_text.specs.Action.Action.{BRead, BWrite, BAtomic, BMulti, BDiscard, BDiscardIf, BExists, BScar, VLoad, VStore, VSync, VRanges, VPSync, VDiscard, VDiscardIf, VExists, PoisonBlock, PoisonVolume, WeakenVolume, ClearVolume, Cut, CutIn, Restart}
+use Rattle.script_text.specs.Action.Action.{BRead, BWrite, BAtomic, BMulti, BDiscard, BDiscardIf, BExists, BScar, VLoad, VStore, VSync, VRanges, VPSync, VDiscard, VDiscardIf, VExists, PoisonBlock, PoisonVolume, PoisonMeta, WeakenVolume, ClearVolume, Cut, CutIn, FailIn, Restart, Recover}
 use Rattle.machine_host.specs.OnBlocks.{blocks_from}
 use Rattle.machine_host.specs.Machine.{Machine}
 use Rattle.word_tables.specs.declared.geometry.Geometry.{Geometry}
@@ -23,6 +23,9 @@ pub record Region : Type 0 where
 
 abbrev pub nothing : Region
 nothing = record { volume = λ i. false; blocks = λ i. false }
+
+abbrev pub everything : Region
+everything = record { volume = λ i. true; blocks = λ i. true }
 
 -- the bytes of blocks of some spans
 abbrev pub spanned : List Span → Region
@@ -75,11 +78,14 @@ made_durable geo (VDiscardIf page count) = nothing
 made_durable geo (VExists page) = nothing
 made_durable geo (PoisonBlock block line) = nothing
 made_durable geo (PoisonVolume offset) = nothing
+made_durable geo (PoisonMeta line) = nothing
 made_durable geo (WeakenVolume offset) = nothing
 made_durable geo (ClearVolume offset) = line_of_volume (offset / 64)
 made_durable geo Cut = nothing
 made_durable geo (CutIn calls) = nothing
+made_durable geo (FailIn calls) = nothing
 made_durable geo (Restart choice) = nothing
+made_durable geo Recover = nothing
 
 -- what a command writes, discards, scars, stores or clears
 abbrev pub region_changed : Action → Region
@@ -101,19 +107,24 @@ region_changed (VDiscardIf page count) = discarded_pages page count
 region_changed (VExists page) = nothing
 region_changed (PoisonBlock block line) = nothing
 region_changed (PoisonVolume offset) = nothing
+region_changed (PoisonMeta line) = nothing
 region_changed (WeakenVolume offset) = nothing
 region_changed (ClearVolume offset) = line_of_volume (offset / 64)
 region_changed Cut = nothing
 region_changed (CutIn calls) = nothing
+region_changed (FailIn calls) = nothing
 region_changed (Restart choice) = nothing
+region_changed Recover = nothing
 
--- the line that a command makes bad at once, and the one that it makes weak, which a sync makes bad
+-- the line that a command makes bad at once, and the one that it makes weak, which a sync makes bad; and what no mount finds any
+-- more, as a line of metadata is bad
 pub record Harm : Type 0 where
   pub poisoned : Region
   pub weakened : Region
+  pub unmounted : Region
 
 abbrev pub no_harm : Harm
-no_harm = record { poisoned = nothing; weakened = nothing }
+no_harm = record { poisoned = nothing; weakened = nothing; unmounted = nothing }
 
 -- what a command does to lines beside changing them
 abbrev pub harm_done : Action → Harm
@@ -135,11 +146,14 @@ harm_done (VDiscardIf page count) = no_harm
 harm_done (VExists page) = no_harm
 harm_done (PoisonBlock block line) = record no_harm { poisoned = line_of_blocks (8 * block + line) }
 harm_done (PoisonVolume offset) = record no_harm { poisoned = line_of_volume (offset / 64) }
+harm_done (PoisonMeta line) = record no_harm { unmounted = everything }
 harm_done (WeakenVolume offset) = record no_harm { weakened = line_of_volume (offset / 64) }
 harm_done (ClearVolume offset) = no_harm
 harm_done Cut = no_harm
 harm_done (CutIn calls) = no_harm
+harm_done (FailIn calls) = no_harm
 harm_done (Restart choice) = no_harm
+harm_done Recover = no_harm
 
 abbrev pub is_made_durable : Machine → Action → Place → Bool
 is_made_durable h action x = holds (made_durable h.geometry action) x
@@ -152,6 +166,9 @@ poisons action x = holds (harm_done action).poisoned x
 
 abbrev pub weakens : Action → Place → Bool
 weakens action x = holds (harm_done action).weakened x
+
+abbrev pub unmounts : Action → Place → Bool
+unmounts action x = holds (harm_done action).unmounted x
 
 -- a command that was answered so was begun: it was done, or stopped on the way
 abbrev pub is_begun : Answer → Bool
@@ -166,5 +183,6 @@ is_begun (PoisonedBlock block line) = false
 is_begun (PoisonedVolume offset) = false
 is_begun DeviceFailed = true
 is_begun PowerLost = true
+is_begun (Stopped line) = false
 is_begun (Refused why) = false
 is_begun (RefusedMeta line) = false

@@ -1,7 +1,9 @@
 // Laws of whole runs, each a function without a body.
 ghost use Rattle.std.specs.Prelude.{◌≡◌, ◌+◌, ◌-◌, ◌*◌, ◌/◌, ℕ, true, false, List, [], ◌∷◌, ◌++◌, length, slice_index, Some, None};
 ghost use Rattle.word_tables.specs.declared.geometry.Geometry.{Geometry};
-ghost use Rattle.durable.specs.Touching.{is_made_durable};
+ghost use Rattle.std.specs.List.{Contains};
+ghost use Rattle.durable.specs.Touching.{is_made_durable, unmounts};
+ghost use Rattle.reply_text.specs.Answer.Answer.{RefusedMeta, Stopped as StoppedMeta};
 ghost use Rattle.nvm_model.specs.Cell.{covers, touches};
 ghost use Rattle.nvm_model.specs.Numbered.{is_among};
 ghost use Rattle.nvm_model.specs.Page.{cell_of, touches_absent};
@@ -14,19 +16,21 @@ ghost use Rattle.script_text.specs.Action.Action.{BRead, BWrite, BAtomic, VLoad,
 ghost use Rattle.script_text.specs.Script.{Input, inputs};
 ghost use Rattle.script_text.specs.Script.Input.{Asked};
 ghost use Rattle.line_device.specs.declared.line.Choice.TheVariants.{Firsts};
-ghost use Rattle.machine_host.specs.declared.mode.Mode.TheVariants.{On};
+ghost use Rattle.machine_host.specs.declared.mode.Mode.TheVariants.{On, Stopped};
+ghost use Rattle.machine_host.specs.declared.needs.Needs.TheVariants.{Usable};
+ghost use Rattle.machine_host.specs.Lines.{lowest};
 ghost use Rattle.machine_host.specs.Machine.{Machine};
 ghost use Rattle.machine_host.specs.Restarting.{reading};
-ghost use Rattle.machine_host.specs.Commands.{early_refusal};
+ghost use Rattle.machine_host.specs.Commands.{early_refusal, meaning};
 ghost use Rattle.machine_host.specs.Run.{Hears, Transcript, Run};
-ghost use Rattle.durable.specs.Place.{Place, byte_at_place, is_weak_line};
+ghost use Rattle.durable.specs.Place.{Place, byte_at_place, is_weak_at, is_weak_line};
 ghost use Rattle.durable.specs.Naming.{Names, NamesLine, NamesObstacle};
 ghost use Rattle.durable.specs.Place.Place.{of_volume, of_blocks};
-ghost use Rattle.durable.specs.Durable.{BringBytes, BringsBytes, Does, IsDurable, IsComplete, KeepsThrough, Lasts};
+ghost use Rattle.durable.specs.Durable.{BringBytes, BringsBytes, Does, HasNothing, IsDurable, IsComplete, KeepsThrough, Lasts, LastsPowered, Spares};
 
-/// A command that covers a byte was answered `ok`: in every later state, whatever is cut and restarted, the byte is the same or
-/// its line is lost, until a command that changes it is begun. It isn't lost where no command poisons its line, and none makes
-/// the line weak or none syncs it.
+/// A command that covers a byte was answered `ok`: in every later state, whatever is cut, fails, and is restarted or recovered,
+/// the byte is the same or its line is lost, until a command that changes it is begun; or nothing is there, since metadata is bad.
+/// It isn't lost where no command poisons its line, and none makes the line weak or none syncs it.
 pub fn what_was_made_durable_stays()
     ensures stays { (h next : Machine) (action : Action) (x : Place) → Does h action next → is_made_durable h action x ≡ true → IsDurable next x }
     ensures whole { (h end : Machine) (before after : List Input) (action : Action) (said : Transcript) (x : Place) → IsComplete h
@@ -58,8 +62,17 @@ pub fn what_was_written_lasts()
         → Lasts next (of_volume i) (Some 0) }
 {}
 
+/// While the power stays on, whatever calls fail and however often the storage is recovered, a byte is the one that was last
+/// stored, synced or not, until a command that changes it is begun. It is lost only as one that was made durable may be.
+pub fn what_is_there_stays_while_powered()
+    ensures stays { (h : Machine) (x : Place) → IsComplete h → h.mode ≡ On → is_weak_at h x ≡ false → LastsPowered h x (byte_at_place h x) }
+    ensures stored { (h stored : Machine) (offset i : ℕ) (bytes : List ℕ) → BringsBytes (VStore offset bytes)
+        → Does h (VStore offset bytes) stored → is_among offset (length bytes) i ≡ true → is_weak_line (cell_of stored.volume (i / 64)) ≡ false
+        → LastsPowered stored (of_volume i) (Some (slice_index bytes (i - offset))) }
+{}
+
 /// A line that is poisoned is lost at once, and so is one that was weak when it was synced, though the answer is `ok`. What is
-/// lost stays lost, whatever is cut and restarted, until a command that changes it is begun.
+/// lost stays lost, whatever is cut, fails, and is restarted or recovered, until a command that changes it is begun.
 pub fn what_is_lost_stays_lost()
     ensures poisoned { (h next : Machine) (offset i : ℕ) → Does h (PoisonVolume offset) next → i / 64 ≡ offset / 64
         → byte_at_place next (of_volume i) ≡ None }
@@ -75,10 +88,24 @@ pub fn what_is_lost_stays_lost()
 pub fn reads_name_what_is_lost()
     ensures volume { (h next : Machine) (offset len i : ℕ) (said : Transcript) → byte_at_place h (of_volume i) ≡ None
         → is_among offset len i ≡ true → Hears h (Asked (VLoad offset len)) said next
-        → Names (early_refusal h.mode h.geometry (VLoad offset len)) (NamesLine h.volume offset len) said.answers }
+        → Names (early_refusal h.mode h.bad_meta h.geometry (VLoad offset len)) (NamesLine h.volume offset len) said.answers }
     ensures blocks { (h next : Machine) (block count i : ℕ) (said : Transcript) → IsComplete h → byte_at_place h (of_blocks i) ≡ None
         → is_among block count (i / 512) ≡ true → Hears h (Asked (BRead block count)) said next
-        → Names (early_refusal h.mode h.geometry (BRead block count)) (NamesObstacle h.blocks block count) said.answers }
+        → Names (early_refusal h.mode h.bad_meta h.geometry (BRead block count)) (NamesObstacle h.blocks block count) said.answers }
+{}
+
+/// A line of metadata goes bad only by a command that poisons one, and stays bad. Where a mount is stopped by one, nothing of the
+/// storage is there, then and in any later state, and a command on it is answered with the lowest one.
+pub fn what_bad_metadata_stops()
+    ensures same { (h later : Machine) (x : Place) (inputs : List Input) (said : Transcript) → Run h inputs said later
+        → Spares unmounts x inputs said.answers → later.bad_meta ≡ h.bad_meta }
+    ensures stays { (h later : Machine) (line : ℕ) (inputs : List Input) (said : Transcript) → Run h inputs said later
+        → Contains h.bad_meta line → Contains later.bad_meta line }
+    ensures stopped { (h next : Machine) (action : Action) (line : ℕ) (said : Transcript) → Hears h (Asked action) said next
+        → said.answers ≡ StoppedMeta line ∷ [] → HasNothing next × (next.mode ≡ Stopped) × (line ≡ lowest next.bad_meta) }
+    ensures nothing { (h later : Machine) (inputs : List Input) (said : Transcript) → HasNothing h → Run h inputs said later → HasNothing later }
+    ensures named { (h next : Machine) (action : Action) (said : Transcript) → (meaning action).needs ≡ Usable → h.mode ≡ Stopped
+        → Hears h (Asked action) said next → said.answers ≡ RefusedMeta (lowest h.bad_meta) ∷ [] }
 {}
 
 /// No more lasts than that: a store that is not synced may be lost, though no later command changes anything. Of a machine as a

@@ -5,6 +5,12 @@ pub mod CommitLemmas
 pub mod FillLemmas
 pub mod HoldLemmas
 pub mod HoleLemmas
+pub mod ListingLemmas
+pub mod SlotFileLemmas
+pub mod UnitFileLemmas
+pub mod FilesOfLemmas
+pub mod NamedFileLemmas
+pub mod EntryLemmas
 pub mod MountLemmas
 pub mod ReplaceLemmas
 pub mod RunLemmas

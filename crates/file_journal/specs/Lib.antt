@@ -7,4 +7,6 @@ pub mod Object
 pub mod Images
 pub mod Reading
 pub mod Refusals
+pub mod Files
+pub mod Listing
 pub mod Mounting

@@ -10,6 +10,8 @@ mod changing;
 mod checks;
 mod fault;
 mod files;
+mod laws;
+mod listing;
 mod mounting;
 mod queries;
 #[cfg(test)]
@@ -21,6 +23,7 @@ pub use area::file_area;
 pub use fault::{JournalFault, MountFault};
 use free_pool::Pool;
 use inode_table::Inodes;
+pub use laws::{a_change_is_of_one_file, files_are_those_of_the_inodes};
 use page_table::PageTable;
 use std::marker::Model;
 use word_log::Log;

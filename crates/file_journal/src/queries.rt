@@ -1,11 +1,11 @@
 // What is known of files without the device.
-ghost use Rattle.std.specs.Prelude.{◌≡◌, ◌↔◌, ◌<◌, ℕ, IfSome, IsNone, IsTrue};
+ghost use Rattle.std.specs.Prelude.{◌≡◌, ◌↔◌, ◌<◌, ℕ, IfSome, IsNone, IsTrue, None, slice_index_or};
 ghost use Rattle.inode_table.specs.Slots.{IsNamed, inode_of, pages_at};
 ghost use Rattle.page_table.specs.Pages.{used_pages};
 ghost use Rattle.file_journal.specs.Tables.{AreTables, unit_at};
 
 use crate::Journal;
-use nvm_base::Name;
+use nvm_base::{FileEntry, Name};
 use word_tables::Geometry;
 
 impl Journal {
@@ -56,5 +56,19 @@ impl Journal {
         ensures tables { AreTables self.now.geo.fpages self.now.tables }
     {
         self.table.used()
+    }
+
+    // The file that an inode is.
+    pub(crate) fn slot(&self, inode: u64) -> Option<FileEntry>
+        requires { inode < 64 }
+        ensures { result ≡ slice_index_or self.now.tables.files inode None }
+    {
+        match self.inodes.name(inode) {
+            Some(name) => Some(FileEntry {
+                name,
+                pages: self.inodes.pages(inode),
+            }),
+            None => None,
+        }
     }
 }

@@ -12,6 +12,7 @@ use std::test::Fail;
 use test_devices::Fuse;
 use word_tables::Geometry;
 
+mod lists;
 mod wrong_words;
 
 const SMALL: Geometry = Geometry {

@@ -20,7 +20,6 @@ ghost use Rattle.file_journal.specs.Tables.{AreTables, IsVacant};
 use crate::checks::check_meta;
 use crate::{Journal, JournalFault};
 use line_device::Lines;
-use nvm_base::FileEntry;
 use page_table::SPARE_UNITS;
 
 impl Journal {
@@ -109,19 +108,5 @@ impl Journal {
             }
         }
         filled
-    }
-
-    // The file that an inode is.
-    fn slot(&self, inode: u64) -> Option<FileEntry>
-        requires { inode < 64 }
-        ensures { result ≡ slice_index_or self.now.tables.files inode None }
-    {
-        match self.inodes.name(inode) {
-            Some(name) => Some(FileEntry {
-                name,
-                pages: self.inodes.pages(inode),
-            }),
-            None => None,
-        }
     }
 }

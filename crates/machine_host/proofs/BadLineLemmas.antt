@@ -1,9 +1,8 @@
 -- Which lines of metadata are bad: the lowest one, what a search for it finds, and one more.
-use Rattle.std.proofs.Common.{◌≡◌, ◌≢◌, inl, inr, ℕ, ◌+◌, ◌*◌, ◌<◌, ◌≤◌, ◌==◌, Bool, zero, suc, true, false, cond, List, [], ◌∷◌, Option, Some, None, option_map, position, nat_lt, slice_index, refl, sym, ◌∙◌, ap, ap₂, subst, arith}
+use Rattle.std.proofs.Common.{◌≡◌, inl, inr, ℕ, ◌+◌, ◌*◌, ◌<◌, ◌≤◌, ◌==◌, Bool, zero, suc, true, false, cond, List, [], ◌∷◌, Option, Some, None, option_map, position, slice_index, refl, sym, ◌∙◌, ap, ap₂, arith}
 use Rattle.std.specs.Prelude.{filter}
 use Rattle.std.specs.List.{range_with_len}
 use Rattle.std.proofs.lemmas.Bool.{cases_Bool, cases_lt, lt-ltb, le-ltb, ne_eqb, eq-eqb, false≢true}
-use Rattle.std.proofs.lemmas.Option.{same_Some}
 use Rattle.line_device.specs.Medium.{Medium, IsSound, WritesBack, last_image, poisoned, with_at}
 use Rattle.word_tables.specs.declared.geometry.Geometry.{Geometry}
 use Rattle.word_tables.specs.Layout.{first_line, meta_lines, size, total_lines}
@@ -15,7 +14,7 @@ use Rattle.block_device.specs.Object.{HasGoodMetadata}
 use Rattle.block_device.proofs.PositionLemmas.{first_below, none_below}
 use Rattle.recovery.specs.Findings.{geometry_told, superblock_finding, meta_finding, early_finding, inspection_finding, first_finding, wrong_log, wrong_table}
 use Rattle.recovery.proofs.FindingLemmas.{superblock_bad}
-use Rattle.recovery.proofs.SuperblockLemmas.{early_none, some_lines, some_meta, superblock_none, superblock-poisoned, superblock_told}
+use Rattle.recovery.proofs.SuperblockLemmas.{early_none, some_lines, superblock_none, superblock-poisoned, superblock_told}
 use Rattle.machine_host.specs.Lines.{HasLayout, MetadataStands, bad_metadata, lowest}
 use Rattle.machine_host.specs.OnMedia.{with_line}
 use Rattle.machine_host.proofs.LayoutLemmas.{filter-same}

@@ -1,5 +1,5 @@
 -- What a host and its device stand for, after a call on the blocks.
-use Rattle.std.proofs.Common.{◌≡◌, ◌≢◌, ◌/◌, ◌<◌, ◌≤◌, ℕ, IsTrue, true, position, Option, Some, None, option_map, Result, Ok, Err, OnOk, List, [], ◌∷◌, refl, sym, ap, ap₂, subst, ◌∙◌, arith}
+use Rattle.std.proofs.Common.{◌≡◌, ◌≢◌, ◌<◌, ◌≤◌, ℕ, IsTrue, true, position, Option, Some, None, option_map, Result, Ok, Err, OnOk, List, [], refl, sym, ap, ap₂, subst, ◌∙◌, arith}
 use Rattle.line_device.specs.Medium.{Medium}
 use Rattle.line_device.specs.Panel.{Runs}
 use Rattle.line_device.specs.Device.{Device}
@@ -19,7 +19,6 @@ use Rattle.block_device.specs.Refusals as blocks
 use Rattle.std.specs.List.{range_with_len}
 use Rattle.block_device.proofs.PositionLemmas.{fails_below}
 use Rattle.block_device.proofs.ImageLemmas.{each_reads-then, served_reads}
-use Rattle.nvm_base.specs.declared.units.Span.{Span}
 use Rattle.nvm_model.specs.Blocks.{first_there}
 use Rattle.script_text.specs.Action.{Action}
 use Rattle.reply_text.specs.Answer.{Answer, IsPrintable}

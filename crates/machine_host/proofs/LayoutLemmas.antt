@@ -1,5 +1,5 @@
 -- The layout and the bad lines of metadata stay what they are, while other lines are worked on and where the power comes back.
-use Rattle.std.proofs.Common.{◌≡◌, ◌≢◌, ◌/◌, ℕ, ◌+◌, ◌<◌, ◌≤◌, Bool, zero, suc, false, cond, List, [], ◌∷◌, refl, sym, ◌∙◌, ap, ap₂, subst, arith}
+use Rattle.std.proofs.Common.{◌≡◌, ◌≢◌, ◌/◌, ℕ, ◌+◌, ◌<◌, Bool, zero, suc, false, cond, List, [], ◌∷◌, refl, sym, ◌∙◌, ap, ap₂, subst, arith}
 use Rattle.std.specs.Prelude.{filter}
 use Rattle.std.specs.List.{range_with_len}
 use Rattle.line_device.specs.History.{WordWritesBack}

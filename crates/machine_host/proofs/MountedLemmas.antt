@@ -1,5 +1,5 @@
 -- What host and device stand for once the device is mounted.
-use Rattle.std.proofs.Common.{◌≡◌, ◌<◌, ◌≤◌, ℕ, None, List, [], arith, refl, sym, ap, subst, ◌∙◌}
+use Rattle.std.proofs.Common.{◌≡◌, None, List, [], arith, refl, sym, ap, subst, ◌∙◌}
 use Rattle.line_device.specs.Medium.{Medium, IsSound, last_image}
 use Rattle.line_device.specs.Panel.{Image}
 use Rattle.line_device.specs.Device.{Device, Depicts}
@@ -25,7 +25,7 @@ use Rattle.recovery.specs.Findings.{geometry_told, first_finding}
 use Rattle.recovery.specs.Mounting.{IsOfLogs}
 use Rattle.recovery.proofs.FindingLemmas.{early_none as both_none, first_none, good_metadata as good_found, strong_metadata as strong_found, is_superblock, nothing_early, nothing_found}
 use Rattle.machine_host.specs.declared.mode.Mode.TheVariants as modes
-use Rattle.machine_host.specs.Lines.{HasLayout, MetadataStands}
+use Rattle.machine_host.specs.Lines.{MetadataStands}
 use Rattle.machine_host.specs.Restarting.{holding, reading}
 use Rattle.machine_host.specs.Stands.{HostState, HostServes, IsFlushed, Stands, is_powered}
 use Rattle.machine_host.proofs.DepictedLemmas.{blocks_depicted, holds_depicted}

@@ -1,18 +1,16 @@
 -- A line of metadata goes bad, while blocks and volume stay mounted, in each mode.
-use Rattle.std.proofs.Common.{◌≡◌, ◌≢◌, ◌*◌, ◌/◌, ◌<◌, ◌≤◌, ◌==◌, ℕ, Bool, true, false, cond, List, [], ◌∷◌, length, nat_lt, refl, sym, ap, subst, ◌∙◌, arith}
+use Rattle.std.proofs.Common.{◌≡◌, ◌≢◌, ◌/◌, ◌<◌, ◌≤◌, ◌==◌, ℕ, Bool, true, false, cond, List, [], ◌∷◌, length, nat_lt, refl, sym, ap, subst, ◌∙◌, arith}
 use Rattle.std.proofs.lemmas.List.{length-map}
 use Rattle.line_device.specs.History.{IsIn}
-use Rattle.line_device.specs.Medium.{Medium, WritesBack, poisoned}
+use Rattle.line_device.specs.Medium.{WritesBack, poisoned}
 use Rattle.line_device.specs.Device.{Device}
 use Rattle.line_device.proofs.HistoryLemmas.{is_in-word_write_back}
 use Rattle.word_tables.specs.Layout.{meta_lines, volume_line}
-use Rattle.word_log.specs.Area.{IsOf}
 use Rattle.nvm_model.specs.Page.{is_present}
 use Rattle.block_device.specs.Object.{blocks_of}
 use Rattle.block_device.proofs.PlaceLemmas.{named_is_data}
 use Rattle.block_device.proofs.PoisonLemmas.{serves-poisoned}
 use Rattle.block_device.proofs.ReadLemmas.{map_read-stays}
-use Rattle.pm_volume.specs.Area.{volume_area}
 use Rattle.pm_volume.specs.Object.{VolumeHolds}
 use Rattle.pm_volume.proofs.StandingLemmas.{LineKept, pages-kept, volume_serves-kept}
 use Rattle.scrub.specs.Others.{WritesBackBut}
@@ -25,7 +23,7 @@ use Rattle.machine_host.specs.Lines.{bad_metadata}
 use Rattle.machine_host.specs.OnMedia.{with_line}
 use Rattle.machine_host.specs.Responding.{Answered}
 use Rattle.machine_host.specs.Run.{answered}
-use Rattle.machine_host.specs.Stands.{HostState, HostServes, AreMounted, Stands, is_powered}
+use Rattle.machine_host.specs.Stands.{HostState, HostServes, AreMounted, Stands}
 use Rattle.machine_host.specs.Telling.{Tells}
 use Rattle.machine_host.proofs.BadLineLemmas.{layout-poisoned, metadata-poisoned}
 use Rattle.machine_host.proofs.LayoutLemmas.{stays_of_kept}

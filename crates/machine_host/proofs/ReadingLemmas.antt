@@ -1,5 +1,5 @@
 -- What the machine reads, by the bad lines of metadata.
-use Rattle.std.proofs.Common.{◌≡◌, ℕ, ◌<◌, List, [], ◌∷◌, refl, sym, ap, subst, ◌∙◌, arith}
+use Rattle.std.proofs.Common.{◌≡◌, ℕ, List, [], ◌∷◌, refl, sym, ap, subst, ◌∙◌, arith}
 use Rattle.line_device.specs.Medium.{Medium}
 use Rattle.line_device.specs.Panel.{Image}
 use Rattle.line_device.specs.Device.{Depicts}

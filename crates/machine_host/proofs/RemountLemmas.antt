@@ -1,14 +1,13 @@
 -- A mount of a device whose host has not mounted it, while the power is on: it runs through, is interrupted, or wants memory.
-use Rattle.std.proofs.Common.{◌≡◌, ◌≢◌, ◌⊎◌, ℕ, ◌+◌, ◌<◌, ◌≤◌, inl, inr, Bool, true, false, IsTrue, List, [], ◌∷◌, length, Option, Some, None, Result, Ok, Err, MatchResult, refl, sym, ap, subst, ◌∙◌, arith}
+use Rattle.std.proofs.Common.{◌≡◌, ◌≢◌, ◌⊎◌, ℕ, ◌<◌, inl, inr, Bool, true, false, IsTrue, List, [], ◌∷◌, length, Option, Some, None, Err, refl, sym, ap, subst, ◌∙◌, arith}
 use Rattle.std.proofs.lemmas.Bool.{false≢true}
 use Rattle.std.proofs.lemmas.Option.{none-some}
 use Rattle.std.proofs.lemmas.List.{length-map}
-use Rattle.line_device.specs.Medium.{Medium, IsSound, WritesBack, last_image}
-use Rattle.line_device.specs.Panel.{Panel, Runs}
+use Rattle.line_device.specs.Medium.{IsSound, WritesBack, last_image}
+use Rattle.line_device.specs.Panel.{Runs}
 use Rattle.line_device.specs.Panel.Outcome.{went}
 use Rattle.line_device.specs.Device.{Device}
 use Rattle.line_words.specs.declared.interruption.Interruption.{Interruption}
-use Rattle.line_words.specs.declared.interruption.Interruption.TheVariants.{Failed, PowerLost as Lost}
 use Rattle.line_words.specs.Ending.{ended}
 use Rattle.line_words.specs.Words.{WritesBackOutside}
 use Rattle.word_tables.specs.declared.geometry.Geometry.{Geometry}
@@ -16,7 +15,7 @@ use Rattle.word_tables.specs.Layout.{meta_lines, volume_line}
 use Rattle.word_log.specs.Mount.{Finding}
 use Rattle.word_log.specs.Mount.Finding.{bad_line, wrong_word}
 use Rattle.word_log.specs.Rest.{EachImage, IsReached}
-use Rattle.nvm_model.specs.Page.{Page, is_present, presence_of, PagesStand}
+use Rattle.nvm_model.specs.Page.{is_present, presence_of, PagesStand}
 use Rattle.block_device.specs.Object.{BlocksState, BlocksServe, HasGoodMetadata, blocks_of}
 use Rattle.block_device.specs.Reading.{blocks_read}
 use Rattle.block_device.specs.Images.{AreReadable, EachReads, KeepsReads, ReadsAs}
@@ -29,12 +28,8 @@ use Rattle.pm_volume.specs.Object.{VolumeState, VolumeHolds, VolumeServes}
 use Rattle.pm_volume.specs.Presence.{presence_read}
 use Rattle.pm_volume.proofs.StandingLemmas.{each_pages-reached, each_pages-then, pages-kept, presence_read-replays, served_pages}
 use Rattle.recovery.specs.Findings.{geometry_told, early_finding, inspection_finding, first_finding}
-use Rattle.recovery.specs.Mounting.{Finds, HasDurableBlocks, IsOfLogs, mount_outcome}
-use Rattle.recovery.specs.declared.Mounted.{Mounted}
-use Rattle.recovery.specs.declared.fault.MountFault.{MountFault}
-use Rattle.recovery.specs.declared.fault.MountFault.TheVariants as fault
+use Rattle.recovery.specs.Mounting.{HasDurableBlocks, IsOfLogs}
 use Rattle.recovery.proofs.FindingLemmas.{early_inspection}
-use Rattle.recovery.proofs.SuperblockLemmas.{some_meta}
 use Rattle.reply_text.specs.Answer.{Answer}
 use Rattle.reply_text.specs.Answer.Answer.{DoneBad, Stopped}
 use Rattle.machine_host.specs.declared.mode.Mode.{Mode}
@@ -44,15 +39,15 @@ use Rattle.machine_host.specs.Commands.{MayLeaveBlocks, MayLeaveVolume}
 use Rattle.machine_host.specs.Interrupted.{Interrupts, interrupted_answer, interrupted_mode, stop_in}
 use Rattle.machine_host.specs.Restarting.{holding, mounted_answer, stopped_by}
 use Rattle.machine_host.specs.Recovering.{RecoversTo, RecoveryMayLeave}
-use Rattle.machine_host.specs.Costs.{Spending, mount_calls, mount_persists}
+use Rattle.machine_host.specs.Costs.{mount_calls, mount_persists}
 use Rattle.machine_host.specs.Run.{worked}
 use Rattle.machine_host.specs.Telling.{Tells}
-use Rattle.machine_host.specs.Faults.{CountsBad, unmounted_answer, unmounted_mode}
+use Rattle.machine_host.specs.Faults.{CountsBad}
 use Rattle.machine_host.specs.Lines.{HasLayout, MetadataStands, bad_metadata}
-use Rattle.machine_host.specs.Stands.{HostState, HostServes, AreMounted, Stands, is_powered}
-use Rattle.machine_host.proofs.BadLineLemmas.{bad_early, bad_found, found_bad, good_lines, nothing_early, sizes_told}
+use Rattle.machine_host.specs.Stands.{HostState, HostServes, Stands, is_powered}
+use Rattle.machine_host.proofs.BadLineLemmas.{bad_early, bad_found, found_bad, good_lines}
 use Rattle.machine_host.proofs.ElsewhereLemmas.{range_kept}
-use Rattle.machine_host.proofs.LayoutLemmas.{IsGood, is_good, layout-outside, layout-write_back, metadata-then, none_bad, same_bad, stays_bad}
+use Rattle.machine_host.proofs.LayoutLemmas.{IsGood, is_good, layout-outside, layout-write_back, metadata-then, same_bad, stays_bad}
 use Rattle.machine_host.proofs.MountLemmas.{IsTold, first_not_area, is_told, nothing_wrong_there, volume_image-last}
 use Rattle.machine_host.proofs.TellingLemmas.{interrupts, never_on, never_stops, power_struck, struck, tells_interrupted, tells_work}
 

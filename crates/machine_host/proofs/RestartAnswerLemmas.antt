@@ -1,5 +1,5 @@
 -- What a restart or a recovery is answered, by its mount.
-use Rattle.std.proofs.Common.{◌≡◌, ◌≢◌, ◌⊎◌, inl, inr, ◌≤◌, true, IsTrue, List, [], ◌∷◌, Some, None, Result, Ok, Err, MatchResult, refl, sym, ap, subst, ◌∙◌, arith}
+use Rattle.std.proofs.Common.{◌≡◌, ◌⊎◌, inl, inr, ◌≤◌, true, IsTrue, None, Result, Ok, Err, MatchResult, refl, sym, ap, subst, ◌∙◌, arith}
 use Rattle.line_device.specs.Medium.{IsSound}
 use Rattle.line_device.specs.Panel.{Panel, Start, Runs, after_restart}
 use Rattle.line_device.specs.Panel.Outcome.{went}
@@ -16,7 +16,6 @@ use Rattle.recovery.specs.declared.fault.MountFault.{MountFault}
 use Rattle.recovery.specs.declared.fault.MountFault.TheVariants as fault
 use Rattle.script_text.specs.Action.Action.{Recover, Restart}
 use Rattle.reply_text.specs.Answer.{Answer, IsPrintable, answer_of}
-use Rattle.reply_text.specs.Answer.Answer.{DoneBad}
 use Rattle.reply_text.specs.Room.{most_of}
 use Rattle.reply_text.specs.declared.reply.Reply.{Reply}
 use Rattle.machine_host.specs.declared.mode.Mode.{Mode}
@@ -31,7 +30,6 @@ use Rattle.machine_host.specs.Recovering.{RecoveryMayLeave}
 use Rattle.machine_host.specs.Restarting.{mounted_answer, restarted}
 use Rattle.machine_host.specs.Run.{Ends, with_start, worked}
 use Rattle.machine_host.specs.Telling.{Tells}
-use Rattle.machine_host.specs.Lines.{bad_metadata}
 use Rattle.machine_host.specs.Stands.{HostState, HostServes, Stands, Comes, is_powered}
 use Rattle.machine_host.specs.Faults.{CountsBad, LeftUnmounted, unmounted_answer, unmounted_mode}
 use Rattle.machine_host.specs.Meaning.{mode_refusal}
@@ -41,7 +39,7 @@ use Rattle.machine_host.proofs.CostLemmas.{opens-runs}
 use Rattle.machine_host.proofs.ReadingLemmas.{recovered_back}
 use Rattle.machine_host.proofs.RefusalLemmas.{fate_placed}
 use Rattle.machine_host.proofs.RemountLemmas.{Gives, IsMount, MountsTo, kept_unmounted, mounts_bad, mounts_done, mounts_stopped, never_wrong, serves_taken, serves_unmounted}
-use Rattle.machine_host.proofs.RestartLemmas.{came_back, keeps, serves_back, stands_back}
+use Rattle.machine_host.proofs.RestartLemmas.{keeps, serves_back, stands_back}
 
 -- What a mount is answered: that in each state it comes to, in few bytes, and the host may go on.
 pub record MountAnswered (host after : HostState) (answer : Answer) (old new : Device) : Type 0 where

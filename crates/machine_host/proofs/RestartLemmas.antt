@@ -6,11 +6,10 @@ use Rattle.line_device.specs.Device.{Device, Restarted, Waited}
 use Rattle.line_device.specs.declared.line.Choice.{Choice}
 use Rattle.line_device.proofs.WriteBackLemmas.{write_back-refl}
 use Rattle.word_tables.specs.declared.geometry.Geometry.{Geometry}
-use Rattle.block_device.specs.Images.{AreReadable}
 use Rattle.block_device.proofs.ReachLemmas.{keeps_reads-write_back}
 use Rattle.block_device.proofs.RestartLemmas.{each_reads-restarted, each_reads-waits}
 use Rattle.machine_host.specs.declared.mode.Mode.TheVariants as modes
-use Rattle.machine_host.specs.Lines.{HasLayout, MetadataStands, bad_metadata}
+use Rattle.machine_host.specs.Lines.{MetadataStands, bad_metadata}
 use Rattle.machine_host.specs.Machine.{Machine}
 use Rattle.machine_host.specs.Restarting.{RestartMayLeave, restarted}
 use Rattle.machine_host.specs.Stands.{HostState, HostServes, Stands}

@@ -1,5 +1,5 @@
 -- What comes of the commands on the volume, by what the volume refuses.
-use Rattle.std.proofs.Common.{◌≡◌, ℕ, ◌+◌, ◌*◌, ◌≤◌, Bool, true, Option, Some, None, option_map, option_and_then, List, [], length, refl, sym, ap, ap₂, ◌∙◌}
+use Rattle.std.proofs.Common.{◌≡◌, ℕ, ◌+◌, ◌*◌, ◌≤◌, Bool, true, Option, Some, None, option_map, option_and_then, List, length, refl, sym, ap, ap₂, ◌∙◌}
 use Rattle.line_device.specs.Medium.{Medium}
 use Rattle.nvm_model.specs.Blocks.{first_there}
 use Rattle.nvm_model.specs.Page.{Page, discard, fill, first_bad_line, first_uncovered_line, look, persist, presence_of, put, touches_absent}

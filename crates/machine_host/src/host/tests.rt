@@ -4,7 +4,7 @@ ghost use Rattle.line_device.specs.Plain.{device_of};
 ghost use Rattle.machine_host.specs.Settling.{GoesOn};
 
 use crate::{Host, Mode};
-use line_device::{LineDevice, Order, Plain};
+use line_device::Plain;
 use nvm_base::Bytes;
 use script_text::parse;
 use std::alloc::{AllocError, Global};
@@ -44,23 +44,10 @@ fn tell(
     }
 }
 
-// Arms a cut or a failure at so many counted calls from now on.
-fn arm(host: &Host, device: &mut Plain, order: Order)
-    requires { GoesOn host.now (device_of device.old) }
-    ensures { GoesOn host.now (device_of device.new) }
-{
-    match order {
-        Order::Cut(calls) => device.arm_cut(calls.max(1)),
-        Order::Fail(calls) => device.arm_fail(calls.max(1)),
-        Order::Evict(lines) => device.evict(lines),
-    }
-}
-
-// What is done in a story: a script's line, a cut or a failure that is armed, or the end of a run.
+// What is done in a story: a script's line, or the end of a run.
 #[derive(Clone, Copy, Debug)]
 enum Act {
     Line(&'static str),
-    Arm(Order),
     Settle,
 }
 
@@ -80,10 +67,6 @@ fn perform(
 {
     match act {
         Act::Line(line) => tell(host, device, alloc, line, out),
-        Act::Arm(order) => {
-            arm(host, device, order);
-            Ok(())
-        }
         Act::Settle => host.settle(device),
     }
 }
@@ -128,7 +111,7 @@ const CUT_BEFORE_ANOTHER: [Step; 7] = [
     (Act::Line("cut in 0"), "refused range\n", Mode::On),
     (Act::Line("cut in 3"), "ok\n", Mode::On),
     (Act::Line("cut"), "ok\n", Mode::Off),
-    (Act::Line("cut in 3"), "refused off\n", Mode::Off),
+    (Act::Line("cut in 0"), "refused range\n", Mode::Off),
     (Act::Line("restart none"), "ok bad 0\n", Mode::On),
     (Act::Line("bwrite 7 aa*512"), "ok\n", Mode::On),
     (Act::Line("bread 7 1"), "data aa*512\n", Mode::On),
@@ -138,17 +121,17 @@ const CUT_BEFORE_ANOTHER: [Step; 7] = [
 const CUT_RESTART: [Step; 7] = [
     (Act::Line("batomic 2 aa*1024"), "ok\n", Mode::On),
     (Act::Line("cut"), "ok\n", Mode::Off),
-    (Act::Arm(Order::Cut(9)), "", Mode::Off),
+    (Act::Line("cut in 9"), "ok\n", Mode::Off),
     (Act::Line("restart none"), "power lost\n", Mode::Off),
     (Act::Line("bread 2 2"), "refused off\n", Mode::Off),
     (Act::Line("restart all"), "ok bad 0\n", Mode::On),
     (Act::Line("bread 2 2"), "data aa*1024\n", Mode::On),
 ];
 
-// After a failed call only a cut is done.
+// After a failed call a cut leads on too.
 const FAILED_CALL: [Step; 9] = [
     (Act::Line("vstore 0 00"), "ok\n", Mode::On),
-    (Act::Arm(Order::Fail(2)), "", Mode::On),
+    (Act::Line("fail in 2"), "ok\n", Mode::On),
     (
         Act::Line("vstore 60 aa*8"),
         "refused device\n",
@@ -173,7 +156,7 @@ const SETTLED: [Step; 9] = [
     (Act::Line("cut"), "ok\n", Mode::Off),
     (Act::Settle, "", Mode::On),
     (Act::Line("vload 58 12"), "data 00*2,aa*8,00*2\n", Mode::On),
-    (Act::Arm(Order::Fail(2)), "", Mode::On),
+    (Act::Line("fail in 2"), "ok\n", Mode::On),
     (
         Act::Line("vstore 60 bb*8"),
         "refused device\n",
@@ -200,6 +183,40 @@ const WORN_AND_CLEARED: [Step; 9] = [
     (Act::Line("vload 0 1"), "data 00\n", Mode::On),
 ];
 
+// A recovery goes on with all that was stored, and finds the failed write done or not.
+const RECOVERED: [Step; 8] = [
+    (Act::Line("batomic 2 aa*1024"), "ok\n", Mode::On),
+    (Act::Line("vstore 0 05"), "ok\n", Mode::On),
+    (Act::Line("fail in 3"), "ok\n", Mode::On),
+    (
+        Act::Line("batomic 2 bb*1024"),
+        "refused device\n",
+        Mode::Unsettled,
+    ),
+    (Act::Line("recover"), "ok bad 0\n", Mode::On),
+    (Act::Line("bread 2 2"), "data aa*1024\n", Mode::On),
+    (Act::Line("vload 0 1"), "data 05\n", Mode::On),
+    (Act::Line("recover"), "refused on\n", Mode::On),
+];
+
+// A bad line of metadata stops the next mount, and nothing before it but changes.
+const STOPPED: [Step; 14] = [
+    (Act::Line("vstore 0 05"), "ok\n", Mode::On),
+    (Act::Line("poison meta 2304"), "refused range\n", Mode::On),
+    (Act::Line("poison meta 7"), "ok\n", Mode::On),
+    (Act::Line("vsync 0 1"), "ok\n", Mode::On),
+    (Act::Line("vload 0 1"), "data 05\n", Mode::On),
+    (Act::Line("bscar 8 1"), "refused range\n", Mode::On),
+    (Act::Line("bscar 0 1"), "refused meta 7\n", Mode::On),
+    (Act::Line("cut"), "ok\n", Mode::Off),
+    (Act::Line("cut in 0"), "refused range\n", Mode::Off),
+    (Act::Line("restart all"), "stopped meta 7\n", Mode::Stopped),
+    (Act::Line("poison meta 3"), "ok\n", Mode::Stopped),
+    (Act::Line("vload 0 1"), "refused meta 3\n", Mode::Stopped),
+    (Act::Line("recover"), "refused meta 3\n", Mode::Stopped),
+    (Act::Settle, "", Mode::Stopped),
+];
+
 #[test]
 fn each_step_of_a_story_has_its_reply(rt: HostRuntime) -> Result<(), Fail> {
     follow(&rt, rt.alloc(), &SYNCED)?;
@@ -209,5 +226,7 @@ fn each_step_of_a_story_has_its_reply(rt: HostRuntime) -> Result<(), Fail> {
     follow(&rt, rt.alloc(), &FAILED_CALL)?;
     follow(&rt, rt.alloc(), &SETTLED)?;
     follow(&rt, rt.alloc(), &WORN_AND_CLEARED)?;
+    follow(&rt, rt.alloc(), &RECOVERED)?;
+    follow(&rt, rt.alloc(), &STOPPED)?;
     Ok(())
 }

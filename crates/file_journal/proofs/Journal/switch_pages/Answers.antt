@@ -1,7 +1,4 @@
-use Rattle.std.proofs.Common.{◌≡◌, ◌+◌, ◌≤◌, OnOk, ap, subst, sym, ◌∙◌, arith}
 use Rattle.line_words.proofs.FrameLemmas.{outside-refl}
-use Rattle.file_journal.specs.Object.{JournalState}
-use Rattle.file_journal.specs.Tables.{AreTables}
 use Rattle.file_journal.proofs.FillLemmas.{slot_holds, switched_are}
 use Rattle.file_journal.proofs.Journal.switch_pages.Goals as goal
 
