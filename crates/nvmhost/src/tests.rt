@@ -75,6 +75,21 @@ fn fresh(alloc: Global) -> Result<MemImages, AllocError> {
     Ok(images)
 }
 
+// So many lines that a seed draws, and then the last ones.
+fn drawn(alloc: Global, seed: u64, count: u64, last: &str) -> Result<Bytes, AllocError> {
+    let mut bytes = Bytes::new(alloc);
+    let mut x = seed;
+    for _ in 0..count {
+        x = x
+            .wrapping_mul(6364136223846793005)
+            .wrapping_add(1442695040888963407);
+        let which = (x >> 33) as usize % stories::LINES.len();
+        bytes.extend(stories::LINES[which].as_bytes())?;
+    }
+    bytes.extend(last.as_bytes())?;
+    Ok(bytes)
+}
+
 // The replies to a script that comes in pieces of so many bytes.
 fn replies_of<D: LineDevice>(
     alloc: Global,
@@ -82,8 +97,17 @@ fn replies_of<D: LineDevice>(
     script: &str,
     piece: usize,
 ) -> Result<MemSink, Fail> {
-    let mut images = fresh(alloc)?;
     let bytes = repeated(alloc, script, 1, "")?;
+    replies_to(alloc, device, bytes, piece)
+}
+
+fn replies_to<D: LineDevice>(
+    alloc: Global,
+    device: &mut D,
+    bytes: Bytes,
+    piece: usize,
+) -> Result<MemSink, Fail> {
+    let mut images = fresh(alloc)?;
     let mut source = MemSource::new(bytes, piece.max(1), Words::new(alloc));
     let mut sink = MemSink::new(alloc, Words::new(alloc));
     let status = call(
@@ -110,6 +134,19 @@ fn a_script_gets_its_replies_whatever_pieces_it_comes_in(rt: HostRuntime) -> Res
         let sink = replies_of(alloc, &mut recorder, script, 65536)?;
         assert!(rt; sink.written() == replies.as_bytes(), "{script}");
     }
+    Ok(())
+}
+
+#[test]
+fn a_recorder_of_a_module_gets_the_module_s_replies(rt: HostRuntime) -> Result<(), Fail> {
+    let alloc = rt.alloc();
+    let script = drawn(alloc, 11, 5000, stories::LAST_LINES)?;
+    let sink = replies_to(alloc, &mut Module::new(alloc), script, 65536)?;
+    let script = drawn(alloc, 11, 5000, stories::LAST_LINES)?;
+    let mut recorder = Recorder::new(alloc, Module::new(alloc));
+    let other = replies_to(alloc, &mut recorder, script, 65536)?;
+    assert!(rt; sink.written() == other.written());
+    assert!(rt; recorder.starts().len() > 100, "so many restarts");
     Ok(())
 }
 

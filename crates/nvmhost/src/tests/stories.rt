@@ -11,6 +11,54 @@ const ALL_KINDS: &str =
 const TO_ALL_KINDS: &str =
     "ok\nok\npower lost\nok\nrefused device\nok bad 0\nok\nok\nrefused device\nok\nok bad 0\ndata 11*512\nok\ndata aa*4,00*4\nrefused meta 9\nok\nrefused device\nstopped meta 9\nok\nrefused meta 3\nok\nstopped meta 3\nok\n";
 
+/// Lines to draw from, with cuts, failures and media errors.
+pub static LINES: [&str; 40] = [
+    "bwrite 0 11*1024\n",
+    "batomic 1 22*1024\n",
+    "bmulti 0 33*512 3 44*512\n",
+    "bread 0 1\n",
+    "bread 1 2\n",
+    "bread 3 1\n",
+    "bdiscard 1 1\n",
+    "bdiscardif 0 3\n",
+    "bscar 2 1\n",
+    "vstore 0 01*100\n",
+    "vstore 60 02*16\n",
+    "vstore 4090 03*12\n",
+    "vload 0 64\n",
+    "vload 60 16\n",
+    "vload 4080 64\n",
+    "vsync 0 64\n",
+    "vsync 0 128\n",
+    "vsync 4032 128\n",
+    "vdiscard 1 1\n",
+    "vexists 1\n",
+    "poison volume 64\n",
+    "poison block 0 3\n",
+    "weaken volume 0\n",
+    "clear volume 64\n",
+    "cut in 3\n",
+    "cut in 7\n",
+    "cut in 23\n",
+    "fail in 2\n",
+    "fail in 5\n",
+    "fail in 11\n",
+    "fail in 29\n",
+    "cut\n",
+    "restart all\n",
+    "restart all\n",
+    "restart none\n",
+    "restart seed 5\n",
+    "restart seed 500000\n",
+    "recover\n",
+    "recover\n",
+    "recover\n",
+];
+
+/// Two lines of metadata go bad at last.
+pub const LAST_LINES: &str =
+    "restart all\nrecover\npoison meta 9\nbread 0 1\nvload 0 8\nbscar 0 1\ncut\nrestart all\npoison meta 5\nbread 0 1\n";
+
 /// Each script with its replies.
 pub static STORIES: [(&str, &str); 31] = [
     // What is not synced may be lost, or kept.
