@@ -10,3 +10,4 @@ pub mod Refusals
 pub mod Files
 pub mod Listing
 pub mod Mounting
+pub mod Standing

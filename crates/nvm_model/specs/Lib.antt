@@ -6,3 +6,4 @@ pub mod Interrupted
 pub mod Storage
 pub mod Blocks
 pub mod Listing
+pub mod Files
