@@ -45,7 +45,8 @@ use Rattle.block_device.specs.Refusals.{block_says}
 use Rattle.pm_volume.specs.Area.{IsOfVolume}
 use Rattle.pm_volume.specs.Images.{EachReadsPages}
 use Rattle.pm_volume.specs.Object.{VolumeHolds}
-use Rattle.pm_volume.proofs.StandingLemmas.{LineKept, each_pages-then}
+use Rattle.nvm_model.proofs.KeptLemmas.{LineKept}
+use Rattle.pm_volume.proofs.StandingLemmas.{each_pages-then}
 use Rattle.machine_host.proofs.CallLemmas.{IsPart, comes_of_call, printable_after, serves_of_call, short_told}
 use Rattle.machine_host.proofs.BadLineLemmas.{good_lines}
 use Rattle.machine_host.proofs.ElsewhereLemmas.{first_not_blocks, pages_elsewhere, volume_apart, volume_holds_elsewhere, volume_serves_elsewhere}

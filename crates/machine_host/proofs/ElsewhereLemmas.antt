@@ -22,7 +22,8 @@ use Rattle.block_device.proofs.ServesLemmas.{serves-stays, serves-write_back}
 use Rattle.pm_volume.specs.Area.{IsOfVolume, IsVolumePlace, volume_area}
 use Rattle.pm_volume.specs.Images.{EachReadsPages}
 use Rattle.pm_volume.specs.Object.{VolumeState, VolumeHolds, VolumeServes}
-use Rattle.pm_volume.proofs.StandingLemmas.{LineKept, line_kept-write_back, pages-kept, each_pages-kept, images-kept, volume_serves-kept}
+use Rattle.nvm_model.proofs.KeptLemmas.{LineKept, line_kept-write_back}
+use Rattle.pm_volume.proofs.StandingLemmas.{pages-kept, each_pages-kept, images-kept, volume_serves-kept}
 use Rattle.recovery.specs.Mounting.{IsOfLogs}
 use Rattle.machine_host.specs.declared.mode.Mode.{Mode}
 use Rattle.machine_host.specs.declared.mode.Mode.TheVariants.{On, Stopped}

@@ -9,7 +9,7 @@ use Rattle.line_device.proofs.HistoryLemmas.{is_in-word_write_back}
 use Rattle.line_words.specs.Words.{WritesBackOutside, WritesBackBeside}
 use Rattle.line_words.proofs.FrameLemmas.{outside-write_back}
 use Rattle.page_lines.specs.Turns.{WritesBackOthers}
-use Rattle.pm_volume.proofs.StandingLemmas.{LineKept}
+use Rattle.nvm_model.proofs.KeptLemmas.{LineKept}
 use Rattle.recovery.specs.Fresh.{HasSuperblock}
 use Rattle.recovery.proofs.SuperblockLemmas.{superblock-outside, superblock-beside, superblock-restarted, superblock-waits}
 use Rattle.word_tables.specs.declared.geometry.Geometry.{Geometry}

@@ -19,7 +19,8 @@ use Rattle.pm_volume.specs.Object.{VolumeState, VolumeHolds, VolumeServes}
 use Rattle.pm_volume.specs.Refusals.{bytes_refusal, load_refusal, refused_if, volume_says}
 use Rattle.pm_volume.specs.Refusals.VolumeRefusal.{Range, Length}
 use Rattle.pm_volume.specs.declared.fault.VolumeFault.{VolumeFault}
-use Rattle.pm_volume.proofs.StandingLemmas.{line_kept-write_back, served_pages}
+use Rattle.nvm_model.proofs.KeptLemmas.{line_kept-write_back}
+use Rattle.pm_volume.proofs.StandingLemmas.{served_pages}
 use Rattle.reply_text.specs.Answer.{Answer, IsPrintable}
 use Rattle.reply_text.specs.Answer.Answer.{Bytes}
 use Rattle.reply_text.specs.Room.{most_of}

@@ -22,7 +22,8 @@ use Rattle.block_device.proofs.ServesLemmas.{serves-stays}
 use Rattle.pm_volume.specs.Area.{IsOfVolume}
 use Rattle.pm_volume.specs.Images.{EachReadsPages}
 use Rattle.pm_volume.specs.Object.{VolumeHolds, VolumeServes}
-use Rattle.pm_volume.proofs.StandingLemmas.{LineKept, served_pages}
+use Rattle.nvm_model.proofs.KeptLemmas.{LineKept}
+use Rattle.pm_volume.proofs.StandingLemmas.{served_pages}
 use Rattle.recovery.proofs.SuperblockLemmas.{some_meta}
 use Rattle.scrub.specs.Others.{WritesBackBut}
 use Rattle.reply_text.specs.Answer.{Answer}

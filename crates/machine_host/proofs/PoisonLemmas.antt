@@ -12,7 +12,8 @@ use Rattle.block_device.proofs.PlaceLemmas.{named_is_data}
 use Rattle.block_device.proofs.PoisonLemmas.{serves-poisoned}
 use Rattle.block_device.proofs.ReadLemmas.{map_read-stays}
 use Rattle.pm_volume.specs.Object.{VolumeHolds}
-use Rattle.pm_volume.proofs.StandingLemmas.{LineKept, pages-kept, volume_serves-kept}
+use Rattle.nvm_model.proofs.KeptLemmas.{LineKept}
+use Rattle.pm_volume.proofs.StandingLemmas.{pages-kept, volume_serves-kept}
 use Rattle.scrub.specs.Others.{WritesBackBut}
 use Rattle.scrub.proofs.OthersLemmas.{but-renewed}
 use Rattle.reply_text.specs.Answer.Answer.{Done}

@@ -19,7 +19,7 @@ use Rattle.block_device.proofs.ReadLemmas.{Stays}
 use Rattle.block_device.proofs.ServesLemmas.{blocks_of-stays}
 use Rattle.pm_volume.specs.Images.{EachReadsPages}
 use Rattle.pm_volume.specs.Object.{VolumeHolds}
-use Rattle.pm_volume.proofs.StandingLemmas.{line_kept-write_back}
+use Rattle.nvm_model.proofs.KeptLemmas.{line_kept-write_back}
 use Rattle.script_text.specs.Action.{Action}
 use Rattle.script_text.specs.Action.Action.{Cut, CutIn, FailIn}
 use Rattle.reply_text.specs.Answer.{Answer}

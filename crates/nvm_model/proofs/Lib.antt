@@ -2,6 +2,7 @@ pub mod NumberedLemmas
 pub mod PageLemmas
 pub mod PutLemmas
 pub mod StandLemmas
+pub mod KeptLemmas
 pub mod FillLemmas
 pub mod RestartLemmas
 pub mod LineLemmas

@@ -18,7 +18,7 @@ use Rattle.block_device.proofs.AreaLemmas.{meta_within}
 use Rattle.block_device.proofs.FrameLemmas.{each_reads-stays}
 use Rattle.block_device.proofs.RestartLemmas.{block_on_device}
 use Rattle.pm_volume.specs.Images.{EachReadsPages}
-use Rattle.pm_volume.proofs.StandingLemmas.{LineKept}
+use Rattle.nvm_model.proofs.KeptLemmas.{LineKept}
 use Rattle.recovery.proofs.SuperblockLemmas.{some_lines, some_meta}
 use Rattle.machine_host.specs.Lines.{HasLayout, MetadataStands, bad_metadata}
 use Rattle.machine_host.specs.Commands.{MayLeaveBlocks, MayLeaveVolume}

@@ -8,7 +8,8 @@ use Rattle.line_device.specs.Device.{Device}
 use Rattle.image_file.specs.Text.{FitImage}
 use Rattle.word_tables.specs.Layout.{volume_line}
 use Rattle.block_device.proofs.ReachLemmas.{each_reads-write_back}
-use Rattle.pm_volume.proofs.StandingLemmas.{each_pages-kept, images-kept, line_kept-write_back}
+use Rattle.nvm_model.proofs.KeptLemmas.{line_kept-write_back}
+use Rattle.pm_volume.proofs.StandingLemmas.{each_pages-kept, images-kept}
 use Rattle.machine_host.specs.declared.mode.Mode.{Mode}
 use Rattle.machine_host.specs.declared.mode.Mode.TheVariants as modes
 use Rattle.machine_host.specs.Commands.{MayLeaveBlocks, MayLeaveVolume}

@@ -19,38 +19,13 @@ use Rattle.nvm_model.specs.Cell.{Cell, CellStands}
 use Rattle.nvm_model.specs.Cell.Cell.{Bad, Kept}
 use Rattle.nvm_model.specs.Lines.{AreStrong}
 use Rattle.nvm_model.specs.Page.{Page, cell_in, cell_of, presence_of, PagesStand}
-use Rattle.nvm_model.proofs.StandLemmas.{word_write_back-strong}
+use Rattle.nvm_model.proofs.KeptLemmas.{LineKept, pages_stand-kept}
 use Rattle.pm_volume.specs.Area.{volume_area}
 use Rattle.pm_volume.specs.Images.{EachReadsPages}
 use Rattle.pm_volume.specs.Object.{VolumeState, VolumeHolds, VolumeServes}
 use Rattle.pm_volume.specs.Presence.{first_wrong_page, presence_read, presence_word, presence_words, words_read, wrong_presence, wrong_volume_place}
 use Rattle.nvm_model.specs.Blocks.{first_there}
 use Rattle.line_words.proofs.PositionLemmas.{no_place}
-
--- the line is only written back
-pub record LineKept (old new : Medium) (line : ℕ) : Type 0 where
-  pub bad : new.is_bad line ≡ old.is_bad line
-  pub weak : new.is_weak line ≡ old.is_weak line
-  pub words : (p : ℕ) → p / 8 ≡ line → WordWritesBack (old.is_weak line) (old.history p) (new.history p)
-
-pub line_kept-write_back : (old new : Medium) (line : ℕ) → WritesBack old new → LineKept old new line
-line_kept-write_back old new line w = record {
-  bad = w.bad line;
-  weak = w.weak line;
-  words = λ p at. subst (λ n. WordWritesBack (old.is_weak n) (old.history p) (new.history p)) at (w.word_write_back p);
-}
-
-cell-kept : (old new : Medium) (line : ℕ) (cell : Cell) → LineKept old new line → CellStands old line cell → CellStands new line cell
-cell-kept old new line Bad kept stands = kept.bad ∙ stands
-cell-kept old new line (Kept weak words) kept stands = (
-  kept.bad ∙ stands.0,
-  kept.weak ∙ stands.1,
-  stands.2,
-  λ w history found.
-      let small : w < 8 = omega (arith, slice_get_within words w history found, stands.2) in
-      word_write_back-trans false _ _ _ (stands.3 w history found)
-      (word_write_back-strong (old.is_weak line) _ _ (kept.words (8 * line + w) (omega arith))),
-)
 
 -- a line that is there is one of the volume's
 pub line_of_volume : (geo : Geometry) (pages : List Page) (n : ℕ) (cell : Cell) → length pages ≡ geo.vpages → cell_of pages n ≡ Some cell → n < 64 * geo.vpages
@@ -62,10 +37,7 @@ line_of_volume geo pages n cell all is = by_page (slice_get pages (n / 64)) refl
 
 pub pages-kept : (geo : Geometry) (old new : Medium) (pages : List Page) → length pages ≡ geo.vpages → ((n : ℕ) → n < 64 * geo.vpages → LineKept old new (volume_line geo n))
     → PagesStand (volume_line geo) old pages → PagesStand (volume_line geo) new pages
-pages-kept geo old new pages all kept stand = record {
-  whole = stand.whole;
-  lines = λ n cell is. cell-kept old new (volume_line geo n) cell (kept n (line_of_volume geo pages n cell all is)) (stand.lines n cell is);
-}
+pages-kept geo old new pages all kept stand = pages_stand-kept (volume_line geo) old new pages (λ n cell is. kept n (line_of_volume geo pages n cell all is)) stand
 
 -- the volume's log and presence words lie apart
 pub volume_shaped : (geo : Geometry) → IsValid geo → IsShaped (volume_area geo)
