@@ -14,6 +14,7 @@ pub mod EntryLemmas
 pub mod MountLemmas
 pub mod ReplaceLemmas
 pub mod RunLemmas
+pub mod StandingLemmas
 pub mod StepLemmas
 pub mod SwitchLemmas
 pub mod WordLemmas
