@@ -15,6 +15,8 @@ pub mod MountLemmas
 pub mod ReplaceLemmas
 pub mod RunLemmas
 pub mod StandingLemmas
+pub mod EachFilesLemmas
+pub mod ServesLemmas
 pub mod StepLemmas
 pub mod SwitchLemmas
 pub mod WordLemmas

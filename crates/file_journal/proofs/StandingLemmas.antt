@@ -1,11 +1,11 @@
 -- The files that a device stands for, while lines of other areas are worked on.
-use Rattle.std.proofs.Common.{◌≡◌, ℕ, ◌+◌, ◌*◌, ◌/◌, ◌%◌, ◌<◌, true, is_some, List, Option, Some, None, option_map, slice_get, slice_index_or, length, refl, sym, ap, subst, ◌∙◌, arith}
+use Rattle.std.proofs.Common.{◌≡◌, ℕ, ◌+◌, ◌*◌, ◌/◌, ◌%◌, ◌<◌, true, is_some, List, Option, Some, None, option_map, slice_get, length, refl, sym, ap, subst, ◌∙◌, arith}
 use Rattle.std.proofs.lemmas.Option.{get_or_from_slice_get, slice_get-get_or, slice_get-map, slice_get_within}
 use Rattle.std.specs.List.{Contains}
 use Rattle.line_device.specs.Medium.{Medium}
 use Rattle.nvm_base.specs.declared.files.FileEntry.{FileEntry}
 use Rattle.word_tables.specs.declared.geometry.Geometry.{Geometry}
-use Rattle.word_tables.specs.Layout.{file_line, file_pages, first_line, size, HasLine}
+use Rattle.word_tables.specs.Layout.{file_line, file_pages, size, HasLine}
 use Rattle.page_table.specs.Pages.{IsOn}
 use Rattle.nvm_model.specs.Cell.{Cell}
 use Rattle.nvm_model.specs.Listing.{file_name}
