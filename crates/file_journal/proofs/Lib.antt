@@ -17,6 +17,7 @@ pub mod RunLemmas
 pub mod StandingLemmas
 pub mod EachFilesLemmas
 pub mod ServesLemmas
+pub mod FileChangeLemmas
 pub mod StepLemmas
 pub mod SwitchLemmas
 pub mod TableReadLemmas
