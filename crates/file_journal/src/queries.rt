@@ -36,7 +36,8 @@ impl Journal {
     /// How many pages an inode has; 0 where it is free.
     pub fn pages(&self, inode: u64) -> u64
         requires { inode < 64 }
-        ensures { result ≡ pages_at self.now.tables.files inode }
+        ensures pages { result ≡ pages_at self.now.tables.files inode }
+        ensures tables { AreTables self.now.geo.fpages self.now.tables }
     {
         self.inodes.pages(inode)
     }
