@@ -18,6 +18,8 @@ pub mod StandingLemmas
 pub mod EachFilesLemmas
 pub mod ServesLemmas
 pub mod FileChangeLemmas
+pub mod AgreeLemmas
+pub mod FileLineLemmas
 pub mod StepLemmas
 pub mod SwitchLemmas
 pub mod TableReadLemmas
