@@ -20,6 +20,7 @@ pub mod ServesLemmas
 pub mod FileChangeLemmas
 pub mod AgreeLemmas
 pub mod FileLineLemmas
+pub mod RestartLemmas
 pub mod StepLemmas
 pub mod SwitchLemmas
 pub mod TableReadLemmas
