@@ -21,6 +21,7 @@ pub mod FileChangeLemmas
 pub mod AgreeLemmas
 pub mod FileLineLemmas
 pub mod RestartLemmas
+pub mod DeviceFileLemmas
 pub mod StepLemmas
 pub mod SwitchLemmas
 pub mod TableReadLemmas

@@ -16,9 +16,9 @@ use Rattle.word_log.proofs.RestLemmas.{replays-same}
 use Rattle.nvm_model.specs.Lines.{AreGood}
 use Rattle.nvm_model.specs.Listing.{file_name}
 use Rattle.nvm_model.specs.Storage.{File}
-use Rattle.nvm_model.proofs.AlikeLemmas.{alike-among, alike-map_among}
+use Rattle.nvm_model.proofs.AlikeLemmas.{alike-among, alike-map, alike-map_among}
 use Rattle.nvm_model.proofs.PageLemmas.{presence_of-read_pages}
-use Rattle.nvm_model.proofs.RestartLemmas.{pages_stand-read, stand-restarted}
+use Rattle.nvm_model.proofs.RestartLemmas.{keeps-read, pages_stand-read, stand-restarted}
 use Rattle.file_journal.specs.Area.{file_area}
 use Rattle.file_journal.specs.Files.{files_of, unit_file_name}
 use Rattle.file_journal.specs.Holds.{Holds}
@@ -57,6 +57,16 @@ files-restarted choice geo old mid image files are count stand left depicts =
           (page_line_within geo (line_of_file geo on n) (file_line_in geo t on file.pages are has stands.there n cell is))) left depicts).0;
     })
     stand
+
+-- A restart may leave again what a restart left.
+pub keeps_files-read : (choice : Choice) (geo : Geometry) (image : Image) → KeepsFiles choice geo image (files_read geo image)
+unfolding files_read
+keeps_files-read choice geo image =
+    alike-map unit_file_name file_name (KeepsFile choice geo image) (file_read geo image) (files_of (tables_read geo image.word)) (λ on. refl)
+    (λ on. record {
+      there = presence_of-read_pages (line_of_file geo on) image (pages_there on);
+      keeps = keeps-read choice (line_of_file geo on) image (pages_there on);
+    })
 
 -- a device whose lines of metadata are good, as it is shown
 module _ (geo : Geometry) (m : Medium) (image : Image) (valid : IsValid geo) (count : m.count ≡ total_lines geo) (good : AreGood m (meta_lines geo)) (shows : Depicts m image) where
