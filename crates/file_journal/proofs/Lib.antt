@@ -18,6 +18,10 @@ pub mod StandingLemmas
 pub mod EachFilesLemmas
 pub mod ServesLemmas
 pub mod FileChangeLemmas
+pub mod AgreeLemmas
+pub mod FileLineLemmas
+pub mod RestartLemmas
+pub mod DeviceFileLemmas
 pub mod StepLemmas
 pub mod SwitchLemmas
 pub mod TableReadLemmas

@@ -6,6 +6,7 @@ pub mod KeptLemmas
 pub mod FillLemmas
 pub mod RestartLemmas
 pub mod ResizeLemmas
+pub mod DeviceLemmas
 pub mod LineLemmas
 pub mod InterruptedLemmas
 pub mod MediaLemmas
