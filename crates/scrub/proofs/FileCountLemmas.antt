@@ -2,8 +2,8 @@
 use Rattle.std.proofs.Common.{◌≡◌, ℕ, zero, suc, ◌+◌, ◌*◌, ◌/◌, ◌%◌, ◌<◌, ◌≤◌, Bool, true, false, count_by, sum_by, take, is_some, cond, Option, Some, None, option_map, List, [], ◌∷◌, length, slice_get, slice_index_or, refl, sym, ap, subst, ◌∙◌, inl, inr, arith}
 use Rattle.std.specs.List.{range_with_len}
 use Rattle.std.proofs.lemmas.Bool.{cases_Bool}
-use Rattle.std.proofs.lemmas.List.{length-map}
-use Rattle.std.proofs.lemmas.List.Sums.{count_by_more_no, count_by_more_yes}
+use Rattle.std.proofs.lemmas.List.{length-map, take-take}
+use Rattle.std.proofs.lemmas.List.Sums.{count_by_more_no, count_by_more_yes, sum_by-take-le}
 use Rattle.std.proofs.lemmas.Option.{get_or_from_slice_get, slice_get-get_or, slice_get-map}
 use Rattle.line_device.specs.Medium.{Medium}
 use Rattle.word_tables.specs.declared.geometry.Geometry.{Geometry}
@@ -101,6 +101,14 @@ used-next pages i within =
   where
     nothing : (n : ℕ) → n ≡ n + 0
     nothing n = omega arith
+
+pub used-few : (pages : List (Option ℕ)) (i : ℕ) → used_pages (take i pages) ≤ used_pages pages
+used-few pages i = sum_by-take-le (λ page. cond (is_some page) 1 0) pages i
+
+pub used-fewer : (pages : List (Option ℕ)) (i j : ℕ) → i ≤ j → used_pages (take i pages) ≤ used_pages (take j pages)
+used-fewer pages i j below =
+    subst (λ l. used_pages l ≤ used_pages (take j pages)) (take-take i j pages below)
+    (used-few (take j pages) i)
 
 -- a unit of a page lies on the device
 pub unit_within : (size : ℕ) (t : Tables) (inode page unit : ℕ) → AreTables size t → inode < 64 → page < 256 → unit_at t inode page ≡ Some unit → unit < size

@@ -2,7 +2,7 @@
 ghost use Rattle.std.specs.Prelude.{◌≡◌, ◌+◌, ◌*◌, ◌<◌, ◌≤◌, List, take};
 ghost use Rattle.file_journal.specs.Object.{JournalServes};
 ghost use Rattle.file_journal.specs.Standing.{FilesStand};
-ghost use Rattle.file_journal.specs.Tables.{unit_at};
+ghost use Rattle.file_journal.specs.Tables.{AreTables, unit_at};
 ghost use Rattle.nvm_model.specs.Files.{bad_file_lines};
 ghost use Rattle.nvm_model.specs.Storage.{File};
 ghost use Rattle.page_table.specs.Pages.{used_by, used_pages};
@@ -35,6 +35,7 @@ fn count_in_inode<L: Lines>(dev: &L, journal: &Journal, inode: u64) -> u64
     ensures count { result ≡ bad_in_inode journal.now.geo (L.state dev.now).medium journal.now.tables inode }
     ensures few { result + 64 * used_pages (take (256 * inode) journal.now.tables.pages)
         ≤ 64 * used_pages (take (256 * (inode + 1)) journal.now.tables.pages) }
+    ensures tables { AreTables journal.now.geo.fpages journal.now.tables }
 {
     let mut bad = 0;
     for page in 0..journal.pages(inode) {
