@@ -1,6 +1,8 @@
 pub mod WordLemmas
 pub mod FindingLemmas
 pub mod LogLemmas
+pub mod LeaveLemmas
+pub mod ReplayLemmas
 pub mod TableLemmas
 pub mod MountLemmas
 pub mod AgainLemmas
