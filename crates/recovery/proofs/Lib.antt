@@ -9,4 +9,5 @@ pub mod AgainLemmas
 pub mod SuperblockLemmas
 mod LineLemmas
 pub mod FreshPageLemmas
+pub mod FreshFileLemmas
 pub mod FreshLemmas
