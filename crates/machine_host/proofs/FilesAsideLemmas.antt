@@ -58,10 +58,10 @@ files_not_volume geo n valid of_files of_volume =
       ]
     ]
 
--- nor is the first line theirs
-pub first_not_files : (geo : Geometry) → IsOfFiles geo 0 → ⊥
+-- nor is a word of the first line one of their log or their tables
+pub first_not_files : (geo : Geometry) (p : ℕ) → p < 8 → IsOf (file_area geo) p → ⊥
 unfolding first_line
-first_not_files geo of = by_area geo 0 of (λ r. omega (arith, r)) (λ r. omega (arith, r)) (λ r. omega (arith, r)) (λ r. omega (arith, r))
+first_not_files geo p below of = elim of as (λ _. ⊥) [ inl log ↦ omega (arith, log) | inr home ↦ omega (arith, home) ]
 
 -- all of them are on the device
 pub files_within : (geo : Geometry) (n : ℕ) → IsOfFiles geo n → n < total_lines geo
@@ -88,6 +88,11 @@ area_of_files geo p of =
           | inl below ↦ inr (inl (omega (arith, home), omega (arith, below)))
           | inr past ↦ inr (inr (inl (omega (arith, past), omega (arith, home))))
         ]
+
+-- and none on a line of their pages
+pub page_not_words : (geo : Geometry) (n p : ℕ) → HasLine geo file_pages n → p / 8 ≡ n → IsOf (file_area geo) p → ⊥
+unfolding first_line size
+page_not_words geo n p has at of = elim of as (λ _. ⊥) [ inl log ↦ omega (arith, log, has, at) | inr home ↦ omega (arith, home, has, at) ]
 
 pub page_of_files : (geo : Geometry) (n : ℕ) → HasLine geo file_pages n → IsOfFiles geo n
 page_of_files geo n has = inr (inr (inr has))
