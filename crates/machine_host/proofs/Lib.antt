@@ -28,6 +28,8 @@ pub mod RestartAnswerLemmas
 pub mod RemountLemmas
 pub mod SettlingLemmas
 pub mod VolumeFateLemmas
+pub mod FilesFateLemmas
+pub mod FilesCallLemmas
 pub mod LoadLemmas
 pub mod MediaLemmas
 pub mod PoisonLemmas
