@@ -58,10 +58,10 @@ files_not_volume geo n valid of_files of_volume =
       ]
     ]
 
--- nor is a word of the first line one of their log or their tables
-pub first_not_files : (geo : Geometry) (p : ℕ) → p < 8 → IsOf (file_area geo) p → ⊥
+-- nor is the first line theirs
+pub first_not_files : (geo : Geometry) → IsOfFiles geo 0 → ⊥
 unfolding first_line
-first_not_files geo p below of = elim of as (λ _. ⊥) [ inl log ↦ omega (arith, log) | inr home ↦ omega (arith, home) ]
+first_not_files geo of = by_area geo 0 of (λ r. omega (arith, r)) (λ r. omega (arith, r)) (λ r. omega (arith, r)) (λ r. omega (arith, r))
 
 page_of_files : (geo : Geometry) (n : ℕ) → HasLine geo file_pages n → IsOfFiles geo n
 page_of_files geo n has = inr (inr (inr has))

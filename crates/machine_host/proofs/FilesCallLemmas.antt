@@ -143,8 +143,11 @@ module _ (host : HostState) (old new : Device) (on : host.mode ≡ On) (serves :
   pages_stay : (n : ℕ) → HasLine host.journal.geo file_pages n → LineKept old.medium new.medium n
   pages_stay = page_lines-kept host.journal.geo old.medium new.medium (subst IsValid (sym mounted.journal_geometry) serves.layout.valid) outside
 
+  first_words : (p : ℕ) → p < 8 → IsOf (file_area host.journal.geo) p → ⊥
+  first_words p below of = let first : p / 8 ≡ 0 = omega (arith, below) in first_not_files host.journal.geo (subst (IsOfFiles host.journal.geo) first (area_of_files host.journal.geo p of))
+
   layout_changed : HasLayout host.geometry new.medium
-  layout_changed = layout-outside host.geometry old.medium new.medium serves.layout (IsOf (file_area host.journal.geo)) (λ p below of. first_not_files host.journal.geo p below of) outside
+  layout_changed = layout-outside host.geometry old.medium new.medium serves.layout (IsOf (file_area host.journal.geo)) first_words outside
 
   mounted_changed : (s : JournalState) → s.geo ≡ host.journal.geo → IsTrue s.settled → JournalServes s new.medium → AreTables host.journal.geo.fpages s.tables
       → AreMounted host.geometry host.blocks host.volume s new.medium

@@ -30,6 +30,7 @@ pub mod SettlingLemmas
 pub mod VolumeFateLemmas
 pub mod FilesFateLemmas
 pub mod FilesCallLemmas
+mod ListingLemmas
 pub mod LoadLemmas
 pub mod MediaLemmas
 pub mod PoisonLemmas
