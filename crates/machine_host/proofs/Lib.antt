@@ -6,6 +6,7 @@ pub mod CostLemmas
 pub mod LayoutLemmas
 mod BadLineLemmas
 pub mod ReadingLemmas
+pub mod FilesAsideLemmas
 pub mod ElsewhereLemmas
 pub mod StepLemmas
 pub mod CallLemmas
@@ -27,6 +28,9 @@ pub mod RestartAnswerLemmas
 pub mod RemountLemmas
 pub mod SettlingLemmas
 pub mod VolumeFateLemmas
+pub mod FilesFateLemmas
+pub mod FilesCallLemmas
+mod ListingLemmas
 pub mod LoadLemmas
 pub mod MediaLemmas
 pub mod PoisonLemmas
