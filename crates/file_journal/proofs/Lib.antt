@@ -14,6 +14,9 @@ pub mod EntryLemmas
 pub mod MountLemmas
 pub mod ReplaceLemmas
 pub mod RunLemmas
+pub mod StandingLemmas
+pub mod EachFilesLemmas
+pub mod ServesLemmas
 pub mod StepLemmas
 pub mod SwitchLemmas
 pub mod WordLemmas

@@ -1,8 +1,10 @@
 -- Two lists of files with the same names, as both change alike.
 use Rattle.std.proofs.Common.{◌≡◌, ℕ, suc, true, List, [], ◌∷◌, map, length, Some, None, refl, sym, ap, subst, ◌∙◌, inl, inr}
 use Rattle.std.proofs.lemmas.Bool.{cases_Bool, cond-true, cond-false}
+use Rattle.std.specs.List.{Contains}
 use Rattle.std.specs.Str.{bytes_eq}
 use Rattle.nvm_model.specs.Listing.{is_before, put_file, is_named, has_file, file_of, AreAlike}
+use Rattle.nvm_model.proofs.ListedLemmas.{contains-here, contains-later}
 use Rattle.nvm_model.proofs.OrderLemmas.{put-first, put-later}
 
 pub alike-length : {A B : Type 0} (name : A → List ℕ) (other : B → List ℕ) (R : A → B → Type 0) (xs : List A) (ys : List B)
@@ -19,6 +21,25 @@ alike-then name other R S [] [] then alike = tt
 alike-then name other R S [] (y ∷ ys) then alike = absurd alike
 alike-then name other R S (x ∷ xs) [] then alike = absurd alike
 alike-then name other R S (x ∷ xs) (y ∷ ys) then alike = (alike.0, then x y alike.0 alike.1, alike-then name other R S xs ys then alike.2)
+
+-- the same of files that are among the first ones
+pub alike-among : {A B : Type 0} (name : A → List ℕ) (other : B → List ℕ) (R S : A → B → Type 0) (xs : List A) (ys : List B)
+    → ((x : A) (y : B) → Contains xs x → name x ≡ other y → R x y → S x y) → AreAlike name other R xs ys → AreAlike name other S xs ys
+alike-among name other R S [] [] then alike = tt
+alike-among name other R S [] (y ∷ ys) then alike = absurd alike
+alike-among name other R S (x ∷ xs) [] then alike = absurd alike
+alike-among name other R S (x ∷ xs) (y ∷ ys) then alike = (
+  alike.0,
+  then x y (contains-here x xs x refl) alike.0 alike.1,
+  alike-among name other R S xs ys (λ a b has. then a b (contains-later x xs a has)) alike.2,
+)
+
+-- each file and what is made of it, of those that are among the first ones
+pub alike-map_among : {A B : Type 0} (name : A → List ℕ) (other : B → List ℕ) (R : A → B → Type 0) (f : A → B) (xs : List A)
+    → ((x : A) → other (f x) ≡ name x) → ((x : A) → Contains xs x → R x (f x)) → AreAlike name other R xs (map f xs)
+alike-map_among name other R f [] names holds = tt
+alike-map_among name other R f (x ∷ xs) names holds =
+    (sym (names x), holds x (contains-here x xs x refl), alike-map_among name other R f xs names (λ a has. holds a (contains-later x xs a has)))
 
 -- each file and what is made of it
 pub alike-map : {A B : Type 0} (name : A → List ℕ) (other : B → List ℕ) (R : A → B → Type 0) (f : A → B) (xs : List A)

@@ -1,5 +1,5 @@
 -- Lines that are only written back, and the cells and pages that they stand for.
-use Rattle.std.proofs.Common.{◌≡◌, ℕ, ◌+◌, ◌*◌, ◌/◌, ◌<◌, false, Some, List, slice_get, subst, ◌∙◌, arith}
+use Rattle.std.proofs.Common.{◌≡◌, ℕ, ◌+◌, ◌*◌, ◌/◌, ◌<◌, false, Some, List, subst, ◌∙◌, arith}
 use Rattle.std.proofs.lemmas.Option.{slice_get_within}
 use Rattle.line_device.specs.History.{WordWritesBack}
 use Rattle.line_device.specs.Medium.{Medium, WritesBack}

@@ -6,10 +6,10 @@ use Rattle.std.specs.List.{Contains}
 use Rattle.nvm_model.specs.Listing.{is_before, put_file, in_order}
 use Rattle.nvm_model.proofs.OrderLemmas.{put-first, put-later}
 
-contains-here : {A : Type 0} (x : A) (ys : List A) (z : A) → x ≡ z → Contains (x ∷ ys) z
+pub contains-here : {A : Type 0} (x : A) (ys : List A) (z : A) → x ≡ z → Contains (x ∷ ys) z
 contains-here x ys z is = (zero, omega arith, is)
 
-contains-later : {A : Type 0} (y : A) (ys : List A) (z : A) → Contains ys z → Contains (y ∷ ys) z
+pub contains-later : {A : Type 0} (y : A) (ys : List A) (z : A) → Contains ys z → Contains (y ∷ ys) z
 contains-later y ys z has = (suc has.0, omega (arith, has.1), has.2)
 
 contains-cases : {A : Type 0} (y : A) (ys : List A) (z : A) → Contains (y ∷ ys) z → (y ≡ z) ⊎ Contains ys z

@@ -1,5 +1,6 @@
 -- Pages line by line.
 use Rattle.std.proofs.Common.{◌≡◌, ℕ, zero, suc, ◌+◌, ◌*◌, ◌/◌, ◌%◌, ◌<◌, ◌≤◌, Bool, true, false, cond, Option, Some, None, option_map, option_and_then, List, [], ◌∷◌, length, slice_get, refl, sym, ap, ◌∙◌, arith}
+use Rattle.std.proofs.lemmas.Option.{slice_get-map}
 use Rattle.line_device.specs.Panel.{Image}
 use Rattle.nvm_model.specs.Numbered.{map_from, list_from, is_among}
 use Rattle.nvm_model.specs.Cell.{Cell, put_cell, persist_cell, read_cell}
@@ -78,6 +79,15 @@ presence_of-put at bytes pages = presence_of-lines (put_cell at bytes) 0 pages
 pub presence_of-persist : (start len : ℕ) (pages : List Page) → presence_of (persist start len pages) ≡ presence_of pages
 unfolding persist
 presence_of-persist start len pages = presence_of-lines (persist_cell start len) 0 pages
+
+-- a line that is there is that of a page which is there
+pub page_of_line : (pages : List Page) (n : ℕ) (cell : Cell) → cell_of pages n ≡ Some cell → slice_get (presence_of pages) (n / 64) ≡ Some true
+page_of_line pages n cell is = slice_get-map is_present pages (n / 64) ∙ by_page (slice_get pages (n / 64)) is
+  where
+    by_page : (o : Option Page) → option_and_then (λ page. cell_in page (n % 64)) o ≡ Some cell → option_map is_present o ≡ Some true
+    by_page None is = cc
+    by_page (Some Absent) is = cc
+    by_page (Some (Present cells)) is = refl
 
 -- what a restart left of pages
 pub presence_of-read_pages : (place : ℕ → ℕ) (image : Image) (there : List Bool) → presence_of (read_pages place image there) ≡ there
