@@ -1,11 +1,12 @@
 // What is known of files without the device.
-ghost use Rattle.std.specs.Prelude.{◌≡◌, ◌↔◌, ◌<◌, ℕ, IfSome, IsNone, IsTrue, None, slice_index_or};
+ghost use Rattle.std.specs.Prelude.{◌≡◌, ◌↔◌, ◌<◌, ℕ, IfSome, IsNone, IsTrue, None, Some, slice_index_or};
 ghost use Rattle.inode_table.specs.Slots.{IsNamed, inode_of, pages_at};
 ghost use Rattle.page_table.specs.Pages.{used_pages};
+ghost use Rattle.word_tables.specs.Layout.{file_line};
 ghost use Rattle.file_journal.specs.Tables.{AreTables, unit_at};
 
 use crate::Journal;
-use nvm_base::{FileEntry, Name};
+use nvm_base::{FileEntry, LineNo, Name};
 use word_tables::Geometry;
 
 impl Journal {
@@ -35,7 +36,8 @@ impl Journal {
     /// How many pages an inode has; 0 where it is free.
     pub fn pages(&self, inode: u64) -> u64
         requires { inode < 64 }
-        ensures { result ≡ pages_at self.now.tables.files inode }
+        ensures pages { result ≡ pages_at self.now.tables.files inode }
+        ensures tables { AreTables self.now.geo.fpages self.now.tables }
     {
         self.inodes.pages(inode)
     }
@@ -48,6 +50,21 @@ impl Journal {
         ensures tables { AreTables self.now.geo.fpages self.now.tables }
     {
         self.table.get(inode, page)
+    }
+
+    /// The first of the 64 lines of a page: None where it is a hole, past the page count, or a free inode's.
+    pub fn line_of(&self, inode: u64, page: u64) -> Option<LineNo>
+        requires inode { inode < 64 }
+        requires page { page < 256 }
+        ensures line { IfSome result (λ line. (unit : ℕ) × (unit_at self.now.tables inode page ≡ Some unit)
+            × (line.0 ≡ file_line self.now.geo unit)) }
+        ensures none { IsNone result ↔ (unit_at self.now.tables inode page ≡ None) }
+        ensures tables { AreTables self.now.geo.fpages self.now.tables }
+    {
+        match self.unit(inode, page) {
+            Some(unit) => Some(LineNo(self.geo.file_line(unit))),
+            None => None,
+        }
     }
 
     /// How many pages are no holes.

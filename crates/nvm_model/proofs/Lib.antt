@@ -16,3 +16,4 @@ pub mod RiseLemmas
 pub mod ListedLemmas
 pub mod AlikeLemmas
 pub mod AlikeChangeLemmas
+pub mod SumLemmas
