@@ -19,4 +19,5 @@ pub mod EachFilesLemmas
 pub mod ServesLemmas
 pub mod StepLemmas
 pub mod SwitchLemmas
+pub mod TableReadLemmas
 pub mod WordLemmas

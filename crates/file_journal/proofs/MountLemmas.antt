@@ -28,6 +28,7 @@ use Rattle.inode_table.specs.Wrong.{first_wrong_word}
 use Rattle.inode_table.proofs.HeldLemmas.{words_held}
 use Rattle.nvm_base.specs.declared.files.FileEntry.{FileEntry}
 use Rattle.page_table.specs.Pages.{TableState, unit_of, word_of}
+use Rattle.page_table.specs.Wrong.{first_wrong_entry}
 use Rattle.page_table.proofs.TableLemmas.{get_or-units, word_of-unit_of}
 use Rattle.nvm_model.specs.Blocks.{first_there}
 use Rattle.nvm_model.specs.Lines.{AreStrong}
@@ -53,7 +54,7 @@ mounted_words geo old words are =
 
 -- words that are right hold the tables that are read of them
 module _ (geo : Geometry) (word : ℕ → ℕ) (words : List ℕ) (are : AreHomeWords (file_area geo) word words) where
-  inode_list : (inode : ℕ) → inode < 64 → inode_words (take 512 words) inode ≡ inode_at geo word inode
+  pub inode_list : (inode : ℕ) → inode < 64 → inode_words (take 512 words) inode ≡ inode_at geo word inode
   inode_list inode below =
       let f : ℕ → ℕ = λ k. word (place geo (of_inode inode k)) in
       let xs = inode_words (take 512 words) inode in
@@ -92,6 +93,16 @@ first_none (Some x) b is = cc is
 pub inodes_right : (geo : Geometry) (words : List ℕ) → wrong_table geo words ≡ None → first_wrong_word (take 512 words) ≡ None
 unfolding wrong_table
 inodes_right geo words none = map_none _ (first_wrong_word (take 512 words)) (first_none (wrong_inode geo (take 512 words)) (wrong_page geo (map pages_of (slots_of (take 512 words))) (drop 512 words)) none)
+
+second_none : {A : Type 0} (a b : Option A) → first_there a b ≡ None → b ≡ None
+second_none None b is = is
+second_none (Some x) b is = cc is
+
+pub pages_right : (geo : Geometry) (words : List ℕ) → wrong_table geo words ≡ None → first_wrong_entry geo.fpages (map pages_of (slots_of (take 512 words))) (drop 512 words) ≡ None
+unfolding wrong_table
+pages_right geo words none =
+    let counts = map pages_of (slots_of (take 512 words)) in
+    map_none _ (first_wrong_entry geo.fpages counts (drop 512 words)) (second_none (wrong_inode geo (take 512 words)) (wrong_page geo counts (drop 512 words)) none)
 
 refused_for : (t : Told Finding) (P Q : Finding → Type 0) → ((why : Finding) → P why → Q why) → IfRefused t P → IfRefused t Q
 refused_for (Refuses why) P Q next h = next why h

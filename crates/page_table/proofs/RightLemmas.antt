@@ -17,7 +17,7 @@ unit_of-word_of (Some unit) =
     let next : unit + 1 ≡ suc unit = omega arith in
     ap unit_of next
 
-units_of_words : (pages : List (Option ℕ)) → map unit_of (map word_of pages) ≡ pages
+pub units_of_words : (pages : List (Option ℕ)) → map unit_of (map word_of pages) ≡ pages
 units_of_words [] = refl
 units_of_words (p ∷ ps) = ap₂ ◌∷◌ (unit_of-word_of p) (units_of_words ps)
 
