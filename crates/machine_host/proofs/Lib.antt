@@ -17,6 +17,7 @@ pub mod LastLemmas
 pub mod DepictedLemmas
 pub mod PartStoreLemmas
 pub mod CutLemmas
+pub mod HoleFileLemmas
 pub mod PartLemmas
 pub mod PageRunLemmas
 pub mod MountLemmas
