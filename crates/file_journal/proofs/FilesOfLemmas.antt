@@ -50,7 +50,7 @@ unnamed t name none = by_found (inode_of name t.files) refl
     by_found (Some i) is = let e : is_some (inode_of name t.files) ≡ is_some (Some i) = ap is_some is in cc
 
 -- which inode a file gets
-free_found : (t : Tables) (size : ℕ) → AreTables size t → file_count t.files ≢ 64 → (inode : ℕ) × (free_inode t.files ≡ Some inode)
+pub free_found : (t : Tables) (size : ℕ) → AreTables size t → file_count t.files ≢ 64 → (inode : ℕ) × (free_inode t.files ≡ Some inode)
 free_found t size are room = by_found (free_inode t.files) refl
   where
     by_found : (o : Option ℕ) → free_inode t.files ≡ o → (inode : ℕ) × (free_inode t.files ≡ Some inode)

@@ -17,6 +17,11 @@ pub mod RunLemmas
 pub mod StandingLemmas
 pub mod EachFilesLemmas
 pub mod ServesLemmas
+pub mod FileChangeLemmas
+pub mod AgreeLemmas
+pub mod FileLineLemmas
+pub mod RestartLemmas
+pub mod DeviceFileLemmas
 pub mod StepLemmas
 pub mod SwitchLemmas
 pub mod TableReadLemmas

@@ -86,7 +86,7 @@ map_none : {A B : Type 0} (f : A → B) (o : Option A) → option_map f o ≡ No
 map_none f None is = refl
 map_none f (Some x) is = cc is
 
-first_none : {A : Type 0} (a b : Option A) → first_there a b ≡ None → a ≡ None
+pub first_none : {A : Type 0} (a b : Option A) → first_there a b ≡ None → a ≡ None
 first_none None b is = refl
 first_none (Some x) b is = cc is
 
@@ -94,7 +94,7 @@ pub inodes_right : (geo : Geometry) (words : List ℕ) → wrong_table geo words
 unfolding wrong_table
 inodes_right geo words none = map_none _ (first_wrong_word (take 512 words)) (first_none (wrong_inode geo (take 512 words)) (wrong_page geo (map pages_of (slots_of (take 512 words))) (drop 512 words)) none)
 
-second_none : {A : Type 0} (a b : Option A) → first_there a b ≡ None → b ≡ None
+pub second_none : {A : Type 0} (a b : Option A) → first_there a b ≡ None → b ≡ None
 second_none None b is = is
 second_none (Some x) b is = cc is
 

@@ -45,6 +45,10 @@ words_read-replays geo image word replays =
     ∙ replays.home (start + k) (omega arith, omega (arith, below))
     ∙ sym (get_or-map-range_with_len word start 16896 k (start + k) 0 below refl))
 
+pub length-words_read : (geo : Geometry) (image : ℕ → ℕ) → length (words_read geo image) ≡ 16896
+unfolding words_read
+length-words_read geo image = length-map-range_with_len (replayed (file_area geo) image) (8 * first_line geo inodes) 16896
+
 pub home_words-read : (geo : Geometry) (image word : ℕ → ℕ) → Replays (file_area geo) image word → AreHomeWords (file_area geo) word (words_read geo image)
 home_words-read geo image word replays =
     let start = 8 * first_line geo inodes in

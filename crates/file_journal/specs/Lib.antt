@@ -11,3 +11,4 @@ pub mod Files
 pub mod Listing
 pub mod Mounting
 pub mod Standing
+pub mod Device

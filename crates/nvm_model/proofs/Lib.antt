@@ -5,6 +5,8 @@ pub mod StandLemmas
 pub mod KeptLemmas
 pub mod FillLemmas
 pub mod RestartLemmas
+pub mod ResizeLemmas
+pub mod DeviceLemmas
 pub mod LineLemmas
 pub mod InterruptedLemmas
 pub mod MediaLemmas

@@ -62,6 +62,16 @@ cell_stands-read b image line there depicts = by_mark (image.is_bad line) refl
           (subst (λ h. WordWritesBack false (image.word (8 * line + w) ∷ []) h) (sym (depicts.words (8 * line + w) healthy)) (word_write_back-refl false _)),
     )
 
+-- The lines of pages that are there stand for what is read in them.
+pub pages_stand-read : (b : Medium) (image : Image) (place : ℕ → ℕ) (there : List Bool) → Depicts b image
+    → ((n : ℕ) → slice_get there (n / 64) ≡ Some true → place n < b.count) → PagesStand place b (read_pages place image there)
+pages_stand-read b image place there depicts within = record {
+  whole = whole-read_pages place image there;
+  lines = λ n cell is.
+      let on = read_pages-there place image there n cell is in
+      subst (CellStands b (place n)) {x = read_cell image (place n)} (cc (cell_of-read_pages place image there n on, is)) (cell_stands-read b image (place n) (within n on) depicts);
+}
+
 -- a line of a page that is there is one of its 64
 line_there : (pages : List Page) (n : ℕ) → ((i : ℕ) (cells : List Cell) → slice_get pages i ≡ Some (Present cells) → length cells ≡ 64)
     → slice_get (presence_of pages) (n / 64) ≡ Some true → (cell : Cell) × (cell_of pages n ≡ Some cell)
@@ -82,14 +92,8 @@ pub stand-restarted : (choice : Choice) (m b : Medium) (image : Image) (place : 
     → KeepsPages choice place image pages × PagesStand place b (read_pages place image (presence_of pages))
 stand-restarted choice m b image place pages stand there left depicts = (
   λ n cell is. keeps_cell choice m b image (place n) cell (stand.lines n cell is) (there n cell is) left depicts,
-  record {
-    whole = whole-read_pages place image (presence_of pages);
-    lines = λ n cell is.
-        let on = read_pages-there place image (presence_of pages) n cell is in
-        let line = line_there pages n stand.whole on in
-        let within : place n < b.count = omega (arith, left.count, there n line.0 line.1) in
-        subst (CellStands b (place n)) {x = read_cell image (place n)} (cc (cell_of-read_pages place image (presence_of pages) n on, is)) (cell_stands-read b image (place n) within depicts);
-  },
+  pages_stand-read b image place (presence_of pages) depicts
+      (λ n on. let line = line_there pages n stand.whole on in omega (arith, left.count, there n line.0 line.1)),
 )
 
 -- A restart may leave again what a restart left.

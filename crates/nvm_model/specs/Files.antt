@@ -17,7 +17,7 @@ with_name name file = record file { name = name }
 abbrev pub with_pages : ℕ → File → File
 with_pages pages file = record file { pages = take pages file.pages ++ replicate (pages - length file.pages) Absent }
 
--- its name and its number of pages
+-- its name and page count
 abbrev pub entry_of_file : File → FileEntry
 entry_of_file file = record { name = file.name; pages = length file.pages }
 

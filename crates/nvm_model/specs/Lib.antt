@@ -7,3 +7,4 @@ pub mod Storage
 pub mod Blocks
 pub mod Listing
 pub mod Files
+pub mod Device
