@@ -6,6 +6,7 @@ pub mod CostLemmas
 pub mod LayoutLemmas
 mod BadLineLemmas
 pub mod ReadingLemmas
+pub mod FilesAsideLemmas
 pub mod ElsewhereLemmas
 pub mod StepLemmas
 pub mod CallLemmas
