@@ -21,7 +21,9 @@ pub mod CutLemmas
 pub mod HoleFileLemmas
 pub mod PartLemmas
 pub mod PageRunLemmas
+pub mod LogLineLemmas
 pub mod MountLemmas
+pub mod MountEffectLemmas
 pub mod MountedLemmas
 pub mod BackLemmas
 pub mod RestartLemmas
