@@ -1,5 +1,5 @@
 -- The text of files.
-use Rattle.std.proofs.Common.{All, ◌≡◌, ℕ, ◌+◌, ◌*◌, ◌^◌, ◌<◌, ◌≤◌, List, [], ◌∷◌, ◌++◌, length, get_or, drop, arith, decimal, length-append}
+use Rattle.std.proofs.Common.{All, ◌≡◌, ℕ, ◌+◌, ◌*◌, ◌<◌, ◌≤◌, List, [], ◌∷◌, ◌++◌, length, get_or, drop, arith, decimal, ap, sym, ◌∙◌, length-append}
 use Rattle.std.proofs.lemmas.Fmt.{length-decimal-le}
 use Rattle.std.proofs.lemmas.List.{at_drop_more}
 use Rattle.std.proofs.lemmas.List.Elements.{All-head, All-tail}
@@ -21,5 +21,5 @@ length-files_text (file ∷ files) h =
     omega (arith, length-append (file_text file) (files_text files), first, rest)
 
 -- one file more
-pub files_text-more : (i : ℕ) (files : List FileEntry) (d : FileEntry) → i < length files → files_text (drop i files) ≡ file_text (get_or files i d) ++ files_text (drop (i + 1) files)
-files_text-more i files d h = at_drop_more files_text files i d h
+pub files_text-more : (i : ℕ) (files : List FileEntry) (file : FileEntry) → i < length files → file ≡ get_or files i file → files_text (drop i files) ≡ file_text file ++ files_text (drop (i + 1) files)
+files_text-more i files file h is = at_drop_more files_text files i file h ∙ ap (λ f. file_text f ++ files_text (drop (i + 1) files)) (sym is)

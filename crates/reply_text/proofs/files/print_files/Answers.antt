@@ -1,4 +1,3 @@
-use Rattle.std.proofs.Common.{arith}
 use Rattle.std.proofs.lemmas.Result.{err_from_is_err_and}
 use Rattle.nvm_base.proofs.AppendLemmas.{Appended-as, Appends-stopped}
 use Rattle.reply_text.proofs.FileTextLemmas.{length-files_text, files_text-more}
@@ -8,7 +7,7 @@ pub returns-in_err-print_file-clause-text : goal.returns-in_err-print_file-claus
 returns-in_err-print_file-clause-text c =
     let loop = c.loop-file in
     let p = err_from_is_err_and c.from_residual-in_err-print_file.result c.from_residual-in_err-print_file.ensures.1 in
-    rw p.1 (Appends-stopped _ _ _ _ _ _ _ (Appended-as _ _ _ _ _ loop.invariant (files_text-more loop.file-index c.args.files.now _ c.loop-file-test.true)) c.in_err-print_file.ensures)
+    rw p.1 (Appends-stopped _ _ _ _ _ _ _ (Appended-as _ _ _ _ _ loop.invariant (files_text-more loop.file-index c.args.files.now c.file-item.result c.loop-file-test.true c.file-item.is)) c.in_err-print_file.ensures)
 
 pub returns-in_err-extend-clause-short : goal.returns-in_err-extend-clause-short
 returns-in_err-extend-clause-short c = length-files_text c.args.files.now c.know_files.ensures
