@@ -18,11 +18,13 @@ pub mod StandingLemmas
 pub mod EachFilesLemmas
 pub mod ServesLemmas
 pub mod FileChangeLemmas
+pub mod CommandLemmas
 pub mod AgreeLemmas
 pub mod FileLineLemmas
 pub mod RestartLemmas
 pub mod DeviceFileLemmas
 pub mod StepLemmas
 pub mod SwitchLemmas
+pub mod TableChangeLemmas
 pub mod TableReadLemmas
 pub mod WordLemmas

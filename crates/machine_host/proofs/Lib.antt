@@ -18,9 +18,12 @@ pub mod LastLemmas
 pub mod DepictedLemmas
 pub mod PartStoreLemmas
 pub mod CutLemmas
+pub mod HoleFileLemmas
 pub mod PartLemmas
 pub mod PageRunLemmas
+pub mod LogLineLemmas
 pub mod MountLemmas
+pub mod MountEffectLemmas
 pub mod MountedLemmas
 pub mod BackLemmas
 pub mod RestartLemmas
@@ -36,3 +39,4 @@ pub mod MediaLemmas
 pub mod PoisonLemmas
 pub mod LineLemmas
 mod FailureRunLemmas
+mod FileRunLemmas
