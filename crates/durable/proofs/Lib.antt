@@ -8,6 +8,7 @@ pub mod BlockLemmas
 pub mod EightLemmas
 pub mod KeepLemmas
 pub mod RefusalLemmas
+pub mod ThereLemmas
 pub mod WholeLemmas
 pub mod NamingLemmas
 pub mod ReadLemmas

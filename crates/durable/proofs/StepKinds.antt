@@ -1,6 +1,6 @@
 -- The six kinds of step of a run: it leaves all as it is, it is done, it is stopped, the power returned, the storage was mounted
 -- anew, or metadata was bad as it was to be mounted.
-use Rattle.std.specs.Prelude.{◌≡◌, ◌≢◌, ◌⊎◌, ◌/◌, false, List, [], Option, Some, None}
+use Rattle.std.specs.Prelude.{◌≡◌, ◌≢◌, ◌⊎◌, ◌/◌, false, List, [], Some, None}
 use Rattle.line_device.specs.Panel.{Image}
 use Rattle.line_device.specs.declared.line.Choice.{Choice}
 use Rattle.line_words.specs.declared.interruption.Interruption.{Interruption}

@@ -1,16 +1,10 @@
 -- Which kind of step a command takes.
-use Rattle.std.proofs.Common.{◌≡◌, ◌⊎◌, inl, inr, ℕ, ◌/◌, ◌==◌, Bool, true, false, cond, nat_lt, Option, Some, None, List, [], ◌∷◌, refl, sym, ap, subst, ◌∙◌}
+use Rattle.std.proofs.Common.{◌≡◌, ◌⊎◌, inl, inr, ℕ, ◌==◌, Bool, true, false, cond, nat_lt, Option, Some, None, List, [], ◌∷◌, refl, sym, ap, subst, ◌∙◌}
 use Rattle.std.specs.Prelude.{◌≢◌}
 use Rattle.line_device.specs.Panel.{Image}
 use Rattle.line_device.specs.declared.line.Choice.{Choice}
 use Rattle.line_words.specs.declared.interruption.Interruption.{Interruption}
 use Rattle.line_words.specs.declared.interruption.Interruption.TheVariants.{Failed, PowerLost as Lost}
-use Rattle.word_tables.specs.declared.geometry.Geometry.{Geometry}
-use Rattle.nvm_model.specs.Blocks.{lose}
-use Rattle.nvm_model.specs.Cell.{lose_cell, weaken_cell}
-use Rattle.nvm_model.specs.Page.{Page, change_line, read_pages}
-use Rattle.nvm_model.specs.Storage.{Block}
-use Rattle.block_device.specs.Reading.{blocks_read}
 use Rattle.reply_text.specs.Answer.{Answer}
 use Rattle.reply_text.specs.Answer.Answer.{Done}
 use Rattle.script_text.specs.Action.{Action}
@@ -19,19 +13,17 @@ use Rattle.machine_host.specs.declared.mode.Mode.TheVariants.{On, Off, Stopped}
 use Rattle.machine_host.specs.declared.needs.Needs.TheVariants.{Usable, Unpowered}
 use Rattle.machine_host.specs.Machine.{Machine, Fate}
 use Rattle.machine_host.specs.Machine.Fate.{Gives, Works, Orders, Cuts, Restarts, Recovers}
-use Rattle.machine_host.specs.Commands.{MayLeaveBlocks, MayLeaveVolume, fate, meaning, refusal, unless_refused, while_interrupted}
+use Rattle.machine_host.specs.Commands.{fate, meaning, refusal, unless_refused, while_interrupted}
 use Rattle.machine_host.specs.OnMedia.{with_line}
-use Rattle.machine_host.specs.Interrupted.{Interrupts, interrupted_answer, interrupted_mode}
-use Rattle.machine_host.specs.Restarting.{MayLeaveStorage, RestartMayLeave, mounted_answer, read_with, reading, restarted}
+use Rattle.machine_host.specs.Interrupted.{Interrupts, interrupted_mode}
+use Rattle.machine_host.specs.Restarting.{RestartMayLeave, mounted_answer, read_with, reading, restarted}
 use Rattle.machine_host.specs.Recovering.{RecoversTo}
-use Rattle.word_tables.specs.Layout.{volume_line}
-use Rattle.pm_volume.specs.Presence.{presence_read}
 use Rattle.machine_host.specs.Run.{Ends, Hears, Run, Takes, Transcript}
 use Rattle.script_text.specs.Script.{Input}
 use Rattle.script_text.specs.Script.Input.{Skipped, Malformed, Asked}
 use Rattle.durable.specs.Place.{Place}
 use Rattle.durable.specs.Place.Place.{of_volume, of_blocks}
-use Rattle.durable.specs.Touching.{changes, holds, is_made_durable, made_durable, nothing, poisons, weakens}
+use Rattle.durable.specs.Touching.{holds, nothing}
 use Rattle.durable.specs.Durable.{HasNothing}
 use Rattle.durable.proofs.RefusalLemmas.{is_off, is_on}
 use Rattle.durable.proofs.StepKinds.{Alters, CoversNothing, Idles, Stops, Step, TouchesNothing, blocks_after, volume_after}

@@ -1,5 +1,5 @@
 -- Which files there are, and how long that stays.
-use Rattle.std.specs.Prelude.{◌≡◌, ◌⊎◌, ℕ, Bool, true, false, List, [], ◌∷◌, ◌++◌, map, Option, Some, None}
+use Rattle.std.specs.Prelude.{◌≡◌, ◌⊎◌, Bool, true, false, List, [], ◌∷◌, map, Option, Some, None}
 use Rattle.nvm_base.specs.declared.files.FileEntry.{FileEntry}
 use Rattle.nvm_model.specs.Files.{entry_of_file}
 use Rattle.reply_text.specs.Answer.{Answer}
