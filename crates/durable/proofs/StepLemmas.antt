@@ -248,7 +248,7 @@ returned h action choice image answer next covers off may ends = by_metadata h.b
             mode = λ on. elim read.mode as (λ _. ⊥) [ inl at ↦ cc (at, on) | inr by ↦ stops_on by.0 (sym by.1 ∙ on) ];
             blocks = read.blocks;
             volume = read.volume;
-          files = read.files;
+            files = read.files;
           };
         })
 

@@ -66,7 +66,7 @@ abbrev pub FilesLast : Machine → List FileEntry → Type 0
 FilesLast h listed = (inputs : List Input) (said : Transcript) (later : Machine) → Run h inputs said later → NoneBegun changes_files inputs said.answers
     → (files_listed later ≡ listed) ⊎ HasNothing later
 
--- they are listed in one of two ways, or nothing is there; and once they are in use, so they last
+-- They are listed in one of two ways, or nothing is there. In mode On the list that is there lasts.
 pub record AreEither (h : Machine) (old new : List FileEntry) : Type 0 where
   pub listed : ((files_listed h ≡ old) ⊎ (files_listed h ≡ new)) ⊎ HasNothing h
   pub lasts : h.mode ≡ On → FilesLast h (files_listed h)
@@ -87,7 +87,8 @@ pub record BreaksOff (h : Machine) (action : Action) (next : Machine) : Type 0 w
   pub came : Hears h (Asked action) said next
   pub stopped : IsStopped said.answers
 
--- where the command was done, the files are as it made them; where it was stopped, as before or as it would have made them
+-- Where the command was done, the files last as it made them; where it was stopped, they come to be as before or as it would
+-- have made them.
 pub record FilesThrough (h : Machine) (before : List Input) (action : Action) (after : List Input) (said : Transcript) (end : Machine) : Type 0 where
   pub passes : Passes h before action after said end
   pub done : passes.middle.answers ≡ Done ∷ [] → FilesLast passes.next (files_after passes.here action)
