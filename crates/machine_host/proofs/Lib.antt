@@ -6,6 +6,7 @@ pub mod CostLemmas
 pub mod LayoutLemmas
 pub mod BadLineLemmas
 pub mod ReadingLemmas
+pub mod FilesAsideLemmas
 pub mod ElsewhereLemmas
 pub mod StepLemmas
 pub mod CallLemmas
@@ -17,9 +18,12 @@ pub mod LastLemmas
 pub mod DepictedLemmas
 pub mod PartStoreLemmas
 pub mod CutLemmas
+pub mod HoleFileLemmas
 pub mod PartLemmas
 pub mod PageRunLemmas
+pub mod LogLineLemmas
 pub mod MountLemmas
+pub mod MountEffectLemmas
 pub mod MountedLemmas
 pub mod BackLemmas
 pub mod RestartLemmas
