@@ -1,10 +1,9 @@
 -- The parts of storage lie apart: work on the one leaves the others.
-use Rattle.std.proofs.Common.{◌≡◌, ◌⊎◌, ℕ, ◌*◌, ◌/◌, ◌<◌, ◌≤◌, IsTrue, inl, inr, List, length, refl, sym, ◌∙◌, ap, subst, arith}
+use Rattle.std.proofs.Common.{◌≡◌, ℕ, ◌*◌, ◌/◌, ◌<◌, ◌≤◌, IsTrue, inl, inr, List, length, refl, sym, ◌∙◌, ap, subst, arith}
 use Rattle.std.proofs.lemmas.List.{length-map}
 use Rattle.line_device.specs.Medium.{Medium, WritesBack}
 use Rattle.line_device.specs.Device.{Device}
 use Rattle.line_device.proofs.HistoryLemmas.{is_in-part}
-use Rattle.line_words.specs.Words.{WritesBackOutside}
 use Rattle.word_tables.specs.declared.geometry.Geometry.{Geometry}
 use Rattle.word_tables.specs.Bounds.{IsValid}
 use Rattle.word_tables.specs.Layout.{volume_log, presence, first_range, second_range, first_line, size, meta_lines, total_lines, volume_line, HasLine}
@@ -17,7 +16,6 @@ use Rattle.block_device.specs.Area.{block_area, IsBlockLine}
 use Rattle.block_device.specs.Object.{BlocksServe, BlocksState}
 use Rattle.block_device.proofs.ReadLemmas.{Stays}
 use Rattle.block_device.proofs.FrameLemmas.{each_reads-write_back}
-use Rattle.block_device.proofs.PlaceLemmas.{area_is_block}
 use Rattle.block_device.proofs.ServesLemmas.{serves-stays, serves-write_back}
 use Rattle.pm_volume.specs.Area.{IsOfVolume, IsVolumePlace, volume_area}
 use Rattle.pm_volume.specs.Images.{EachReadsPages}
@@ -27,13 +25,11 @@ use Rattle.pm_volume.proofs.StandingLemmas.{pages-kept, each_pages-kept, images-
 use Rattle.file_journal.specs.Area.{IsOfFiles}
 use Rattle.file_journal.specs.Object.{JournalServes, JournalState}
 use Rattle.file_journal.specs.Tables.{AreTables}
-use Rattle.recovery.specs.Mounting.{IsOfLogs}
 use Rattle.machine_host.specs.declared.mode.Mode.{Mode}
 use Rattle.machine_host.specs.declared.mode.Mode.TheVariants.{On, Stopped}
 use Rattle.machine_host.specs.Stands.{HostState, HostServes, AreMounted, is_powered}
 use Rattle.machine_host.proofs.FilesAsideLemmas.{journal_serves_elsewhere}
-use Rattle.machine_host.proofs.LayoutLemmas.{kept-outside, layout-write_back, same_bad, stays_bad}
-use Rattle.machine_host.proofs.VolumeLemmas.{volume_behind}
+use Rattle.machine_host.proofs.LayoutLemmas.{layout-write_back, same_bad, stays_bad}
 
 -- no line of the volume is the blocks'
 pub volume_apart : (geo : Geometry) (n : ℕ) → IsValid geo → IsOfVolume geo n → IsBlockLine geo n → ⊥
@@ -83,18 +79,6 @@ area_of_volume geo p valid of = elim of as (λ _. IsVolumePlace geo p) [ inl log
 
 pub line_of_range : (geo : Geometry) (n : ℕ) → n < 64 * geo.vpages → IsOfVolume geo (volume_line geo n)
 line_of_range geo n lt = inr (inr (volume_line-in geo n lt))
-
--- no word of a page's line is one of logs and tables
-pub range_not_logs : (geo : Geometry) (n p : ℕ) → IsValid geo → n < 64 * geo.vpages → p / 8 ≡ volume_line geo n → IsOf (block_area geo) p ⊎ IsOf (volume_area geo) p → ⊥
-unfolding first_line size
-range_not_logs geo n p valid lt at (inl of) = volume_apart geo (volume_line geo n) valid (line_of_range geo n lt) (subst (IsBlockLine geo) at (area_is_block geo valid p of))
-range_not_logs geo n p valid lt at (inr of) =
-    let behind = volume_behind geo n in
-    elim of as (λ _. ⊥) [ inl log ↦ omega (arith, log, at, behind) | inr home ↦ omega (arith, home, at, behind) ]
-
--- a mount leaves the lines of pages, but for write-back
-pub range_kept : (geo : Geometry) (old new : Medium) → IsValid geo → WritesBackOutside (IsOfLogs geo) old new → (n : ℕ) → n < 64 * geo.vpages → LineKept old new (volume_line geo n)
-range_kept geo old new valid x n lt = kept-outside (IsOfLogs geo) old new (volume_line geo n) (λ p at of. range_not_logs geo n p valid lt at of) x
 
 -- The volume where none of its lines is worked on: it is mounted still, its images read the same, and it stands for its pages.
 module _ (geo : Geometry) (old new : Medium) (valid : IsValid geo) (kept : (line : ℕ) → IsOfVolume geo line → LineKept old new line) where

@@ -1,11 +1,10 @@
 -- Files lie apart from blocks and volume: work on those leaves them, and work on files leaves those.
-use Rattle.std.proofs.Common.{◌≡◌, ◌⊎◌, ℕ, ◌*◌, ◌/◌, ◌+◌, ◌<◌, ◌≤◌, inl, inr, List, refl, sym, subst, arith}
-use Rattle.std.proofs.lemmas.Bool.{cases_lt}
+use Rattle.std.proofs.Common.{◌≡◌, ℕ, ◌*◌, ◌/◌, ◌+◌, ◌<◌, ◌≤◌, inl, inr, List, refl, sym, subst, arith}
 use Rattle.line_device.specs.Medium.{Medium}
 use Rattle.line_device.proofs.HistoryLemmas.{is_in-part}
 use Rattle.word_tables.specs.declared.geometry.Geometry.{Geometry}
 use Rattle.word_tables.specs.Bounds.{IsValid}
-use Rattle.word_tables.specs.Layout.{file_log, inodes, page_tables, file_pages, first_line, size, meta_lines, total_lines, HasLine}
+use Rattle.word_tables.specs.Layout.{file_log, inodes, page_tables, file_pages, first_line, size, meta_lines, HasLine}
 use Rattle.word_log.specs.Area.{IsOf}
 use Rattle.nvm_model.specs.Lines.{AreStrong}
 use Rattle.nvm_model.specs.Storage.{File}
@@ -17,6 +16,7 @@ use Rattle.file_journal.specs.Object.{JournalServes, JournalState}
 use Rattle.file_journal.specs.Standing.{EachReadsFiles, FilesStand}
 use Rattle.file_journal.specs.Tables.{AreTables}
 use Rattle.file_journal.proofs.EachFilesLemmas.{each_files-kept, file_images-kept}
+use Rattle.file_journal.proofs.FileLineLemmas.{area_of_files}
 use Rattle.file_journal.proofs.ServesLemmas.{journal-kept}
 use Rattle.file_journal.proofs.StandingLemmas.{files-kept}
 
@@ -63,33 +63,7 @@ pub first_not_files : (geo : Geometry) → IsOfFiles geo 0 → ⊥
 unfolding first_line
 first_not_files geo of = by_area geo 0 of (λ r. omega (arith, r)) (λ r. omega (arith, r)) (λ r. omega (arith, r)) (λ r. omega (arith, r))
 
--- all of them are on the device
-pub files_within : (geo : Geometry) (n : ℕ) → IsOfFiles geo n → n < total_lines geo
-unfolding first_line size total_lines
-files_within geo n of = by_area geo n of (λ r. omega (arith, r)) (λ r. omega (arith, r)) (λ r. omega (arith, r)) (λ r. omega (arith, r))
-
--- pages lie behind the metadata
-pub pages_behind : (geo : Geometry) (n : ℕ) → HasLine geo file_pages n → meta_lines geo ≤ n
-unfolding first_line size
-pages_behind geo n has = omega (arith, has)
-
--- a word of the files' log or of their tables lies on a line of files
-pub area_of_files : (geo : Geometry) (p : ℕ) → IsOf (file_area geo) p → IsOfFiles geo (p / 8)
-unfolding first_line size
-area_of_files geo p of =
-    elim of as (λ _. IsOfFiles geo (p / 8)) [
-      | inl log ↦ inl (omega (arith, log), omega (arith, log))
-      | inr home ↦ by_home home
-    ]
-  where
-    by_home : (8 * first_line geo inodes ≤ p) × (p < 8 * first_line geo inodes + 16896) → IsOfFiles geo (p / 8)
-    by_home home =
-        elim (cases_lt (p / 8) (first_line geo inodes + 64)) as (λ _. IsOfFiles geo (p / 8)) [
-          | inl below ↦ inr (inl (omega (arith, home), omega (arith, below)))
-          | inr past ↦ inr (inr (inl (omega (arith, past), omega (arith, home))))
-        ]
-
-pub page_of_files : (geo : Geometry) (n : ℕ) → HasLine geo file_pages n → IsOfFiles geo n
+page_of_files : (geo : Geometry) (n : ℕ) → HasLine geo file_pages n → IsOfFiles geo n
 page_of_files geo n has = inr (inr (inr has))
 
 -- Files where none of their lines is worked on: their journal is mounted still, their images read the same, and it stands for them.

@@ -31,6 +31,9 @@ pub mod RestartAnswerLemmas
 pub mod RemountLemmas
 pub mod SettlingLemmas
 pub mod VolumeFateLemmas
+pub mod FilesFateLemmas
+pub mod FilesCallLemmas
+mod ListingLemmas
 pub mod LoadLemmas
 pub mod MediaLemmas
 pub mod PoisonLemmas

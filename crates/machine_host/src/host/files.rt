@@ -24,6 +24,7 @@ impl Host {
         requires on { self.old.mode ≡ On }
         ensures { Answered (Create name.now pages) (answer_of result) self.old self.new (D.state device.old) (D.state device.new) }
     {
+        let _is_name = name.bytes();
         let call = self.journal.create(device, name, pages);
         self.journal_answer(call)
     }
@@ -42,6 +43,7 @@ impl Host {
         requires on { self.old.mode ≡ On }
         ensures { Answered (Rename name.now to.now) (answer_of result) self.old self.new (D.state device.old) (D.state device.new) }
     {
+        let _is_name = to.bytes();
         let call = self.journal.rename(device, name, to);
         self.journal_answer(call)
     }
