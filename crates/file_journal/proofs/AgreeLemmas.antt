@@ -1,6 +1,10 @@
 -- What tables tell of files, and what files that they stand for tell: the same.
-use Rattle.std.proofs.Common.{◌≡◌, ℕ, List, [], ◌∷◌, length, map, refl, sym, ap₂, ◌∙◌}
+use Rattle.std.proofs.Common.{◌≡◌, ◌≤◌, ℕ, true, is_some, List, [], ◌∷◌, length, map, Option, Some, slice_get, refl, sym, ap, ap₂, ◌∙◌, arith}
+use Rattle.std.proofs.lemmas.Option.{slice_get-get_or}
+use Rattle.std.proofs.lemmas.List.Sums.{count_by-le-length}
+use Rattle.std.specs.List.{Contains}
 use Rattle.line_device.specs.Medium.{Medium}
+use Rattle.nvm_base.specs.Names.{is_name}
 use Rattle.nvm_base.specs.declared.files.FileEntry.{FileEntry}
 use Rattle.word_tables.specs.declared.geometry.Geometry.{Geometry}
 use Rattle.inode_table.specs.Slots.{file_count}
@@ -9,8 +13,9 @@ use Rattle.nvm_model.specs.Listing as list
 use Rattle.nvm_model.specs.Listing.{AreAlike, file_name}
 use Rattle.nvm_model.specs.Storage.{File}
 use Rattle.nvm_model.proofs.AlikeLemmas.{alike-has, alike-length}
+use Rattle.nvm_model.proofs.ListedLemmas.{in_order-contains, length-in_order}
 use Rattle.file_journal.specs.Files.{UnitFile, entry_of, files_of, unit_file_name}
-use Rattle.file_journal.specs.Listing.{listed}
+use Rattle.file_journal.specs.Listing.{entry_name, listed}
 use Rattle.file_journal.specs.Standing.{FileStands, FilesStand}
 use Rattle.file_journal.specs.Tables.{AreTables, Tables, has_file}
 use Rattle.file_journal.proofs.EntryLemmas.{entries-files_of, length-files_of}
@@ -38,3 +43,15 @@ module _ (geo : Geometry) (m : Medium) (t : Tables) (files : List File) (stand :
   -- their names and page counts in order
   pub listed-stands : listed t ≡ map entry_of_file files
   listed-stands = sym (entries-files_of t) ∙ entries_alike geo m (files_of t) files stand
+
+-- a listed file is that of an inode, so its name is one and it has at most 256 pages
+pub listed-right : (size : ℕ) (t : Tables) (file : FileEntry) → AreTables size t → Contains (listed t) file → (is_name file.name ≡ true) × (file.pages ≤ 256)
+listed-right size t file are has =
+    let slot = in_order-contains entry_name t.files file has in
+    let is : slice_get t.files slot.0 ≡ Some (Some file) =
+    slice_get-get_or t.files slot.0 (Some file) slot.1 ∙ ap (λ (o : Option FileEntry). Some o) slot.2 in
+    (are.names.name slot.0 file is, are.names.pages slot.0 file is)
+
+-- there are at most 64
+pub listed-few : (size : ℕ) (t : Tables) → AreTables size t → length (listed t) ≤ 64
+listed-few size t are = omega (arith, length-in_order entry_name t.files, count_by-le-length is_some t.files, are.names.all)

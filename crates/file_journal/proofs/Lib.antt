@@ -18,6 +18,7 @@ pub mod StandingLemmas
 pub mod EachFilesLemmas
 pub mod ServesLemmas
 pub mod FileChangeLemmas
+pub mod CommandLemmas
 pub mod AgreeLemmas
 pub mod FileLineLemmas
 pub mod RestartLemmas

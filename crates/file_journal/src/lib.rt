@@ -23,7 +23,10 @@ pub use area::file_area;
 pub use fault::{JournalFault, MountFault};
 use free_pool::Pool;
 use inode_table::Inodes;
-pub use laws::{a_change_is_of_one_file, files_are_those_of_the_inodes};
+pub use laws::{
+    a_change_is_of_one_file, a_device_stands_for_files, files_are_those_of_the_inodes,
+    files_come_back, words_that_hold_tables_read_as_them,
+};
 use page_table::PageTable;
 use std::marker::Model;
 use word_log::Log;
