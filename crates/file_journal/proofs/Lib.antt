@@ -25,5 +25,6 @@ pub mod RestartLemmas
 pub mod DeviceFileLemmas
 pub mod StepLemmas
 pub mod SwitchLemmas
+pub mod TableChangeLemmas
 pub mod TableReadLemmas
 pub mod WordLemmas

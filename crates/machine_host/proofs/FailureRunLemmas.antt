@@ -15,6 +15,7 @@ use Rattle.nvm_base.specs.Data.{data_of, runs_of, data_within, data_text}
 use Rattle.word_tables.specs.Layout.{size, first_line, total_lines, volume_line}
 use Rattle.nvm_model.specs.Cell.{Cell}
 use Rattle.nvm_model.specs.Interrupted.{Became, LineByLine, MayPersist}
+use Rattle.nvm_model.specs.Storage.{File}
 use Rattle.nvm_model.specs.Page.{Page, cell_of, discard, fill, first_bad_line, first_uncovered_line, look, persist, presence_of, put, bad_lines, read_pages}
 use Rattle.pm_volume.specs.Presence.{presence_read, words_read}
 use Rattle.nvm_model.specs.Blocks.{write, look_blocks}
@@ -50,7 +51,7 @@ use Rattle.machine_host.proofs.PartLemmas.{Later, Whole, began_ordering, began_r
 
 -- What befell a command: nothing; an interruption, with a cut or a failure armed still; a restart that left this, and one that
 -- was interrupted; or a recovery that came to this state.
-data Turn : Type 0 where
+pub data Turn : Type 0 where
   Through : Turn
   Halted : Interruption → Bool → Bool → Turn
   Started : Start → Turn
@@ -58,11 +59,11 @@ data Turn : Type 0 where
   Recovered : Machine → Turn
 
 -- the state once it was interrupted
-abbrev halted : Machine → Interruption → Bool → Bool → Machine
+abbrev pub halted : Machine → Interruption → Bool → Bool → Machine
 halted h by cut fail = record h { mode = interrupted_mode by; cut_armed = cut; fail_armed = fail }
 
 -- what is said, and the state after it
-abbrev step : Machine → Action → Fate → Turn → Performance
+abbrev pub step : Machine → Action → Fate → Turn → Performance
 step h action (Gives good to) turn = record { said = answered good; state = to }
 step h action (Works good to) Through = record { said = worked (spending h action) good; state = to }
 step h action (Works good to) (Halted by cut fail) =
@@ -78,19 +79,19 @@ step h action Recovers (Recovered next) = record { said = worked (spending h act
 step h action f turn = record { said = silence; state = h }
 
 -- what an interruption needs is armed, and what is armed after it was before
-abbrev armed_for : Interruption → Bool → Bool → Bool
+abbrev pub armed_for : Interruption → Bool → Bool → Bool
 armed_for Failed cut fail = fail
 armed_for Lost cut fail = cut
 
-abbrev was_armed : Bool → Bool → Bool
+abbrev pub was_armed : Bool → Bool → Bool
 was_armed true before = before
 was_armed false before = true
 
-abbrev may_halt : Machine → Interruption → Bool → Bool → Bool
+abbrev pub may_halt : Machine → Interruption → Bool → Bool → Bool
 may_halt h by cut fail = armed_for by h.cut_armed h.fail_armed && (was_armed cut h.cut_armed && was_armed fail h.fail_armed)
 
 -- it may have befallen the command
-abbrev May : Machine → Fate → Turn → Type 0
+abbrev pub May : Machine → Fate → Turn → Type 0
 May h (Gives good to) turn = Unit {0}
 May h (Works good to) Through = Unit {0}
 May h (Works good to) (Halted by cut fail) = may_halt h by cut fail ≡ true
@@ -130,17 +131,17 @@ takes h action Recovers (Recovered next) may = (mounted_answer next, refl, inl (
 takes h action f turn may = absurd may
 
 -- what is said of inputs, a turn for each command
-abbrev go_on : Performance → (Machine → Performance) → Performance
+abbrev pub go_on : Performance → (Machine → Performance) → Performance
 go_on one rest = after one.said (rest one.state)
 
-abbrev play : Machine → List Input → List Turn → Performance
+abbrev pub play : Machine → List Input → List Turn → Performance
 play h [] turns = record { said = silence; state = h }
 play h (Skipped ∷ inputs) turns = play h inputs turns
 play h (Malformed ∷ inputs) turns = after (answered (Refused Syntax)) (play h inputs turns)
 play h (Asked action ∷ inputs) [] = record { said = silence; state = h }
 play h (Asked action ∷ inputs) (turn ∷ turns) = go_on (step h action (fate h action) turn) (λ k. play k inputs turns)
 
-abbrev MayAll : Machine → List Input → List Turn → Type 0
+abbrev pub MayAll : Machine → List Input → List Turn → Type 0
 MayAll h [] turns = Unit {0}
 MayAll h (Skipped ∷ inputs) turns = MayAll h inputs turns
 MayAll h (Malformed ∷ inputs) turns = MayAll h inputs turns
@@ -158,7 +159,7 @@ run_played h (Asked action ∷ inputs) (turn ∷ turns) may =
     (one.said, (play one.state inputs turns).said, one.state, refl, takes h action (fate h action) turn may.0, run_played one.state inputs turns may.1)
 
 -- what these turns may make of a script
-may_write : (script : List ℕ) (turns : List Turn) (lines : List (List ℕ)) → MayAll (fresh small) (inputs script) turns
+pub may_write : (script : List ℕ) (turns : List Turn) (lines : List (List ℕ)) → MayAll (fresh small) (inputs script) turns
     → reply_text (play (fresh small) (inputs script) turns).said.answers ≡ text lines
     → MayWrite script (play (fresh small) (inputs script) turns).said.starts lines
 may_write script turns lines may written = record {
@@ -169,12 +170,12 @@ may_write script turns lines may written = record {
   written = written;
 }
 
--- a restart that left pages and files as they were
-left_by : (choice : Choice) (image : Image) (h : Machine) → bad_metadata h.geometry image.is_bad ≡ h.bad_meta
+-- a restart that left the pages as they were, and these files
+pub left_by : (choice : Choice) (image : Image) (h : Machine) (files : List File) → bad_metadata h.geometry image.is_bad ≡ h.bad_meta
     → MayLeaveBlocks h.interrupted h.blocks (blocks_read h.geometry image.is_bad image.word) → MayLeaveVolume h.geometry h.interrupted h.volume h.volume
     → presence_of h.volume ≡ presence_read h.geometry image.word → pages_last (volume_line h.geometry) image h.volume ≡ true
-    → MayLeaveFiles h.interrupted h.files h.files → KeepsFiles choice h.geometry image h.files → RestartMayLeave choice image h
-left_by choice image h metadata blocks may there last may_files files = record {
+    → MayLeaveFiles h.interrupted h.files files → KeepsFiles choice h.geometry image files → RestartMayLeave choice image h
+left_by choice image h files metadata blocks may there last may_files keeps = record {
   metadata = metadata;
   storage = λ _. record {
     blocks = blocks;
@@ -182,9 +183,9 @@ left_by choice image h metadata blocks may there last may_files files = record {
     may = may;
     there = there;
     volume = keeps-last choice (volume_line h.geometry) image h.volume last;
-    files_left = h.files;
+    files_left = files;
     may_files = may_files;
-    files = files;
+    files = keeps;
   };
 }
 
@@ -237,7 +238,7 @@ pub restart_cut : MayWrite with_cut_restart (leaving_fives ∷ leaving_fives ∷
 unfolding digits number_of data_of runs_of data_within data_text read_pages answer_line lines_of words_of command_action line_input refusal size first_line total_lines volume_line reading write look_blocks states_read blocks_read listed files_read file_words tables_of slots_of words_read
 restart_cut =
     may_write with_cut_restart (Through ∷ Through ∷ Through ∷ StartHalted leaving_fives Lost false false ∷ Through ∷ Started leaving_fives ∷ Through ∷ []) cut_restart_lines
-    (tt, (tt, (tt, ((refl, left_by Lasts leaving_fives.image off refl refl refl refl refl refl tt, refl), (tt, ((refl, left_by Lasts leaving_fives.image once_more refl refl refl refl refl refl tt), (tt, tt))))))) refl
+    (tt, (tt, (tt, ((refl, left_by Lasts leaving_fives.image off [] refl refl refl refl refl refl tt, refl), (tt, ((refl, left_by Lasts leaving_fives.image once_more [] refl refl refl refl refl refl tt), (tt, tt))))))) refl
   where
     off : Machine
     off = record with_fives { mode = modes.Off; cut_armed = true }
@@ -249,13 +250,13 @@ pub restart_failed : MayWrite with_failed_restart (leaving Lasts [] ∷ []) fail
 unfolding digits number_of data_of runs_of data_within data_text read_pages answer_line lines_of words_of command_action line_input refusal size first_line total_lines volume_line reading write look_blocks states_read blocks_read listed files_read file_words tables_of slots_of words_read
 restart_failed =
     may_write with_failed_restart (Through ∷ Through ∷ StartHalted (leaving Lasts []) Failed false false ∷ Recovered untouched ∷ []) failed_restart_lines
-    (tt, (tt, ((refl, left_by _ _ _ refl refl refl refl refl refl tt, refl), (record { blocks = refl; volume = refl; files = refl; state = refl }, tt)))) refl
+    (tt, (tt, ((refl, left_by _ _ _ [] refl refl refl refl refl refl tt, refl), (record { blocks = refl; volume = refl; files = refl; state = refl }, tt)))) refl
 
 pub cut_before_failure : MayWrite with_cut_before_failure (leaving Lasts [] ∷ []) cut_before_failure_lines
 unfolding digits number_of data_of runs_of data_within data_text read_pages answer_line lines_of words_of command_action line_input refusal size first_line total_lines volume_line reading write look_blocks states_read blocks_read listed files_read file_words tables_of slots_of words_read
 cut_before_failure =
     may_write with_cut_before_failure (Through ∷ Through ∷ Halted Lost false true ∷ StartHalted (leaving Lasts []) Failed false false ∷ []) cut_before_failure_lines
-    (tt, (tt, (refl, ((refl, left_by _ _ _ refl (inl refl) refl refl refl (inl refl) tt, refl), tt)))) refl
+    (tt, (tt, (refl, ((refl, left_by _ _ _ [] refl (inl refl) refl refl refl (inl refl) tt, refl), tt)))) refl
 
 pub sync_failed : MayWrite with_failed_sync [] failed_sync_lines
 unfolding digits word_from byte_over word_over reaches number_of runs_of data_within data_text fill put persist discard first_bad_line first_uncovered_line look read_pages answer_line lines_of words_of command_action line_input refusal size first_line total_lines volume_line reading states_read blocks_read listed files_read file_words tables_of slots_of words_read

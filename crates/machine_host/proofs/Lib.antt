@@ -39,3 +39,4 @@ pub mod MediaLemmas
 pub mod PoisonLemmas
 pub mod LineLemmas
 mod FailureRunLemmas
+mod FileRunLemmas

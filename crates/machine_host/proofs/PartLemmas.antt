@@ -56,7 +56,7 @@ module _ (h : Machine) (action : Action) (inputs : List Input) (answers : List A
       → first.answers ≡ answer ∷ [] → answers ≡ answer ∷ rest.answers
   answers_of first rest answer is one = sym later.2 ∙ ap (λ (t : Transcript). t.answers) is ∙ ap (λ xs. xs ++ rest.answers) one
 
-  began_giving : (good : Answer) (to : Machine) → fate h action ≡ Gives good to → (rest : List Answer) × (answers ≡ good ∷ rest) × Later to inputs rest
+  pub began_giving : (good : Answer) (to : Machine) → fate h action ≡ Gives good to → (rest : List Answer) × (answers ≡ good ∷ rest) × Later to inputs rest
   began_giving good to is =
       let run = later.3 in
       let took = subst (λ f. Takes h action f run.0 run.2) is run.4 in (
@@ -87,7 +87,7 @@ module _ (h : Machine) (action : Action) (inputs : List Input) (answers : List A
         (run.1, later.1, refl, run.5),
       )
 
-  began_restarting : (choice : Choice) → fate h action ≡ Restarts choice
+  pub began_restarting : (choice : Choice) → fate h action ≡ Restarts choice
       → (image : Image) × (answer : Answer) × (next : Machine) × (rest : List Answer) × (answers ≡ answer ∷ rest) × RestartMayLeave choice image h
       × Ends (mounted_answer (restarted h image)) (restarted h image) (restarted h image) answer next × Later next inputs rest
   began_restarting choice is =
@@ -136,7 +136,7 @@ abbrev struck : Bool → Bool → Machine
 struck cut fail = record (while_interrupted armed the_write) { mode = modes.Off; cut_armed = cut; fail_armed = fail }
 
 -- none of the volume's lines is bad after it
-no_bad_line : (image : Image) → presence_of (fresh small).volume ≡ presence_read small image.word → bad_lines (read_pages (volume_line small) image (presence_read small image.word)) ≡ 0
+pub no_bad_line : (image : Image) → presence_of (fresh small).volume ≡ presence_read small image.word → bad_lines (read_pages (volume_line small) image (presence_read small image.word)) ≡ 0
 unfolding reading words_read listed read_pages size first_line
 no_bad_line image there = ap (λ t. bad_lines (map_from (read_page (volume_line small) image) 0 t)) (sym there)
 
@@ -154,7 +154,7 @@ new_shows : Shows (written (fresh small)).blocks (codes "11*1024")
 unfolding digits data_text answer_line size first_line reading states_read blocks_read listed write look_blocks
 new_shows = record { free = refl; whole = refl; shows = refl }
 
-nothing_more : (h : Machine) (rest : List Answer) → Later h [] rest → rest ≡ []
+pub nothing_more : (h : Machine) (rest : List Answer) → Later h [] rest → rest ≡ []
 nothing_more h rest later = sym later.2 ∙ ap (λ (t : Transcript). t.answers) later.3.0
 
 -- the state at rest of these blocks and pages, without files, with what is armed

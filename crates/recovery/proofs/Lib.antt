@@ -9,5 +9,7 @@ pub mod AgainLemmas
 pub mod SuperblockLemmas
 mod LineLemmas
 pub mod FreshPageLemmas
+pub mod ZeroFileLemmas
 pub mod FreshFileLemmas
+pub mod SmallFileLemmas
 pub mod FreshLemmas

@@ -40,6 +40,9 @@ pub fn findings_of_small_devices()
     ensures map { first_finding (small_device nowhere nowhere (superblock_but 144 74)) ≡ Some (wrong_word 144) }
     ensures volume_log { first_finding (small_device nowhere nowhere (superblock_but 152 2)) ≡ Some (wrong_word 152) }
     ensures presence { first_finding (small_device nowhere nowhere (superblock_but 673 2)) ≡ Some (wrong_word 673) }
+    ensures file_log { first_finding (small_device nowhere nowhere (superblock_but 680 2)) ≡ Some (wrong_word 680) }
+    ensures inode { first_finding (small_device nowhere nowhere (superblock_but 1_232 1)) ≡ Some (wrong_word 1_233) }
+    ensures page { first_finding (small_device nowhere nowhere (superblock_but 1_744 1)) ≡ Some (wrong_word 1_744) }
     ensures both { first_finding (small_device nowhere nowhere (with_at (superblock_but 144 74) 152 2)) ≡ Some (wrong_word 152) }
 {}
 

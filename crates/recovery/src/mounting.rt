@@ -15,6 +15,7 @@ ghost use Rattle.pm_volume.specs.Presence.{presence_read};
 ghost use Rattle.file_journal.specs.Area.{file_area};
 ghost use Rattle.file_journal.specs.Object.{JournalServes};
 ghost use Rattle.file_journal.specs.Reading.{tables_read};
+ghost use Rattle.file_journal.specs.Tables as file_tables;
 ghost use Rattle.file_journal.specs.Tables.{known_units};
 ghost use Rattle.recovery.specs.Findings.{geometry_told, early_finding, inspection_finding, first_finding};
 ghost use Rattle.recovery.specs.Mounting.{Finds, HasDurableBlocks, IsInOrder, IsOfLogs, mount_calls_told, mount_outcome, mount_persists_told};
@@ -58,6 +59,7 @@ pub fn mount<L: Lines>(alloc: Global, dev: &mut L) -> Result<Mounted, MountFault
         → IfOk result (λ mounted. BlocksServe mounted.blocks (L.state dev.new).medium) }
     ensures volume { IfOk result (λ mounted. VolumeServes mounted.volume (L.state dev.new).medium) }
     ensures journal { IfOk result (λ mounted. JournalServes mounted.journal (L.state dev.new).medium) }
+    ensures tables { IfOk result (λ mounted. file_tables.AreTables mounted.geo.fpages mounted.journal.tables) }
     ensures held { IfOk result (λ mounted. known_units mounted.journal.tables.pages mounted.journal.free ≡ mounted.geo.fpages) }
     ensures settled { IfOk result (λ mounted. IsTrue mounted.blocks.settled × IsTrue mounted.volume.settled × IsTrue mounted.journal.settled) }
     ensures order { IfOk result (λ mounted. IsInOrder mounted.geo (L.state dev.new).medium) }

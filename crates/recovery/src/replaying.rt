@@ -14,6 +14,7 @@ ghost use Rattle.pm_volume.specs.Area.{volume_area};
 ghost use Rattle.pm_volume.specs.Presence.{presence_word};
 ghost use Rattle.file_journal.specs.Area.{file_area};
 ghost use Rattle.file_journal.specs.Reading.{tables_of};
+ghost use Rattle.file_journal.specs.Tables as file_tables;
 ghost use Rattle.file_journal.specs.Tables.{known_units};
 ghost use Rattle.recovery.specs.Findings.{wrong_log};
 ghost use Rattle.recovery.specs.Mounting.{Finds, IsInOrder, device_says, mount_outcome};
@@ -93,6 +94,7 @@ pub fn judge_tables(alloc: Global, geo: Geometry, tables: Tables) -> Result<Moun
     ensures blocks { IfOk result (λ mounted. (mounted.blocks.geo ≡ geo) × (map word_of mounted.blocks.map ≡ tables.map.items)) }
     ensures volume { IfOk result (λ mounted. (mounted.volume.geo ≡ geo) × (map presence_word mounted.volume.present ≡ tables.presence.items)) }
     ensures journal { IfOk result (λ mounted. (mounted.journal.geo ≡ geo) × (mounted.journal.tables ≡ tables_of tables.file_words.items)) }
+    ensures tables { IfOk result (λ mounted. file_tables.AreTables mounted.geo.fpages mounted.journal.tables) }
     ensures held { IfOk result (λ mounted. known_units mounted.journal.tables.pages mounted.journal.free ≡ mounted.geo.fpages) }
     ensures settled { IfOk result (λ mounted. IsTrue mounted.blocks.settled × IsTrue mounted.volume.settled × IsTrue mounted.journal.settled) }
     ensures finds { Finds (option_map wrong_word (wrong_words geo tables.map.items tables.presence.items tables.file_words.items)) result }

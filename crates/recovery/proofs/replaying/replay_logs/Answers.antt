@@ -1,4 +1,4 @@
-use Rattle.std.proofs.Common.{inl, inr, true, refl, sym, ◌∙◌, ap, subst}
+use Rattle.std.proofs.Common.{inl, inr, true, refl, sym, ◌∙◌, ap}
 use Rattle.line_device.specs.Medium.{last_image}
 use Rattle.line_device.specs.Panel.Outcome.{went}
 use Rattle.line_words.specs.Told.{told_outcome}
