@@ -1,3 +1,4 @@
+pub mod StepKinds
 pub mod StepLemmas
 pub mod WordLemmas
 pub mod PresenceLemmas
@@ -18,3 +19,4 @@ pub mod WrittenLemmas
 pub mod UnsyncedLemmas
 pub mod PassLemmas
 pub mod MetadataLemmas
+pub mod FileLemmas

@@ -43,8 +43,9 @@ use Rattle.durable.specs.Durable.{HasEightLines, HasNothing, HaveEightLines, Hav
 use Rattle.durable.proofs.PresenceLemmas.{has_lines, line_in, page_present, zero_at}
 use Rattle.durable.proofs.EightLemmas.{eight-altered, eight-left, eight-read}
 use Rattle.durable.proofs.RefusalLemmas.{is_on}
-use Rattle.durable.proofs.StepLemmas.{Alters, Remounts, Returns, Step, blocks_after, nothing_idle, nothing_stopped, step_of, volume_after}
-use Rattle.durable.proofs.StepLemmas.Step.{idles, alters, stops, returns, remounts, empties}
+use Rattle.durable.proofs.StepKinds.{Alters, Remounts, Returns, Step, blocks_after, volume_after}
+use Rattle.durable.proofs.StepLemmas.{nothing_idle, nothing_stopped, step_of}
+use Rattle.durable.proofs.StepKinds.Step.{idles, alters, stops, returns, remounts, empties}
 
 there-persist : (start len n : ℕ) (o : Option Cell) → IsLineThere o → IsLineThere (option_map (persist_cell start len n) o)
 there-persist start len n None there = there
@@ -413,7 +414,7 @@ whole-armed [] geo image cut fail = record {
 }
 whole-armed (line ∷ lines) geo image cut fail =
     whole-nothing (record (stopped_by geo (line ∷ lines)) { cut_armed = cut; fail_armed = fail })
-    (record { metadata = λ none. cc none; mode = λ on. cc on; blocks = refl; volume = refl })
+    (record { metadata = λ none. cc none; mode = λ on. cc on; blocks = refl; volume = refl; files = refl })
 
 -- a machine that is read from an image
 pub whole-reading : (geo : Geometry) (image : Image) (h : Machine) → h ≡ record (reading geo image) { cut_armed = h.cut_armed; fail_armed = h.fail_armed } → IsComplete h
