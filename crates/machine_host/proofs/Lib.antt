@@ -4,7 +4,7 @@ pub mod RunLemmas
 pub mod RefusalLemmas
 pub mod CostLemmas
 pub mod LayoutLemmas
-mod BadLineLemmas
+pub mod BadLineLemmas
 pub mod ReadingLemmas
 pub mod FilesAsideLemmas
 pub mod ElsewhereLemmas
