@@ -23,6 +23,8 @@ pub mod AgreeLemmas
 pub mod FileLineLemmas
 pub mod RestartLemmas
 pub mod DeviceFileLemmas
+pub mod ElsewhereLemmas
+pub mod MountedFileLemmas
 pub mod StepLemmas
 pub mod SwitchLemmas
 pub mod TableChangeLemmas
