@@ -1,27 +1,25 @@
 -- Bad lines of files, counted on the units of their pages.
-use Rattle.std.proofs.Common.{◌≡◌, ℕ, zero, suc, ◌+◌, ◌*◌, ◌/◌, ◌%◌, ◌<◌, ◌≤◌, Bool, true, false, count_by, sum_by, take, is_some, cond, Option, Some, None, option_map, List, [], ◌∷◌, length, slice_get, slice_index_or, refl, sym, ap, subst, ◌∙◌, inl, inr, arith}
-use Rattle.std.specs.List.{range_with_len}
+use Rattle.std.proofs.Common.{◌≡◌, ℕ, ◌+◌, ◌*◌, ◌/◌, ◌%◌, ◌<◌, ◌≤◌, true, false, sum_by, take, is_some, cond, Option, Some, None, option_map, List, length, slice_get, slice_index_or, refl, sym, ap, subst, ◌∙◌, inl, inr, arith}
 use Rattle.std.proofs.lemmas.Bool.{cases_Bool}
 use Rattle.std.proofs.lemmas.List.{length-map, take-take}
 use Rattle.std.proofs.lemmas.List.Sums.{count_by_more_no, count_by_more_yes, sum_by-take-le}
 use Rattle.std.proofs.lemmas.Option.{get_or_from_slice_get, slice_get-get_or, slice_get-map}
 use Rattle.line_device.specs.Medium.{Medium}
 use Rattle.word_tables.specs.declared.geometry.Geometry.{Geometry}
-use Rattle.word_tables.specs.Layout.{file_line, file_pages, first_line, size, total_lines}
+use Rattle.word_tables.specs.Layout.{file_line, first_line, size, total_lines}
 use Rattle.nvm_base.specs.declared.files.FileEntry.{FileEntry}
-use Rattle.inode_table.specs.Slots.{pages_at, pages_of}
+use Rattle.inode_table.specs.Slots.{pages_of}
 use Rattle.page_table.specs.Pages.{used_by, used_pages}
-use Rattle.nvm_model.specs.Cell.{Cell}
 use Rattle.nvm_model.specs.Files.{bad_file_lines, bad_lines_of}
 use Rattle.nvm_model.specs.Listing.{file_name}
 use Rattle.nvm_model.specs.Numbered.{list_from}
-use Rattle.nvm_model.specs.Page.{Page, is_present, presence_of}
+use Rattle.nvm_model.specs.Page.{Page, is_present}
 use Rattle.nvm_model.specs.Page.Page.{Absent, Present}
 use Rattle.nvm_model.specs.Storage.{File}
 use Rattle.nvm_model.proofs.NumberedLemmas.{length-map_from, slice_get-map_from}
 use Rattle.nvm_model.proofs.SumLemmas.{of_slot, sum-alike, sum-each, sum-in_order}
 use Rattle.file_journal.specs.Files.{UnitFile, files_of, unit_file, unit_file_name, unit_slots}
-use Rattle.file_journal.specs.Standing.{FileStands, FilesStand, line_of_file, line_on, pages_there}
+use Rattle.file_journal.specs.Standing.{FileStands, FilesStand, line_of_file, line_on}
 use Rattle.file_journal.specs.Tables.{AreTables, Tables, unit_at}
 use Rattle.scrub.specs.Counting.{bad_in_inode, bad_in_page, bad_on_unit}
 use Rattle.scrub.proofs.CountLemmas.{bad_lines-sum, lines_bad}

@@ -1,7 +1,6 @@
-use Rattle.std.proofs.Common.{◌≡◌, ◌*◌, ◌<◌, ◌≤◌, None, length, sum_by, sym, ap, ◌∙◌, arith}
+use Rattle.std.proofs.Common.{◌*◌, ◌<◌, ◌≤◌, None, length, sum_by, sym, ap, ◌∙◌, arith}
 use Rattle.std.proofs.lemmas.List.{take_all}
-use Rattle.std.proofs.lemmas.List.Sums.{sum_by_more, sum_by-take-le}
-use Rattle.page_table.specs.Pages.{used_pages}
+use Rattle.std.proofs.lemmas.List.Sums.{sum_by_more}
 use Rattle.nvm_model.proofs.SumLemmas.{of_slot}
 use Rattle.file_journal.specs.Files.{unit_slots}
 use Rattle.scrub.proofs.FileCountLemmas.{bad_on_units, files_bad, inode_bad, length-unit_slots, used-few}

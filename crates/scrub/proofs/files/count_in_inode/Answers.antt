@@ -1,4 +1,4 @@
-use Rattle.std.proofs.Common.{◌≡◌, ◌+◌, ◌*◌, ◌<◌, ◌≤◌, length, take, sym, ap, arith}
+use Rattle.std.proofs.Common.{◌≡◌, ◌+◌, ◌*◌, ◌<◌, ◌≤◌, length, take, ap, arith}
 use Rattle.page_table.specs.Pages.{used_pages}
 use Rattle.nvm_model.proofs.SumLemmas.{sum-next}
 use Rattle.file_journal.specs.Tables.{unit_at}

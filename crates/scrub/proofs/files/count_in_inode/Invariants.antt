@@ -1,5 +1,4 @@
 use Rattle.std.proofs.Common.{◌≡◌, ◌+◌, ◌*◌, ◌≤◌, sum_by, take}
-use Rattle.inode_table.specs.Slots.{pages_at}
 use Rattle.nvm_model.specs.Numbered.{list_from}
 use Rattle.page_table.specs.Pages.{used_pages}
 use Rattle.file_journal.specs.Tables.{unit_at}

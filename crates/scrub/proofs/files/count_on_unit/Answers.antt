@@ -1,6 +1,5 @@
-use Rattle.std.proofs.Common.{◌*◌, ◌≤◌, count_by, sym, ap, subst, ◌∙◌, arith}
+use Rattle.std.proofs.Common.{count_by, sym, ap, ◌∙◌, arith}
 use Rattle.std.specs.List.{range_with_len}
-use Rattle.page_table.specs.Pages.{used_by}
 use Rattle.scrub.specs.Counting.{bad_on_unit}
 use Rattle.scrub.proofs.FileCountLemmas.{unit_on_device, unit_within}
 use Rattle.scrub.proofs.files.count_on_unit.Goals as goal
