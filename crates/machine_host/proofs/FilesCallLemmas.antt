@@ -1,5 +1,5 @@
 -- What a host and its device stand for, after a call that changes files.
-use Rattle.std.proofs.Common.{◌≡◌, ◌/◌, ◌<◌, ◌≤◌, ℕ, Bool, true, IsTrue, Option, Some, None, option_map, inl, Result, Ok, Err, OnOk, List, [], map, refl, sym, ap, subst, ◌∙◌, arith}
+use Rattle.std.proofs.Common.{◌≡◌, ◌⊎◌, ◌/◌, ◌<◌, ◌≤◌, ℕ, true, IsTrue, Option, Some, None, option_map, inl, Result, Ok, Err, OnOk, List, [], map, refl, sym, ap, subst, ◌∙◌, arith}
 use Rattle.line_device.specs.Medium.{Medium}
 use Rattle.line_device.specs.Panel.{Runs}
 use Rattle.line_device.specs.Device.{Device}

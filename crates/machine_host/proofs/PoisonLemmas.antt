@@ -16,6 +16,7 @@ use Rattle.nvm_model.proofs.KeptLemmas.{LineKept}
 use Rattle.pm_volume.proofs.StandingLemmas.{pages-kept, volume_serves-kept}
 use Rattle.file_journal.specs.Standing.{FilesStand}
 use Rattle.file_journal.specs.Tables.{AreTables}
+use Rattle.file_journal.proofs.FileLineLemmas.{page_line_behind}
 use Rattle.file_journal.proofs.ServesLemmas.{journal-kept}
 use Rattle.file_journal.proofs.StandingLemmas.{files-kept}
 use Rattle.scrub.specs.Others.{WritesBackBut}
@@ -31,7 +32,6 @@ use Rattle.machine_host.specs.Run.{answered}
 use Rattle.machine_host.specs.Stands.{HostState, HostServes, AreMounted, Stands}
 use Rattle.machine_host.specs.Telling.{Tells}
 use Rattle.machine_host.proofs.BadLineLemmas.{layout-poisoned, metadata-poisoned}
-use Rattle.machine_host.proofs.FilesAsideLemmas.{pages_behind}
 use Rattle.machine_host.proofs.LayoutLemmas.{stays_of_kept}
 use Rattle.machine_host.proofs.LineLemmas.{data_behind}
 use Rattle.machine_host.proofs.MediaLemmas.{kept-but}
@@ -125,7 +125,7 @@ module _ (host : HostState) (old new : Device) (line : ℕ) (serves : HostServes
         let mounted = serves.mounted on in
         let j = host.journal in
         files-kept j.geo old.medium new.medium j.tables h.files (subst (λ g. AreTables g.fpages j.tables) (sym mounted.journal_geometry) mounted.journal_right)
-        (λ n has. behind_kept n (subst (λ g. meta_lines g ≤ n) mounted.journal_geometry (pages_behind j.geo n has))) (stands.files on)
+        (λ n has. behind_kept n (subst (λ g. meta_lines g ≤ n) mounted.journal_geometry (page_line_behind j.geo n has))) (stands.files on)
 
     stands_poisoned : Stands host new (record h { bad_meta = with_line line h.bad_meta })
     stands_poisoned = record {
