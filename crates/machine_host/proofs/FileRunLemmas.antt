@@ -1,5 +1,5 @@
 -- What may come of a cut in a change of files: all of it or nothing.
-use Rattle.std.proofs.Common.{◌≡◌, ◌⊎◌, ℕ, ◌+◌, ◌<◌, Bool, true, false, inl, inr, List, [], ◌∷◌, ◌++◌, drop, map, slice_index, refl, sym, ap, subst, ◌∙◌, arith}
+use Rattle.std.proofs.Common.{◌≡◌, ◌⊎◌, ℕ, ◌+◌, ◌<◌, Bool, true, false, inl, inr, None, List, [], ◌∷◌, ◌++◌, drop, map, slice_index, append-nil, refl, sym, ap, subst, ◌∙◌, arith}
 use Rattle.std.specs.Prelude.{codes}
 use Rattle.std.proofs.lemmas.Bool.{false≢true}
 use Rattle.std.proofs.lemmas.List.{append_cancel_right}
@@ -14,17 +14,20 @@ use Rattle.word_tables.specs.Layout.{size, first_line, total_lines, volume_line}
 use Rattle.word_log.specs.Replay.{listed}
 use Rattle.nvm_model.specs.Blocks.{bad_block_lines}
 use Rattle.nvm_model.specs.Files.{bad_file_lines, entry_of_file, new_file}
+use Rattle.nvm_model.specs.Listing.{AreAlike, file_name}
+use Rattle.nvm_model.specs.Page.Page.{Absent}
 use Rattle.nvm_model.specs.Page.{Page, bad_lines, presence_of, read_pages}
 use Rattle.nvm_model.specs.Storage.{File}
 use Rattle.block_device.specs.Reading.{states_read, blocks_read}
 use Rattle.pm_volume.specs.Presence.{presence_read, words_read}
 use Rattle.inode_table.specs.Words.{bytes_in, slots_of}
-use Rattle.file_journal.specs.Reading.{tables_of, words_read as file_words}
-use Rattle.file_journal.specs.Standing.{files_read, KeepsFiles}
+use Rattle.file_journal.specs.Files.{UnitFile, files_of, unit_file_name}
+use Rattle.file_journal.specs.Reading.{tables_of, tables_read, words_read as file_words}
+use Rattle.file_journal.specs.Standing.{KeepsFile, KeepsFiles, files_read, line_of_file}
 use Rattle.reply_text.specs.Answer.{Answer, answer_line, reply_text}
 use Rattle.reply_text.specs.Answer.Answer.{Done, DoneBad, Files}
 use Rattle.script_text.specs.Action.{Action}
-use Rattle.script_text.specs.Action.Action.{Create, CutIn, ListFiles, Rename, Restart}
+use Rattle.script_text.specs.Action.Action.{Create, CutIn, Delete, ListFiles, Rename, Restart}
 use Rattle.script_text.specs.Script.{lines_of, words_of, command_action, line_input}
 use Rattle.script_text.specs.Script.Input.{Asked}
 use Rattle.machine_host.specs.declared.mode.Mode.TheVariants as modes
@@ -45,30 +48,6 @@ use Rattle.machine_host.proofs.PartLemmas.{Later, began_giving, began_ordering, 
 abbrev one_hole : ℕ → List File
 one_hole byte = new_file (byte ∷ []) 1 ∷ []
 
-pub deletion_lost : MayWrite with_cut_deletion (leaving Firsts (with_inode 0 97 1) ∷ []) (cut_change_lines (codes "files a:1"))
-unfolding digits number_of read_pages words_read answer_line lines_of words_of command_action line_input refusal size first_line total_lines volume_line reading states_read blocks_read listed files_read file_words tables_of slots_of bytes_in
-deletion_lost =
-    may_write with_cut_deletion (Through ∷ Through ∷ Halted Lost false false ∷ Started (leaving Firsts (with_inode 0 97 1)) ∷ Through ∷ []) (cut_change_lines (codes "files a:1"))
-    (tt, (tt, (refl, ((refl, left_by _ _ _ (one_hole 97) refl refl refl refl refl (inl refl) (refl, record { there = refl; keeps = keeps-last _ _ _ _ refl }, tt)), (tt, tt))))) refl
-
-pub deletion_kept : MayWrite with_cut_deletion (leaving Firsts [] ∷ []) (cut_change_lines (codes "files"))
-unfolding digits number_of read_pages words_read answer_line lines_of words_of command_action line_input refusal size first_line total_lines volume_line reading states_read blocks_read listed files_read file_words tables_of slots_of bytes_in
-deletion_kept =
-    may_write with_cut_deletion (Through ∷ Through ∷ Halted Lost false false ∷ Started (leaving Firsts []) ∷ Through ∷ []) (cut_change_lines (codes "files"))
-    (tt, (tt, (refl, ((refl, left_by _ _ _ [] refl refl refl refl refl (inr refl) tt), (tt, tt))))) refl
-
-pub renaming_lost : MayWrite with_cut_renaming (leaving Firsts (with_inode 0 97 1) ∷ []) (cut_change_lines (codes "files a:1"))
-unfolding digits number_of read_pages words_read answer_line lines_of words_of command_action line_input refusal size first_line total_lines volume_line reading states_read blocks_read listed files_read file_words tables_of slots_of bytes_in
-renaming_lost =
-    may_write with_cut_renaming (Through ∷ Through ∷ Halted Lost false false ∷ Started (leaving Firsts (with_inode 0 97 1)) ∷ Through ∷ []) (cut_change_lines (codes "files a:1"))
-    (tt, (tt, (refl, ((refl, left_by _ _ _ (one_hole 97) refl refl refl refl refl (inl refl) (refl, record { there = refl; keeps = keeps-last _ _ _ _ refl }, tt)), (tt, tt))))) refl
-
-pub renaming_kept : MayWrite with_cut_renaming (leaving Firsts (with_inode 0 98 1) ∷ []) (cut_change_lines (codes "files b:1"))
-unfolding digits number_of read_pages words_read answer_line lines_of words_of command_action line_input refusal size first_line total_lines volume_line reading states_read blocks_read listed files_read file_words tables_of slots_of bytes_in
-renaming_kept =
-    may_write with_cut_renaming (Through ∷ Through ∷ Halted Lost false false ∷ Started (leaving Firsts (with_inode 0 98 1)) ∷ Through ∷ []) (cut_change_lines (codes "files b:1"))
-    (tt, (tt, (refl, ((refl, left_by _ _ _ (one_hole 98) refl refl refl refl refl (inr refl) (refl, record { there = refl; keeps = keeps-last _ _ _ _ refl }, tt)), (tt, tt))))) refl
-
 -- the machine with the file, as the cut is armed, and once it came
 abbrev made : Machine
 made = record (fresh small) { files = one_hole 97 }
@@ -79,8 +58,44 @@ ready = record made { cut_armed = true }
 abbrev renaming : Action
 renaming = Rename (97 ∷ []) (98 ∷ [])
 
-abbrev struck : Bool → Bool → Machine
-struck cut fail = record (while_interrupted ready renaming) { mode = modes.Off; cut_armed = cut; fail_armed = fail }
+abbrev deletion : Action
+deletion = Delete (97 ∷ [])
+
+abbrev struck : Action → Bool → Bool → Machine
+struck action cut fail = record (while_interrupted ready action) { mode = modes.Off; cut_armed = cut; fail_armed = fail }
+
+-- an image with its inode alone keeps it
+abbrev on_no_unit : ℕ → UnitFile
+on_no_unit byte = record { name = byte ∷ []; units = None ∷ [] }
+
+hole_kept : (image : Image) (byte : ℕ) → files_of (tables_read small image.word) ≡ on_no_unit byte ∷ [] → KeepsFiles Firsts small image (one_hole byte)
+hole_kept image byte is =
+    subst (λ (on : List UnitFile). AreAlike unit_file_name file_name (KeepsFile Firsts small image) on (one_hole byte)) (sym is)
+    (refl, record { there = refl; keeps = keeps-last Firsts (line_of_file small (on_no_unit byte)) image (Absent ∷ []) refl }, tt)
+
+pub deletion_lost : MayWrite with_cut_deletion (leaving Firsts (with_inode 0 97 1) ∷ []) (cut_change_lines (codes "files a:1"))
+unfolding digits number_of read_pages words_read answer_line lines_of words_of command_action line_input refusal size first_line total_lines volume_line reading states_read blocks_read listed files_read file_words tables_of slots_of bytes_in
+deletion_lost =
+    may_write with_cut_deletion (Through ∷ Through ∷ Halted Lost false false ∷ Started (leaving Firsts (with_inode 0 97 1)) ∷ Through ∷ []) (cut_change_lines (codes "files a:1"))
+    (tt, (tt, (refl, ((refl, left_by Firsts (leaving Firsts (with_inode 0 97 1)).image (struck deletion false false) (one_hole 97) refl refl refl refl refl (inl refl) (hole_kept (leaving Firsts (with_inode 0 97 1)).image 97 refl)), (tt, tt))))) refl
+
+pub deletion_kept : MayWrite with_cut_deletion (leaving Firsts [] ∷ []) (cut_change_lines (codes "files"))
+unfolding digits number_of read_pages words_read answer_line lines_of words_of command_action line_input refusal size first_line total_lines volume_line reading states_read blocks_read listed files_read file_words tables_of slots_of bytes_in
+deletion_kept =
+    may_write with_cut_deletion (Through ∷ Through ∷ Halted Lost false false ∷ Started (leaving Firsts []) ∷ Through ∷ []) (cut_change_lines (codes "files"))
+    (tt, (tt, (refl, ((refl, left_by Firsts (leaving Firsts []).image (struck deletion false false) [] refl refl refl refl refl (inr refl) tt), (tt, tt))))) refl
+
+pub renaming_lost : MayWrite with_cut_renaming (leaving Firsts (with_inode 0 97 1) ∷ []) (cut_change_lines (codes "files a:1"))
+unfolding digits number_of read_pages words_read answer_line lines_of words_of command_action line_input refusal size first_line total_lines volume_line reading states_read blocks_read listed files_read file_words tables_of slots_of bytes_in
+renaming_lost =
+    may_write with_cut_renaming (Through ∷ Through ∷ Halted Lost false false ∷ Started (leaving Firsts (with_inode 0 97 1)) ∷ Through ∷ []) (cut_change_lines (codes "files a:1"))
+    (tt, (tt, (refl, ((refl, left_by Firsts (leaving Firsts (with_inode 0 97 1)).image (struck renaming false false) (one_hole 97) refl refl refl refl refl (inl refl) (hole_kept (leaving Firsts (with_inode 0 97 1)).image 97 refl)), (tt, tt))))) refl
+
+pub renaming_kept : MayWrite with_cut_renaming (leaving Firsts (with_inode 0 98 1) ∷ []) (cut_change_lines (codes "files b:1"))
+unfolding digits number_of read_pages words_read answer_line lines_of words_of command_action line_input refusal size first_line total_lines volume_line reading states_read blocks_read listed files_read file_words tables_of slots_of bytes_in
+renaming_kept =
+    may_write with_cut_renaming (Through ∷ Through ∷ Halted Lost false false ∷ Started (leaving Firsts (with_inode 0 98 1)) ∷ Through ∷ []) (cut_change_lines (codes "files b:1"))
+    (tt, (tt, (refl, ((refl, left_by Firsts (leaving Firsts (with_inode 0 98 1)).image (struck renaming false false) (one_hole 98) refl refl refl refl refl (inr refl) (hole_kept (leaving Firsts (with_inode 0 98 1)).image 98 refl)), (tt, tt))))) refl
 
 -- the state at rest of the pages that an image leaves and of these files, with what is armed
 abbrev back : Image → List File → Bool → Bool → Machine
@@ -99,8 +114,9 @@ module _ (image : Image) (cut fail : Bool) (byte : ℕ) (seen shown : List ℕ) 
       let h = back image (one_hole byte) cut fail in
       let one = began_giving h ListFiles [] answers later (Files (map entry_of_file (one_hole byte))) h refl in
       let last = nothing_more h one.0 one.2 in
-      let same = ap (λ (line : List ℕ). line ++ []) (sym shows) ∙ sym (ap (λ r. reply_text (Files (map entry_of_file (one_hole byte)) ∷ r)) last) ∙ sym (ap reply_text one.1) ∙ wrote in
-      ?
+      let same : codes "files" ++ (seen ++ 10 ∷ []) ≡ text ((codes "files" ++ shown) ∷ []) =
+      sym (append-nil _ ∙ shows) ∙ sym (ap (λ rest. reply_text (Files (map entry_of_file (one_hole byte)) ∷ rest)) last) ∙ sym (ap reply_text one.1) ∙ wrote in
+      sym (append_cancel_right seen shown (10 ∷ []) (ap (drop 5) same))
 
   back_shows : bad_lines (back image (one_hole byte) cut fail).volume ≡ 0 → (rest : List Answer) → Later (back image (one_hole byte) cut fail) (Asked ListFiles ∷ []) rest
       → reply_text (mounted_answer (back image (one_hole byte) cut fail) ∷ rest) ≡ text (codes "ok bad 0" ∷ (codes "files" ++ shown) ∷ []) → shown ≡ seen
@@ -134,13 +150,13 @@ unfolding read_pages
 read_either image left (inl old) keeps = inl (holes_read Firsts small image (one_hole 97) (λ place. refl, tt) (subst (KeepsFiles Firsts small image) old keeps))
 read_either image left (inr new) keeps = inr (holes_read Firsts small image (one_hole 98) (λ place. refl, tt) (subst (KeepsFiles Firsts small image) new keeps))
 
-restart_shows : (shown : List ℕ) (cut fail : Bool) (answers : List Answer) → Later (struck cut fail) (Asked (Restart Firsts) ∷ Asked ListFiles ∷ []) answers
+restart_shows : (shown : List ℕ) (cut fail : Bool) (answers : List Answer) → Later (struck renaming cut fail) (Asked (Restart Firsts) ∷ Asked ListFiles ∷ []) answers
     → reply_text answers ≡ text (codes "ok bad 0" ∷ (codes "files" ++ shown) ∷ []) → EitherName shown
 unfolding refusal reading
 restart_shows shown cut fail answers later wrote =
-    let one = began_restarting (struck cut fail) (Restart Firsts) (Asked ListFiles ∷ []) answers later Firsts refl in
+    let one = began_restarting (struck renaming cut fail) (Restart Firsts) (Asked ListFiles ∷ []) answers later Firsts refl in
     let keeps = one.5.storage refl in
-    let same : restarted (struck cut fail) one.0 ≡ found one.0 =
+    let same : restarted (struck renaming cut fail) one.0 ≡ found one.0 =
     ap (λ bad. record (read_with bad small one.0) { cut_armed = cut; fail_armed = fail }) one.5.metadata
     ∙ ap (λ bs. record (holding small bs (pages one.0) (files_read small one.0)) { cut_armed = cut; fail_armed = fail }) keeps.blocks in
     by_end one.0 one.1 one.2 one.3 keeps (subst (λ k. Ends (mounted_answer k) k k one.1 one.2) same one.6) one.7 (sym (ap reply_text one.4) ∙ wrote)
@@ -151,7 +167,7 @@ restart_shows shown cut fail answers later wrote =
     found : Image → Machine
     found image = back image (files_read small image) cut fail
 
-    by_end : (image : Image) (answer : Answer) (next : Machine) (rest : List Answer) → MayLeaveStorage Firsts image (struck cut fail)
+    by_end : (image : Image) (answer : Answer) (next : Machine) (rest : List Answer) → MayLeaveStorage Firsts image (struck renaming cut fail)
         → Ends (mounted_answer (found image)) (found image) (found image) answer next → Later next (Asked ListFiles ∷ []) rest
         → reply_text (answer ∷ rest) ≡ text (codes "ok bad 0" ∷ (codes "files" ++ shown) ∷ []) → EitherName shown
     by_end image answer next rest keeps (inl good) later e =

@@ -251,7 +251,7 @@ module _ (host : HostState) (old new : Device) (serves : HostServes host old) (u
                 mode = refl;
                 blocks = λ on. cc on;
                 volume = λ on. cc on;
-                files = λ on. absurd (cc on);
+                files = λ on. cc;
                 device = record {
                   metadata = subst (MetadataStands geo new.medium) is metadata;
                   blocks = λ none. cc none;

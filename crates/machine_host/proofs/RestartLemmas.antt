@@ -97,7 +97,7 @@ module _ (host : HostState) (choice : Choice) (old mid : Device) (start : Start)
               mode = refl;
               blocks = λ on. cc on;
               volume = λ on. cc on;
-              files = λ on. absurd (cc on);
+              files = λ on. cc;
               device = record {
                 metadata = subst (MetadataStands geo mid.medium) good metadata;
                 blocks = λ _.
@@ -119,7 +119,7 @@ module _ (host : HostState) (choice : Choice) (old mid : Device) (start : Start)
               mode = refl;
               blocks = λ on. cc on;
               volume = λ on. cc on;
-              files = λ on. absurd (cc on);
+              files = λ on. cc;
               device = record {
                 metadata = subst (MetadataStands geo mid.medium) bad metadata;
                 blocks = λ none. cc none;

@@ -1,6 +1,6 @@
 -- Worked scripts on files: what the machine writes, and what it may write after a cut.
 use Rattle.std.specs.Prelude.{◌≡◌, ◌⊎◌, ◌+◌, ◌*◌, ◌++◌, ℕ, List, [], ◌∷◌, codes, map}
-use Rattle.std.specs.Fmt.{digits}
+use Rattle.std.specs.Fmt.{decimal}
 use Rattle.std.specs.List.{range_with_len}
 use Rattle.line_device.specs.Panel.{Start}
 use Rattle.line_device.specs.declared.line.Choice.TheVariants.{Firsts, Lasts}
@@ -18,7 +18,7 @@ with_page_on inode page unit = (1744 + 256 * inode + page, unit + 1) ∷ []
 
 -- files f0, f1 and so on
 abbrev pub creations : ℕ → List (List ℕ)
-creations count = map (λ i. codes "create f" ++ digits i ++ codes " 0") (range_with_len 0 count)
+creations count = map (λ i. codes "create f" ++ decimal i ++ codes " 0") (range_with_len 0 count)
 
 abbrev pub all_ok : ℕ → List (List ℕ)
 all_ok count = map (λ _. codes "ok") (range_with_len 0 count)
