@@ -12,7 +12,7 @@ use Rattle.word_log.specs.Area.{IsOf}
 use Rattle.word_log.specs.Rest.{IsImageOn}
 use Rattle.nvm_model.specs.Lines.{AreStrong}
 use Rattle.nvm_model.specs.Page.{Page}
-use Rattle.block_device.specs.Area.{block_area, IsBlockLine}
+use Rattle.block_device.specs.Area.{IsBlockLine}
 use Rattle.block_device.specs.Object.{BlocksServe, BlocksState}
 use Rattle.block_device.proofs.ReadLemmas.{Stays}
 use Rattle.block_device.proofs.FrameLemmas.{each_reads-write_back}

@@ -1,19 +1,16 @@
 -- What may come of a cut in a change of files: all of it or nothing.
-use Rattle.std.proofs.Common.{◌≡◌, ◌⊎◌, ℕ, ◌+◌, ◌<◌, Bool, true, false, inl, inr, None, List, [], ◌∷◌, ◌++◌, drop, map, slice_index, append-nil, refl, sym, ap, subst, ◌∙◌, arith}
+use Rattle.std.proofs.Common.{◌≡◌, ◌⊎◌, ℕ, ◌+◌, Bool, true, false, inl, inr, None, List, [], ◌∷◌, ◌++◌, drop, map, slice_index, append-nil, refl, sym, ap, subst, ◌∙◌, arith}
 use Rattle.std.specs.Prelude.{codes}
-use Rattle.std.proofs.lemmas.Bool.{false≢true}
 use Rattle.std.proofs.lemmas.List.{append_cancel_right}
 use Rattle.std.specs.Fmt.{digits}
 use Rattle.line_device.specs.Panel.{Image, Start}
-use Rattle.line_device.specs.declared.line.Choice.{Choice}
 use Rattle.line_device.specs.declared.line.Choice.TheVariants.{Firsts}
 use Rattle.line_device.specs.declared.order.Order.TheVariants.{Cut as ForCut}
 use Rattle.line_words.specs.declared.interruption.Interruption.TheVariants.{Failed, PowerLost as Lost}
 use Rattle.nvm_base.specs.Numbers.{number_of}
 use Rattle.word_tables.specs.Layout.{size, first_line, total_lines, volume_line}
 use Rattle.word_log.specs.Replay.{listed}
-use Rattle.nvm_model.specs.Blocks.{bad_block_lines}
-use Rattle.nvm_model.specs.Files.{bad_file_lines, entry_of_file, new_file}
+use Rattle.nvm_model.specs.Files.{entry_of_file, new_file}
 use Rattle.nvm_model.specs.Listing.{AreAlike, file_name}
 use Rattle.nvm_model.specs.Page.Page.{Absent}
 use Rattle.nvm_model.specs.Page.{Page, bad_lines, presence_of, read_pages}
@@ -35,12 +32,12 @@ use Rattle.machine_host.specs.Commands.{refusal, while_interrupted}
 use Rattle.machine_host.specs.CutRows.{MayWrite}
 use Rattle.machine_host.specs.FileRows.{cut_change_lines, with_cut_deletion, with_cut_renaming, with_inode}
 use Rattle.machine_host.specs.Machine.{Machine}
-use Rattle.machine_host.specs.Restarting.{MayLeaveStorage, RestartMayLeave, fresh, holding, mounted_answer, read_with, reading, restarted}
+use Rattle.machine_host.specs.Restarting.{MayLeaveStorage, fresh, holding, mounted_answer, read_with, reading, restarted}
 use Rattle.machine_host.specs.Rows.{leaving, small, text}
 use Rattle.machine_host.specs.Run.{Ends}
 use Rattle.machine_host.proofs.FailureRunLemmas.{left_by, may_write}
 use Rattle.machine_host.proofs.FailureRunLemmas.Turn.{Through, Halted, Started}
-use Rattle.machine_host.proofs.HoleFileLemmas.{AreHoles, holes_read}
+use Rattle.machine_host.proofs.HoleFileLemmas.{holes_read}
 use Rattle.machine_host.proofs.LastLemmas.{keeps-last}
 use Rattle.machine_host.proofs.PartLemmas.{Later, began_giving, began_ordering, began_restarting, began_working, never_stopped, no_bad_line, nothing_more}
 

@@ -1,5 +1,5 @@
 -- Files lie apart from blocks and volume: work on those leaves them, and work on files leaves those.
-use Rattle.std.proofs.Common.{◌≡◌, ℕ, ◌*◌, ◌/◌, ◌+◌, ◌<◌, ◌≤◌, inl, inr, List, refl, sym, subst, arith}
+use Rattle.std.proofs.Common.{◌≡◌, ℕ, ◌/◌, ◌<◌, ◌≤◌, inl, inr, List, refl, sym, subst, arith}
 use Rattle.line_device.specs.Medium.{Medium}
 use Rattle.line_device.proofs.HistoryLemmas.{is_in-part}
 use Rattle.word_tables.specs.declared.geometry.Geometry.{Geometry}

@@ -1,6 +1,5 @@
 -- What a host and its device stand for, after a call that changes files.
-use Rattle.std.proofs.Common.{◌≡◌, ◌⊎◌, ◌/◌, ◌<◌, ◌≤◌, ℕ, true, IsTrue, Option, Some, None, option_map, inl, Result, Ok, Err, OnOk, List, [], map, refl, sym, ap, subst, ◌∙◌, arith}
-use Rattle.line_device.specs.Medium.{Medium}
+use Rattle.std.proofs.Common.{◌≡◌, ◌⊎◌, ◌/◌, ◌<◌, ◌≤◌, ℕ, true, IsTrue, Option, Some, None, option_map, Result, Ok, Err, OnOk, List, [], map, refl, sym, ap, subst, ◌∙◌, arith}
 use Rattle.line_device.specs.Panel.{Runs}
 use Rattle.line_device.specs.Device.{Device}
 use Rattle.line_words.specs.Told.{Told, Answers, OnRefused, OnWorked, is_done, outcome_by}
@@ -24,7 +23,6 @@ use Rattle.file_journal.specs.Area.{IsOfFiles, file_area}
 use Rattle.file_journal.specs.Images.{EachReadsTables, IsEither}
 use Rattle.file_journal.specs.Listing.{listed}
 use Rattle.file_journal.specs.Object.{JournalServes, JournalState}
-use Rattle.file_journal.specs.Refusals as journal
 use Rattle.file_journal.specs.Refusals.{JournalRefusal, journal_says}
 use Rattle.file_journal.specs.Refusals.JournalRefusal.{Missing, Exists, Limit, Slots, Full, Meta}
 use Rattle.file_journal.specs.Standing.{EachReadsFiles, FilesStand}
@@ -44,7 +42,7 @@ use Rattle.machine_host.specs.declared.mode.Mode.{Mode}
 use Rattle.machine_host.specs.declared.mode.Mode.TheVariants.{On}
 use Rattle.machine_host.specs.Machine.{Machine}
 use Rattle.machine_host.specs.Machine.Fate.{Works}
-use Rattle.machine_host.specs.Commands.{LeavesBlocks, LeavesVolume, MayLeaveBlocks, MayLeaveFiles, MayLeaveVolume, fate, meaning, spending, unless_refused}
+use Rattle.machine_host.specs.Commands.{LeavesBlocks, LeavesVolume, MayLeaveBlocks, MayLeaveVolume, fate, meaning, spending, unless_refused}
 use Rattle.machine_host.specs.Faults.{answer_after, mode_after}
 use Rattle.machine_host.specs.Interrupted.{stop_in}
 use Rattle.machine_host.specs.Lines.{HasLayout, MetadataStands, bad_metadata}
@@ -53,7 +51,7 @@ use Rattle.machine_host.specs.OnFiles.{changing_files, journal_answer}
 use Rattle.machine_host.specs.Responding.{Answered}
 use Rattle.machine_host.specs.Stands.{HostState, HostServes, AreMounted, Stands, Comes}
 use Rattle.machine_host.proofs.CallLemmas.{IsPart, comes_of_call, on_refused-then, printable_after, serves_of_call}
-use Rattle.machine_host.proofs.ElsewhereLemmas.{mounted-files, volume_apart}
+use Rattle.machine_host.proofs.ElsewhereLemmas.{mounted-files}
 use Rattle.machine_host.proofs.FilesAsideLemmas.{files_not_blocks, files_not_volume, first_not_files}
 use Rattle.machine_host.proofs.FilesFateLemmas.{SeesFiles}
 use Rattle.machine_host.proofs.LayoutLemmas.{kept-outside, layout-outside, metadata-then, same_bad, stays_of_kept}

@@ -1,30 +1,29 @@
 -- A mount of a device whose host has not mounted it, while the power is on: it runs through, is interrupted, or wants memory.
-use Rattle.std.proofs.Common.{◌≡◌, ◌≢◌, ◌⊎◌, ℕ, ◌<◌, inl, inr, Bool, true, false, IsTrue, List, [], ◌∷◌, length, Option, Some, None, Err, refl, sym, ap, subst, ◌∙◌, arith}
+use Rattle.std.proofs.Common.{◌≡◌, ◌≢◌, ◌⊎◌, ℕ, inl, inr, Bool, true, false, List, [], ◌∷◌, length, Option, Some, None, Err, refl, sym, ap, subst, ◌∙◌, arith}
 use Rattle.std.proofs.lemmas.Bool.{false≢true}
 use Rattle.std.proofs.lemmas.Option.{none-some}
 use Rattle.std.proofs.lemmas.List.{length-map}
-use Rattle.line_device.specs.Medium.{IsSound, WritesBack, last_image}
+use Rattle.line_device.specs.Medium.{IsSound, last_image}
 use Rattle.line_device.specs.Panel.{Runs}
 use Rattle.line_device.specs.Panel.Outcome.{went}
 use Rattle.line_device.specs.Device.{Device}
 use Rattle.line_words.specs.declared.interruption.Interruption.{Interruption}
 use Rattle.line_words.specs.Ending.{ended}
-use Rattle.line_words.specs.Words.{WritesBackOutside}
 use Rattle.word_tables.specs.declared.geometry.Geometry.{Geometry}
-use Rattle.word_tables.specs.Layout.{meta_lines, volume_line}
+use Rattle.word_tables.specs.Layout.{volume_line}
 use Rattle.word_log.specs.Mount.{Finding}
 use Rattle.word_log.specs.Mount.Finding.{bad_line, wrong_word}
 use Rattle.word_log.specs.Rest.{EachImage, IsReached}
 use Rattle.nvm_model.specs.Page.{is_present, presence_of, PagesStand}
 use Rattle.block_device.specs.Object.{BlocksState, BlocksServe, HasGoodMetadata, blocks_of}
 use Rattle.block_device.specs.Reading.{blocks_read}
-use Rattle.block_device.specs.Images.{AreReadable, EachReads, KeepsReads, ReadsAs}
+use Rattle.block_device.specs.Images.{EachReads, KeepsReads, ReadsAs}
 use Rattle.block_device.proofs.ImageLemmas.{each_reads-then, served_reads}
 use Rattle.block_device.proofs.ReachLemmas.{each_reads-kept}
 use Rattle.block_device.proofs.RestartLemmas.{block_image-last}
 use Rattle.pm_volume.specs.Area.{volume_area}
 use Rattle.pm_volume.specs.Images.{EachReadsPages, ReadsPages}
-use Rattle.pm_volume.specs.Object.{VolumeState, VolumeHolds, VolumeServes}
+use Rattle.pm_volume.specs.Object.{VolumeState, VolumeHolds}
 use Rattle.pm_volume.specs.Presence.{presence_read}
 use Rattle.pm_volume.proofs.StandingLemmas.{each_pages-reached, each_pages-then, pages-kept, presence_read-replays, served_pages}
 use Rattle.file_journal.specs.Area.{file_area}
@@ -36,9 +35,7 @@ use Rattle.file_journal.proofs.EachFilesLemmas.{each_files-reached, each_files-t
 use Rattle.file_journal.proofs.ServesLemmas.{served_files}
 use Rattle.file_journal.proofs.StandingLemmas.{files-kept}
 use Rattle.file_journal.proofs.TableReadLemmas.{tables_read-replays}
-use Rattle.recovery.specs.Findings.{geometry_told, early_finding, inspection_finding, first_finding}
-use Rattle.recovery.specs.Mounting.{HasDurableBlocks, IsOfLogs}
-use Rattle.recovery.proofs.FindingLemmas.{early_inspection}
+use Rattle.recovery.specs.Findings.{geometry_told, first_finding}
 use Rattle.reply_text.specs.Answer.{Answer}
 use Rattle.reply_text.specs.Answer.Answer.{DoneBad, Stopped}
 use Rattle.machine_host.specs.declared.mode.Mode.{Mode}
@@ -54,10 +51,10 @@ use Rattle.machine_host.specs.Telling.{Tells}
 use Rattle.machine_host.specs.Faults.{CountsBad}
 use Rattle.machine_host.specs.Lines.{HasLayout, MetadataStands, bad_metadata}
 use Rattle.machine_host.specs.Stands.{HostState, HostServes, Stands, is_powered}
-use Rattle.machine_host.proofs.BadLineLemmas.{bad_early, bad_found, found_bad, good_lines}
+use Rattle.machine_host.proofs.BadLineLemmas.{bad_found, found_bad, good_lines}
 use Rattle.machine_host.proofs.LogLineLemmas.{file_pages_kept, range_kept}
 use Rattle.machine_host.proofs.MountEffectLemmas.{Gives, IsMount, durable_mount, good_of, layout_mount, marks_mount, none_found, outside_of, readable_mount}
-use Rattle.machine_host.proofs.LayoutLemmas.{IsGood, is_good, layout-outside, layout-write_back, metadata-then, same_bad, stays_bad}
+use Rattle.machine_host.proofs.LayoutLemmas.{IsGood, metadata-then, stays_bad}
 use Rattle.machine_host.proofs.MountLemmas.{IsTold, file_image-last, found_tables, is_told, nothing_wrong_there, volume_image-last}
 use Rattle.machine_host.proofs.TellingLemmas.{interrupts, never_on, never_stops, power_struck, struck, tells_interrupted, tells_work}
 

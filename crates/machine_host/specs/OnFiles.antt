@@ -10,7 +10,6 @@ use Rattle.file_journal.specs.Refusals.JournalRefusal.{Missing, Exists, Limit, S
 use Rattle.reply_text.specs.declared.reply.Why.TheVariants as because
 use Rattle.reply_text.specs.Answer.{Answer}
 use Rattle.reply_text.specs.Answer.Answer.{Done, Files, Refused, RefusedMeta}
-use Rattle.machine_host.specs.Machine.{Machine}
 use Rattle.machine_host.specs.Machine.Fate.{Gives, Works}
 use Rattle.machine_host.specs.Meaning.{Meaning, Reasons, anywhere, no_reasons, quiet}
 use Rattle.machine_host.specs.declared.needs.Needs.TheVariants.{Usable}
