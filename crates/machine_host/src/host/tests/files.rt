@@ -52,7 +52,11 @@ const BAD_INODES: [Step; 7] = [
     (Act::Line("delete a"), "refused meta 154\n", Mode::On),
     (Act::Line("list"), "files a:1\n", Mode::On),
     (Act::Line("cut"), "ok\n", Mode::Off),
-    (Act::Line("restart all"), "stopped meta 154\n", Mode::Stopped),
+    (
+        Act::Line("restart all"),
+        "stopped meta 154\n",
+        Mode::Stopped,
+    ),
     (Act::Line("list"), "refused meta 154\n", Mode::Stopped),
 ];
 
