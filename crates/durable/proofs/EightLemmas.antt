@@ -20,7 +20,7 @@ use Rattle.machine_host.specs.Meaning.{BlocksLeft}
 use Rattle.machine_host.specs.Meaning.BlocksLeft.{Same, Either, Mixed}
 use Rattle.machine_host.specs.OnBlocks.{blocks_from}
 use Rattle.durable.specs.Durable.{HasEightLines, HaveEightLines}
-use Rattle.durable.proofs.StepLemmas.{blocks_after}
+use Rattle.durable.proofs.StepKinds.{blocks_after}
 
 eight-map : (f : ℕ → Block → Block) (k : ℕ) (blocks : List Block) → ((j : ℕ) (old : Block) → HasEightLines old → HasEightLines (f j old)) → HaveEightLines blocks
     → HaveEightLines (map_from f k blocks)

@@ -26,8 +26,8 @@ use Rattle.durable.specs.Place.{Place, block_has, byte_at_place}
 use Rattle.durable.specs.Place.Place.{of_volume, of_blocks}
 use Rattle.durable.specs.Touching.{changes, holds, is_begun, made_durable, poisons, touched_lines_at, weakens}
 use Rattle.durable.specs.Durable.{BringsBytes, HasNothing}
-use Rattle.durable.proofs.StepLemmas.{Alters, Remounts, Returns, Step, TouchesNothing, blocks_after, volume_after}
-use Rattle.durable.proofs.StepLemmas.Step.{idles, alters, stops, returns, remounts, empties}
+use Rattle.durable.proofs.StepKinds.{Alters, Remounts, Returns, Step, TouchesNothing, blocks_after, volume_after}
+use Rattle.durable.proofs.StepKinds.Step.{idles, alters, stops, returns, remounts, empties}
 use Rattle.durable.proofs.LineLemmas.{HasOrLost, MayBe}
 use Rattle.durable.proofs.VolumeLemmas.{VolumeKeeps, byte-kept, keeps-clear, keeps-lose, keeps-weaken, keeps-persist, keeps-stored, keeps-may_store, keeps-may_sync, keeps-discard, keeps-may_discard, keeps-read}
 use Rattle.durable.proofs.BlockLemmas.{has-lost, nth-spared, nth-left}
@@ -44,6 +44,11 @@ pub record SparesPlace (since : MayBe) (geo : Geometry) (action : Action) (x : P
 abbrev pub SparedBy : MayBe → Geometry → Option Action → Place → Type 0
 SparedBy since geo None x = Unit {0}
 SparedBy since geo (Some action) x = SparesPlace since geo action x
+
+-- a command that was stopped was begun
+pub stop_begun : (by : Interruption) → is_begun (interrupted_answer by) ≡ true
+stop_begun Failed = refl
+stop_begun Lost = refl
 
 module _ (since : MayBe) where
   -- the place has this byte, whatever a cut leaves
@@ -145,10 +150,6 @@ module _ (since : MayBe) where
   remounted_place h next (of_volume i) v back spared keeps = volume_left h.geometry h.interrupted i v h.volume next.volume spared keeps back.volume
   remounted_place h next (of_blocks i) v back spared keeps =
       subst (λ b. HasOrLost since.lost (block_has b (i % 512)) v) (sym (blocks_left h.geometry h.interrupted i h.blocks next.blocks spared back.blocks)) keeps
-
-  pub stop_begun : (by : Interruption) → is_begun (interrupted_answer by) ≡ true
-  stop_begun Failed = refl
-  stop_begun Lost = refl
 
   -- an action that does nothing to any place, or was begun
   spared_when : (geo : Geometry) (action : Action) (x : Place) (answer : Answer) → BringsBytes action → (is_begun answer ≡ true → SparesPlace since geo action x)

@@ -30,9 +30,10 @@ use Rattle.durable.specs.Place.{Place, byte_at_place, line_has}
 use Rattle.durable.specs.Place.{is_line_present, is_weak_at}
 use Rattle.durable.specs.Place.Place.{of_volume, of_blocks}
 use Rattle.durable.specs.Touching.{changes, holds, is_begun, is_made_durable, made_durable, poisons, touched_lines_at, weakens}
-use Rattle.durable.specs.Durable.{BringBytes, BringsBytes, Does, HasNothing, HaveLines, IsComplete, IsDurable, IsLineThere, Lasts, LastsPowered, Remains, Spares, StaysPowered}
-use Rattle.durable.proofs.StepLemmas.{Alters, Step, geometry_run, geometry_step, nothing_run, step_of}
-use Rattle.durable.proofs.StepLemmas.Step.{idles, alters, stops, returns, remounts, empties}
+use Rattle.durable.specs.Durable.{BringBytes, BringsBytes, Does, HasNothing, HaveLines, IsComplete, IsDurable, IsLineThere, Lasts, LastsPowered, NoneBegun, Remains, Spares, StaysPowered}
+use Rattle.durable.proofs.StepKinds.{Alters, CoversNothing, Step}
+use Rattle.durable.proofs.StepLemmas.{geometry_run, geometry_step, nothing_run, step_of}
+use Rattle.durable.proofs.StepKinds.Step.{idles, alters, stops, returns, remounts, empties}
 use Rattle.durable.proofs.LineLemmas.{HasOrLost, LineKeeps, MayBe, line_keeps-flushed}
 use Rattle.durable.proofs.VolumeLemmas.{VolumeKeeps, absent-kept, there-kept}
 use Rattle.durable.proofs.KeepLemmas.{Keeps, PlaceKeeps, SparedBy, SparesPlace, keeps-step, keeps_byte}
@@ -41,10 +42,9 @@ use Rattle.durable.proofs.RefusalLemmas.{is_on, is_refused, line_none, places_no
 use Rattle.durable.proofs.WholeLemmas.{whole-heard, whole-run}
 
 -- the answer of a first command, and those of the rest
-spares-asked : (does : Action → Place → Bool) (action : Action) (inputs : List Input) (first : Transcript) (answer : Answer) (answers : List Answer) (x : Place)
-    → first.answers ≡ answer ∷ [] → Spares does x (Asked action ∷ inputs) (first.answers ++ answers)
-    → (does action x ≡ true → is_begun answer ≡ false) × Spares does x inputs answers
-spares-asked does action inputs first answer answers x is spares = subst (λ s. Spares does x (Asked action ∷ inputs) (s ++ answers)) is spares
+pub none-asked : (does : Action → Bool) (action : Action) (inputs : List Input) (first : Transcript) (answer : Answer) (answers : List Answer) → first.answers ≡ answer ∷ []
+    → NoneBegun does (Asked action ∷ inputs) (first.answers ++ answers) → (does action ≡ true → is_begun answer ≡ false) × NoneBegun does inputs answers
+none-asked does action inputs first answer answers is none = subst (λ s. NoneBegun does (Asked action ∷ inputs) (s ++ answers)) is none
 
 -- a command that covers something needs a machine that is on
 covers_usable : (h : Machine) (action : Action) (x : Place) → is_made_durable h action x ≡ true → (meaning action).needs ≡ Usable
@@ -66,24 +66,28 @@ pub stop_done : (by : Interruption) → Done ≡ interrupted_answer by → ⊥
 stop_done Failed is = cc is
 stop_done Lost is = cc is
 
--- a command that covers the place and was done was not refused, and was done by changing
+-- a command that leaves something else and was done was not refused, and was done by changing
 pub record Came (h : Machine) (action : Action) (next : Machine) : Type 0 where
   pub none : refusal h action ≡ None
   pub to : Alters h action next
 
-came_by : (h : Machine) (action : Action) (answer : Answer) (next : Machine) (x : Place) → is_made_durable h action x ≡ true → answer ≡ Done → Step h action answer next → Came h action next
-came_by h action answer next x covered done (idles (inl why) to) = absurd (both_ways (is_refused answer) (ap is_refused done) (refused_told h action answer why))
-came_by h action answer next x covered done (idles (inr none) to) = absurd (both_ways _ (none x) covered)
-came_by h action answer next x covered done (stops by is to) = absurd (stop_done by (sym done ∙ is))
-came_by h action answer next x covered done (returns none back) = absurd (both_ways _ (none x) covered)
-came_by h action answer next x covered done (remounts none back) = absurd (both_ways _ (none x) covered)
-came_by h action answer next x covered done (empties none to) = absurd (both_ways _ (none x) covered)
-came_by h action answer next x covered done (alters begun none to) = record { none = none; to = to }
+came_by : (h : Machine) (action : Action) (answer : Answer) (next : Machine) → (CoversNothing h action → ⊥) → answer ≡ Done → Step h action answer next → Came h action next
+came_by h action answer next some done (idles (inl why) to) = absurd (both_ways (is_refused answer) (ap is_refused done) (refused_told h action answer why))
+came_by h action answer next some done (idles (inr none) to) = absurd (some none)
+came_by h action answer next some done (stops by is to) = absurd (stop_done by (sym done ∙ is))
+came_by h action answer next some done (returns none back) = absurd (some none)
+came_by h action answer next some done (remounts none back) = absurd (some none)
+came_by h action answer next some done (empties none to) = absurd (some none)
+came_by h action answer next some done (alters begun none to) = record { none = none; to = to }
 
-pub done_by : (h next : Machine) (action : Action) (x : Place) → Does h action next → is_made_durable h action x ≡ true → Came h action next
-done_by h next action x does covered =
+pub came_of : (h next : Machine) (action : Action) → Does h action next → (CoversNothing h action → ⊥) → Came h action next
+came_of h next action does some =
     let taken = step_of h action does.said next does.came in
-    let done : taken.answer ≡ Done = cc (taken.answers, does.done) in came_by h action taken.answer next x covered done taken.step
+    let done : taken.answer ≡ Done = cc (taken.answers, does.done) in came_by h action taken.answer next some done taken.step
+
+-- so where it covers a place
+pub done_by : (h next : Machine) (action : Action) (x : Place) → Does h action next → is_made_durable h action x ≡ true → Came h action next
+done_by h next action x does covered = came_of h next action does (λ none. both_ways _ (none.bytes x) covered)
 
 -- a line that is cleared was bad
 pub was_bad : (h : Machine) (offset : ℕ) → refusal h (ClearVolume offset) ≡ None → cell_of h.volume (offset / 64) ≡ Some Bad
@@ -102,11 +106,11 @@ may-asked : (does : Action → Place → Bool) (may : Type 0) (action : Action) 
     → first.answers ≡ answer ∷ [] → SparesOr does may x (Asked action ∷ inputs) (first.answers ++ answers)
     → (is_begun answer ≡ true → does action x ≡ true → may) × SparesOr does may x inputs answers
 may-asked does may action inputs first answer answers x is (inl spares) =
-    let each = spares-asked does action inputs first answer answers x is spares in
+    let each = none-asked (λ a. does a x) action inputs first answer answers is spares in
     (λ begun did. absurd (both_ways (is_begun answer) (each.0 did) begun), inl each.1)
 may-asked does may action inputs first answer answers x is (inr so) = (λ begun did. so, inr so)
 
-not_done : (does : Bool) (answer : Answer) → (does ≡ true → is_begun answer ≡ false) → is_begun answer ≡ true → does ≡ false
+pub not_done : (does : Bool) (answer : Answer) → (does ≡ true → is_begun answer ≡ false) → is_begun answer ≡ true → does ≡ false
 not_done true answer only begun = absurd (both_ways (is_begun answer) (only refl) begun)
 not_done false answer only begun = refl
 
@@ -122,7 +126,7 @@ module _ (since : MayBe) where
       → first.answers ≡ answer ∷ [] → Allowed since geo x (Asked action ∷ inputs) (first.answers ++ answers)
       → (is_begun answer ≡ true → SparesPlace since geo action x) × Allowed since geo x inputs answers
   allowed-asked geo action inputs first answer answers x small is all =
-      let change = spares-asked changes action inputs first answer answers x is all.0 in
+      let change = none-asked (λ a. changes a x) action inputs first answer answers is all.0 in
       let poison = may-asked poisons (since.lost ≡ true) action inputs first answer answers x is all.1 in
       let weaken = may-asked weakens (since.weak ≡ true) action inputs first answer answers x is all.2 in
       let cover =

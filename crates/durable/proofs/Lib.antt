@@ -1,3 +1,4 @@
+pub mod StepKinds
 pub mod StepLemmas
 pub mod WordLemmas
 pub mod PresenceLemmas
@@ -7,6 +8,7 @@ pub mod BlockLemmas
 pub mod EightLemmas
 pub mod KeepLemmas
 pub mod RefusalLemmas
+pub mod ThereLemmas
 pub mod WholeLemmas
 pub mod NamingLemmas
 pub mod ReadLemmas
@@ -18,3 +20,4 @@ pub mod WrittenLemmas
 pub mod UnsyncedLemmas
 pub mod PassLemmas
 pub mod MetadataLemmas
+pub mod FileLemmas

@@ -28,7 +28,7 @@ use Rattle.durable.specs.Place.{Place, block_has, byte_at_place, is_weak_line, l
 use Rattle.durable.specs.Place.Place.{of_volume, of_blocks}
 use Rattle.durable.specs.Touching.{is_made_durable, touched_lines_at}
 use Rattle.durable.specs.Durable.{Does, IsComplete, Lasts}
-use Rattle.durable.proofs.StepLemmas.{volume_after}
+use Rattle.durable.proofs.StepKinds.{volume_after}
 use Rattle.durable.proofs.KeepLemmas.{PlaceKeeps, SparedBy}
 use Rattle.durable.proofs.LineLemmas.{MayBe, lost-kept}
 use Rattle.durable.proofs.BlockLemmas.{lost_there}

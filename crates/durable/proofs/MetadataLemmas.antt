@@ -13,7 +13,7 @@ use Rattle.machine_host.specs.Interrupted.{interrupted_answer}
 use Rattle.machine_host.specs.OnVolume.{yes_or_no}
 use Rattle.machine_host.specs.declared.mode.Mode.TheVariants.{Stopped}
 use Rattle.script_text.specs.Action.{Action}
-use Rattle.script_text.specs.Action.Action.{BExists, VRanges, VExists, PoisonBlock, PoisonVolume, PoisonMeta, WeakenVolume, Cut, CutIn, FailIn, Restart, Recover}
+use Rattle.script_text.specs.Action.Action.{BExists, VRanges, VExists, ListFiles, PoisonBlock, PoisonVolume, PoisonMeta, WeakenVolume, Cut, CutIn, FailIn, Restart, Recover}
 use Rattle.script_text.specs.Script.{Input}
 use Rattle.script_text.specs.Script.Input.{Skipped, Malformed, Asked}
 use Rattle.machine_host.specs.Machine.{Machine, Fate}
@@ -54,6 +54,7 @@ marks : (h : Machine) (action : Action) → MarksAt h action ((meaning action).c
 marks h (BExists block) = inl refl
 marks h VRanges = inl refl
 marks h (VExists page) = inl refl
+marks h ListFiles = inl refl
 marks h (PoisonBlock block line) = inl refl
 marks h (PoisonVolume offset) = inl refl
 marks h (PoisonMeta line) = inr (record { line = line; is = refl; done = refl; metadata = refl })
@@ -220,7 +221,7 @@ stop-restarted h image line = by_list (bad_metadata h.geometry image.is_bad)
     by_list : (bad : List ℕ) → mounted_answer (record (read_with bad h.geometry image) { cut_armed = h.cut_armed; fail_armed = h.fail_armed }) ≡ StoppedMeta line
         → StopsAt line (record (read_with bad h.geometry image) { cut_armed = h.cut_armed; fail_armed = h.fail_armed })
     by_list [] is = cc is
-    by_list (first ∷ lines) is = (record { metadata = λ none. cc none; mode = λ on. cc on; blocks = refl; volume = refl }, refl, cc is)
+    by_list (first ∷ lines) is = (record { metadata = λ none. cc none; mode = λ on. cc on; blocks = refl; volume = refl; files = refl }, refl, cc is)
 
 stop-recovered : (h next : Machine) (line : ℕ) (bad : List ℕ) → RecoversTo bad h next → mounted_answer next ≡ StoppedMeta line → StopsAt line next
 stop-recovered h next line [] to is = cc (is, ap mounted_answer to.state)
@@ -230,6 +231,7 @@ stop-recovered h next line (first ∷ lines) to is = (
     mode = λ on. cc (on, ap (λ m. m.mode) to);
     blocks = ap (λ m. m.blocks) to;
     volume = ap (λ m. m.volume) to;
+    files = ap (λ m. m.files) to;
   },
   ap (λ m. m.mode) to,
   cc (is, ap mounted_answer to, ap (λ (m : Machine). lowest m.bad_meta) to),

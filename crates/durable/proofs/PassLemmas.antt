@@ -11,7 +11,7 @@ use Rattle.durable.specs.Durable.{BringBytes, IsComplete, KeepsThrough, Passes}
 use Rattle.durable.proofs.LawLemmas.{durable}
 use Rattle.durable.proofs.WholeLemmas.{whole-run}
 
-pass : (before : List Input) (h end : Machine) (action : Action) (after : List Input) (said : Transcript) → Run h (before ++ Asked action ∷ after) said end
+pub pass : (before : List Input) (h end : Machine) (action : Action) (after : List Input) (said : Transcript) → Run h (before ++ Asked action ∷ after) said end
     → Passes h before action after said end
 pass [] h end action after said run = record {
   early = silence;

@@ -10,10 +10,10 @@ use Rattle.nvm_model.specs.Page.{first_bad_line, first_uncovered_line}
 use Rattle.word_tables.specs.declared.geometry.Geometry.{Geometry}
 use Rattle.reply_text.specs.declared.reply.Why.{Why}
 use Rattle.reply_text.specs.Answer.{Answer}
-use Rattle.reply_text.specs.Answer.Answer.{Done, DoneBad, Bytes, Ranges, Yes, No, Scarred, PoisonBlock as PoisonedBlock, PoisonVolume as PoisonedVolume, DeviceFailed, PowerLost, Stopped as MountStopped, Refused, RefusedMeta}
+use Rattle.reply_text.specs.Answer.Answer.{Done, DoneBad, Bytes, Ranges, Files, Yes, No, Scarred, PoisonBlock as PoisonedBlock, PoisonVolume as PoisonedVolume, DeviceFailed, PowerLost, Stopped as MountStopped, Refused, RefusedMeta}
 use Rattle.reply_text.specs.declared.reply.Why.TheVariants as because
 use Rattle.script_text.specs.Action.{Action}
-use Rattle.script_text.specs.Action.Action.{BRead, BWrite, BAtomic, BMulti, BDiscard, BDiscardIf, BExists, BScar, VLoad, VStore, VSync, VRanges, VPSync, VDiscard, VDiscardIf, VExists, PoisonBlock, PoisonVolume, PoisonMeta, WeakenVolume, ClearVolume, Cut, CutIn, FailIn, Restart, Recover}
+use Rattle.script_text.specs.Action.Action.{BRead, BWrite, BAtomic, BMulti, BDiscard, BDiscardIf, BExists, BScar, VLoad, VStore, VSync, VRanges, VPSync, VDiscard, VDiscardIf, VExists, Create, Delete, Rename, Resize, ListFiles, PoisonBlock, PoisonVolume, PoisonMeta, WeakenVolume, ClearVolume, Cut, CutIn, FailIn, Restart, Recover}
 use Rattle.machine_host.specs.declared.mode.Mode.{Mode}
 use Rattle.machine_host.specs.declared.mode.Mode.TheVariants.{On, Off, Unsettled, Stopped}
 use Rattle.machine_host.specs.Machine.{Machine}
@@ -25,6 +25,7 @@ use Rattle.scrub.specs.Refusals.ScrubRefusal.{Range as Beyond, Nothing, NotPoiso
 use Rattle.machine_host.specs.OnMedia.{line_answer}
 use Rattle.machine_host.specs.OnBlocks.{refusal_answer}
 use Rattle.machine_host.specs.OnVolume.{volume_answer}
+use Rattle.machine_host.specs.OnFiles.{if_exists, if_missing}
 use Rattle.machine_host.specs.Commands.{early_refusal, meaning, refusal}
 
 -- the answers of refusals
@@ -33,6 +34,7 @@ is_refused Done = false
 is_refused (DoneBad n) = false
 is_refused (Bytes bytes) = false
 is_refused (Ranges ranges) = false
+is_refused (Files files) = false
 is_refused Yes = false
 is_refused No = false
 is_refused (Scarred block) = true
@@ -132,9 +134,13 @@ pub refuses_early : (mode : Mode) (bad_meta : List ℕ) (geo : Geometry) (action
 unfolding early_refusal
 refuses_early mode bad_meta geo action = refuses_first _ _ (refuses_mode mode bad_meta (meaning action).needs) (refuses_why ((meaning action).checked geo))
 
-refuses_past : (b : Bool) → Refuses (cond b None (Some (Refused because.Range)))
-refuses_past true = tt
-refuses_past false = refl
+refuses_unless : (why : Why) (b : Bool) → Refuses (cond b None (Some (Refused why)))
+refuses_unless why true = tt
+refuses_unless why false = refl
+
+refuses_where : (why : Why) (b : Bool) → Refuses (cond b (Some (Refused why)) None)
+refuses_where why true = refl
+refuses_where why false = tt
 
 blocks_reasons : (o : Option Refusal) → RefusingReasons (record { named = None; places = option_map refusal_answer o; full = None; changes_metadata = true; unreadable = None })
 blocks_reasons o = record { named = tt; places = refuses_blocks o; full = tt; unreadable = tt }
@@ -150,7 +156,7 @@ line_reasons : (o : Option ScrubRefusal) → RefusingReasons (record { named = N
 line_reasons o = record { named = tt; places = refuses_line o; full = tt; unreadable = tt }
 
 past_reasons : (b : Bool) → RefusingReasons (record { named = None; places = cond b None (Some (Refused because.Range)); full = None; changes_metadata = false; unreadable = None })
-past_reasons b = record { named = tt; places = refuses_past b; full = tt; unreadable = tt }
+past_reasons b = record { named = tt; places = refuses_unless because.Range b; full = tt; unreadable = tt }
 
 refusing_reasons : (h : Machine) (action : Action) → RefusingReasons ((meaning action).reasons h)
 refusing_reasons h (BRead block count) =
@@ -176,6 +182,18 @@ refusing_reasons h (VPSync address len) = record {
 refusing_reasons h (VDiscard page count) = volume_reasons _ None true
 refusing_reasons h (VDiscardIf page count) = volume_reasons _ None true
 refusing_reasons h (VExists page) = past_reasons _
+refusing_reasons h (Create name pages) =
+    record { named = refuses_where because.Exists _; places = refuses_where because.Limit _; full = refuses_where because.Slots _; unreadable = tt }
+refusing_reasons h (Delete name) = record { named = refuses_unless because.Missing _; places = tt; full = tt; unreadable = tt }
+refusing_reasons h (Rename name to) = record {
+  named = refuses_first (if_missing name h.files) (if_exists to h.files) (refuses_unless because.Missing _) (refuses_where because.Exists _);
+  places = tt;
+  full = tt;
+  unreadable = tt;
+}
+refusing_reasons h (Resize name pages) =
+    record { named = refuses_unless because.Missing _; places = refuses_where because.Limit _; full = tt; unreadable = tt }
+refusing_reasons h ListFiles = why_reasons None
 refusing_reasons h (PoisonBlock block line) = line_reasons _
 refusing_reasons h (PoisonVolume offset) = line_reasons _
 refusing_reasons h (PoisonMeta line) = why_reasons _

@@ -12,9 +12,10 @@ use Rattle.nvm_base.specs.declared.reading.TextFault.TheVariants.{TooLong}
 use Rattle.line_device.specs.declared.line.Choice.TheVariants.{Firsts, Lasts, Seed}
 use Rattle.nvm_base.specs.Data.{ByteRun, byte_count, data_within, followed, item_of, items_of, pair_of, pairs_of, repeated, run, runs_of, spelled, within}
 use Rattle.nvm_base.specs.Numbers.{number_of}
+use Rattle.nvm_base.specs.Names.{name_of}
 use Rattle.script_text.specs.Action.{Action}
-use Rattle.script_text.specs.Action.Action.{BRead, BWrite, BAtomic, BMulti, BDiscard, BDiscardIf, BExists, BScar, VLoad, VStore, VSync, VRanges, VPSync, VDiscard, VDiscardIf, VExists, PoisonBlock, PoisonVolume, PoisonMeta, WeakenVolume, ClearVolume, CutIn, FailIn, Restart, Recover}
-use Rattle.script_text.specs.Script.{Input, asked, bare_action, command_action, cut_action, data_action, fail_action, fitting, in_volume_action, inputs, inputs_of, is_comment, line_input, lines_of, media_action, number_action, of_data, of_numbers, plain_action, poison_action, power_action, ranges_action, ranges_of, restart_action, span_action, spans_action, spans_of, volume_action, words_input, words_of}
+use Rattle.script_text.specs.Action.Action.{BRead, BWrite, BAtomic, BMulti, BDiscard, BDiscardIf, BExists, BScar, VLoad, VStore, VSync, VRanges, VPSync, VDiscard, VDiscardIf, VExists, Create, Delete, Rename, Resize, ListFiles, PoisonBlock, PoisonVolume, PoisonMeta, WeakenVolume, ClearVolume, CutIn, FailIn, Restart, Recover}
+use Rattle.script_text.specs.Script.{Input, asked, bare_action, command_action, cut_action, data_action, fail_action, files_action, fitting, in_volume_action, inputs, inputs_of, is_comment, line_input, lines_of, media_action, name_action, names_action, number_action, of_both, of_data, plain_action, poison_action, power_action, ranges_action, ranges_of, restart_action, sized_action, span_action, spans_action, spans_of, volume_action, words_input, words_of}
 use Rattle.script_text.specs.Script.Input.{Skipped, Malformed, Asked}
 use Rattle.durable.specs.Durable.{BringBytes, BringsBytes}
 
@@ -138,21 +139,38 @@ brings-map : {A : Type 0} (make : A → Action) (o : Option A) → ((a : A) → 
 brings-map make None each = tt
 brings-map make (Some a) each = each a
 
-brings-numbers : (make : ℕ → ℕ → Action) (a b : Option ℕ) → ((a b : ℕ) → BringsBytes (make a b)) → Brings (of_numbers make a b)
-brings-numbers make None b each = tt
-brings-numbers make (Some a) None each = tt
-brings-numbers make (Some a) (Some b) each = each a b
+brings-both : {A B : Type 0} (make : A → B → Action) (a : Option A) (b : Option B) → ((a : A) (b : B) → BringsBytes (make a b)) → Brings (of_both make a b)
+brings-both make None b each = tt
+brings-both make (Some a) None each = tt
+brings-both make (Some a) (Some b) each = each a b
 
 brings-span : (make : ℕ → ℕ → Action) (words : List (List ℕ)) → ((a b : ℕ) → BringsBytes (make a b)) → Brings (span_action make words)
 brings-span make [] each = tt
 brings-span make (x ∷ []) each = tt
-brings-span make (x ∷ y ∷ []) each = brings-numbers make (number_of x) (number_of y) each
+brings-span make (x ∷ y ∷ []) each = brings-both make (number_of x) (number_of y) each
 brings-span make (x ∷ y ∷ z ∷ more) each = tt
 
 brings-number : (make : ℕ → Action) (words : List (List ℕ)) → ((a : ℕ) → BringsBytes (make a)) → Brings (number_action make words)
 brings-number make [] each = tt
 brings-number make (x ∷ []) each = brings-map make (number_of x) each
 brings-number make (x ∷ y ∷ more) each = tt
+
+brings-name : (make : List ℕ → Action) (words : List (List ℕ)) → ((a : List ℕ) → BringsBytes (make a)) → Brings (name_action make words)
+brings-name make [] each = tt
+brings-name make (x ∷ []) each = brings-map make (name_of x) each
+brings-name make (x ∷ y ∷ more) each = tt
+
+brings-names : (make : List ℕ → List ℕ → Action) (words : List (List ℕ)) → ((a b : List ℕ) → BringsBytes (make a b)) → Brings (names_action make words)
+brings-names make [] each = tt
+brings-names make (x ∷ []) each = tt
+brings-names make (x ∷ y ∷ []) each = brings-both make (name_of x) (name_of y) each
+brings-names make (x ∷ y ∷ z ∷ more) each = tt
+
+brings-sized : (make : List ℕ → ℕ → Action) (words : List (List ℕ)) → ((a : List ℕ) (b : ℕ) → BringsBytes (make a b)) → Brings (sized_action make words)
+brings-sized make [] each = tt
+brings-sized make (x ∷ []) each = tt
+brings-sized make (x ∷ y ∷ []) each = brings-both make (name_of x) (number_of y) each
+brings-sized make (x ∷ y ∷ z ∷ more) each = tt
 
 abbrev BringsData : (ℕ → List ℕ → Action) → Type 0
 BringsData make = (a : ℕ) (bytes : List ℕ) → ((k : ℕ) → get_or bytes k 0 < 256) → BringsBytes (make a bytes)
@@ -219,6 +237,14 @@ brings-media name words =
     (brings-cond (bytes_eq name (codes "weaken")) (in_volume_action WeakenVolume words) _ (brings-in_volume WeakenVolume words (λ a. tt))
     (brings-cond (bytes_eq name (codes "clear")) (in_volume_action ClearVolume words) _ (brings-in_volume ClearVolume words (λ a. tt)) (brings-power name words)))
 
+brings-files : (name : List ℕ) (words : List (List ℕ)) → Brings (files_action name words)
+brings-files name words =
+    brings-cond (bytes_eq name (codes "create")) (sized_action Create words) _ (brings-sized Create words (λ a b. tt))
+    (brings-cond (bytes_eq name (codes "delete")) (name_action Delete words) _ (brings-name Delete words (λ a. tt))
+    (brings-cond (bytes_eq name (codes "rename")) (names_action Rename words) _ (brings-names Rename words (λ a b. tt))
+    (brings-cond (bytes_eq name (codes "resize")) (sized_action Resize words) _ (brings-sized Resize words (λ a b. tt))
+    (brings-cond (bytes_eq name (codes "list")) (bare_action ListFiles words) _ (brings-bare ListFiles words tt) (brings-media name words)))))
+
 brings-volume : (name : List ℕ) (words : List (List ℕ)) → Brings (volume_action name words)
 brings-volume name words =
     brings-cond (bytes_eq name (codes "vload")) (span_action VLoad words) _ (brings-span VLoad words (λ a b. tt))
@@ -227,7 +253,7 @@ brings-volume name words =
     (brings-cond (bytes_eq name (codes "vdiscard")) (span_action VDiscard words) _ (brings-span VDiscard words (λ a b. tt))
     (brings-cond (bytes_eq name (codes "vdiscardif")) (span_action VDiscardIf words) _ (brings-span VDiscardIf words (λ a b. tt))
     (brings-cond (bytes_eq name (codes "vexists")) (number_action VExists words) _ (brings-number VExists words (λ a. tt))
-    (brings-cond (bytes_eq name (codes "vranges")) (bare_action VRanges words) _ (brings-bare VRanges words tt) (brings-media name words)))))))
+    (brings-cond (bytes_eq name (codes "vranges")) (bare_action VRanges words) _ (brings-bare VRanges words tt) (brings-files name words)))))))
 
 brings-plain : (name : List ℕ) (words : List (List ℕ)) → Brings (plain_action name words)
 brings-plain name words =

@@ -1,125 +1,33 @@
--- A step of a run is one of six: it leaves all as it is, it is done, it is stopped, the power returned, the storage was mounted
--- anew, or metadata was bad as it was to be mounted.
-use Rattle.std.proofs.Common.{◌≡◌, ◌⊎◌, inl, inr, ℕ, ◌/◌, ◌==◌, Bool, true, false, cond, nat_lt, Option, Some, None, List, [], ◌∷◌, refl, sym, ap, subst, ◌∙◌}
+-- Which kind of step a command takes.
+use Rattle.std.proofs.Common.{◌≡◌, ◌⊎◌, inl, inr, ℕ, ◌==◌, Bool, true, false, cond, nat_lt, Option, Some, None, List, [], ◌∷◌, refl, sym, ap, subst, ◌∙◌}
 use Rattle.std.specs.Prelude.{◌≢◌}
 use Rattle.line_device.specs.Panel.{Image}
 use Rattle.line_device.specs.declared.line.Choice.{Choice}
 use Rattle.line_words.specs.declared.interruption.Interruption.{Interruption}
 use Rattle.line_words.specs.declared.interruption.Interruption.TheVariants.{Failed, PowerLost as Lost}
-use Rattle.word_tables.specs.declared.geometry.Geometry.{Geometry}
-use Rattle.nvm_model.specs.Blocks.{lose}
-use Rattle.nvm_model.specs.Cell.{lose_cell, weaken_cell}
-use Rattle.nvm_model.specs.Page.{Page, change_line, read_pages}
-use Rattle.nvm_model.specs.Storage.{Block}
-use Rattle.block_device.specs.Reading.{blocks_read}
 use Rattle.reply_text.specs.Answer.{Answer}
 use Rattle.reply_text.specs.Answer.Answer.{Done}
 use Rattle.script_text.specs.Action.{Action}
-use Rattle.script_text.specs.Action.Action.{BRead, BWrite, BAtomic, BMulti, BDiscard, BDiscardIf, BExists, BScar, VLoad, VStore, VSync, VRanges, VPSync, VDiscard, VDiscardIf, VExists, PoisonBlock, PoisonVolume, PoisonMeta, WeakenVolume, ClearVolume, Cut, CutIn, FailIn, Restart, Recover}
+use Rattle.script_text.specs.Action.Action.{BRead, BWrite, BAtomic, BMulti, BDiscard, BDiscardIf, BExists, BScar, VLoad, VStore, VSync, VRanges, VPSync, VDiscard, VDiscardIf, VExists, Create, Delete, Rename, Resize, ListFiles, PoisonBlock, PoisonVolume, PoisonMeta, WeakenVolume, ClearVolume, Cut, CutIn, FailIn, Restart, Recover}
 use Rattle.machine_host.specs.declared.mode.Mode.TheVariants.{On, Off, Stopped}
 use Rattle.machine_host.specs.declared.needs.Needs.TheVariants.{Usable, Unpowered}
 use Rattle.machine_host.specs.Machine.{Machine, Fate}
 use Rattle.machine_host.specs.Machine.Fate.{Gives, Works, Orders, Cuts, Restarts, Recovers}
-use Rattle.machine_host.specs.Commands.{MayLeaveBlocks, MayLeaveVolume, fate, meaning, refusal, unless_refused, while_interrupted}
+use Rattle.machine_host.specs.Commands.{fate, meaning, refusal, unless_refused, while_interrupted}
 use Rattle.machine_host.specs.OnMedia.{with_line}
-use Rattle.machine_host.specs.Interrupted.{Interrupts, interrupted_answer, interrupted_mode}
-use Rattle.machine_host.specs.Restarting.{MayLeaveStorage, RestartMayLeave, mounted_answer, read_with, reading, restarted}
+use Rattle.machine_host.specs.Interrupted.{Interrupts, interrupted_mode}
+use Rattle.machine_host.specs.Restarting.{RestartMayLeave, mounted_answer, read_with, reading, restarted}
 use Rattle.machine_host.specs.Recovering.{RecoversTo}
-use Rattle.word_tables.specs.Layout.{volume_line}
-use Rattle.pm_volume.specs.Presence.{presence_read}
 use Rattle.machine_host.specs.Run.{Ends, Hears, Run, Takes, Transcript}
 use Rattle.script_text.specs.Script.{Input}
 use Rattle.script_text.specs.Script.Input.{Skipped, Malformed, Asked}
 use Rattle.durable.specs.Place.{Place}
 use Rattle.durable.specs.Place.Place.{of_volume, of_blocks}
-use Rattle.durable.specs.Touching.{changes, holds, is_made_durable, made_durable, nothing, poisons, weakens}
+use Rattle.durable.specs.Touching.{holds, nothing}
 use Rattle.durable.specs.Durable.{HasNothing}
 use Rattle.durable.proofs.RefusalLemmas.{is_off, is_on}
-
--- it leaves blocks and volume, and what is interrupted
-pub record Idles (h next : Machine) : Type 0 where
-  pub geometry : next.geometry ≡ h.geometry
-  pub blocks : next.blocks ≡ h.blocks
-  pub volume : next.volume ≡ h.volume
-  pub interrupted : next.interrupted ≡ h.interrupted
-  pub metadata : h.bad_meta ≢ [] → next.bad_meta ≢ []
-  pub mode : next.mode ≡ On → h.mode ≡ On
-  pub stopped : next.mode ≡ Stopped → h.mode ≡ Stopped
-
--- what a command makes of blocks and volume
-abbrev pub blocks_after : Action → List Block → List Block
-blocks_after (PoisonBlock block line) blocks = lose block line blocks
-blocks_after action blocks = (meaning action).blocks blocks
-
-abbrev pub volume_after : Geometry → Action → List Page → List Page
-volume_after geo (PoisonVolume offset) pages = change_line lose_cell (offset / 64) pages
-volume_after geo (WeakenVolume offset) pages = change_line weaken_cell (offset / 64) pages
-volume_after geo action pages = (meaning action).volume geo pages
-
--- it is done
-pub record Alters (h : Machine) (action : Action) (next : Machine) : Type 0 where
-  pub geometry : next.geometry ≡ h.geometry
-  pub blocks : next.blocks ≡ blocks_after action h.blocks
-  pub volume : next.volume ≡ volume_after h.geometry action h.volume
-  pub interrupted : next.interrupted ≡ h.interrupted
-  pub mode : next.mode ≡ h.mode
-  pub needs : (meaning action).needs ≡ Usable
-
--- it is stopped
-pub record Stops (h : Machine) (action : Action) (next : Machine) : Type 0 where
-  pub geometry : next.geometry ≡ h.geometry
-  pub blocks : next.blocks ≡ h.blocks
-  pub volume : next.volume ≡ h.volume
-  pub interrupted : next.interrupted ≡ Some action
-  pub metadata : next.bad_meta ≡ h.bad_meta
-  pub mode : next.mode ≢ On
-  pub stopped : next.mode ≢ Stopped
-
--- the power returned
-pub record Returns (h next : Machine) : Type 0 where
-  pub off : h.mode ≡ Off
-  pub metadata : h.bad_meta ≡ []
-  pub choice : Choice
-  pub image : Image
-  pub may : MayLeaveStorage choice image h
-  pub geometry : next.geometry ≡ h.geometry
-  pub blocks : next.blocks ≡ blocks_read h.geometry image.is_bad image.word
-  pub volume : next.volume ≡ read_pages (volume_line h.geometry) image (presence_read h.geometry image.word)
-  pub interrupted : next.interrupted ≡ None
-  pub stopped : next.mode ≢ Stopped
-
--- the storage was mounted anew while the power was on
-pub record Remounts (h next : Machine) : Type 0 where
-  pub metadata : h.bad_meta ≡ []
-  pub geometry : next.geometry ≡ h.geometry
-  pub blocks : MayLeaveBlocks h.interrupted h.blocks next.blocks
-  pub volume : MayLeaveVolume h.geometry h.interrupted h.volume next.volume
-  pub interrupted : next.interrupted ≡ None
-  pub stopped : next.mode ≢ Stopped
-
--- metadata was bad as it was to be mounted
-pub record Empties (h next : Machine) : Type 0 where
-  pub geometry : next.geometry ≡ h.geometry
-  pub nothing : HasNothing next
-
--- it makes nothing durable
-abbrev pub CoversNothing : Machine → Action → Type 0
-CoversNothing h action = (x : Place) → is_made_durable h action x ≡ false
-
--- nor does it change or harm anything
-pub record TouchesNothing (action : Action) : Type 0 where
-  pub change : (x : Place) → changes action x ≡ false
-  pub poison : (x : Place) → poisons action x ≡ false
-  pub weaken : (x : Place) → weakens action x ≡ false
-  pub cover : (geo : Geometry) (x : Place) → holds (made_durable geo action) x ≡ false
-
-pub data Step (h : Machine) (action : Action) (answer : Answer) (next : Machine) : Type 0 where
-  idles : (refusal h action ≡ Some answer) ⊎ CoversNothing h action → Idles h next → Step h action answer next
-  alters : (answer ≡ Done) ⊎ TouchesNothing action → refusal h action ≡ None → Alters h action next → Step h action answer next
-  stops : (by : Interruption) → answer ≡ interrupted_answer by → Stops h action next → Step h action answer next
-  returns : CoversNothing h action → Returns h next → Step h action answer next
-  remounts : CoversNothing h action → Remounts h next → Step h action answer next
-  empties : CoversNothing h action → Empties h next → Step h action answer next
+use Rattle.durable.proofs.StepKinds.{Alters, CoversNothing, Idles, Stops, Step, TouchesNothing, blocks_after, volume_after}
+use Rattle.durable.proofs.StepKinds.Step.{idles, alters, stops, returns, remounts, empties}
 
 -- what comes of a command that is not refused
 abbrev Suits : Machine → Action → Fate → Type 0
@@ -139,6 +47,7 @@ same h = record {
   geometry = refl;
   blocks = refl;
   volume = refl;
+  files = refl;
   interrupted = refl;
   metadata = λ bad. bad;
   mode = λ on. on;
@@ -146,16 +55,17 @@ same h = record {
 }
 
 works : (h to : Machine) (action : Action) → to.geometry ≡ h.geometry → to.blocks ≡ blocks_after action h.blocks → to.volume ≡ volume_after h.geometry action h.volume
-    → to.interrupted ≡ h.interrupted → to.mode ≡ h.mode → (meaning action).needs ≡ Usable → Alters h action to
-works h to action geometry blocks volume interrupted mode needs =
-    record { geometry = geometry; blocks = blocks; volume = volume; interrupted = interrupted; mode = mode; needs = needs }
+    → to.files ≡ (meaning action).files h.files → to.interrupted ≡ h.interrupted → to.mode ≡ h.mode → (meaning action).needs ≡ Usable → Alters h action to
+works h to action geometry blocks volume files interrupted mode needs =
+    record { geometry = geometry; blocks = blocks; volume = volume; files = files; interrupted = interrupted; mode = mode; needs = needs }
 
-armed : (h to : Machine) → to.geometry ≡ h.geometry → to.blocks ≡ h.blocks → to.volume ≡ h.volume → to.interrupted ≡ h.interrupted → to.bad_meta ≡ h.bad_meta
-    → to.mode ≡ h.mode → Idles h to
-armed h to geometry blocks volume interrupted metadata mode = record {
+armed : (h to : Machine) → to.geometry ≡ h.geometry → to.blocks ≡ h.blocks → to.volume ≡ h.volume → to.files ≡ h.files → to.interrupted ≡ h.interrupted
+    → to.bad_meta ≡ h.bad_meta → to.mode ≡ h.mode → Idles h to
+armed h to geometry blocks volume files interrupted metadata mode = record {
   geometry = geometry;
   blocks = blocks;
   volume = volume;
+  files = files;
   interrupted = interrupted;
   metadata = λ bad none. bad (sym metadata ∙ none);
   mode = λ on. sym mode ∙ on;
@@ -173,44 +83,50 @@ with_line-some line (next ∷ lines) is = by_order (nat_lt line next) (line == n
     by_order false false is = cc is
 
 suits : (h : Machine) (action : Action) → Suits h action ((meaning action).comes h)
-suits h (BRead block count) = (inr (record { change = nowhere; poison = nowhere; weaken = nowhere; cover = λ geo. nowhere }), works h h (BRead block count) refl refl refl refl refl refl)
-suits h (BWrite block bytes) = (inl refl, works h _ (BWrite block bytes) refl refl refl refl refl refl)
-suits h (BAtomic block bytes) = (inl refl, works h _ (BAtomic block bytes) refl refl refl refl refl refl)
-suits h (BMulti ranges bytes) = (inl refl, works h _ (BMulti ranges bytes) refl refl refl refl refl refl)
-suits h (BDiscard block count) = (inl refl, works h _ (BDiscard block count) refl refl refl refl refl refl)
-suits h (BDiscardIf block count) = (inl refl, works h _ (BDiscardIf block count) refl refl refl refl refl refl)
-suits h (BExists block) = inl (nowhere, same h)
-suits h (BScar ranges) = (inl refl, works h _ (BScar ranges) refl refl refl refl refl refl)
-suits h (VLoad offset len) = (inr (record { change = nowhere; poison = nowhere; weaken = nowhere; cover = λ geo. nowhere }), works h h (VLoad offset len) refl refl refl refl refl refl)
-suits h (VStore offset bytes) = (inl refl, works h _ (VStore offset bytes) refl refl refl refl refl refl)
-suits h (VSync offset len) = (inl refl, works h _ (VSync offset len) refl refl refl refl refl refl)
-suits h VRanges = inl (nowhere, same h)
-suits h (VPSync address len) = (inl refl, works h _ (VPSync address len) refl refl refl refl refl refl)
-suits h (VDiscard page count) = (inl refl, works h _ (VDiscard page count) refl refl refl refl refl refl)
-suits h (VDiscardIf page count) = (inl refl, works h _ (VDiscardIf page count) refl refl refl refl refl refl)
-suits h (VExists page) = inl (nowhere, same h)
-suits h (PoisonBlock block line) = inr (refl, works h _ (PoisonBlock block line) refl refl refl refl refl refl)
-suits h (PoisonVolume offset) = inr (refl, works h _ (PoisonVolume offset) refl refl refl refl refl refl)
+suits h (BRead block count) = (inr (record { change = nowhere; poison = nowhere; weaken = nowhere; cover = λ geo. nowhere; files = refl }), works h h (BRead block count) refl refl refl refl refl refl refl)
+suits h (BWrite block bytes) = (inl refl, works h _ (BWrite block bytes) refl refl refl refl refl refl refl)
+suits h (BAtomic block bytes) = (inl refl, works h _ (BAtomic block bytes) refl refl refl refl refl refl refl)
+suits h (BMulti ranges bytes) = (inl refl, works h _ (BMulti ranges bytes) refl refl refl refl refl refl refl)
+suits h (BDiscard block count) = (inl refl, works h _ (BDiscard block count) refl refl refl refl refl refl refl)
+suits h (BDiscardIf block count) = (inl refl, works h _ (BDiscardIf block count) refl refl refl refl refl refl refl)
+suits h (BExists block) = inl (record { bytes = nowhere; files = refl }, same h)
+suits h (BScar ranges) = (inl refl, works h _ (BScar ranges) refl refl refl refl refl refl refl)
+suits h (VLoad offset len) = (inr (record { change = nowhere; poison = nowhere; weaken = nowhere; cover = λ geo. nowhere; files = refl }), works h h (VLoad offset len) refl refl refl refl refl refl refl)
+suits h (VStore offset bytes) = (inl refl, works h _ (VStore offset bytes) refl refl refl refl refl refl refl)
+suits h (VSync offset len) = (inl refl, works h _ (VSync offset len) refl refl refl refl refl refl refl)
+suits h VRanges = inl (record { bytes = nowhere; files = refl }, same h)
+suits h (VPSync address len) = (inl refl, works h _ (VPSync address len) refl refl refl refl refl refl refl)
+suits h (VDiscard page count) = (inl refl, works h _ (VDiscard page count) refl refl refl refl refl refl refl)
+suits h (VDiscardIf page count) = (inl refl, works h _ (VDiscardIf page count) refl refl refl refl refl refl refl)
+suits h (VExists page) = inl (record { bytes = nowhere; files = refl }, same h)
+suits h (Create name pages) = (inl refl, works h _ (Create name pages) refl refl refl refl refl refl refl)
+suits h (Delete name) = (inl refl, works h _ (Delete name) refl refl refl refl refl refl refl)
+suits h (Rename name to) = (inl refl, works h _ (Rename name to) refl refl refl refl refl refl refl)
+suits h (Resize name pages) = (inl refl, works h _ (Resize name pages) refl refl refl refl refl refl refl)
+suits h ListFiles = inl (record { bytes = nowhere; files = refl }, same h)
+suits h (PoisonBlock block line) = inr (refl, works h _ (PoisonBlock block line) refl refl refl refl refl refl refl)
+suits h (PoisonVolume offset) = inr (refl, works h _ (PoisonVolume offset) refl refl refl refl refl refl refl)
 suits h (PoisonMeta line) = inl (
-  nowhere,
+  record { bytes = nowhere; files = refl },
   record {
     geometry = refl;
     blocks = refl;
     volume = refl;
+    files = refl;
     interrupted = refl;
     metadata = λ bad. with_line-some line h.bad_meta;
     mode = λ on. on;
     stopped = λ is. is;
   },
 )
-suits h (WeakenVolume offset) = inr (refl, works h _ (WeakenVolume offset) refl refl refl refl refl refl)
-suits h (ClearVolume offset) = (inl refl, works h _ (ClearVolume offset) refl refl refl refl refl refl)
+suits h (WeakenVolume offset) = inr (refl, works h _ (WeakenVolume offset) refl refl refl refl refl refl refl)
+suits h (ClearVolume offset) = (inl refl, works h _ (ClearVolume offset) refl refl refl refl refl refl refl)
 suits h Cut =
-    (nowhere, record { geometry = refl; blocks = refl; volume = refl; interrupted = refl; metadata = λ bad. bad; mode = λ on. cc on; stopped = λ is. cc is })
-suits h (CutIn calls) = (nowhere, armed h _ refl refl refl refl refl refl)
-suits h (FailIn calls) = (nowhere, armed h _ refl refl refl refl refl refl)
-suits h (Restart choice) = (nowhere, refl)
-suits h Recover = nowhere
+    (record { bytes = nowhere; files = refl }, record { geometry = refl; blocks = refl; volume = refl; files = refl; interrupted = refl; metadata = λ bad. bad; mode = λ on. cc on; stopped = λ is. cc is })
+suits h (CutIn calls) = (record { bytes = nowhere; files = refl }, armed h _ refl refl refl refl refl refl refl)
+suits h (FailIn calls) = (record { bytes = nowhere; files = refl }, armed h _ refl refl refl refl refl refl refl)
+suits h (Restart choice) = (record { bytes = nowhere; files = refl }, refl)
+suits h Recover = record { bytes = nowhere; files = refl }
 
 stops_on : (by : Interruption) → interrupted_mode by ≡ On → ⊥
 stops_on Failed on = cc on
@@ -231,6 +147,7 @@ idle_at h to next idle is = record {
   geometry = ap (λ m. m.geometry) is ∙ idle.geometry;
   blocks = ap (λ m. m.blocks) is ∙ idle.blocks;
   volume = ap (λ m. m.volume) is ∙ idle.volume;
+  files = ap (λ m. m.files) is ∙ idle.files;
   interrupted = ap (λ m. m.interrupted) is ∙ idle.interrupted;
   metadata = λ bad none. idle.metadata bad (sym (ap (λ m. m.bad_meta) is) ∙ none);
   mode = λ on. idle.mode (sym (ap (λ m. m.mode) is) ∙ on);
@@ -242,6 +159,7 @@ altered_at h action to next done is = record {
   geometry = ap (λ m. m.geometry) is ∙ done.geometry;
   blocks = ap (λ m. m.blocks) is ∙ done.blocks;
   volume = ap (λ m. m.volume) is ∙ done.volume;
+  files = ap (λ m. m.files) is ∙ done.files;
   interrupted = ap (λ m. m.interrupted) is ∙ done.interrupted;
   mode = ap (λ m. m.mode) is ∙ done.mode;
   needs = done.needs;
@@ -255,6 +173,7 @@ ended h action good to answer next none begun done (inr end) = stops end.0 end.1
   geometry = ap (λ m. m.geometry) end.2.state;
   blocks = ap (λ m. m.blocks) end.2.state;
   volume = ap (λ m. m.volume) end.2.state;
+  files = ap (λ m. m.files) end.2.state;
   interrupted = ap (λ m. m.interrupted) end.2.state;
   metadata = ap (λ m. m.bad_meta) end.2.state;
   mode = λ on. stops_on end.0 (sym (ap (λ m. m.mode) end.2.state) ∙ on);
@@ -266,6 +185,7 @@ record IsRead (read next : Machine) : Type 0 where
   geometry : next.geometry ≡ read.geometry
   blocks : next.blocks ≡ read.blocks
   volume : next.volume ≡ read.volume
+  files : next.files ≡ read.files
   metadata : next.bad_meta ≡ read.bad_meta
   interrupted : next.interrupted ≡ read.interrupted
   mode : (next.mode ≡ read.mode) ⊎ ((by : Interruption) × (next.mode ≡ interrupted_mode by))
@@ -277,6 +197,7 @@ is_read read to good answer next of (inl end) =
       geometry = ap (λ m. m.geometry) is;
       blocks = ap (λ m. m.blocks) is;
       volume = ap (λ m. m.volume) is;
+      files = ap (λ m. m.files) is;
       metadata = ap (λ m. m.bad_meta) is;
       interrupted = ap (λ m. m.interrupted) is;
       mode = inl (ap (λ m. m.mode) is);
@@ -285,6 +206,7 @@ is_read read to good answer next of (inr end) = record {
   geometry = ap (λ m. m.geometry) end.2.state ∙ ap (λ m. m.geometry) of;
   blocks = ap (λ m. m.blocks) end.2.state ∙ ap (λ m. m.blocks) of;
   volume = ap (λ m. m.volume) end.2.state ∙ ap (λ m. m.volume) of;
+  files = ap (λ m. m.files) end.2.state ∙ ap (λ m. m.files) of;
   metadata = ap (λ m. m.bad_meta) end.2.state ∙ ap (λ m. m.bad_meta) of;
   interrupted = ap (λ m. m.interrupted) end.2.state ∙ ap (λ m. m.interrupted) of;
   mode = inr (end.0, ap (λ m. m.mode) end.2.state);
@@ -313,6 +235,7 @@ returned h action choice image answer next covers off may ends = by_metadata h.b
           geometry = read.geometry;
           blocks = read.blocks;
           volume = read.volume;
+          files = read.files;
           interrupted = read.interrupted;
           stopped = λ at. elim read.mode as (λ _. ⊥) [ inl on ↦ cc (at, on) | inr by ↦ stops_stopped by.0 (sym by.1 ∙ at) ];
         })
@@ -325,6 +248,7 @@ returned h action choice image answer next covers off may ends = by_metadata h.b
             mode = λ on. elim read.mode as (λ _. ⊥) [ inl at ↦ cc (at, on) | inr by ↦ stops_on by.0 (sym by.1 ∙ on) ];
             blocks = read.blocks;
             volume = read.volume;
+            files = read.files;
           };
         })
 
@@ -336,6 +260,7 @@ remounted h action answer next covers [] is to = remounts covers (record {
   geometry = ap (λ m. m.geometry) to.state;
   blocks = to.blocks;
   volume = to.volume;
+  files = to.files;
   interrupted = ap (λ m. m.interrupted) to.state;
   stopped = λ at. cc (at, ap (λ m. m.mode) to.state);
 })
@@ -346,6 +271,7 @@ remounted h action answer next covers (line ∷ lines) is to = empties covers (r
     mode = λ on. cc (on, ap (λ m. m.mode) to);
     blocks = ap (λ m. m.blocks) to;
     volume = ap (λ m. m.volume) to;
+    files = ap (λ m. m.files) to;
   };
 })
 
@@ -355,6 +281,7 @@ unmounted by h next at = record {
   geometry = ap (λ m. m.geometry) at.state;
   blocks = ap (λ m. m.blocks) at.state;
   volume = ap (λ m. m.volume) at.state;
+  files = ap (λ m. m.files) at.state;
   interrupted = ap (λ m. m.interrupted) at.state;
   metadata = λ bad none. bad (sym (ap (λ m. m.bad_meta) at.state) ∙ none);
   mode = λ on. absurd (stops_on by (sym (ap (λ m. m.mode) at.state) ∙ on));
@@ -402,20 +329,21 @@ geometry_step h action answer next (remounts none back) = back.geometry
 geometry_step h action answer next (empties none to) = to.geometry
 
 -- nothing is there any more, and nothing comes back
-nothing_as : (h next : Machine) → next.blocks ≡ h.blocks → next.volume ≡ h.volume → (h.bad_meta ≢ [] → next.bad_meta ≢ []) → (next.mode ≡ On → h.mode ≡ On) → HasNothing h → HasNothing next
-nothing_as h next blocks volume metadata mode gone = record {
+nothing_as : (h next : Machine) → next.blocks ≡ h.blocks → next.volume ≡ h.volume → next.files ≡ h.files → (h.bad_meta ≢ [] → next.bad_meta ≢ []) → (next.mode ≡ On → h.mode ≡ On) → HasNothing h → HasNothing next
+nothing_as h next blocks volume files metadata mode gone = record {
   metadata = metadata gone.metadata;
   mode = λ on. gone.mode (mode on);
   blocks = blocks ∙ gone.blocks;
   volume = volume ∙ gone.volume;
+  files = files ∙ gone.files;
 }
 
 pub nothing_idle : (h next : Machine) → Idles h next → HasNothing h → HasNothing next
-nothing_idle h next to gone = nothing_as h next to.blocks to.volume to.metadata to.mode gone
+nothing_idle h next to gone = nothing_as h next to.blocks to.volume to.files to.metadata to.mode gone
 
 pub nothing_stopped : (h : Machine) (action : Action) (next : Machine) → Stops h action next → HasNothing h → HasNothing next
 nothing_stopped h action next to gone =
-    nothing_as h next to.blocks to.volume (λ bad none. bad (sym to.metadata ∙ none)) (λ on. absurd (to.mode on)) gone
+    nothing_as h next to.blocks to.volume to.files (λ bad none. bad (sym to.metadata ∙ none)) (λ on. absurd (to.mode on)) gone
 
 pub nothing_step : (h : Machine) (action : Action) (answer : Answer) (next : Machine) → HasNothing h → Step h action answer next → HasNothing next
 nothing_step h action answer next gone (idles why to) = nothing_idle h next to gone

@@ -26,6 +26,8 @@ use Rattle.machine_host.specs.Restarting.{mounted_answer, read_with, reading, re
 use Rattle.machine_host.specs.Lines.{bad_metadata}
 use Rattle.durable.proofs.RefusalLemmas.{is_on}
 use Rattle.pm_volume.specs.Presence.{presence_read}
+use Rattle.file_journal.specs.Standing.{files_read}
+use Rattle.file_journal.proofs.RestartLemmas.{keeps_files-read}
 use Rattle.machine_host.specs.Run.{Run, Transcript, followed_by, silence, with_cut, with_start}
 use Rattle.durable.specs.Durable.{Does}
 use Rattle.durable.proofs.WrittenLemmas.{works_done}
@@ -151,6 +153,9 @@ lost geo image at bytes none good =
               may = refl;
               there = presence_of-put at bytes pages ∙ presence_of-read_pages (volume_line geo) image there;
               volume = before_kept (volume_line geo) image there at bytes good;
+              files_left = files_read geo image;
+              may_files = refl;
+              files = keeps_files-read Firsts geo image;
             };
           },
           inl (refl, back_at geo image h none),

@@ -48,7 +48,8 @@ use Rattle.durable.proofs.PresenceLemmas.{has_lines, line_in, page_present, zero
 use Rattle.durable.proofs.RefusalLemmas.{is_on, is_refused, places_none, refused_told, unreadable_none}
 use Rattle.durable.proofs.LawLemmas.{durable, lasts_powered, stop_done, was_bad}
 use Rattle.durable.proofs.LineLemmas.{zero_shown}
-use Rattle.durable.proofs.WholeLemmas.{counted_on, lines-fill, whole-heard}
+use Rattle.durable.proofs.ThereLemmas.{lines-fill}
+use Rattle.durable.proofs.WholeLemmas.{counted_on, whole-heard}
 
 -- a command that was done
 pub works_done : (h : Machine) (action : Action) (to next : Machine) → (meaning action).comes h ≡ Works Done to → Does h action next → (refusal h action ≡ None) × (next ≡ to)
@@ -327,18 +328,17 @@ stored_byte at i bytes pages small among there covers = by_line (cell_of pages (
 pub stored_powered : (h stored : Machine) (at i : ℕ) (bytes : List ℕ) → ((k : ℕ) → get_or bytes k 0 < 256) → Does h (VStore at bytes) stored → is_among at (length bytes) i ≡ true
     → is_weak_line (cell_of stored.volume (i / 64)) ≡ false → LastsPowered stored (of_volume i) (Some (slice_index bytes (i - at)))
 stored_powered h stored at i bytes small stores among strong =
-    let len = length bytes in
-    let filled = fill at len h.volume in
+    let filled = fill at (length bytes) h.volume in
     let put_is = works_done h (VStore at bytes) (record h { volume = put at bytes filled }) stored refl stores in
     let on = is_on h (VStore at bytes) refl put_is.0 in
-    let within = stored_within h.geometry at len (volume_none _ (places_none h (VStore at bytes) put_is.0)) in
+    let within = stored_within h.geometry at (length bytes) (volume_none _ (places_none h (VStore at bytes) put_is.0)) in
     let to : i < at + length bytes = grind (arith, nat_tests) in
     let from : at ≤ i = grind (arith, nat_tests) in
-    let present = filled_there at len i h.volume among (omega (arith, within, to, (counted_on h stores.whole on).pages)) in
-    let covers = bad_covered at len (i / 64) h.volume stores.whole.lines (omega (arith, from, to)) (unreadable_none h (VStore at bytes) put_is.0) (touched at len i among) present in
+    let present = filled_there at (length bytes) i h.volume among (omega (arith, within, to, (counted_on h stores.whole on).pages)) in
+    let covers = bad_covered at (length bytes) (i / 64) h.volume stores.whole.lines (omega (arith, from, to)) (unreadable_none h (VStore at bytes) put_is.0) (touched at (length bytes) i among) present in
     let shown : byte_at_place stored (of_volume i) ≡ Some (slice_index bytes (i - at)) =
     ap (λ m. byte_at_place m (of_volume i)) put_is.1
-    ∙ stored_byte at i bytes filled small among (lines-fill at len h.volume stores.whole.lines (i / 64) present) covers in
+    ∙ stored_byte at i bytes filled small among (lines-fill at (length bytes) h.volume stores.whole.lines (i / 64) present) covers in
     subst (LastsPowered stored (of_volume i)) shown
     (lasts_powered stored (of_volume i) (whole-heard h (Asked (VStore at bytes)) stores.said stored stores.whole stores.came) (ap (λ m. m.mode) put_is.1 ∙ on) strong)
   where

@@ -10,7 +10,7 @@ use Rattle.nvm_model.specs.Storage.Block.{Absent, Scarred, Data}
 use Rattle.reply_text.specs.Answer.{Answer}
 use Rattle.reply_text.specs.Answer.Answer.{Done, Bytes, PowerLost}
 use Rattle.script_text.specs.Action.{Action}
-use Rattle.script_text.specs.Action.Action.{BRead, BWrite, BAtomic, BMulti, BDiscard, BDiscardIf, BExists, BScar, VLoad, VStore, VSync, VRanges, VPSync, VDiscard, VDiscardIf, VExists, PoisonBlock, PoisonVolume, PoisonMeta, WeakenVolume, ClearVolume, Cut, CutIn, FailIn, Restart, Recover}
+use Rattle.script_text.specs.Action.Action.{BRead, BWrite, BAtomic, BMulti, BDiscard, BDiscardIf, BExists, BScar, VLoad, VStore, VSync, VRanges, VPSync, VDiscard, VDiscardIf, VExists, Create, Delete, Rename, Resize, ListFiles, PoisonBlock, PoisonVolume, PoisonMeta, WeakenVolume, ClearVolume, Cut, CutIn, FailIn, Restart, Recover}
 use Rattle.script_text.specs.Script.{Input}
 use Rattle.script_text.specs.Script.Input.{Skipped, Malformed, Asked}
 use Rattle.machine_host.specs.declared.mode.Mode.TheVariants.{On, Stopped}
@@ -50,6 +50,7 @@ pub record HasNothing (h : Machine) : Type 0 where
   pub mode : h.mode ≢ On
   pub blocks : h.blocks ≡ []
   pub volume : h.volume ≡ []
+  pub files : h.files ≡ []
 
 -- A state that a run may come to: all blocks and pages are there, unless metadata was bad as they were to be mounted, and they
 -- have their lines. Nothing is interrupted in mode On, and nothing is there in mode Stopped.
@@ -78,6 +79,11 @@ BringsBytes (VPSync address len) = Unit {0}
 BringsBytes (VDiscard page count) = Unit {0}
 BringsBytes (VDiscardIf page count) = Unit {0}
 BringsBytes (VExists page) = Unit {0}
+BringsBytes (Create name pages) = Unit {0}
+BringsBytes (Delete name) = Unit {0}
+BringsBytes (Rename name to) = Unit {0}
+BringsBytes (Resize name pages) = Unit {0}
+BringsBytes ListFiles = Unit {0}
 BringsBytes (PoisonBlock block line) = Unit {0}
 BringsBytes (PoisonVolume offset) = Unit {0}
 BringsBytes (PoisonMeta line) = Unit {0}
@@ -96,15 +102,19 @@ BringBytes (Skipped ∷ inputs) = BringBytes inputs
 BringBytes (Malformed ∷ inputs) = BringBytes inputs
 BringBytes (Asked action ∷ inputs) = BringsBytes action × BringBytes inputs
 
--- no command of these that does so to the place was begun, by what they were answered
+-- no command of these that does so was begun, by what they were answered
+abbrev pub NoneBegun : (Action → Bool) → List Input → List Answer → Type 0
+NoneBegun does [] answers = Unit {0}
+NoneBegun does (Skipped ∷ inputs) answers = NoneBegun does inputs answers
+NoneBegun does (Malformed ∷ inputs) [] = Unit {0}
+NoneBegun does (Malformed ∷ inputs) (answer ∷ answers) = NoneBegun does inputs answers
+NoneBegun does (Asked action ∷ inputs) [] = Unit {0}
+NoneBegun does (Asked action ∷ inputs) (answer ∷ answers) =
+    (does action ≡ true → is_begun answer ≡ false) × NoneBegun does inputs answers
+
+-- none that does so to the place
 abbrev pub Spares : (Action → Place → Bool) → Place → List Input → List Answer → Type 0
-Spares does x [] answers = Unit {0}
-Spares does x (Skipped ∷ inputs) answers = Spares does x inputs answers
-Spares does x (Malformed ∷ inputs) [] = Unit {0}
-Spares does x (Malformed ∷ inputs) (answer ∷ answers) = Spares does x inputs answers
-Spares does x (Asked action ∷ inputs) [] = Unit {0}
-Spares does x (Asked action ∷ inputs) (answer ∷ answers) =
-    (does action x ≡ true → is_begun answer ≡ false) × Spares does x inputs answers
+Spares does x inputs answers = NoneBegun (λ action. does action x) inputs answers
 
 -- a read at the place that is answered with bytes has this one there
 abbrev pub Reads : Machine → Place → ℕ → Type 0

@@ -2,3 +2,4 @@ pub mod Place
 pub mod Touching
 pub mod Naming
 pub mod Durable
+pub mod Files

@@ -7,9 +7,9 @@ use Rattle.nvm_model.specs.Numbered.{is_among}
 use Rattle.block_device.specs.Refusals.{block_spans}
 use Rattle.pm_volume.specs.Refusals.{physical_offset}
 use Rattle.reply_text.specs.Answer.{Answer}
-use Rattle.reply_text.specs.Answer.Answer.{Done, DoneBad, Bytes, Ranges, Yes, No, Scarred, PoisonBlock as PoisonedBlock, PoisonVolume as PoisonedVolume, DeviceFailed, PowerLost, Stopped, Refused, RefusedMeta}
+use Rattle.reply_text.specs.Answer.Answer.{Done, DoneBad, Bytes, Ranges, Files, Yes, No, Scarred, PoisonBlock as PoisonedBlock, PoisonVolume as PoisonedVolume, DeviceFailed, PowerLost, Stopped, Refused, RefusedMeta}
 use Rattle.script_text.specs.Action.{Action}
-use Rattle.script_text.specs.Action.Action.{BRead, BWrite, BAtomic, BMulti, BDiscard, BDiscardIf, BExists, BScar, VLoad, VStore, VSync, VRanges, VPSync, VDiscard, VDiscardIf, VExists, PoisonBlock, PoisonVolume, PoisonMeta, WeakenVolume, ClearVolume, Cut, CutIn, FailIn, Restart, Recover}
+use Rattle.script_text.specs.Action.Action.{BRead, BWrite, BAtomic, BMulti, BDiscard, BDiscardIf, BExists, BScar, VLoad, VStore, VSync, VRanges, VPSync, VDiscard, VDiscardIf, VExists, Create, Delete, Rename, Resize, ListFiles, PoisonBlock, PoisonVolume, PoisonMeta, WeakenVolume, ClearVolume, Cut, CutIn, FailIn, Restart, Recover}
 use Rattle.machine_host.specs.OnBlocks.{blocks_from}
 use Rattle.machine_host.specs.Machine.{Machine}
 use Rattle.word_tables.specs.declared.geometry.Geometry.{Geometry}
@@ -76,6 +76,11 @@ made_durable geo (VPSync address len) = touched_lines_at (physical_offset geo ad
 made_durable geo (VDiscard page count) = nothing
 made_durable geo (VDiscardIf page count) = nothing
 made_durable geo (VExists page) = nothing
+made_durable geo (Create name pages) = nothing
+made_durable geo (Delete name) = nothing
+made_durable geo (Rename name to) = nothing
+made_durable geo (Resize name pages) = nothing
+made_durable geo ListFiles = nothing
 made_durable geo (PoisonBlock block line) = nothing
 made_durable geo (PoisonVolume offset) = nothing
 made_durable geo (PoisonMeta line) = nothing
@@ -105,6 +110,11 @@ region_changed (VPSync address len) = nothing
 region_changed (VDiscard page count) = discarded_pages page count
 region_changed (VDiscardIf page count) = discarded_pages page count
 region_changed (VExists page) = nothing
+region_changed (Create name pages) = nothing
+region_changed (Delete name) = nothing
+region_changed (Rename name to) = nothing
+region_changed (Resize name pages) = nothing
+region_changed ListFiles = nothing
 region_changed (PoisonBlock block line) = nothing
 region_changed (PoisonVolume offset) = nothing
 region_changed (PoisonMeta line) = nothing
@@ -144,6 +154,11 @@ harm_done (VPSync address len) = no_harm
 harm_done (VDiscard page count) = no_harm
 harm_done (VDiscardIf page count) = no_harm
 harm_done (VExists page) = no_harm
+harm_done (Create name pages) = no_harm
+harm_done (Delete name) = no_harm
+harm_done (Rename name to) = no_harm
+harm_done (Resize name pages) = no_harm
+harm_done ListFiles = no_harm
 harm_done (PoisonBlock block line) = record no_harm { poisoned = line_of_blocks (8 * block + line) }
 harm_done (PoisonVolume offset) = record no_harm { poisoned = line_of_volume (offset / 64) }
 harm_done (PoisonMeta line) = record no_harm { unmounted = everything }
@@ -176,6 +191,7 @@ is_begun Done = true
 is_begun (DoneBad n) = false
 is_begun (Bytes bytes) = false
 is_begun (Ranges ranges) = false
+is_begun (Files files) = false
 is_begun Yes = false
 is_begun No = false
 is_begun (Scarred block) = false

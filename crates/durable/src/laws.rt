@@ -3,7 +3,8 @@ ghost use Rattle.std.specs.Prelude.{◌≡◌, ◌+◌, ◌-◌, ◌*◌, ◌/�
 ghost use Rattle.word_tables.specs.declared.geometry.Geometry.{Geometry};
 ghost use Rattle.std.specs.List.{Contains};
 ghost use Rattle.durable.specs.Touching.{is_made_durable, unmounts};
-ghost use Rattle.reply_text.specs.Answer.Answer.{RefusedMeta, Stopped as StoppedMeta};
+ghost use Rattle.nvm_base.specs.declared.files.FileEntry.{FileEntry};
+ghost use Rattle.reply_text.specs.Answer.Answer.{Files, RefusedMeta, Stopped as StoppedMeta};
 ghost use Rattle.nvm_model.specs.Cell.{covers, touches};
 ghost use Rattle.nvm_model.specs.Numbered.{is_among};
 ghost use Rattle.nvm_model.specs.Page.{cell_of, touches_absent};
@@ -12,7 +13,7 @@ ghost use Rattle.word_tables.specs.Layout.{volume_line};
 ghost use Rattle.pm_volume.specs.Presence.{presence_read};
 ghost use Rattle.pm_volume.specs.Refusals.{physical_offset};
 ghost use Rattle.script_text.specs.Action.{Action};
-ghost use Rattle.script_text.specs.Action.Action.{BRead, BWrite, BAtomic, VLoad, VStore, VSync, VPSync, PoisonBlock, PoisonVolume, ClearVolume, Cut, Restart};
+ghost use Rattle.script_text.specs.Action.Action.{BRead, BWrite, BAtomic, VLoad, VStore, VSync, VPSync, PoisonBlock, PoisonVolume, ClearVolume, Cut, Restart, ListFiles};
 ghost use Rattle.script_text.specs.Script.{Input, inputs};
 ghost use Rattle.script_text.specs.Script.Input.{Asked};
 ghost use Rattle.line_device.specs.declared.line.Choice.TheVariants.{Firsts};
@@ -27,6 +28,7 @@ ghost use Rattle.durable.specs.Place.{Place, byte_at_place, is_weak_at, is_weak_
 ghost use Rattle.durable.specs.Naming.{Names, NamesLine, NamesObstacle};
 ghost use Rattle.durable.specs.Place.Place.{of_volume, of_blocks};
 ghost use Rattle.durable.specs.Durable.{BringBytes, BringsBytes, Does, HasNothing, IsDurable, IsComplete, KeepsThrough, Lasts, LastsPowered, Spares};
+ghost use Rattle.durable.specs.Files.{BreaksOff, FilesLast, FilesSettle, FilesThrough, LeavesFiles, changes_files, files_after, files_listed};
 
 /// A command that covers a byte was answered `ok`: in every later state, whatever is cut, fails, and is restarted or recovered,
 /// the byte is the same or its line is lost, until a command that changes it is begun; or nothing is there, since metadata is bad.
@@ -116,6 +118,20 @@ pub fn what_is_not_synced_may_go()
         → ((n : ℕ) → covers offset (length bytes) n ≡ true → image.is_bad (volume_line geo n) ≡ false)
         → Does (reading geo image) (VStore offset bytes) stored
         → (said : Transcript) × Run stored (Asked Cut ∷ Asked (Restart Firsts) ∷ []) said (reading geo image) }
+{}
+
+/// Which files there are, by name and page count, stays, whatever is cut, fails, and is restarted or recovered, until a command that
+/// changes them is begun; or nothing is there, since metadata is bad. A change that was answered `ok` is there at once and lasts
+/// likewise. One that was stopped is done as a whole or not at all, and which of the two lasts once the storage is mounted.
+pub fn what_files_there_are_stays()
+    ensures listed { (h next : Machine) (files : List FileEntry) (said : Transcript) → Hears h (Asked ListFiles) said next
+        → said.answers ≡ Files files ∷ [] → files ≡ files_listed h }
+    ensures stays { (h : Machine) → LeavesFiles h.interrupted → FilesLast h (files_listed h) }
+    ensures done { (h next : Machine) (action : Action) → Does h action next → changes_files action ≡ true → FilesLast next (files_after h action) }
+    ensures stopped { (h next : Machine) (action : Action) → BreaksOff h action next → changes_files action ≡ true
+        → FilesSettle next (files_listed h) (files_after h action) }
+    ensures whole { (h end : Machine) (before after : List Input) (action : Action) (said : Transcript) → IsComplete h
+        → changes_files action ≡ true → Run h (before ++ Asked action ∷ after) said end → FilesThrough h before action after said end }
 {}
 
 /// A machine that is read from an image is in such a state, whatever is armed, and no run leaves them.

@@ -1,15 +1,12 @@
 -- What changes of tables make of the files that a device stands for.
-use Rattle.std.proofs.Common.{◌≡◌, ◌≢◌, ◌⊎◌, inl, inr, ℕ, ◌-◌, ◌/◌, ◌<◌, ◌≤◌, true, false, is_some, List, Option, Some, None, length, map, replicate, take, ◌++◌, IfSome, slice_index_or, refl, sym, ap, subst, ◌∙◌, arith}
+use Rattle.std.proofs.Common.{◌≡◌, ◌≢◌, ◌⊎◌, inl, inr, ℕ, ◌-◌, ◌/◌, ◌<◌, ◌≤◌, true, false, is_some, List, None, length, map, replicate, take, ◌++◌, slice_index_or, refl, sym, ap, subst, ◌∙◌, arith}
 use Rattle.std.proofs.lemmas.List.{length-map}
 use Rattle.std.proofs.lemmas.Option.{get_or_from_slice_get, slice_get-get_or}
 use Rattle.line_device.specs.Medium.{Medium}
 use Rattle.nvm_base.specs.Names.{is_name}
-use Rattle.nvm_base.specs.declared.files.FileEntry.{FileEntry}
 use Rattle.word_tables.specs.declared.geometry.Geometry.{Geometry}
 use Rattle.word_tables.specs.Layout.{file_pages, HasLine}
-use Rattle.inode_table.specs.Slots as names
-use Rattle.inode_table.specs.Slots.{IsNamed, file_count, free_inode, inode_of, pages_at}
-use Rattle.inode_table.proofs.SlotLemmas.{found_is_named, free_slot_is_free, none_named}
+use Rattle.inode_table.specs.Slots.{file_count}
 use Rattle.nvm_model.specs.Files.{new_file, with_name, with_pages}
 use Rattle.nvm_model.specs.Listing.{AreAlike, change_file, file_name, put_file, rename_file, without_file}
 use Rattle.nvm_model.specs.Page.{is_present}
@@ -18,17 +15,17 @@ use Rattle.nvm_model.specs.Storage.{File}
 use Rattle.nvm_model.proofs.AlikeChangeLemmas.{alike-change, alike-rename, alike-without}
 use Rattle.nvm_model.proofs.AlikeLemmas.{alike-put}
 use Rattle.nvm_model.proofs.KeptLemmas.{LineKept}
-use Rattle.nvm_model.proofs.ResizeLemmas.{map-replicate, map-resized, pages_stand-absent, pages_stand-resized, resized-kept}
-use Rattle.file_journal.specs.Changes.{created, deleted, renamed, replaced, replaced_at, resized}
+use Rattle.nvm_model.proofs.ResizeLemmas.{map-replicate, map-resized, pages_stand-absent, pages_stand-resized, presence_of-resized, resized-kept}
+use Rattle.file_journal.specs.Changes.{created, deleted, renamed, resized}
 use Rattle.file_journal.specs.Files.{UnitFile, files_of, hole_file, named_file, resized_file, unit_file_name}
 use Rattle.file_journal.specs.Holds.{Holds}
 use Rattle.file_journal.specs.Images.{EachReadsTables, IsEither}
 use Rattle.file_journal.specs.Standing.{EachReadsFiles, FileStands, FilesStand, ReadsFiles, line_of_file, line_on}
 use Rattle.file_journal.specs.Tables.{AreTables, Tables, has_file}
-use Rattle.file_journal.proofs.FilesOfLemmas.{files_of-created, free_found, low_of, unnamed}
+use Rattle.file_journal.proofs.FilesOfLemmas.{files_of-created}
 use Rattle.file_journal.proofs.NamedFileLemmas.{files_of-deleted, files_of-renamed, files_of-resized}
-use Rattle.file_journal.proofs.ReplaceLemmas.{may_named, may_unnamed, pages_at_most, replaced_are, replaced_found, set_names}
 use Rattle.file_journal.proofs.StandingLemmas.{files-kept}
+use Rattle.file_journal.proofs.TableChangeLemmas.{created_are, deleted_are, renamed_are, resized_are}
 
 -- Tables become others as the files become those that f makes of them.
 pub record Becomes (geo : Geometry) (old new : Tables) (f : List File → List File) : Type 0 where
@@ -53,7 +50,7 @@ file_stands-resized geo m pages on file stands =
     let size = units-pages geo m on file stands in
     let there : map is_present file.pages ≡ map is_some on.units = stands.there in
     record {
-      there = map-resized is_present pages file.pages Absent
+      there = presence_of-resized pages file.pages
           ∙ ap (λ bs. take pages bs ++ replicate (pages - length bs) false) there
           ∙ sym (map-resized is_some pages on.units None);
       stand = pages_stand-resized (line_of_file geo on) (line_of_file geo (resized_file pages on)) m pages file.pages
@@ -68,54 +65,6 @@ file_stands-resized geo m pages on file stands =
         let unit = slice_index_or on.units i None in
         let is = slice_get-get_or on.units i None inside in
         get_or_from_slice_get (resized_file pages on).units i unit None (resized-kept pages on.units None i low inside ∙ is)
-
--- the tables of an inode that became a slot
-replaced_right : (size inode : ℕ) (slot : Option FileEntry) (t : Tables) → AreTables size t → inode < 64 → IfSome slot (λ file. names.MayTake t.files inode file.name)
-    → IfSome slot (λ file. is_name file.name ≡ true) → IfSome slot (λ file. file.pages ≤ 256) → AreTables size (replaced inode slot t)
-replaced_right size inode slot t are low name named few = replaced_are size inode slot t are low (set_names inode slot t.files are.names name named few)
-
-module _ (size : ℕ) (t : Tables) (are : AreTables size t) (name : List ℕ) where
-  -- no other inode has the name of one
-  named_may : (inode : ℕ) → IsNamed t.files inode name → names.MayTake t.files inode name
-  named_may inode here = may_named t.files inode name are.names here
-
-  named_low : (inode : ℕ) → IsNamed t.files inode name → inode < 64
-  named_low inode here = low_of size t are inode (Some here.file) here.is
-
-  pub created_are : (pages : ℕ) → is_name name ≡ true → pages ≤ 256 → has_file t name ≡ false → file_count t.files ≢ 64 → AreTables size (created name pages t)
-  created_are pages good few none room =
-      let found = free_found t size are room in
-      let inode = found.0 in
-      let low = low_of size t are inode None (free_slot_is_free t.files inode found.1) in
-      subst (AreTables size) (sym (replaced_found (free_inode t.files) inode (λ _. Some (record { name = name; pages = pages })) t found.1))
-      (replaced_right size inode (Some (record { name = name; pages = pages })) t are low (may_unnamed t.files inode name (none_named name t.files (unnamed t name none))) good few)
-
-  pub deleted_are : AreTables size (deleted name t)
-  deleted_are = by_found (inode_of name t.files) refl
-    where
-      by_found : (o : Option ℕ) → inode_of name t.files ≡ o → AreTables size (replaced_at o (λ _. None) t)
-      by_found None found = are
-      by_found (Some inode) found = let here = found_is_named name t.files inode found in replaced_right size inode None t are (named_low inode here) tt tt tt
-
-  pub renamed_are : (to : List ℕ) → is_name to ≡ true → has_file t to ≡ false → AreTables size (renamed name to t)
-  renamed_are to good none = by_found (inode_of name t.files) refl
-    where
-      by_found : (o : Option ℕ) → inode_of name t.files ≡ o → AreTables size (replaced_at o (λ inode. Some (record { name = to; pages = pages_at t.files inode })) t)
-      by_found None found = are
-      by_found (Some inode) found =
-          let low = named_low inode (found_is_named name t.files inode found) in
-          replaced_right size inode (Some (record { name = to; pages = pages_at t.files inode })) t are low
-          (may_unnamed t.files inode to (none_named to t.files (unnamed t to none))) good (pages_at_most t.files inode are.names low)
-
-  pub resized_are : (pages : ℕ) → pages ≤ 256 → AreTables size (resized name pages t)
-  resized_are pages few = by_found (inode_of name t.files) refl
-    where
-      by_found : (o : Option ℕ) → inode_of name t.files ≡ o → AreTables size (replaced_at o (λ _. Some (record { name = name; pages = pages })) t)
-      by_found None found = are
-      by_found (Some inode) found =
-          let here = found_is_named name t.files inode found in
-          replaced_right size inode (Some (record { name = name; pages = pages })) t are (named_low inode here) (named_may inode here)
-          (subst (λ n. is_name n ≡ true) here.named (are.names.name inode here.file here.is)) few
 
 -- What each command makes of them.
 module _ (geo : Geometry) (t : Tables) (are : AreTables geo.fpages t) (name : List ℕ) where

@@ -23,7 +23,10 @@ pub mod AgreeLemmas
 pub mod FileLineLemmas
 pub mod RestartLemmas
 pub mod DeviceFileLemmas
+pub mod ElsewhereLemmas
+pub mod MountedFileLemmas
 pub mod StepLemmas
 pub mod SwitchLemmas
+pub mod TableChangeLemmas
 pub mod TableReadLemmas
 pub mod WordLemmas

@@ -21,7 +21,7 @@ ghost use Rattle.file_journal.specs.Area.{file_area};
 ghost use Rattle.file_journal.specs.Mounting.{FindsJournal, FindsTables, journal_mount_says};
 ghost use Rattle.file_journal.specs.Object.{JournalServes};
 ghost use Rattle.file_journal.specs.Reading.{tables_of, tables_read, wrong_inode, wrong_page};
-ghost use Rattle.file_journal.specs.Tables.{known_units};
+ghost use Rattle.file_journal.specs.Tables.{AreTables, known_units};
 
 use crate::area::{INODE_WORDS, file_area};
 use crate::{Journal, MountFault};
@@ -65,6 +65,7 @@ impl Journal {
         requires log { log ≡ record { area = file_area geo; settled = true } }
         requires length { length words.now ≡ 16896 }
         ensures journal { IfOk result (λ journal. (journal.geo ≡ geo) × (journal.tables ≡ tables_of words.now)) }
+        ensures tables { IfOk result (λ journal. AreTables geo.fpages journal.tables) }
         ensures held { IfOk result (λ journal. known_units journal.tables.pages journal.free ≡ geo.fpages) }
         ensures settled { IfOk result (λ journal. IsTrue journal.settled) }
         ensures finds { FindsTables geo words.now result }

@@ -23,9 +23,12 @@ use Rattle.word_tables.specs.Layout.{volume_line}
 use Rattle.block_device.specs.Images.{AreReadable, EachReads}
 use Rattle.block_device.proofs.ImageLemmas.{each_reads-then}
 use Rattle.block_device.proofs.RestartLemmas.{blocks_read-restarted, each_reads-restarted}
+use Rattle.file_journal.specs.Standing.{EachReadsFiles, files_read}
+use Rattle.file_journal.proofs.EachFilesLemmas.{each_files-then}
+use Rattle.file_journal.proofs.RestartLemmas.{CameBack, files_back}
 use Rattle.recovery.specs.Findings.{first_finding}
 use Rattle.machine_host.specs.Machine.{Machine}
-use Rattle.machine_host.specs.Commands.{MayLeaveBlocks, MayLeaveVolume}
+use Rattle.machine_host.specs.Commands.{MayLeaveBlocks, MayLeaveFiles, MayLeaveVolume}
 use Rattle.machine_host.specs.Restarting.{MayLeaveStorage}
 use Rattle.machine_host.proofs.VolumeLemmas.{line_there}
 use Rattle.machine_host.proofs.ElsewhereLemmas.{area_of_volume, volume_within}
@@ -35,6 +38,7 @@ use Rattle.machine_host.proofs.MountLemmas.{IsTold, is_told, nothing_wrong_there
 -- What comes back with the power: lines that each kept one value of a word stand for what is read there.
 module _ (h : Machine) (choice : Choice) (old mid : Medium) (image : Image) (was : IsGood h.geometry old)
     (blocks_were : EachReads h.geometry old (MayLeaveBlocks h.interrupted h.blocks)) (volume_was : EachReadsPages h.geometry old (MayLeaveVolume h.geometry h.interrupted h.volume))
+    (files_were : EachReadsFiles h.geometry old (MayLeaveFiles h.interrupted h.files))
     (left : Survivors choice old mid) (shows : Depicts mid image) (sound_old : IsSound old) (sound : IsSound mid) where
   abbrev geo : Geometry
   geo = h.geometry
@@ -100,9 +104,16 @@ module _ (h : Machine) (choice : Choice) (old mid : Medium) (image : Image) (was
   pub each_back : EachReadsPages geo mid (λ pages. pages ≡ pages_back)
   each_back word is = record { pages = pages_back; is = refl; all = all_back; replays = replays_back word is; stand = pages_kept.1 }
 
+  came : CameBack choice geo image (MayLeaveFiles h.interrupted h.files) mid
+  came = files_back choice geo old mid image (MayLeaveFiles h.interrupted h.files) was.valid was.lines was.good files_were left shows
+
+  pub each_files_back : EachReadsFiles geo mid (λ files. files ≡ files_read geo image)
+  each_files_back = came.each
+
   -- nothing is wrong with them
   pub nothing_back : first_finding mid ≡ None
   nothing_back = nothing_wrong_there geo mid layout_back told_back sound readable_back (each_pages-then geo mid (λ pages. pages ≡ pages_back) (λ _. Unit {0}) (λ _ _. tt) each_back)
+      (each_files-then geo mid (λ files. files ≡ files_read geo image) (λ _. Unit {0}) (λ _ _. tt) each_files_back)
 
   -- and they are what a restart may leave
   pub kept_back : MayLeaveStorage choice image h
@@ -112,4 +123,7 @@ module _ (h : Machine) (choice : Choice) (old mid : Medium) (image : Image) (was
     may = pages_were.is;
     there = sym there_is;
     volume = pages_kept.0;
+    files_left = came.left;
+    may_files = came.is;
+    files = came.keeps;
   }

@@ -1,5 +1,5 @@
 -- What a host and its device stand for, after a call on the blocks.
-use Rattle.std.proofs.Common.{◌≡◌, ◌≢◌, ◌<◌, ◌≤◌, ℕ, IsTrue, true, position, Option, Some, None, option_map, Result, Ok, Err, OnOk, List, [], refl, sym, ap, ap₂, subst, ◌∙◌, arith}
+use Rattle.std.proofs.Common.{◌≡◌, ◌≢◌, ◌<◌, ◌≤◌, ℕ, IsTrue, true, position, Option, Some, None, option_map, inl, Result, Ok, Err, OnOk, List, [], refl, sym, ap, ap₂, subst, ◌∙◌, arith}
 use Rattle.line_device.specs.Medium.{Medium}
 use Rattle.line_device.specs.Panel.{Runs}
 use Rattle.line_device.specs.Device.{Device}
@@ -33,7 +33,7 @@ use Rattle.machine_host.specs.Machine.{Machine}
 use Rattle.machine_host.specs.Meaning.{BlocksLeft}
 use Rattle.machine_host.specs.OnBlocks.{changing_blocks, refusal_answer}
 use Rattle.machine_host.specs.Machine.Fate.{Works}
-use Rattle.machine_host.specs.Commands.{MayLeaveBlocks, MayLeaveVolume, fate, meaning, spending, unless_refused}
+use Rattle.machine_host.specs.Commands.{MayLeaveBlocks, MayLeaveFiles, MayLeaveVolume, fate, meaning, spending, unless_refused}
 use Rattle.machine_host.specs.Interrupted.{stop_in}
 use Rattle.machine_host.specs.Lines.{HasLayout, MetadataStands, bad_metadata}
 use Rattle.machine_host.specs.declared.mode.Mode.{Mode}
@@ -43,15 +43,16 @@ use Rattle.machine_host.specs.Faults.{answer_after, mode_after}
 use Rattle.line_words.specs.Told.Told.{Starves}
 use Rattle.block_device.specs.Refusals.{block_says}
 use Rattle.pm_volume.specs.Area.{IsOfVolume}
-use Rattle.pm_volume.specs.Images.{EachReadsPages}
-use Rattle.pm_volume.specs.Object.{VolumeHolds}
+use Rattle.file_journal.specs.Area.{IsOfFiles}
+use Rattle.file_journal.proofs.EachFilesLemmas.{each_files-then}
 use Rattle.nvm_model.proofs.KeptLemmas.{LineKept}
 use Rattle.pm_volume.proofs.StandingLemmas.{each_pages-then}
 use Rattle.machine_host.proofs.CallLemmas.{IsPart, comes_of_call, printable_after, serves_of_call, short_told}
 use Rattle.machine_host.proofs.BadLineLemmas.{good_lines}
-use Rattle.machine_host.proofs.ElsewhereLemmas.{first_not_blocks, pages_elsewhere, volume_apart, volume_holds_elsewhere, volume_serves_elsewhere}
+use Rattle.machine_host.proofs.ElsewhereLemmas.{first_not_blocks, mounted-blocks, volume_apart}
+use Rattle.machine_host.proofs.FilesAsideLemmas.{files_not_blocks}
 use Rattle.machine_host.proofs.LayoutLemmas.{kept-beside, layout-beside, metadata-then, same_bad}
-use Rattle.machine_host.proofs.StepLemmas.{DeviceLeft, is_whole, stands_done, whole_pages}
+use Rattle.machine_host.proofs.StepLemmas.{DeviceLeft, FilesAre, PagesAre, files_still, pages_still, stands_done}
 
 -- what a call on the blocks says, whichever it is
 pub record Called {T : Type 0} (host : HostState) (s : BlocksState) (r : Result T BlockFault) (P : List Block → Type 0) (calls persists : ℕ) (old new : Device) : Type 0 where
@@ -113,31 +114,29 @@ short_after (Err f) = short_told refusal_answer short_refusal (block_says f)
 
 -- the host in a mode after the call
 abbrev pub host_after : HostState → BlocksState → Mode → HostState
-host_after host s mode = record { geometry = host.geometry; mode = mode; blocks = s; volume = host.volume }
+host_after host s mode = record host { mode = mode; blocks = s }
 
 module _ (host : HostState) (s : BlocksState) (old new : Device) (on : host.mode ≡ On) (serves : HostServes host old) (outside : WritesBackBeside (IsBlockLine host.blocks.geo) old.medium new.medium) where
-  mounted : AreMounted host.geometry host.blocks host.volume old.medium
+  mounted : AreMounted host.geometry host.blocks host.volume host.journal old.medium
   mounted = serves.mounted on
 
-  -- the lines of the volume are kept
-  pub kept_beside : (line : ℕ) → IsOfVolume host.geometry line → LineKept old.medium new.medium line
-  kept_beside line of =
-      kept-beside (IsBlockLine host.blocks.geo) old.medium new.medium line
-      (λ at. volume_apart host.geometry line serves.layout.valid of (subst (λ g. IsBlockLine g line) mounted.geometry at)) outside
+  -- lines of other parts are kept
+  kept_beside : (line : ℕ) → (IsBlockLine host.geometry line → ⊥) → LineKept old.medium new.medium line
+  kept_beside line apart = kept-beside (IsBlockLine host.blocks.geo) old.medium new.medium line (λ at. apart (subst (λ g. IsBlockLine g line) mounted.geometry at)) outside
+
+  pub pages_beside : (line : ℕ) → IsOfVolume host.geometry line → LineKept old.medium new.medium line
+  pages_beside line of = kept_beside line (volume_apart host.geometry line serves.layout.valid of)
+
+  pub files_beside : (line : ℕ) → IsOfFiles host.geometry line → LineKept old.medium new.medium line
+  files_beside line of = kept_beside line (files_not_blocks host.geometry line of)
 
   pub layout_after : HasLayout host.geometry new.medium
   layout_after = layout-beside host.geometry old.medium new.medium serves.layout (IsBlockLine host.blocks.geo) (first_not_blocks host.blocks.geo) outside
 
-  mounted_after : s.geo ≡ host.blocks.geo → IsTrue s.settled → object.BlocksServe s new.medium → AreMounted host.geometry s host.volume new.medium
-  mounted_after geo settled served = record {
-    geometry = geo ∙ mounted.geometry;
-    settled = settled;
-    serves = served;
-    volume_geometry = mounted.volume_geometry;
-    volume_settled = mounted.volume_settled;
-    volume_serves = volume_serves_elsewhere host.geometry old.medium new.medium serves.layout.valid kept_beside host.volume mounted.volume_geometry
-        (λ n below. outside.stays_strong n (mounted.volume_serves.strong n below)) outside.count mounted.volume_serves;
-  }
+  mounted_after : s.geo ≡ host.blocks.geo → IsTrue s.settled → object.BlocksServe s new.medium → AreMounted host.geometry s host.volume host.journal new.medium
+  mounted_after geo settled served =
+      mounted-blocks host.geometry host.blocks host.volume host.journal old.medium new.medium serves.layout.valid (λ n below. outside.stays_strong n (serves.layout.strong n below)) outside.count mounted
+      s pages_beside files_beside geo settled served
 
   pub served_after : (served : object.BlocksServe s new.medium) → HasGoodMetadata host.geometry new.medium → s.geo ≡ host.blocks.geo → EachReads host.geometry new.medium (λ bs. bs ≡ blocks_of s new.medium)
   served_after served good geo =
@@ -152,17 +151,12 @@ module _ (host : HostState) (s : BlocksState) (action : Action) (calls persists 
   abbrev may : List Block → Type 0
   may = MayLeaveBlocks (Some action) (blocks_of host.blocks old.medium)
 
-  -- the volume, which such a call leaves
-  pages_beside : WritesBackBeside (IsBlockLine host.blocks.geo) old.medium new.medium → h.bad_meta ≡ [] → EachReadsPages h.geometry new.medium (λ pages. pages ≡ h.volume)
-  pages_beside outside good =
-      subst (λ g. EachReadsPages g new.medium (λ pages. pages ≡ h.volume)) stands.geometry
-      (pages_elsewhere host.geometry old.medium new.medium serves.layout.valid (kept_beside host s old new on serves outside) (λ pages. pages ≡ h.volume)
-      (subst (λ g. EachReadsPages g old.medium (λ pages. pages ≡ h.volume)) (sym stands.geometry) (whole_pages host old h stands (is_whole host old h stands on) good)))
+  -- volume and files, which such a call leaves
+  pages_left : WritesBackBeside (IsBlockLine host.blocks.geo) old.medium new.medium → PagesAre host new h h.volume
+  pages_left outside = pages_still host old new h stands serves on (pages_beside host s old new on serves outside)
 
-  holds_beside : WritesBackBeside (IsBlockLine host.blocks.geo) old.medium new.medium → VolumeHolds host.volume new.medium h.volume
-  holds_beside outside =
-      let mounted = serves.mounted on in
-      volume_holds_elsewhere host.geometry old.medium new.medium serves.layout.valid (kept_beside host s old new on serves outside) host.volume h.volume mounted.volume_geometry mounted.volume_serves.all (stands.volume on)
+  files_left : WritesBackBeside (IsBlockLine host.blocks.geo) old.medium new.medium → FilesAre host new h h.files
+  files_left outside = files_still host old new h stands serves on (files_beside host s old new on serves outside)
 
   -- the metadata
   metadata_beside : {T : Type 0} {r : Result T BlockFault} → Called host s r may calls persists old new → MetadataStands h.geometry new.medium h.bad_meta
@@ -183,12 +177,14 @@ module _ (host : HostState) (s : BlocksState) (action : Action) (calls persists 
       → OnOk r (Stands (host_after host s On) new (record h { blocks = f h.blocks }))
   stands_called (Ok x) c ok =
       let now : blocks_of s new.medium ≡ f h.blocks = ok ∙ ap f (stands.blocks on) in
-      stands_done host (host_after host s On) old new h action stands on calls persists few few_persists refl (f h.blocks) h.volume refl c.runs (metadata_beside c)
-      (λ good.
-      subst (λ g. EachReads g new.medium (λ bs. bs ≡ f h.blocks)) stands.geometry
-      (each_reads-then host.geometry new.medium (λ bs. bs ≡ blocks_of s new.medium) (λ bs. bs ≡ f h.blocks) (λ bs e. e ∙ now)
-      (served_after host s old new on serves c.outside (c.serves c.object.1) (good_after c good) c.object.0)))
-      now (pages_beside c.outside) (holds_beside c.outside)
+      stands_done host (host_after host s On) old new h action stands on calls persists few few_persists refl (f h.blocks) h.volume h.files refl c.runs (metadata_beside c) (
+        λ good.
+            subst (λ g. EachReads g new.medium (λ bs. bs ≡ f h.blocks)) stands.geometry
+            (each_reads-then host.geometry new.medium (λ bs. bs ≡ blocks_of s new.medium) (λ bs. bs ≡ f h.blocks) (λ bs e. e ∙ now)
+            (served_after host s old new on serves c.outside (c.serves c.object.1) (good_after c good) c.object.0)),
+        now,
+      )
+      (pages_left c.outside) (files_left c.outside)
   stands_called (Err e) c ok = tt
 
   -- what each image reads as after an interruption
@@ -204,7 +200,8 @@ module _ (host : HostState) (s : BlocksState) (action : Action) (calls persists 
     blocks = λ good. blocks_interrupted (each good);
     volume = λ good.
         each_pages-then h.geometry new.medium (λ pages. pages ≡ h.volume) (MayLeaveVolume h.geometry (Some action) h.volume)
-        (λ pages same. subst (MayLeaveVolume h.geometry (Some action) h.volume) (sym same) left) (pages_beside c.outside good);
+        (λ pages same. subst (MayLeaveVolume h.geometry (Some action) h.volume) (sym same) left) ((pages_left c.outside).0 good);
+    files = λ good. each_files-then h.geometry new.medium (λ files. files ≡ h.files) (MayLeaveFiles (Some action) h.files) (λ files same. inl same) ((files_left c.outside).0 good);
   }
 
   left_called : {T : Type 0} (r : Result T BlockFault) → MayLeaveVolume h.geometry (Some action) h.volume h.volume → Called host s r may calls persists old new → OnWorked r (DeviceLeft h action new.medium)
@@ -213,10 +210,10 @@ module _ (host : HostState) (s : BlocksState) (action : Action) (calls persists 
 
 same_host : {T : Type 0} (host : HostState) (s : BlocksState) (r : Result T BlockFault) (old new : Device) → OnRefused r ((s ≡ host.blocks) × (new ≡ old)) → OnRefused r ((host_after host s host.mode ≡ host) × (new ≡ old))
 same_host host s (Ok x) old new untouched = tt
-same_host host s (Err e) old new untouched = λ told. let same = untouched told in (ap (λ b. record { geometry = host.geometry; mode = host.mode; blocks = b; volume = host.volume }) same.0, same.1)
+same_host host s (Err e) old new untouched = λ told. let same = untouched told in (ap (λ b. record host { blocks = b }) same.0, same.1)
 
 mounted_ok : {T : Type 0} (host : HostState) (s : BlocksState) (r : Result T BlockFault) (P : List Block → Type 0) (calls persists : ℕ) (old new : Device) → host.mode ≡ On → HostServes host old → Called host s r P calls persists old new
-    → OnOk r (AreMounted host.geometry s host.volume new.medium)
+    → OnOk r (AreMounted host.geometry s host.volume host.journal new.medium)
 mounted_ok host s (Ok x) P calls persists old new on serves c = mounted_after host s old new on serves c.outside c.object.0 c.object.1 (c.serves c.object.1)
 mounted_ok host s (Err e) P calls persists old new on serves c = tt
 
@@ -264,11 +261,6 @@ called state host s r P calls persists before after places refused untouched ima
   object = object;
   runs = runs;
 }
-
--- the first of three reasons
-pub first_assoc : {A : Type 0} (a b c : Option A) → first_there (first_there a b) c ≡ first_there a (first_there b c)
-first_assoc None b c = refl
-first_assoc (Some x) b c = refl
 
 -- of a state that the host stands for, the refusals of the blocks are the machine's
 module _ (host : HostState) (old : Device) (h : Machine) (serves : HostServes host old) (stands : Stands host old h) (on : host.mode ≡ On) where

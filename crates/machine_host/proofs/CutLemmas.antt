@@ -16,6 +16,9 @@ use Rattle.pm_volume.specs.Presence.{words_read}
 use Rattle.nvm_model.specs.Blocks.{write, look_blocks}
 use Rattle.word_log.specs.Replay.{listed}
 use Rattle.block_device.specs.Reading.{states_read, blocks_read}
+use Rattle.inode_table.specs.Words.{slots_of}
+use Rattle.file_journal.specs.Reading.{tables_of, words_read as file_words}
+use Rattle.file_journal.specs.Standing.{files_read}
 use Rattle.reply_text.specs.Answer.{answer_line}
 use Rattle.reply_text.specs.Answer.Answer.{Done, Bytes, PowerLost, Refused}
 use Rattle.reply_text.specs.declared.reply.Why.TheVariants.{Off}
@@ -98,26 +101,26 @@ run_of_write start read chosen keeps reads =
     )
 
 pub write_lost : MayWrite with_cut_write (leaving_first Firsts 0 0 ∷ []) (cut_write_lines (codes "data 00*1024"))
-unfolding digits number_of data_of runs_of data_within data_text read_pages answer_line lines_of words_of command_action line_input refusal size first_line total_lines volume_line reading write look_blocks states_read blocks_read listed words_read
+unfolding digits number_of data_of runs_of data_within data_text read_pages answer_line lines_of words_of command_action line_input refusal size first_line total_lines volume_line reading write look_blocks states_read blocks_read listed files_read file_words tables_of slots_of words_read
 write_lost = record {
   said = told_of_write (leaving_first Firsts 0 0) (replicate 1024 0);
   end = back (leaving_first Firsts 0 0);
   run = run_of_write (leaving_first Firsts 0 0) (replicate 1024 0) refl
-      (record { metadata = refl; storage = λ _. record { blocks = inl refl; left = struck.volume; may = refl; there = refl; volume = keeps-last Firsts (volume_line small) (leaving_first Firsts 0 0).image struck.volume refl } })
+      (record { metadata = refl; storage = λ _. record { blocks = inl refl; left = struck.volume; may = refl; there = refl; volume = keeps-last Firsts (volume_line small) (leaving_first Firsts 0 0).image struck.volume refl; files_left = []; may_files = inl refl; files = tt } })
       (Bytes (replicate 1024 0), refl, inl (refl, refl));
   left = refl;
   written = refl;
 }
 
 pub write_kept : MayWrite with_cut_write (leaving_first Firsts 2 1229782938247303441 ∷ []) (cut_write_lines (codes "data 11*1024"))
-unfolding digits number_of data_of runs_of data_within data_text read_pages answer_line lines_of words_of command_action line_input refusal size first_line total_lines volume_line reading write look_blocks states_read blocks_read listed words_read
+unfolding digits number_of data_of runs_of data_within data_text read_pages answer_line lines_of words_of command_action line_input refusal size first_line total_lines volume_line reading write look_blocks states_read blocks_read listed files_read file_words tables_of slots_of words_read
 write_kept =
     let start = leaving_first Firsts 2 1229782938247303441 in
     record {
       said = told_of_write start two_blocks;
       end = back start;
       run = run_of_write start two_blocks refl
-          (record { metadata = refl; storage = λ _. record { blocks = inr refl; left = struck.volume; may = refl; there = refl; volume = keeps-last Firsts (volume_line small) start.image struck.volume refl } })
+          (record { metadata = refl; storage = λ _. record { blocks = inr refl; left = struck.volume; may = refl; there = refl; volume = keeps-last Firsts (volume_line small) start.image struck.volume refl; files_left = []; may_files = inl refl; files = tt } })
           (Bytes two_blocks, refl, inl (refl, refl));
       left = refl;
       written = refl;
@@ -125,7 +128,7 @@ write_kept =
 
 -- a cut that never comes: nothing is interrupted
 pub cut_that_never_came : MayWrite with_late_cut (leaving_first Lasts 1 72340172838076673 ∷ []) late_cut_lines
-unfolding digits number_of data_of runs_of data_within data_text read_pages answer_line lines_of words_of command_action line_input refusal size first_line total_lines volume_line reading write look_blocks states_read blocks_read listed words_read
+unfolding digits number_of data_of runs_of data_within data_text read_pages answer_line lines_of words_of command_action line_input refusal size first_line total_lines volume_line reading write look_blocks states_read blocks_read listed files_read file_words tables_of slots_of words_read
 cut_that_never_came =
     let start = leaving_first Lasts 1 72340172838076673 in
     let all = perform (fresh small) (inputs with_late_cut) (start ∷ []) in
@@ -134,7 +137,7 @@ cut_that_never_came =
       end = all.state;
       run = run_performed (fresh small) (inputs with_late_cut) (start ∷ []) (
         refl,
-        record { metadata = refl; storage = λ _. record { blocks = refl; left = (fresh small).volume; may = refl; there = refl; volume = keeps-last Lasts (volume_line small) start.image (fresh small).volume refl } },
+        record { metadata = refl; storage = λ _. record { blocks = refl; left = (fresh small).volume; may = refl; there = refl; volume = keeps-last Lasts (volume_line small) start.image (fresh small).volume refl; files_left = []; may_files = refl; files = tt } },
         refl,
       );
       left = refl;
@@ -159,7 +162,7 @@ halted = record (while_interrupted ready the_store) { mode = modes.Off; cut_arme
 
 -- the first line is stored, the second one is not
 pub store_in_part : MayWrite with_cut_store (leaving Lasts (with_page 7 18446744069414584320) ∷ []) (cut_store_lines (codes "data ff*4,00*4"))
-unfolding digits word_from byte_over word_over reaches number_of runs_of data_within data_text fill put persist look read_pages answer_line lines_of words_of command_action line_input refusal size first_line total_lines volume_line reading states_read blocks_read listed words_read discard first_bad_line first_uncovered_line
+unfolding digits word_from byte_over word_over reaches number_of runs_of data_within data_text fill put persist look read_pages answer_line lines_of words_of command_action line_input refusal size first_line total_lines volume_line reading states_read blocks_read listed files_read file_words tables_of slots_of words_read discard first_bad_line first_uncovered_line
 store_in_part =
     let start = leaving Lasts (with_page 7 18446744069414584320) in
     let read = replicate 4 255 ++ replicate 4 0 in
@@ -215,6 +218,9 @@ store_in_part =
                       may = may_store-among (λ n. nat_lt n 1) 60 (replicate 8 255) durable.volume;
                       there = refl;
                       volume = keeps-last Lasts (volume_line small) start.image left refl;
+                      files_left = [];
+                      may_files = inl refl;
+                      files = tt;
                     };
                   },
                   inl (refl, refl),

@@ -1,4 +1,4 @@
--- What blocks and pages read as where the power just came back: each word has one value.
+-- What blocks, pages and files read as where the power just came back: each word has one value.
 use Rattle.std.proofs.Common.{◌≡◌, ℕ, inl, inr, ◌/◌, ◌<◌, ◌==◌, Bool, false, None, List, length, map, take, refl, sym, ◌∙◌, ap, subst, arith}
 use Rattle.std.proofs.lemmas.List.{length-map}
 use Rattle.line_device.specs.History.{newest, IsIn}
@@ -38,11 +38,19 @@ use Rattle.pm_volume.specs.Presence.{presence_read, words_read}
 use Rattle.pm_volume.proofs.DeviceLemmas.{device_pages-stand, presence_of-device}
 use Rattle.pm_volume.proofs.AreaLemmas.{area_in_metadata}
 use Rattle.pm_volume.proofs.StandingLemmas.{line_of_volume, pages-kept, volume_shaped}
+use Rattle.file_journal.specs.Area.{file_area}
+use Rattle.file_journal.specs.Object.{JournalState}
+use Rattle.file_journal.specs.Reading.{tables_read}
+use Rattle.file_journal.specs.Standing.{FilesStand, files_read}
+use Rattle.file_journal.specs.Tables.{AreTables, Tables}
+use Rattle.file_journal.proofs.RestartLemmas.{read-stands, tables_depicted}
+use Rattle.file_journal.proofs.StandingLemmas.{files-kept}
 use Rattle.recovery.specs.Mounting.{IsOfLogs}
 use Rattle.machine_host.proofs.LayoutLemmas.{IsGood}
 use Rattle.machine_host.proofs.VolumeLemmas.{line_there}
-use Rattle.machine_host.proofs.ElsewhereLemmas.{area_of_volume, range_kept, volume_within}
-use Rattle.machine_host.proofs.MountLemmas.{volume_image-last}
+use Rattle.machine_host.proofs.ElsewhereLemmas.{area_of_volume, volume_within}
+use Rattle.machine_host.proofs.LogLineLemmas.{file_pages_kept, range_kept}
+use Rattle.machine_host.proofs.MountLemmas.{file_image-last, volume_image-last}
 
 -- as many pages are told as there are
 length-presence_read : (geo : Geometry) (word : ℕ → ℕ) → length (presence_read geo word) ≡ geo.vpages
@@ -140,3 +148,13 @@ module _ (geo : Geometry) (m : Medium) (image : Image) (layout : IsGood geo m) (
         stand = subst (λ g. PagesStand (volume_line g) new pages) (sym same)
             (pages-kept geo m new pages (length-read_pages (volume_line geo) image read ∙ size) (range_kept geo m new layout.valid x) (pages_depicted read size));
       }
+
+  -- The journal that was mounted there stands for the files that are read.
+  pub files_depicted : (new : Medium) (j : JournalState) → IsSound m → first_wrong (file_area geo) (last_image m) ≡ None → AreTables geo.fpages j.tables → WritesBackOutside (IsOfLogs geo) m new
+      → j.geo ≡ geo → j.tables ≡ tables_read geo (last_image m) → FilesStand j.geo new j.tables (files_read geo image)
+  files_depicted new j sound valid right x same tables =
+      let is = tables ∙ sym (tables_depicted geo m image layout.valid layout.lines layout.good shows (last_image m) (file_image-last geo m sound layout) valid) in
+      subst (λ g. FilesStand g new j.tables (files_read geo image)) (sym same)
+      (files-kept geo m new j.tables (files_read geo image) right (file_pages_kept geo m new layout.valid x)
+      (subst (λ (t : Tables). FilesStand geo m t (files_read geo image)) (sym is)
+      (read-stands geo m image (subst (AreTables geo.fpages) is right) layout.lines shows)))

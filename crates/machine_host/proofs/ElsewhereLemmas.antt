@@ -1,10 +1,9 @@
--- Volume and blocks lie apart: work on the one leaves the other.
-use Rattle.std.proofs.Common.{◌≡◌, ◌⊎◌, ℕ, ◌*◌, ◌/◌, ◌<◌, ◌≤◌, IsTrue, inl, inr, List, length, refl, sym, ◌∙◌, ap, subst, arith}
+-- The parts of storage lie apart: work on the one leaves the others.
+use Rattle.std.proofs.Common.{◌≡◌, ℕ, ◌*◌, ◌/◌, ◌<◌, ◌≤◌, IsTrue, inl, inr, List, length, refl, sym, ◌∙◌, ap, subst, arith}
 use Rattle.std.proofs.lemmas.List.{length-map}
 use Rattle.line_device.specs.Medium.{Medium, WritesBack}
 use Rattle.line_device.specs.Device.{Device}
 use Rattle.line_device.proofs.HistoryLemmas.{is_in-part}
-use Rattle.line_words.specs.Words.{WritesBackOutside}
 use Rattle.word_tables.specs.declared.geometry.Geometry.{Geometry}
 use Rattle.word_tables.specs.Bounds.{IsValid}
 use Rattle.word_tables.specs.Layout.{volume_log, presence, first_range, second_range, first_line, size, meta_lines, total_lines, volume_line, HasLine}
@@ -13,23 +12,24 @@ use Rattle.word_log.specs.Area.{IsOf}
 use Rattle.word_log.specs.Rest.{IsImageOn}
 use Rattle.nvm_model.specs.Lines.{AreStrong}
 use Rattle.nvm_model.specs.Page.{Page}
-use Rattle.block_device.specs.Area.{block_area, IsBlockLine}
-use Rattle.block_device.specs.Object.{BlocksState}
+use Rattle.block_device.specs.Area.{IsBlockLine}
+use Rattle.block_device.specs.Object.{BlocksServe, BlocksState}
 use Rattle.block_device.proofs.ReadLemmas.{Stays}
 use Rattle.block_device.proofs.FrameLemmas.{each_reads-write_back}
-use Rattle.block_device.proofs.PlaceLemmas.{area_is_block}
 use Rattle.block_device.proofs.ServesLemmas.{serves-stays, serves-write_back}
 use Rattle.pm_volume.specs.Area.{IsOfVolume, IsVolumePlace, volume_area}
 use Rattle.pm_volume.specs.Images.{EachReadsPages}
 use Rattle.pm_volume.specs.Object.{VolumeState, VolumeHolds, VolumeServes}
 use Rattle.nvm_model.proofs.KeptLemmas.{LineKept, line_kept-write_back}
 use Rattle.pm_volume.proofs.StandingLemmas.{pages-kept, each_pages-kept, images-kept, volume_serves-kept}
-use Rattle.recovery.specs.Mounting.{IsOfLogs}
+use Rattle.file_journal.specs.Area.{IsOfFiles}
+use Rattle.file_journal.specs.Object.{JournalServes, JournalState}
+use Rattle.file_journal.specs.Tables.{AreTables}
 use Rattle.machine_host.specs.declared.mode.Mode.{Mode}
 use Rattle.machine_host.specs.declared.mode.Mode.TheVariants.{On, Stopped}
 use Rattle.machine_host.specs.Stands.{HostState, HostServes, AreMounted, is_powered}
-use Rattle.machine_host.proofs.LayoutLemmas.{kept-outside, layout-write_back, same_bad, stays_bad}
-use Rattle.machine_host.proofs.VolumeLemmas.{volume_behind}
+use Rattle.machine_host.proofs.FilesAsideLemmas.{journal_serves_elsewhere}
+use Rattle.machine_host.proofs.LayoutLemmas.{layout-write_back, same_bad, stays_bad}
 
 -- no line of the volume is the blocks'
 pub volume_apart : (geo : Geometry) (n : ℕ) → IsValid geo → IsOfVolume geo n → IsBlockLine geo n → ⊥
@@ -80,18 +80,6 @@ area_of_volume geo p valid of = elim of as (λ _. IsVolumePlace geo p) [ inl log
 pub line_of_range : (geo : Geometry) (n : ℕ) → n < 64 * geo.vpages → IsOfVolume geo (volume_line geo n)
 line_of_range geo n lt = inr (inr (volume_line-in geo n lt))
 
--- no word of a page's line is one of logs and tables
-pub range_not_logs : (geo : Geometry) (n p : ℕ) → IsValid geo → n < 64 * geo.vpages → p / 8 ≡ volume_line geo n → IsOf (block_area geo) p ⊎ IsOf (volume_area geo) p → ⊥
-unfolding first_line size
-range_not_logs geo n p valid lt at (inl of) = volume_apart geo (volume_line geo n) valid (line_of_range geo n lt) (subst (IsBlockLine geo) at (area_is_block geo valid p of))
-range_not_logs geo n p valid lt at (inr of) =
-    let behind = volume_behind geo n in
-    elim of as (λ _. ⊥) [ inl log ↦ omega (arith, log, at, behind) | inr home ↦ omega (arith, home, at, behind) ]
-
--- a mount leaves the lines of pages, but for write-back
-pub range_kept : (geo : Geometry) (old new : Medium) → IsValid geo → WritesBackOutside (IsOfLogs geo) old new → (n : ℕ) → n < 64 * geo.vpages → LineKept old new (volume_line geo n)
-range_kept geo old new valid x n lt = kept-outside (IsOfLogs geo) old new (volume_line geo n) (λ p at of. range_not_logs geo n p valid lt at of) x
-
 -- The volume where none of its lines is worked on: it is mounted still, its images read the same, and it stands for its pages.
 module _ (geo : Geometry) (old new : Medium) (valid : IsValid geo) (kept : (line : ℕ) → IsOfVolume geo line → LineKept old new line) where
   volume_images : (image : ℕ → ℕ) → IsImageOn (volume_area geo) new image → IsImageOn (volume_area geo) old image
@@ -113,29 +101,74 @@ module _ (geo : Geometry) (old new : Medium) (valid : IsValid geo) (kept : (line
         (λ n lt. subst (λ g. LineKept old new (volume_line g n)) (sym same) (kept (volume_line geo n) (line_of_range geo n (subst (λ g. n < 64 * g.vpages) same lt)))) holds.stand;
   }
 
--- what is mounted stays so where all lines are only written back
-pub mounted-write_back : (geo : Geometry) (b : BlocksState) (v : VolumeState) (old new : Medium) → IsValid geo → WritesBack old new → AreMounted geo b v old → AreMounted geo b v new
-mounted-write_back geo b v old new valid w mounted = record {
-  geometry = mounted.geometry;
-  settled = mounted.settled;
-  serves = serves-write_back b old new w mounted.serves;
-  volume_geometry = mounted.volume_geometry;
-  volume_settled = mounted.volume_settled;
-  volume_serves = volume_serves_elsewhere geo old new valid (λ line of. line_kept-write_back old new line w) v mounted.volume_geometry
-      (λ n below. w.weak n ∙ mounted.volume_serves.strong n below) w.count mounted.volume_serves;
-}
+-- What is mounted stays so where work on one part of storage leaves the lines of the others.
+module _ (geo : Geometry) (b : BlocksState) (v : VolumeState) (j : JournalState) (old new : Medium) (valid : IsValid geo) (strong : AreStrong new (meta_lines geo))
+    (count : new.count ≡ old.count) (mounted : AreMounted geo b v j old) where
+  strong_of : (g : Geometry) → g ≡ geo → AreStrong new (meta_lines g)
+  strong_of g same = subst (λ k. AreStrong new (meta_lines k)) (sym same) strong
 
--- work on the volume leaves mounted blocks
-pub mounted-worked : (geo : Geometry) (b : BlocksState) (v w : VolumeState) (old new : Medium) → ((n : ℕ) → IsBlockLine geo n → Stays old new n) → AreStrong new (meta_lines geo)
-    → new.count ≡ old.count → AreMounted geo b v old → w.geo ≡ v.geo → IsTrue w.settled → VolumeServes w new → AreMounted geo b w new
-mounted-worked geo b v w old new stays strong count mounted same settled serves = record {
-  geometry = mounted.geometry;
-  settled = mounted.settled;
-  serves = serves-stays b old new (λ n of. stays n (subst (λ g. IsBlockLine g n) mounted.geometry of)) (subst (λ g. AreStrong new (meta_lines g)) (sym mounted.geometry) strong) count mounted.serves;
-  volume_geometry = same ∙ mounted.volume_geometry;
-  volume_settled = settled;
-  volume_serves = serves;
-}
+  blocks_serve_on : ((n : ℕ) → IsBlockLine geo n → Stays old new n) → BlocksServe b new
+  blocks_serve_on stays = serves-stays b old new (λ n of. stays n (subst (λ g. IsBlockLine g n) mounted.geometry of)) (strong_of b.geo mounted.geometry) count mounted.serves
+
+  volume_serves_on : ((line : ℕ) → IsOfVolume geo line → LineKept old new line) → VolumeServes v new
+  volume_serves_on kept = volume_serves_elsewhere geo old new valid kept v mounted.volume_geometry (strong_of v.geo mounted.volume_geometry) count mounted.volume_serves
+
+  journal_serves_on : ((line : ℕ) → IsOfFiles geo line → LineKept old new line) → JournalServes j new
+  journal_serves_on kept = journal_serves_elsewhere geo old new kept j mounted.journal_geometry (strong_of j.geo mounted.journal_geometry) count mounted.journal_serves
+
+  -- on the blocks
+  pub mounted-blocks : (s : BlocksState) → ((line : ℕ) → IsOfVolume geo line → LineKept old new line) → ((line : ℕ) → IsOfFiles geo line → LineKept old new line)
+      → s.geo ≡ b.geo → IsTrue s.settled → BlocksServe s new → AreMounted geo s v j new
+  mounted-blocks s volume files same settled serves = record {
+    geometry = same ∙ mounted.geometry;
+    settled = settled;
+    serves = serves;
+    volume_geometry = mounted.volume_geometry;
+    volume_settled = mounted.volume_settled;
+    volume_serves = volume_serves_on volume;
+    journal_geometry = mounted.journal_geometry;
+    journal_settled = mounted.journal_settled;
+    journal_serves = journal_serves_on files;
+    journal_right = mounted.journal_right;
+  }
+
+  -- on the volume
+  pub mounted-volume : (w : VolumeState) → ((n : ℕ) → IsBlockLine geo n → Stays old new n) → ((line : ℕ) → IsOfFiles geo line → LineKept old new line)
+      → w.geo ≡ v.geo → IsTrue w.settled → VolumeServes w new → AreMounted geo b w j new
+  mounted-volume w blocks files same settled serves = record {
+    geometry = mounted.geometry;
+    settled = mounted.settled;
+    serves = blocks_serve_on blocks;
+    volume_geometry = same ∙ mounted.volume_geometry;
+    volume_settled = settled;
+    volume_serves = serves;
+    journal_geometry = mounted.journal_geometry;
+    journal_settled = mounted.journal_settled;
+    journal_serves = journal_serves_on files;
+    journal_right = mounted.journal_right;
+  }
+
+  -- on files
+  pub mounted-files : (k : JournalState) → ((n : ℕ) → IsBlockLine geo n → Stays old new n) → ((line : ℕ) → IsOfVolume geo line → LineKept old new line)
+      → k.geo ≡ j.geo → IsTrue k.settled → JournalServes k new → AreTables geo.fpages k.tables → AreMounted geo b v k new
+  mounted-files k blocks volume same settled serves right = record {
+    geometry = mounted.geometry;
+    settled = mounted.settled;
+    serves = blocks_serve_on blocks;
+    volume_geometry = mounted.volume_geometry;
+    volume_settled = mounted.volume_settled;
+    volume_serves = volume_serves_on volume;
+    journal_geometry = same ∙ mounted.journal_geometry;
+    journal_settled = settled;
+    journal_serves = serves;
+    journal_right = right;
+  }
+
+-- and where all lines are only written back
+pub mounted-write_back : (geo : Geometry) (b : BlocksState) (v : VolumeState) (j : JournalState) (old new : Medium) → IsValid geo → WritesBack old new → AreMounted geo b v j old → AreMounted geo b v j new
+mounted-write_back geo b v j old new valid w mounted =
+    mounted-blocks geo b v j old new valid (λ n below. w.weak n ∙ mounted.serves.strong n (subst (λ g. n < meta_lines g) (sym mounted.geometry) below)) w.count mounted
+    b (λ line of. line_kept-write_back old new line w) (λ line of. line_kept-write_back old new line w) refl mounted.settled (serves-write_back b old new w mounted.serves)
 
 -- an order to the device, or a cut, leaves its lines but for write-back
 pub serves_ordered : (host : HostState) (mode : Mode) (old new : Device) → HostServes host old → WritesBack old.medium new.medium → new.panel.power ≡ is_powered mode → (mode ≡ On → host.mode ≡ On)
@@ -145,6 +178,6 @@ serves_ordered host mode old new serves w power was_on was_stopped = record {
   readable = λ none.
       each_reads-write_back host.geometry old.medium new.medium (λ _. Unit {0}) serves.layout.valid w (serves.readable (sym (same_bad host.geometry old.medium new.medium (λ n below. w.bad n)) ∙ none));
   power = power;
-  mounted = λ on. mounted-write_back host.geometry host.blocks host.volume old.medium new.medium serves.layout.valid w (serves.mounted (was_on on));
+  mounted = λ on. mounted-write_back host.geometry host.blocks host.volume host.journal old.medium new.medium serves.layout.valid w (serves.mounted (was_on on));
   stopped = λ stop. stays_bad host.geometry old.medium new.medium (λ n below. w.bad n) (serves.stopped (was_stopped stop));
 }

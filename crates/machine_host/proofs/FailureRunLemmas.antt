@@ -15,11 +15,15 @@ use Rattle.nvm_base.specs.Data.{data_of, runs_of, data_within, data_text}
 use Rattle.word_tables.specs.Layout.{size, first_line, total_lines, volume_line}
 use Rattle.nvm_model.specs.Cell.{Cell}
 use Rattle.nvm_model.specs.Interrupted.{Became, LineByLine, MayPersist}
+use Rattle.nvm_model.specs.Storage.{File}
 use Rattle.nvm_model.specs.Page.{Page, cell_of, discard, fill, first_bad_line, first_uncovered_line, look, persist, presence_of, put, bad_lines, read_pages}
 use Rattle.pm_volume.specs.Presence.{presence_read, words_read}
 use Rattle.nvm_model.specs.Blocks.{write, look_blocks}
 use Rattle.word_log.specs.Replay.{listed}
 use Rattle.block_device.specs.Reading.{states_read, blocks_read}
+use Rattle.inode_table.specs.Words.{slots_of}
+use Rattle.file_journal.specs.Reading.{tables_of, words_read as file_words}
+use Rattle.file_journal.specs.Standing.{files_read, KeepsFiles}
 use Rattle.reply_text.specs.Answer.{Answer, answer_line, reply_text}
 use Rattle.reply_text.specs.Answer.Answer.{Done, Refused}
 use Rattle.reply_text.specs.declared.reply.Why.TheVariants.{Syntax}
@@ -31,7 +35,7 @@ use Rattle.machine_host.specs.declared.mode.Mode.TheVariants as modes
 use Rattle.machine_host.specs.Lines.{bad_metadata}
 use Rattle.machine_host.specs.Machine.{Machine, Fate}
 use Rattle.machine_host.specs.Machine.Fate.{Gives, Works, Orders, Cuts, Restarts, Recovers}
-use Rattle.machine_host.specs.Commands.{MayLeaveBlocks, MayLeaveVolume, fate, refusal, spending, while_interrupted}
+use Rattle.machine_host.specs.Commands.{MayLeaveBlocks, MayLeaveFiles, MayLeaveVolume, fate, refusal, spending, while_interrupted}
 use Rattle.machine_host.specs.Interrupted.{Interrupts, interrupted_answer, interrupted_mode, may_come}
 use Rattle.machine_host.specs.Restarting.{RestartMayLeave, fresh, holding, mounted_answer, reading, restarted}
 use Rattle.machine_host.specs.Recovering.{RecoveryMayLeave}
@@ -43,11 +47,11 @@ use Rattle.machine_host.specs.FailureRows.{cut_before_failure_lines, cut_restart
 use Rattle.machine_host.proofs.LastLemmas.{keeps-last, pages_last}
 use Rattle.machine_host.proofs.RunLemmas.{followed_by-silence}
 use Rattle.machine_host.proofs.CutLemmas.{the_write}
-use Rattle.machine_host.proofs.PartLemmas.{Later, Whole, began_ordering, began_recovering, began_working, line, mounted_shows, never_half, never_stopped, written}
+use Rattle.machine_host.proofs.PartLemmas.{Later, Whole, began_ordering, began_recovering, began_working, line, mounted_shows, never_half, never_stopped, none_left, written}
 
 -- What befell a command: nothing; an interruption, with a cut or a failure armed still; a restart that left this, and one that
 -- was interrupted; or a recovery that came to this state.
-data Turn : Type 0 where
+pub data Turn : Type 0 where
   Through : Turn
   Halted : Interruption → Bool → Bool → Turn
   Started : Start → Turn
@@ -55,11 +59,11 @@ data Turn : Type 0 where
   Recovered : Machine → Turn
 
 -- the state once it was interrupted
-abbrev halted : Machine → Interruption → Bool → Bool → Machine
+abbrev pub halted : Machine → Interruption → Bool → Bool → Machine
 halted h by cut fail = record h { mode = interrupted_mode by; cut_armed = cut; fail_armed = fail }
 
 -- what is said, and the state after it
-abbrev step : Machine → Action → Fate → Turn → Performance
+abbrev pub step : Machine → Action → Fate → Turn → Performance
 step h action (Gives good to) turn = record { said = answered good; state = to }
 step h action (Works good to) Through = record { said = worked (spending h action) good; state = to }
 step h action (Works good to) (Halted by cut fail) =
@@ -75,19 +79,19 @@ step h action Recovers (Recovered next) = record { said = worked (spending h act
 step h action f turn = record { said = silence; state = h }
 
 -- what an interruption needs is armed, and what is armed after it was before
-abbrev armed_for : Interruption → Bool → Bool → Bool
+abbrev pub armed_for : Interruption → Bool → Bool → Bool
 armed_for Failed cut fail = fail
 armed_for Lost cut fail = cut
 
-abbrev was_armed : Bool → Bool → Bool
+abbrev pub was_armed : Bool → Bool → Bool
 was_armed true before = before
 was_armed false before = true
 
-abbrev may_halt : Machine → Interruption → Bool → Bool → Bool
+abbrev pub may_halt : Machine → Interruption → Bool → Bool → Bool
 may_halt h by cut fail = armed_for by h.cut_armed h.fail_armed && (was_armed cut h.cut_armed && was_armed fail h.fail_armed)
 
 -- it may have befallen the command
-abbrev May : Machine → Fate → Turn → Type 0
+abbrev pub May : Machine → Fate → Turn → Type 0
 May h (Gives good to) turn = Unit {0}
 May h (Works good to) Through = Unit {0}
 May h (Works good to) (Halted by cut fail) = may_halt h by cut fail ≡ true
@@ -127,17 +131,17 @@ takes h action Recovers (Recovered next) may = (mounted_answer next, refl, inl (
 takes h action f turn may = absurd may
 
 -- what is said of inputs, a turn for each command
-abbrev go_on : Performance → (Machine → Performance) → Performance
+abbrev pub go_on : Performance → (Machine → Performance) → Performance
 go_on one rest = after one.said (rest one.state)
 
-abbrev play : Machine → List Input → List Turn → Performance
+abbrev pub play : Machine → List Input → List Turn → Performance
 play h [] turns = record { said = silence; state = h }
 play h (Skipped ∷ inputs) turns = play h inputs turns
 play h (Malformed ∷ inputs) turns = after (answered (Refused Syntax)) (play h inputs turns)
 play h (Asked action ∷ inputs) [] = record { said = silence; state = h }
 play h (Asked action ∷ inputs) (turn ∷ turns) = go_on (step h action (fate h action) turn) (λ k. play k inputs turns)
 
-abbrev MayAll : Machine → List Input → List Turn → Type 0
+abbrev pub MayAll : Machine → List Input → List Turn → Type 0
 MayAll h [] turns = Unit {0}
 MayAll h (Skipped ∷ inputs) turns = MayAll h inputs turns
 MayAll h (Malformed ∷ inputs) turns = MayAll h inputs turns
@@ -155,7 +159,7 @@ run_played h (Asked action ∷ inputs) (turn ∷ turns) may =
     (one.said, (play one.state inputs turns).said, one.state, refl, takes h action (fate h action) turn may.0, run_played one.state inputs turns may.1)
 
 -- what these turns may make of a script
-may_write : (script : List ℕ) (turns : List Turn) (lines : List (List ℕ)) → MayAll (fresh small) (inputs script) turns
+pub may_write : (script : List ℕ) (turns : List Turn) (lines : List (List ℕ)) → MayAll (fresh small) (inputs script) turns
     → reply_text (play (fresh small) (inputs script) turns).said.answers ≡ text lines
     → MayWrite script (play (fresh small) (inputs script) turns).said.starts lines
 may_write script turns lines may written = record {
@@ -166,13 +170,23 @@ may_write script turns lines may written = record {
   written = written;
 }
 
--- a restart that left the pages as they were
-left_by : (choice : Choice) (image : Image) (h : Machine) → bad_metadata h.geometry image.is_bad ≡ h.bad_meta
+-- a restart that left the pages as they were, and these files
+pub left_by : (choice : Choice) (image : Image) (h : Machine) (files : List File) → bad_metadata h.geometry image.is_bad ≡ h.bad_meta
     → MayLeaveBlocks h.interrupted h.blocks (blocks_read h.geometry image.is_bad image.word) → MayLeaveVolume h.geometry h.interrupted h.volume h.volume
-    → presence_of h.volume ≡ presence_read h.geometry image.word → pages_last (volume_line h.geometry) image h.volume ≡ true → RestartMayLeave choice image h
-left_by choice image h metadata blocks may there last = record {
+    → presence_of h.volume ≡ presence_read h.geometry image.word → pages_last (volume_line h.geometry) image h.volume ≡ true
+    → MayLeaveFiles h.interrupted h.files files → KeepsFiles choice h.geometry image files → RestartMayLeave choice image h
+left_by choice image h files metadata blocks may there last may_files keeps = record {
   metadata = metadata;
-  storage = λ _. record { blocks = blocks; left = h.volume; may = may; there = there; volume = keeps-last choice (volume_line h.geometry) image h.volume last };
+  storage = λ _. record {
+    blocks = blocks;
+    left = h.volume;
+    may = may;
+    there = there;
+    volume = keeps-last choice (volume_line h.geometry) image h.volume last;
+    files_left = files;
+    may_files = may_files;
+    files = keeps;
+  };
 }
 
 -- a sync that got nowhere
@@ -185,46 +199,46 @@ unsynced start len pages = record { there = refl; each = λ n. by_cell n (cell_o
 
 -- the state at rest of new blocks, of ones or fives in the first block, and of a page that was stored into once it was durable
 abbrev untouched : Machine
-untouched = holding small (fresh small).blocks (fresh small).volume
+untouched = holding small (fresh small).blocks (fresh small).volume []
 
 abbrev with_ones : Machine
-with_ones = holding small (write 0 (replicate 512 1) (fresh small).blocks) (fresh small).volume
+with_ones = holding small (write 0 (replicate 512 1) (fresh small).blocks) (fresh small).volume []
 
 abbrev with_fives : Machine
-with_fives = holding small (write 0 (replicate 512 5) (fresh small).blocks) (fresh small).volume
+with_fives = holding small (write 0 (replicate 512 5) (fresh small).blocks) (fresh small).volume []
 
 abbrev with_sevens : Machine
-with_sevens = holding small (fresh small).blocks (put 0 (replicate 8 7) (fill 0 8 (persist 0 64 (put 0 (replicate 64 0) (fill 0 64 (fresh small).volume)))))
+with_sevens = holding small (fresh small).blocks (put 0 (replicate 8 7) (fill 0 8 (persist 0 64 (put 0 (replicate 64 0) (fill 0 64 (fresh small).volume))))) []
 
 pub write_lost : MayWrite with_failed_write [] (failed_write_lines (codes "data 00*512"))
-unfolding digits number_of data_of runs_of data_within data_text read_pages answer_line lines_of words_of command_action line_input refusal size first_line total_lines volume_line reading write look_blocks states_read blocks_read listed words_read
+unfolding digits number_of data_of runs_of data_within data_text read_pages answer_line lines_of words_of command_action line_input refusal size first_line total_lines volume_line reading write look_blocks states_read blocks_read listed files_read file_words tables_of slots_of words_read
 write_lost =
     may_write with_failed_write (Through ∷ Halted Failed false false ∷ Through ∷ Recovered untouched ∷ Through ∷ []) (failed_write_lines (codes "data 00*512"))
-    (tt, (refl, (tt, (record { blocks = inl refl; volume = refl; state = refl }, (tt, tt))))) refl
+    (tt, (refl, (tt, (record { blocks = inl refl; volume = refl; files = inl refl; state = refl }, (tt, tt))))) refl
 
 pub write_kept : MayWrite with_failed_write [] (failed_write_lines (codes "data 01*512"))
-unfolding digits number_of data_of runs_of data_within data_text read_pages answer_line lines_of words_of command_action line_input refusal size first_line total_lines volume_line reading write look_blocks states_read blocks_read listed words_read
+unfolding digits number_of data_of runs_of data_within data_text read_pages answer_line lines_of words_of command_action line_input refusal size first_line total_lines volume_line reading write look_blocks states_read blocks_read listed files_read file_words tables_of slots_of words_read
 write_kept =
     may_write with_failed_write (Through ∷ Halted Failed false false ∷ Through ∷ Recovered with_ones ∷ Through ∷ []) (failed_write_lines (codes "data 01*512"))
-    (tt, (refl, (tt, (record { blocks = inr refl; volume = refl; state = refl }, (tt, tt))))) refl
+    (tt, (refl, (tt, (record { blocks = inr refl; volume = refl; files = inl refl; state = refl }, (tt, tt))))) refl
 
 pub write_lost_by_the_second_recovery : MayWrite with_failed_recovery [] (failed_recovery_lines (codes "data 00*512"))
-unfolding digits number_of data_of runs_of data_within data_text read_pages answer_line lines_of words_of command_action line_input refusal size first_line total_lines volume_line reading write look_blocks states_read blocks_read listed words_read
+unfolding digits number_of data_of runs_of data_within data_text read_pages answer_line lines_of words_of command_action line_input refusal size first_line total_lines volume_line reading write look_blocks states_read blocks_read listed files_read file_words tables_of slots_of words_read
 write_lost_by_the_second_recovery =
     may_write with_failed_recovery (Through ∷ Halted Failed false false ∷ Through ∷ Halted Failed false false ∷ Recovered untouched ∷ Through ∷ []) (failed_recovery_lines (codes "data 00*512"))
-    (tt, (refl, (tt, (refl, (record { blocks = inl refl; volume = refl; state = refl }, (tt, tt)))))) refl
+    (tt, (refl, (tt, (refl, (record { blocks = inl refl; volume = refl; files = inl refl; state = refl }, (tt, tt)))))) refl
 
 pub write_kept_by_the_second_recovery : MayWrite with_failed_recovery [] (failed_recovery_lines (codes "data 01*512"))
-unfolding digits number_of data_of runs_of data_within data_text read_pages answer_line lines_of words_of command_action line_input refusal size first_line total_lines volume_line reading write look_blocks states_read blocks_read listed words_read
+unfolding digits number_of data_of runs_of data_within data_text read_pages answer_line lines_of words_of command_action line_input refusal size first_line total_lines volume_line reading write look_blocks states_read blocks_read listed files_read file_words tables_of slots_of words_read
 write_kept_by_the_second_recovery =
     may_write with_failed_recovery (Through ∷ Halted Failed false false ∷ Through ∷ Halted Failed false false ∷ Recovered with_ones ∷ Through ∷ []) (failed_recovery_lines (codes "data 01*512"))
-    (tt, (refl, (tt, (refl, (record { blocks = inr refl; volume = refl; state = refl }, (tt, tt)))))) refl
+    (tt, (refl, (tt, (refl, (record { blocks = inr refl; volume = refl; files = inl refl; state = refl }, (tt, tt)))))) refl
 
 pub restart_cut : MayWrite with_cut_restart (leaving_fives ∷ leaving_fives ∷ []) cut_restart_lines
-unfolding digits number_of data_of runs_of data_within data_text read_pages answer_line lines_of words_of command_action line_input refusal size first_line total_lines volume_line reading write look_blocks states_read blocks_read listed words_read
+unfolding digits number_of data_of runs_of data_within data_text read_pages answer_line lines_of words_of command_action line_input refusal size first_line total_lines volume_line reading write look_blocks states_read blocks_read listed files_read file_words tables_of slots_of words_read
 restart_cut =
     may_write with_cut_restart (Through ∷ Through ∷ Through ∷ StartHalted leaving_fives Lost false false ∷ Through ∷ Started leaving_fives ∷ Through ∷ []) cut_restart_lines
-    (tt, (tt, (tt, ((refl, left_by Lasts leaving_fives.image off refl refl refl refl refl, refl), (tt, ((refl, left_by Lasts leaving_fives.image once_more refl refl refl refl refl), (tt, tt))))))) refl
+    (tt, (tt, (tt, ((refl, left_by Lasts leaving_fives.image off [] refl refl refl refl refl refl tt, refl), (tt, ((refl, left_by Lasts leaving_fives.image once_more [] refl refl refl refl refl refl tt), (tt, tt))))))) refl
   where
     off : Machine
     off = record with_fives { mode = modes.Off; cut_armed = true }
@@ -233,22 +247,22 @@ restart_cut =
     once_more = record with_fives { mode = modes.Off }
 
 pub restart_failed : MayWrite with_failed_restart (leaving Lasts [] ∷ []) failed_restart_lines
-unfolding digits number_of data_of runs_of data_within data_text read_pages answer_line lines_of words_of command_action line_input refusal size first_line total_lines volume_line reading write look_blocks states_read blocks_read listed words_read
+unfolding digits number_of data_of runs_of data_within data_text read_pages answer_line lines_of words_of command_action line_input refusal size first_line total_lines volume_line reading write look_blocks states_read blocks_read listed files_read file_words tables_of slots_of words_read
 restart_failed =
     may_write with_failed_restart (Through ∷ Through ∷ StartHalted (leaving Lasts []) Failed false false ∷ Recovered untouched ∷ []) failed_restart_lines
-    (tt, (tt, ((refl, left_by _ _ _ refl refl refl refl refl, refl), (record { blocks = refl; volume = refl; state = refl }, tt)))) refl
+    (tt, (tt, ((refl, left_by _ _ _ [] refl refl refl refl refl refl tt, refl), (record { blocks = refl; volume = refl; files = refl; state = refl }, tt)))) refl
 
 pub cut_before_failure : MayWrite with_cut_before_failure (leaving Lasts [] ∷ []) cut_before_failure_lines
-unfolding digits number_of data_of runs_of data_within data_text read_pages answer_line lines_of words_of command_action line_input refusal size first_line total_lines volume_line reading write look_blocks states_read blocks_read listed words_read
+unfolding digits number_of data_of runs_of data_within data_text read_pages answer_line lines_of words_of command_action line_input refusal size first_line total_lines volume_line reading write look_blocks states_read blocks_read listed files_read file_words tables_of slots_of words_read
 cut_before_failure =
     may_write with_cut_before_failure (Through ∷ Through ∷ Halted Lost false true ∷ StartHalted (leaving Lasts []) Failed false false ∷ []) cut_before_failure_lines
-    (tt, (tt, (refl, ((refl, left_by _ _ _ refl (inl refl) refl refl refl, refl), tt)))) refl
+    (tt, (tt, (refl, ((refl, left_by _ _ _ [] refl (inl refl) refl refl refl (inl refl) tt, refl), tt)))) refl
 
 pub sync_failed : MayWrite with_failed_sync [] failed_sync_lines
-unfolding digits word_from byte_over word_over reaches number_of runs_of data_within data_text fill put persist discard first_bad_line first_uncovered_line look read_pages answer_line lines_of words_of command_action line_input refusal size first_line total_lines volume_line reading states_read blocks_read listed words_read
+unfolding digits word_from byte_over word_over reaches number_of runs_of data_within data_text fill put persist discard first_bad_line first_uncovered_line look read_pages answer_line lines_of words_of command_action line_input refusal size first_line total_lines volume_line reading states_read blocks_read listed files_read file_words tables_of slots_of words_read
 sync_failed =
     may_write with_failed_sync (Through ∷ Through ∷ Through ∷ Through ∷ Halted Failed false false ∷ Through ∷ Recovered with_sevens ∷ Through ∷ []) failed_sync_lines
-    (tt, (tt, (tt, (tt, (refl, (tt, (record { blocks = refl; volume = unsynced 0 8 with_sevens.volume; state = refl }, (tt, tt)))))))) refl
+    (tt, (tt, (tt, (tt, (refl, (tt, (record { blocks = refl; volume = unsynced 0 8 with_sevens.volume; files = inl refl; state = refl }, (tt, tt)))))))) refl
 
 -- the write of two blocks where a failure is armed, and once it came, with what is armed still
 abbrev ready : Machine
@@ -268,8 +282,9 @@ recovery_shows shown cut fail answers later wrote =
         → ((answer ≡ mounted_answer next) × RecoveryMayLeave (failing cut fail) next) ⊎ ((by : Interruption) × (answer ≡ interrupted_answer by) × Interrupts by (failing cut fail) next)
         → Later next (Asked (BRead 0 2) ∷ []) rest → reply_text (answer ∷ rest) ≡ text (codes "ok bad 0" ∷ line shown ∷ []) → Whole shown
     by_end answer next rest (inl (is, left)) later e =
+        let state = left.state ∙ ap (λ files. record (holding small next.blocks next.volume files) { cut_armed = cut; fail_armed = fail }) (none_left next.files left.files) in
         mounted_shows shown next.blocks next.volume cut fail left.blocks (ap bad_lines left.volume) rest
-        (subst (λ k. Later k (Asked (BRead 0 2) ∷ []) rest) left.state later) (sym (ap (λ a. reply_text (a ∷ rest)) (is ∙ ap mounted_answer left.state)) ∙ e)
+        (subst (λ k. Later k (Asked (BRead 0 2) ∷ []) rest) state later) (sym (ap (λ a. reply_text (a ∷ rest)) (is ∙ ap mounted_answer state)) ∙ e)
     by_end answer next rest (inr stop) later e = absurd (never_stopped stop.0 rest 111 _ (omega arith) (sym (ap (λ a. reply_text (a ∷ rest)) stop.1) ∙ e))
 
 failed_shows : (shown : List ℕ) (answers : List Answer) → Later ready (Asked the_write ∷ Asked Recover ∷ Asked (BRead 0 2) ∷ []) answers

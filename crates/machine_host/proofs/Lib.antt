@@ -4,8 +4,9 @@ pub mod RunLemmas
 pub mod RefusalLemmas
 pub mod CostLemmas
 pub mod LayoutLemmas
-mod BadLineLemmas
+pub mod BadLineLemmas
 pub mod ReadingLemmas
+pub mod FilesAsideLemmas
 pub mod ElsewhereLemmas
 pub mod StepLemmas
 pub mod CallLemmas
@@ -17,9 +18,12 @@ pub mod LastLemmas
 pub mod DepictedLemmas
 pub mod PartStoreLemmas
 pub mod CutLemmas
+pub mod HoleFileLemmas
 pub mod PartLemmas
 pub mod PageRunLemmas
+pub mod LogLineLemmas
 pub mod MountLemmas
+pub mod MountEffectLemmas
 pub mod MountedLemmas
 pub mod BackLemmas
 pub mod RestartLemmas
@@ -27,8 +31,12 @@ pub mod RestartAnswerLemmas
 pub mod RemountLemmas
 pub mod SettlingLemmas
 pub mod VolumeFateLemmas
+pub mod FilesFateLemmas
+pub mod FilesCallLemmas
+mod ListingLemmas
 pub mod LoadLemmas
 pub mod MediaLemmas
 pub mod PoisonLemmas
 pub mod LineLemmas
 mod FailureRunLemmas
+mod FileRunLemmas

@@ -49,7 +49,7 @@ use Rattle.machine_host.specs.OnMedia.{line_answer}
 use Rattle.machine_host.specs.Responding.{Answered}
 use Rattle.machine_host.specs.Stands.{HostState, HostServes, AreMounted, Stands, Comes}
 use Rattle.machine_host.proofs.CallLemmas.{IsPart, printable_told, short_told}
-use Rattle.machine_host.proofs.ElsewhereLemmas.{line_of_range, volume_apart}
+use Rattle.machine_host.proofs.ElsewhereLemmas.{line_of_range}
 use Rattle.machine_host.proofs.MediaLemmas.{IsRefusal, answers_told, blocks_marked, blocks_marked_serve, comes_of_marking, volume_marked, volume_marked_serves}
 use Rattle.machine_host.proofs.RefusalLemmas.{fate_worked, first_alone}
 use Rattle.machine_host.proofs.VolumeCallLemmas.{VolumeCalled}
@@ -130,7 +130,7 @@ unfolding first_line size
 data_behind geo n has = omega (arith, has)
 
 module _ (host : HostState) (old new : Device) (serves : HostServes host old) (on : host.mode ≡ On) (panel : new.panel ≡ old.panel) where
-  mounted : AreMounted host.geometry host.blocks host.volume old.medium
+  mounted : AreMounted host.geometry host.blocks host.volume host.journal old.medium
   mounted = serves.mounted on
 
   -- it was refused, so all is as it was
@@ -173,9 +173,6 @@ module _ (host : HostState) (old new : Device) (serves : HostServes host old) (o
           (data_behind host.blocks.geo n (named_is_data host.blocks.geo mounted.serves.valid host.blocks.map n mounted.serves.all mounted.serves.is_map
           (record { block = block; unit = of.unit; at = of.at; from = omega (arith, of.is); to = omega (arith, of.is, few) })))
 
-      apart : line ≤ 7 → (n : ℕ) → IsOfVolume host.geometry n → IsLineOf host.blocks block line n → ⊥
-      apart few n of_volume of = volume_apart host.geometry n serves.layout.valid of_volume (of_blocks few n of)
-
       within : (u : Unit {0}) → Answers {T = Unit {0}} place_says (block_refusal host.blocks.geo.blocks (blocks_of host.blocks old.medium) block line) (Ok u) → line ≤ 7
       within u refused = line_within host.blocks.geo.blocks (blocks_of host.blocks old.medium) block line (answers_ok place_says (block_refusal host.blocks.geo.blocks (blocks_of host.blocks old.medium) block line) u refused)
 
@@ -183,12 +180,12 @@ module _ (host : HostState) (old new : Device) (serves : HostServes host old) (o
           → OnOk r (blocks_of host.blocks new.medium ≡ lose block line (blocks_of host.blocks old.medium)) → (h : Machine) → Stands host old h → OnOk r (Stands host new (record h { blocks = lose block line h.blocks }))
       stands_ok (Ok u) refused ok h stands =
           let few = within u refused in
-          blocks_marked host old new serves on panel (IsLineOf host.blocks block line) (behind few) x (apart few) served h (PoisonBlock block line) (lose block line) stands ok
+          blocks_marked host old new serves on panel (IsLineOf host.blocks block line) (behind few) x (of_blocks few) served h (PoisonBlock block line) (lose block line) stands ok
       stands_ok (Err f) refused ok h stands = tt
 
       serves_by : (r : Result (Unit {0}) PlaceFault) → Answers place_says (block_refusal host.blocks.geo.blocks (blocks_of host.blocks old.medium) block line) r → OnRefused place_says r (new ≡ old) → HostServes host new
       serves_by (Ok u) refused untouched =
-          let few = within u refused in blocks_marked_serve host old new serves on panel (IsLineOf host.blocks block line) (behind few) x (apart few) served
+          let few = within u refused in blocks_marked_serve host old new serves on panel (IsLineOf host.blocks block line) (behind few) x (of_blocks few) served
       serves_by (Err f) refused untouched = same_serves (refused_same place_says f (place_refuses f) untouched)
 
   -- a line of the volume
@@ -216,10 +213,8 @@ module _ (host : HostState) (old new : Device) (serves : HostServes host old) (o
       behind : (n : ℕ) → lines n → meta_lines host.geometry ≤ n
       behind n is = subst (λ g. meta_lines g ≤ n) mounted.volume_geometry (subst (λ k. meta_lines host.volume.geo ≤ k) (sym is) (volume_behind host.volume.geo (offset / 64)))
 
-      apart : offset < 4096 * host.volume.geo.vpages → (n : ℕ) → IsBlockLine host.geometry n → lines n → ⊥
-      apart below n of is =
-          volume_apart host.geometry n serves.layout.valid
-          (subst (λ g. IsOfVolume g n) mounted.volume_geometry (subst (IsOfVolume host.volume.geo) (sym is) (line_of_range host.volume.geo (offset / 64) (omega (arith, below))))) of
+      of_volume : offset < 4096 * host.volume.geo.vpages → (n : ℕ) → lines n → IsOfVolume host.geometry n
+      of_volume below n is = subst (λ g. IsOfVolume g n) mounted.volume_geometry (subst (IsOfVolume host.volume.geo) (sym is) (line_of_range host.volume.geo (offset / 64) (omega (arith, below))))
 
       within : (u : Unit {0}) → ((pages : List Page) → VolumeHolds host.volume old.medium pages → Answers {T = Unit {0}} says (place_refusal host.volume.geo pages offset) (Ok u)) → offset < 4096 * host.volume.geo.vpages
       within u refused =
@@ -230,12 +225,12 @@ module _ (host : HostState) (old new : Device) (serves : HostServes host old) (o
           → OnOk r ((pages : List Page) → VolumeHolds host.volume old.medium pages → VolumeHolds host.volume new.medium (change_line mark (offset / 64) pages)) → (h : Machine) → Stands host old h
           → OnOk r (Stands host new (record h { volume = change_line mark (offset / 64) h.volume }))
       stands_ok (Ok u) refused ok h stands =
-          volume_marked host old new serves on panel lines behind x (apart (within u refused)) served h action (change_line mark (offset / 64) h.volume) stands (ok h.volume (stands.volume on))
+          volume_marked host old new serves on panel lines behind x (of_volume (within u refused)) served h action (change_line mark (offset / 64) h.volume) stands (ok h.volume (stands.volume on))
       stands_ok (Err f) refused ok h stands = tt
 
       serves_by : (r : Result (Unit {0}) E) → ((pages : List Page) → VolumeHolds host.volume old.medium pages → Answers says (place_refusal host.volume.geo pages offset) r) → IfErr r (λ f. IsRefusal (says f))
           → OnRefused says r (new ≡ old) → HostServes host new
-      serves_by (Ok u) refused told untouched = volume_marked_serves host old new serves on panel lines behind x (apart (within u refused)) served
+      serves_by (Ok u) refused told untouched = volume_marked_serves host old new serves on panel lines behind x (of_volume (within u refused)) served
       serves_by (Err f) refused told untouched = same_serves (refused_same says f told untouched)
 
 -- a state's fate, by the row that marks a line of the volume

@@ -18,10 +18,10 @@ use Rattle.block_device.specs.Images.{EachReads}
 use Rattle.block_device.specs.Object.{BlocksServe, HasGoodMetadata, blocks_of}
 use Rattle.block_device.proofs.ImageLemmas.{served_reads}
 use Rattle.block_device.proofs.ReadLemmas.{Stays}
-use Rattle.block_device.proofs.ServesLemmas.{serves-stays}
 use Rattle.pm_volume.specs.Area.{IsOfVolume}
 use Rattle.pm_volume.specs.Images.{EachReadsPages}
 use Rattle.pm_volume.specs.Object.{VolumeHolds, VolumeServes}
+use Rattle.file_journal.specs.Area.{IsOfFiles}
 use Rattle.nvm_model.proofs.KeptLemmas.{LineKept}
 use Rattle.pm_volume.proofs.StandingLemmas.{served_pages}
 use Rattle.recovery.proofs.SuperblockLemmas.{some_meta}
@@ -32,7 +32,7 @@ use Rattle.script_text.specs.Action.{Action}
 use Rattle.machine_host.specs.declared.mode.Mode.TheVariants as modes
 use Rattle.machine_host.specs.Machine.{Machine}
 use Rattle.machine_host.specs.Machine.Fate.{Gives}
-use Rattle.machine_host.specs.Commands.{MayLeaveBlocks, unless_refused}
+use Rattle.machine_host.specs.Commands.{unless_refused}
 use Rattle.machine_host.specs.Faults.{answer_after, told_answer}
 use Rattle.machine_host.specs.Interrupted.{stop_in}
 use Rattle.machine_host.specs.Lines.{HasLayout, MetadataStands}
@@ -41,9 +41,10 @@ use Rattle.machine_host.specs.Telling.{Tells}
 use Rattle.machine_host.specs.Stands.{HostState, HostServes, AreMounted, Stands, Comes}
 use Rattle.machine_host.proofs.BadLineLemmas.{good_lines}
 use Rattle.machine_host.proofs.MountedLemmas.{readable_served}
-use Rattle.machine_host.proofs.ElsewhereLemmas.{pages_elsewhere, volume_holds_elsewhere, volume_serves_elsewhere}
+use Rattle.machine_host.proofs.ElsewhereLemmas.{mounted-blocks, mounted-volume, volume_apart}
+use Rattle.machine_host.proofs.FilesAsideLemmas.{files_not_blocks, files_not_volume}
 use Rattle.machine_host.proofs.LayoutLemmas.{layout-kept, metadata-then, stays_of_kept}
-use Rattle.machine_host.proofs.StepLemmas.{blocks_elsewhere, is_whole, stands_done, whole_pages}
+use Rattle.machine_host.proofs.StepLemmas.{blocks_still, files_still, pages_still, stands_done}
 use Rattle.machine_host.proofs.TellingLemmas.{tells_nothing}
 
 -- the call was refused, and nothing stopped it
@@ -101,7 +102,7 @@ module _ (host : HostState) (old new : Device) (serves : HostServes host old) (o
   abbrev geo : Geometry
   geo = host.geometry
 
-  mounted : AreMounted geo host.blocks host.volume old.medium
+  mounted : AreMounted geo host.blocks host.volume host.journal old.medium
   mounted = serves.mounted on
 
   metadata_line : (n : ℕ) → n < meta_lines geo → LineKept old.medium new.medium n
@@ -110,12 +111,10 @@ module _ (host : HostState) (old new : Device) (serves : HostServes host old) (o
   layout_marked : HasLayout geo new.medium
   layout_marked = layout-kept geo old.medium new.medium serves.layout x.count metadata_line (some_meta geo)
 
-  strong_marked : (g : Geometry) → g ≡ geo → (n : ℕ) → n < meta_lines g → new.medium.is_weak n ≡ false
-  strong_marked g same n below =
-      let there = subst (λ k. n < meta_lines k) same below in
-      (metadata_line n there).weak ∙ mounted.serves.strong n (subst (λ k. n < meta_lines k) (sym mounted.geometry) there)
+  strong_marked : (n : ℕ) → n < meta_lines geo → new.medium.is_weak n ≡ false
+  strong_marked n below = (metadata_line n below).weak ∙ serves.layout.strong n below
 
-  goes_on : AreMounted geo host.blocks host.volume new.medium → HostServes host new
+  goes_on : AreMounted geo host.blocks host.volume host.journal new.medium → HostServes host new
   goes_on now = record {
     layout = layout_marked;
     readable = λ none. readable_served geo host.blocks new.medium now.geometry now.serves (good_lines geo new.medium none);
@@ -133,20 +132,17 @@ module _ (host : HostState) (old new : Device) (serves : HostServes host old) (o
   nothing_run = subst (λ p. Runs 0 0 went old.panel p) (sym panel) (runs-refl old.panel)
 
   -- lines of blocks
-  module _ (apart : (n : ℕ) → IsOfVolume geo n → lines n → ⊥) (served : BlocksServe host.blocks new.medium) where
+  module _ (apart : (n : ℕ) → lines n → IsBlockLine geo n) (served : BlocksServe host.blocks new.medium) where
     volume_line_kept : (n : ℕ) → IsOfVolume geo n → LineKept old.medium new.medium n
-    volume_line_kept n of = kept-but lines old.medium new.medium n (apart n of) x
+    volume_line_kept n of = kept-but lines old.medium new.medium n (λ at. volume_apart geo n serves.layout.valid of (apart n at)) x
+
+    file_line_kept : (n : ℕ) → IsOfFiles geo n → LineKept old.medium new.medium n
+    file_line_kept n of = kept-but lines old.medium new.medium n (λ at. files_not_blocks geo n of (apart n at)) x
 
     pub blocks_marked_serve : HostServes host new
-    blocks_marked_serve = goes_on (record {
-      geometry = mounted.geometry;
-      settled = mounted.settled;
-      serves = served;
-      volume_geometry = mounted.volume_geometry;
-      volume_settled = mounted.volume_settled;
-      volume_serves = volume_serves_elsewhere geo old.medium new.medium serves.layout.valid volume_line_kept host.volume mounted.volume_geometry
-          (strong_marked host.volume.geo mounted.volume_geometry) x.count mounted.volume_serves;
-    })
+    blocks_marked_serve =
+        goes_on (mounted-blocks geo host.blocks host.volume host.journal old.medium new.medium serves.layout.valid strong_marked x.count mounted
+        host.blocks volume_line_kept file_line_kept refl mounted.settled served)
 
     pub blocks_marked : (h : Machine) (action : Action) (f : List Block → List Block) → Stands host old h → blocks_of host.blocks new.medium ≡ f (blocks_of host.blocks old.medium)
         → Stands host new (record h { blocks = f h.blocks })
@@ -157,34 +153,25 @@ module _ (host : HostState) (old new : Device) (serves : HostServes host old) (o
         let good = subst (λ g. HasGoodMetadata g new.medium) (sym (mounted.geometry ∙ stands.geometry)) (good_lines h.geometry new.medium (metadata.bad ∙ none)) in
         subst (λ g. EachReads g new.medium (λ bs. bs ≡ f h.blocks)) (mounted.geometry ∙ stands.geometry)
         (subst (λ to. EachReads host.blocks.geo new.medium (λ bs. bs ≡ to)) seen (served_reads host.blocks new.medium good served)) in
-        let pages : h.bad_meta ≡ [] → EachReadsPages h.geometry new.medium (λ x. x ≡ h.volume) = λ none.
-        subst (λ g. EachReadsPages g new.medium (λ x. x ≡ h.volume)) stands.geometry
-        (pages_elsewhere geo old.medium new.medium serves.layout.valid volume_line_kept (λ x. x ≡ h.volume)
-        (subst (λ g. EachReadsPages g old.medium (λ x. x ≡ h.volume)) (sym stands.geometry) (whole_pages host old h stands (is_whole host old h stands on) none))) in
-        let holds = volume_holds_elsewhere geo old.medium new.medium serves.layout.valid volume_line_kept host.volume h.volume mounted.volume_geometry mounted.volume_serves.all (stands.volume on) in
-        stands_done host host old new h action stands on 0 0 (omega arith) (omega arith) refl (f h.blocks) h.volume on nothing_run metadata reads seen pages holds
+        stands_done host host old new h action stands on 0 0 (omega arith) (omega arith) refl (f h.blocks) h.volume h.files on nothing_run metadata (reads, seen)
+        (pages_still host old new h stands serves on volume_line_kept) (files_still host old new h stands serves on file_line_kept)
 
   -- lines of the volume
-  module _ (apart : (n : ℕ) → IsBlockLine geo n → lines n → ⊥) (served : VolumeServes host.volume new.medium) where
+  module _ (apart : (n : ℕ) → lines n → IsOfVolume geo n) (served : VolumeServes host.volume new.medium) where
     block_line_stays : (n : ℕ) → IsBlockLine geo n → Stays old.medium new.medium n
-    block_line_stays n of = stays_of_kept old.medium new.medium n (kept-but lines old.medium new.medium n (apart n of) x)
+    block_line_stays n of = stays_of_kept old.medium new.medium n (kept-but lines old.medium new.medium n (λ at. volume_apart geo n serves.layout.valid (apart n at) of) x)
+
+    file_line_stays : (n : ℕ) → IsOfFiles geo n → LineKept old.medium new.medium n
+    file_line_stays n of = kept-but lines old.medium new.medium n (λ at. files_not_volume geo n serves.layout.valid of (apart n at)) x
 
     pub volume_marked_serves : HostServes host new
-    volume_marked_serves = goes_on (record {
-      geometry = mounted.geometry;
-      settled = mounted.settled;
-      serves = serves-stays host.blocks old.medium new.medium (λ n of. block_line_stays n (subst (λ g. IsBlockLine g n) mounted.geometry of))
-          (strong_marked host.blocks.geo mounted.geometry) x.count mounted.serves;
-      volume_geometry = mounted.volume_geometry;
-      volume_settled = mounted.volume_settled;
-      volume_serves = served;
-    })
+    volume_marked_serves =
+        goes_on (mounted-volume geo host.blocks host.volume host.journal old.medium new.medium serves.layout.valid strong_marked x.count mounted
+        host.volume block_line_stays file_line_stays refl mounted.volume_settled served)
 
     pub volume_marked : (h : Machine) (action : Action) (pages : List Page) → Stands host old h → VolumeHolds host.volume new.medium pages → Stands host new (record h { volume = pages })
     volume_marked h action pages stands holds =
-        let kept = blocks_elsewhere host old new h stands serves block_line_stays in
-        let whole = is_whole host old h stands on in
         let each : EachReadsPages h.geometry new.medium (λ x. x ≡ pages) =
         subst (λ g. EachReadsPages g new.medium (λ x. x ≡ pages)) (mounted.volume_geometry ∙ stands.geometry) (served_pages host.volume new.medium pages served holds) in
-        stands_done host host old new h action stands on 0 0 (omega arith) (omega arith) refl h.blocks pages on nothing_run (metadata_marked h stands)
-        (λ none. subst (λ interrupted. EachReads h.geometry new.medium (MayLeaveBlocks interrupted h.blocks)) whole (kept.0 none)) (kept.1 on) (λ none. each) holds
+        stands_done host host old new h action stands on 0 0 (omega arith) (omega arith) refl h.blocks pages h.files on nothing_run (metadata_marked h stands)
+        (blocks_still host old new h stands serves on block_line_stays) (λ none. each, holds) (files_still host old new h stands serves on file_line_stays)

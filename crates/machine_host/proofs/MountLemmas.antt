@@ -37,15 +37,23 @@ use Rattle.pm_volume.specs.Images.{ReadsPages, EachReadsPages}
 use Rattle.pm_volume.proofs.AreaLemmas.{area_in_metadata}
 use Rattle.pm_volume.specs.Presence.{wrong_volume_place}
 use Rattle.pm_volume.proofs.StandingLemmas.{nothing_wrong}
+use Rattle.file_journal.specs.Area.{IsOfFiles, file_area}
+use Rattle.file_journal.specs.Reading.{tables_read, words_read, wrong_file_place, wrong_table}
+use Rattle.file_journal.specs.Standing.{EachReadsFiles, ReadsFiles}
+use Rattle.file_journal.specs.Tables.{AreTables}
+use Rattle.file_journal.proofs.AreaLemmas as file
+use Rattle.file_journal.proofs.FileLineLemmas.{area_of_files, files_within}
+use Rattle.file_journal.proofs.TableReadLemmas.{length-words_read, no_wrong_file, right_tables}
 use Rattle.recovery.specs.declared.fault.MountFault.{MountFault}
 use Rattle.recovery.specs.declared.fault.MountFault.TheVariants as fault
-use Rattle.recovery.proofs.FindingLemmas.{all_right, early_none as both_none, is_superblock, nothing_early, nothing_found}
+use Rattle.recovery.proofs.FindingLemmas.{all_right, early_none as both_none, first_none, is_superblock, nothing_early, nothing_found}
 use Rattle.recovery.proofs.SuperblockLemmas.{early_none, some_lines, some_meta, superblock_told, superblock-outside}
 use Rattle.machine_host.specs.Lines.{HasLayout, MetadataStands}
 use Rattle.machine_host.specs.Stands.{IsFlushed}
 use Rattle.machine_host.specs.Costs.{mount_calls, mount_persists}
 use Rattle.machine_host.proofs.LayoutLemmas.{IsGood, none_bad}
 use Rattle.machine_host.proofs.ElsewhereLemmas.{area_of_volume, first_not_blocks, first_not_volume, volume_within}
+use Rattle.machine_host.proofs.FilesAsideLemmas.{first_not_files}
 
 -- there is a first line
 pub line_zero : (geo : Geometry) (m : Medium) → HasLayout geo m → 1 ≤ m.count
@@ -87,7 +95,15 @@ found_map m none = by_log (first_wrong (block_area geo) (last_image m)) right
         map_from_right (states_read geo (last_image m)) _ refl (not_mapped (λ b. place geo (of_block b)) (table.first_wrong_entry (map word_of (states_read geo (last_image m)))) is)
     by_log (Some at) is = cc is
 
--- so what it names is on the device, and durable with all words
+-- and the words of inodes and page tables are tables
+pub found_tables : (m : Medium) → first_finding m ≡ None → AreTables (geometry_told m).fpages (tables_read (geometry_told m) (last_image m))
+found_tables m none =
+    let geo = geometry_told m in
+    let words = words_read geo (last_image m) in
+    let is = is_superblock m (both_none m (nothing_early m none)).0 in
+    right_tables geo words is.valid (length-words_read geo (last_image m)) (first_none (first_wrong (file_area geo) (last_image m)) (wrong_table geo words) (nothing_found m none).3).1
+
+-- so what the map names is on the device, and durable with all words
 pub durable_flushed : (m : Medium) → IsFlushed m → HasDurableBlocks m
 durable_flushed m flushed none block unit at p from to =
     let geo = geometry_told m in
@@ -104,7 +120,10 @@ pub first_not_area : (geo : Geometry) → IsValid geo → (p : ℕ) → p < 8 �
 first_not_area geo valid p below of =
     elim of as (λ _. ⊥) [
       | inl of_blocks ↦ first_not_blocks geo (subst (IsBlockLine geo) (first_place p below) (area_is_block geo valid p of_blocks))
-      | inr of_volume ↦ first_not_volume geo p below (area_of_volume geo p valid of_volume)
+      | inr more ↦ elim more as (λ _. ⊥) [
+        | inl of_volume ↦ first_not_volume geo p below (area_of_volume geo p valid of_volume)
+        | inr of_files ↦ first_not_files geo (subst (IsOfFiles geo) (first_place p below) (area_of_files geo p of_files))
+      ]
     ]
 
 -- of a device in order whose first line was durable, its metadata after a mount
@@ -151,10 +170,18 @@ volume_image-last geo m sound layout p of =
     let on : p / 8 < m.count = subst (λ c. p / 8 < c) (sym layout.lines) (volume_within geo (p / 8) (area_of_volume geo p layout.valid of)) in
     sound.last p (on, layout.good (p / 8) (area_in_metadata geo layout.valid p of))
 
+-- and of the files' log and tables
+pub file_image-last : (geo : Geometry) (m : Medium) → IsSound m → IsGood geo m → IsImageOn (file_area geo) m (last_image m)
+file_image-last geo m sound layout p of =
+    let on : p / 8 < m.count = subst (λ c. p / 8 < c) (sym layout.lines) (files_within geo (p / 8) (area_of_files geo p of)) in
+    sound.last p (on, layout.good (p / 8) (file.area_in_metadata geo layout.valid p of))
+
 -- Nothing is wrong with such a device.
-pub nothing_wrong_there : (geo : Geometry) (m : Medium) → IsGood geo m → IsTold geo m → IsSound m → AreReadable geo m → EachReadsPages geo m (λ _. Unit {0}) → first_finding m ≡ None
-nothing_wrong_there geo m layout told sound readable each =
+pub nothing_wrong_there : (geo : Geometry) (m : Medium) → IsGood geo m → IsTold geo m → IsSound m → AreReadable geo m → EachReadsPages geo m (λ _. Unit {0})
+    → EachReadsFiles geo m (λ _. Unit {0}) → first_finding m ≡ None
+nothing_wrong_there geo m layout told sound readable each files =
     all_right m told.early (ap (λ g. wrong_place g (last_image m)) told.sizes ∙ none_wrong) (ap (λ g. wrong_volume_place g (last_image m)) told.sizes ∙ no_page_wrong)
+    (ap (λ g. wrong_file_place g (last_image m)) told.sizes ∙ no_inode_wrong)
   where
     none_wrong : wrong_place geo (last_image m) ≡ None
     none_wrong = reads_right geo m (λ _. Unit {0}) (last_image m) (readable (last_image m) (block_image-last geo layout.valid m sound layout.lines))
@@ -164,6 +191,12 @@ nothing_wrong_there geo m layout told sound readable each =
 
     no_page_wrong : wrong_volume_place geo (last_image m) ≡ None
     no_page_wrong = nothing_wrong geo (last_image m) (presence_of pages.pages) (length-map pages.pages is_present ∙ pages.all) pages.replays
+
+    tables : ReadsFiles geo m (λ _. Unit {0}) (last_image m)
+    tables = files (last_image m) (file_image-last geo m sound layout)
+
+    no_inode_wrong : wrong_file_place geo (last_image m) ≡ None
+    no_inode_wrong = no_wrong_file geo (last_image m) tables.word tables.tables tables.replays tables.holds tables.right
 
 -- So a mount is refused by nothing but device, power and memory.
 pub only_stops : {T : Type 0} (r : Result T MountFault) → Finds None r → IfErr r StopsMount

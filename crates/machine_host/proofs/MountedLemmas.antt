@@ -9,6 +9,7 @@ use Rattle.word_tables.specs.Layout.{volume_line}
 use Rattle.line_words.specs.Words.{IsOnly}
 use Rattle.word_log.specs.Replay as log
 use Rattle.nvm_model.specs.Page.{Page, read_pages}
+use Rattle.nvm_model.specs.Storage.{File}
 use Rattle.block_device.specs.Area.{block_area}
 use Rattle.block_device.specs.Images.{AreReadable, EachReads, ReadsAs}
 use Rattle.block_device.specs.Mounting.{wrong_map}
@@ -21,6 +22,11 @@ use Rattle.pm_volume.specs.Images.{EachReadsPages}
 use Rattle.pm_volume.specs.Object.{VolumeHolds}
 use Rattle.pm_volume.specs.Presence.{presence_read, wrong_presence}
 use Rattle.pm_volume.proofs.StandingLemmas.{served_pages}
+use Rattle.file_journal.specs.Area.{file_area}
+use Rattle.file_journal.specs.Reading.{tables_read, words_read, wrong_table}
+use Rattle.file_journal.specs.Standing.{EachReadsFiles, FilesStand, files_read}
+use Rattle.file_journal.specs.Tables.{AreTables}
+use Rattle.file_journal.proofs.ServesLemmas.{served_files}
 use Rattle.recovery.specs.Findings.{geometry_told, first_finding}
 use Rattle.recovery.specs.Mounting.{IsOfLogs}
 use Rattle.recovery.proofs.FindingLemmas.{early_none as both_none, first_none, good_metadata as good_found, strong_metadata as strong_found, is_superblock, nothing_early, nothing_found}
@@ -28,17 +34,18 @@ use Rattle.machine_host.specs.declared.mode.Mode.TheVariants as modes
 use Rattle.machine_host.specs.Lines.{MetadataStands}
 use Rattle.machine_host.specs.Restarting.{holding, reading}
 use Rattle.machine_host.specs.Stands.{HostState, HostServes, IsFlushed, Stands, is_powered}
-use Rattle.machine_host.proofs.DepictedLemmas.{blocks_depicted, holds_depicted}
+use Rattle.machine_host.proofs.DepictedLemmas.{blocks_depicted, files_depicted, holds_depicted}
 use Rattle.recovery.proofs.SuperblockLemmas.{some_lines}
 use Rattle.machine_host.proofs.BadLineLemmas.{good_lines}
 use Rattle.machine_host.proofs.LayoutLemmas.{IsGood, is_good, none_bad}
 use Rattle.machine_host.proofs.MountLemmas.{durable_flushed, first_place, found_map}
 use Rattle.machine_host.proofs.ReadingLemmas.{bad_shown, read_whole}
 
--- Once blocks and volume are mounted, host and device stand for them.
-pub stands_mounted : (host : HostState) (d : Device) (pages : List Page) → host.mode ≡ modes.On → HostServes host d → MetadataStands host.geometry d.medium [] → VolumeHolds host.volume d.medium pages
-    → Stands host d (record (holding host.geometry (blocks_of host.blocks d.medium) pages) { cut_armed = d.panel.cut_armed; fail_armed = d.panel.fail_armed })
-stands_mounted host d pages on serves metadata holds =
+-- Once all storage is mounted, host and device stand for it.
+pub stands_mounted : (host : HostState) (d : Device) (pages : List Page) (files : List File) → host.mode ≡ modes.On → HostServes host d → MetadataStands host.geometry d.medium []
+    → VolumeHolds host.volume d.medium pages → FilesStand host.journal.geo d.medium host.journal.tables files
+    → Stands host d (record (holding host.geometry (blocks_of host.blocks d.medium) pages files) { cut_armed = d.panel.cut_armed; fail_armed = d.panel.fail_armed })
+stands_mounted host d pages files on serves metadata holds stand =
     let mounted = serves.mounted on in
     let good = subst (λ g. HasGoodMetadata g d.medium) (sym mounted.geometry) (good_lines host.geometry d.medium metadata.bad) in
     record {
@@ -46,10 +53,13 @@ stands_mounted host d pages on serves metadata holds =
       mode = on;
       blocks = λ _. refl;
       volume = λ _. holds;
+      files = λ _. stand;
       device = record {
         metadata = metadata;
         blocks = λ _. subst (λ g. EachReads g d.medium (λ bs. bs ≡ blocks_of host.blocks d.medium)) mounted.geometry (served_reads host.blocks d.medium good mounted.serves);
         volume = λ _. subst (λ g. EachReadsPages g d.medium (λ x. x ≡ pages)) mounted.volume_geometry (served_pages host.volume d.medium pages mounted.volume_serves holds);
+        files = λ _. subst (λ g. EachReadsFiles g d.medium (λ x. x ≡ files)) mounted.journal_geometry
+            (served_files host.journal d.medium files (subst (λ g. AreTables g.fpages host.journal.tables) (sym mounted.journal_geometry) mounted.journal_right) mounted.journal_serves stand);
         power = serves.power ∙ ap is_powered on;
         cut_armed = refl;
         fail_armed = refl;
@@ -72,7 +82,7 @@ layout_found m flushed none =
     })
     (good_found geo m early.1)
 
--- its last values are blocks, and a valid log of the volume
+-- its last values are blocks, and valid logs of volume and files
 blocks_found : (m : Medium) → IsFlushed m → first_finding m ≡ None → ReadsAs (geometry_told m) m (λ _. Unit {0}) (last_image m)
 blocks_found m flushed none =
     let geo = geometry_told m in
@@ -87,6 +97,11 @@ volume_found : (m : Medium) → first_finding m ≡ None → log.first_wrong (vo
 volume_found m none =
     let geo = geometry_told m in (first_none (log.first_wrong (volume_area geo) (last_image m)) (wrong_presence geo (last_image m)) (nothing_found m none).2).0
 
+files_found : (m : Medium) → first_finding m ≡ None → log.first_wrong (file_area (geometry_told m)) (last_image m) ≡ None
+files_found m none =
+    let geo = geometry_told m in
+    (first_none (log.first_wrong (file_area geo) (last_image m)) (wrong_table geo (words_read geo (last_image m))) (nothing_found m none).3).0
+
 -- A host that mounted a device stands for what is read there, where each word had one value.
 -- and its blocks can be read in each image
 pub readable_served : (geo : Geometry) (s : BlocksState) (m : Medium) → s.geo ≡ geo → BlocksServe s m → HasGoodMetadata geo m → AreReadable geo m
@@ -97,10 +112,11 @@ readable_served geo s m same serves good =
 pub stands_found : (host : HostState) (old new : Device) (image : Image) → IsSound old.medium → IsFlushed old.medium → first_finding old.medium ≡ None → Depicts old.medium image
     → host.geometry ≡ geometry_told old.medium → host.mode ≡ modes.On
     → blocks_of host.blocks new.medium ≡ blocks_read (geometry_told old.medium) old.medium.is_bad (last_image old.medium)
-    → host.volume.present ≡ presence_read (geometry_told old.medium) (last_image old.medium) → WritesBackOutside (IsOfLogs (geometry_told old.medium)) old.medium new.medium
+    → host.volume.present ≡ presence_read (geometry_told old.medium) (last_image old.medium) → host.journal.tables ≡ tables_read (geometry_told old.medium) (last_image old.medium)
+    → WritesBackOutside (IsOfLogs (geometry_told old.medium)) old.medium new.medium
     → MetadataStands host.geometry new.medium [] → HostServes host new
     → Stands host new (record (reading (geometry_told old.medium) image) { cut_armed = new.panel.cut_armed; fail_armed = new.panel.fail_armed })
-stands_found host old new image sound flushed none shows sizes on blocks present outside metadata serves =
+stands_found host old new image sound flushed none shows sizes on blocks present tables outside metadata serves =
     let m = old.medium in
     let geo = geometry_told m in
     let layout = layout_found m flushed none in
@@ -108,7 +124,11 @@ stands_found host old new image sound flushed none shows sizes on blocks present
     let pages = read_pages (volume_line geo) image (presence_read geo image.word) in
     let read = blocks ∙ blocks_depicted geo m image layout shows (last_image m) (λ _. Unit {0}) (block_image-last geo layout.valid m sound layout.lines) (blocks_found m flushed none) in
     let holds = holds_depicted geo m image layout shows new.medium host.volume sound (volume_found m none) outside ((serves.mounted on).volume_geometry ∙ sizes) present in
+    let files = files_read geo image in
+    let mounted = serves.mounted on in
+    let right = subst (λ g. AreTables g.fpages host.journal.tables) sizes mounted.journal_right in
+    let stand = files_depicted geo m image layout shows new.medium host.journal sound (files_found m none) right outside (mounted.journal_geometry ∙ sizes) tables in
     subst (λ k. Stands host new (record k { cut_armed = new.panel.cut_armed; fail_armed = new.panel.fail_armed })) (sym (read_whole geo image shown))
-    (subst (λ bs. Stands host new (record (holding geo bs pages) { cut_armed = new.panel.cut_armed; fail_armed = new.panel.fail_armed })) read
-    (subst (λ g. Stands host new (record (holding g (blocks_of host.blocks new.medium) pages) { cut_armed = new.panel.cut_armed; fail_armed = new.panel.fail_armed })) sizes
-    (stands_mounted host new pages on serves metadata holds)))
+    (subst (λ bs. Stands host new (record (holding geo bs pages files) { cut_armed = new.panel.cut_armed; fail_armed = new.panel.fail_armed })) read
+    (subst (λ g. Stands host new (record (holding g (blocks_of host.blocks new.medium) pages files) { cut_armed = new.panel.cut_armed; fail_armed = new.panel.fail_armed })) sizes
+    (stands_mounted host new pages files on serves metadata holds stand)))

@@ -14,6 +14,9 @@ use Rattle.nvm_base.specs.Data.{data_of, runs_of, data_within, data_text}
 use Rattle.word_tables.specs.Layout.{size, first_line, total_lines, volume_line}
 use Rattle.word_log.specs.Replay.{listed}
 use Rattle.block_device.specs.Reading.{states_read, blocks_read}
+use Rattle.inode_table.specs.Words.{slots_of}
+use Rattle.file_journal.specs.Reading.{tables_of, words_read as file_words}
+use Rattle.file_journal.specs.Standing.{files_read}
 use Rattle.nvm_model.specs.Interrupted.{LineByLine, MayPut}
 use Rattle.nvm_model.specs.Page.{Page, discard, fill, first_bad_line, first_uncovered_line, look, presence_of, put, read_pages}
 use Rattle.pm_volume.specs.Presence.{presence_read, words_read}
@@ -94,14 +97,14 @@ run_of_cut h to action start first second ordered works restarts chosen keeps on
 )
 
 pub fill_lost : MayWrite with_cut_fill (leaving Firsts [] ∷ []) (cut_fill_lines (codes "no") (codes "no"))
-unfolding digits number_of data_of runs_of data_within data_text fill put discard first_bad_line first_uncovered_line look read_pages answer_line lines_of words_of command_action line_input refusal size first_line total_lines volume_line reading states_read blocks_read listed words_read
+unfolding digits number_of data_of runs_of data_within data_text fill put discard first_bad_line first_uncovered_line look read_pages answer_line lines_of words_of command_action line_input refusal size first_line total_lines volume_line reading states_read blocks_read listed files_read file_words tables_of slots_of words_read
 fill_lost =
     let start = leaving Firsts [] in
     record {
       said = told (fresh small) the_fill start (yes_or_no false) (yes_or_no false);
       end = back (fresh small) the_fill start.image;
       run = run_of_cut (fresh small) both_stored_armed the_fill start (yes_or_no false) (yes_or_no false) refl refl refl refl
-          (record { metadata = refl; storage = λ _. record { blocks = refl; left = (fresh small).volume; may = inl refl; there = refl; volume = keeps-last Firsts (volume_line small) start.image (fresh small).volume refl } }) refl refl;
+          (record { metadata = refl; storage = λ _. record { blocks = refl; left = (fresh small).volume; may = inl refl; there = refl; volume = keeps-last Firsts (volume_line small) start.image (fresh small).volume refl; files_left = []; may_files = inl refl; files = tt } }) refl refl;
       left = refl;
       written = refl;
     }
@@ -110,7 +113,7 @@ fill_lost =
     both_stored_armed = record both_stored { cut_armed = true }
 
 pub fill_kept : MayWrite with_cut_fill (leaving Firsts with_both_pages ∷ []) (cut_fill_lines (codes "yes") (codes "yes"))
-unfolding digits number_of data_of runs_of data_within data_text fill put discard first_bad_line first_uncovered_line look read_pages answer_line lines_of words_of command_action line_input refusal size first_line total_lines volume_line reading states_read blocks_read listed words_read
+unfolding digits number_of data_of runs_of data_within data_text fill put discard first_bad_line first_uncovered_line look read_pages answer_line lines_of words_of command_action line_input refusal size first_line total_lines volume_line reading states_read blocks_read listed files_read file_words tables_of slots_of words_read
 fill_kept =
     let start = leaving Firsts with_both_pages in
     let left = stored_among (λ n. false) 4092 (replicate 8 17) (fresh small).volume in
@@ -118,7 +121,7 @@ fill_kept =
       said = told (fresh small) the_fill start (yes_or_no true) (yes_or_no true);
       end = back (fresh small) the_fill start.image;
       run = run_of_cut (fresh small) (record both_stored { cut_armed = true }) the_fill start (yes_or_no true) (yes_or_no true) refl refl refl refl
-          (record { metadata = refl; storage = λ _. record { blocks = refl; left = left; may = may_store-among (λ n. false) 4092 (replicate 8 17) (fresh small).volume; there = refl; volume = keeps-last Firsts (volume_line small) start.image left refl } }) refl refl;
+          (record { metadata = refl; storage = λ _. record { blocks = refl; left = left; may = may_store-among (λ n. false) 4092 (replicate 8 17) (fresh small).volume; there = refl; volume = keeps-last Firsts (volume_line small) start.image left refl; files_left = []; may_files = inl refl; files = tt } }) refl refl;
       left = refl;
       written = refl;
     }
@@ -130,7 +133,7 @@ run_after_store inputs said end works run =
     (worked (spending (fresh small) the_fill) Done, said, both_stored, refl, rw works (Done, refl, inl (refl, refl)), run)
 
 pub discard_kept : MayWrite with_cut_discard (leaving Firsts [] ∷ []) (cut_discard_lines (codes "no") (codes "no"))
-unfolding digits word_from byte_over word_over reaches number_of data_of runs_of data_within data_text fill put discard first_bad_line first_uncovered_line look read_pages answer_line lines_of words_of command_action line_input refusal size first_line total_lines volume_line reading states_read blocks_read listed words_read
+unfolding digits word_from byte_over word_over reaches number_of data_of runs_of data_within data_text fill put discard first_bad_line first_uncovered_line look read_pages answer_line lines_of words_of command_action line_input refusal size first_line total_lines volume_line reading states_read blocks_read listed files_read file_words tables_of slots_of words_read
 discard_kept =
     let start = leaving Firsts [] in
     let action = VDiscard 0 2 in
@@ -140,13 +143,13 @@ discard_kept =
       end = back both_stored action start.image;
       run = run_after_store (Asked (CutIn 7) ∷ Asked action ∷ Asked (Restart Firsts) ∷ Asked (VExists 0) ∷ Asked (VExists 1) ∷ []) (told both_stored action start (yes_or_no false) (yes_or_no false)) (back both_stored action start.image) refl
           (run_of_cut both_stored (record both_stored { volume = left; cut_armed = true }) action start (yes_or_no false) (yes_or_no false) refl refl refl refl
-          (record { metadata = refl; storage = λ _. record { blocks = refl; left = left; may = inr refl; there = refl; volume = keeps-last Firsts (volume_line small) start.image left refl } }) refl refl);
+          (record { metadata = refl; storage = λ _. record { blocks = refl; left = left; may = inr refl; there = refl; volume = keeps-last Firsts (volume_line small) start.image left refl; files_left = []; may_files = inl refl; files = tt } }) refl refl);
       left = refl;
       written = refl;
     }
 
 pub discard_lost : MayWrite with_cut_discard (leaving Firsts ((18943, 1229782937960972288) ∷ (23552, 286331153) ∷ with_both_pages) ∷ []) (cut_discard_lines (codes "yes") (codes "yes"))
-unfolding digits word_from byte_over word_over reaches number_of data_of runs_of data_within data_text fill put discard first_bad_line first_uncovered_line look read_pages answer_line lines_of words_of command_action line_input refusal size first_line total_lines volume_line reading states_read blocks_read listed words_read
+unfolding digits word_from byte_over word_over reaches number_of data_of runs_of data_within data_text fill put discard first_bad_line first_uncovered_line look read_pages answer_line lines_of words_of command_action line_input refusal size first_line total_lines volume_line reading states_read blocks_read listed files_read file_words tables_of slots_of words_read
 discard_lost =
     let start = leaving Firsts ((18943, 1229782937960972288) ∷ (23552, 286331153) ∷ with_both_pages) in
     let action = VDiscard 0 2 in
@@ -155,7 +158,7 @@ discard_lost =
       end = back both_stored action start.image;
       run = run_after_store (Asked (CutIn 7) ∷ Asked action ∷ Asked (Restart Firsts) ∷ Asked (VExists 0) ∷ Asked (VExists 1) ∷ []) (told both_stored action start (yes_or_no true) (yes_or_no true)) (back both_stored action start.image) refl
           (run_of_cut both_stored (record both_stored { volume = discard 0 2 both_stored.volume; cut_armed = true }) action start (yes_or_no true) (yes_or_no true) refl refl refl refl
-          (record { metadata = refl; storage = λ _. record { blocks = refl; left = both_stored.volume; may = inl refl; there = refl; volume = keeps-last Firsts (volume_line small) start.image both_stored.volume refl } }) refl refl);
+          (record { metadata = refl; storage = λ _. record { blocks = refl; left = both_stored.volume; may = inl refl; there = refl; volume = keeps-last Firsts (volume_line small) start.image both_stored.volume refl; files_left = []; may_files = inl refl; files = tt } }) refl refl);
       left = refl;
       written = refl;
     }

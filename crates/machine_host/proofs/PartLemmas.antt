@@ -13,12 +13,15 @@ use Rattle.line_words.specs.declared.interruption.Interruption.TheVariants.{Fail
 use Rattle.nvm_base.specs.Numbers.{number_of}
 use Rattle.nvm_base.specs.Data.{runs_of, data_within, data_text}
 use Rattle.word_tables.specs.Layout.{volume_line, size, first_line}
-use Rattle.nvm_model.specs.Storage.{Block}
+use Rattle.nvm_model.specs.Storage.{Block, File}
 use Rattle.nvm_model.specs.Page.{Page, presence_of, read_page, read_pages, bad_lines}
 use Rattle.nvm_model.specs.Blocks.{first_obstacle, bad_block_lines, write, look_blocks}
 use Rattle.word_log.specs.Replay.{listed}
 use Rattle.block_device.specs.Images.{IsEither}
 use Rattle.block_device.specs.Reading.{states_read, blocks_read}
+use Rattle.inode_table.specs.Words.{slots_of}
+use Rattle.file_journal.specs.Reading.{tables_of, words_read as file_words}
+use Rattle.file_journal.specs.Standing.{files_read, KeepsFiles}
 use Rattle.block_device.specs.Refusals.Refusal.{Unreadable}
 use Rattle.reply_text.specs.Answer.{Answer, answer_line, reply_text}
 use Rattle.reply_text.specs.Answer.Answer.{Done, DoneBad, Bytes, Refused}
@@ -41,6 +44,7 @@ use Rattle.machine_host.specs.Run.{Transcript, Run, Takes, Ends, followed_by}
 use Rattle.machine_host.specs.Rows.{small, text}
 use Rattle.machine_host.specs.CutRows.{MayWrite, with_cut_write, cut_write_lines}
 use Rattle.machine_host.proofs.CutLemmas.{armed, the_write}
+use Rattle.machine_host.proofs.HoleFileLemmas.{holes_read}
 
 -- a run that gives these answers
 abbrev pub Later : Machine → List Input → List Answer → Type 0
@@ -52,7 +56,7 @@ module _ (h : Machine) (action : Action) (inputs : List Input) (answers : List A
       → first.answers ≡ answer ∷ [] → answers ≡ answer ∷ rest.answers
   answers_of first rest answer is one = sym later.2 ∙ ap (λ (t : Transcript). t.answers) is ∙ ap (λ xs. xs ++ rest.answers) one
 
-  began_giving : (good : Answer) (to : Machine) → fate h action ≡ Gives good to → (rest : List Answer) × (answers ≡ good ∷ rest) × Later to inputs rest
+  pub began_giving : (good : Answer) (to : Machine) → fate h action ≡ Gives good to → (rest : List Answer) × (answers ≡ good ∷ rest) × Later to inputs rest
   began_giving good to is =
       let run = later.3 in
       let took = subst (λ f. Takes h action f run.0 run.2) is run.4 in (
@@ -83,7 +87,7 @@ module _ (h : Machine) (action : Action) (inputs : List Input) (answers : List A
         (run.1, later.1, refl, run.5),
       )
 
-  began_restarting : (choice : Choice) → fate h action ≡ Restarts choice
+  pub began_restarting : (choice : Choice) → fate h action ≡ Restarts choice
       → (image : Image) × (answer : Answer) × (next : Machine) × (rest : List Answer) × (answers ≡ answer ∷ rest) × RestartMayLeave choice image h
       × Ends (mounted_answer (restarted h image)) (restarted h image) (restarted h image) answer next × Later next inputs rest
   began_restarting choice is =
@@ -132,7 +136,7 @@ abbrev struck : Bool → Bool → Machine
 struck cut fail = record (while_interrupted armed the_write) { mode = modes.Off; cut_armed = cut; fail_armed = fail }
 
 -- none of the volume's lines is bad after it
-no_bad_line : (image : Image) → presence_of (fresh small).volume ≡ presence_read small image.word → bad_lines (read_pages (volume_line small) image (presence_read small image.word)) ≡ 0
+pub no_bad_line : (image : Image) → presence_of (fresh small).volume ≡ presence_read small image.word → bad_lines (read_pages (volume_line small) image (presence_read small image.word)) ≡ 0
 unfolding reading words_read listed read_pages size first_line
 no_bad_line image there = ap (λ t. bad_lines (map_from (read_page (volume_line small) image) 0 t)) (sym there)
 
@@ -150,12 +154,12 @@ new_shows : Shows (written (fresh small)).blocks (codes "11*1024")
 unfolding digits data_text answer_line size first_line reading states_read blocks_read listed write look_blocks
 new_shows = record { free = refl; whole = refl; shows = refl }
 
-nothing_more : (h : Machine) (rest : List Answer) → Later h [] rest → rest ≡ []
+pub nothing_more : (h : Machine) (rest : List Answer) → Later h [] rest → rest ≡ []
 nothing_more h rest later = sym later.2 ∙ ap (λ (t : Transcript). t.answers) later.3.0
 
--- the state at rest of these blocks and pages, with what is armed
+-- the state at rest of these blocks and pages, without files, with what is armed
 abbrev pub at_rest : List Block → List Page → Bool → Bool → Machine
-at_rest blocks pages cut fail = record (holding small blocks pages) { cut_armed = cut; fail_armed = fail }
+at_rest blocks pages cut fail = record (holding small blocks pages []) { cut_armed = cut; fail_armed = fail }
 
 -- a mount found such blocks
 module _ (shown : List ℕ) (found : List Block) (pages : List Page) (cut fail : Bool) (blocks : List Block) (is : found ≡ blocks)
@@ -186,7 +190,7 @@ module _ (shown : List ℕ) (found : List Block) (pages : List Page) (cut fail :
   unfolding answer_line digits
   back_shows healthy rest later e =
       let none : mounted_answer back ≡ DoneBad 0 =
-      ap (λ n. DoneBad (n + bad_lines pages)) (ap bad_block_lines is ∙ good_blocks.whole) ∙ ap (λ n. DoneBad (0 + n)) healthy in
+      ap (λ n. DoneBad (n + bad_lines pages + 0)) (ap bad_block_lines is ∙ good_blocks.whole) ∙ ap (λ n. DoneBad (0 + n + 0)) healthy in
       read_shows rest later (ap (drop 9) (sym (ap (λ a. reply_text (a ∷ rest)) none) ∙ e))
 
 -- all or nothing of the write is shown
@@ -202,12 +206,23 @@ mounted_shows shown found pages cut fail (inl old) healthy rest later e =
 mounted_shows shown found pages cut fail (inr new) healthy rest later e =
     inr (back_shows shown found pages cut fail (written (fresh small)).blocks new (codes "11*1024") new_shows healthy rest later e)
 
+-- without files before a command that leaves them, a restart reads none
+pub none_left : (left : List File) → (left ≡ (fresh small).files) ⊎ (left ≡ (fresh small).files) → left ≡ []
+unfolding reading files_read file_words tables_of slots_of listed size first_line
+none_left left (inl is) = is
+none_left left (inr is) = is
+
+none_read : (choice : Choice) (image : Image) (left : List File) → (left ≡ (fresh small).files) ⊎ (left ≡ (fresh small).files) → KeepsFiles choice small image left
+    → files_read small image ≡ []
+none_read choice image left may keeps = holes_read choice small image [] tt (subst (KeepsFiles choice small image) (none_left left may) keeps)
+
 restart_shows : (shown : List ℕ) (cut fail : Bool) (answers : List Answer) → Later (struck cut fail) (Asked (Restart Firsts) ∷ Asked (BRead 0 2) ∷ []) answers
     → reply_text answers ≡ text (codes "ok bad 0" ∷ line shown ∷ []) → Whole shown
 unfolding refusal reading
 restart_shows shown cut fail answers later wrote =
     let one = began_restarting (struck cut fail) (Restart Firsts) (Asked (BRead 0 2) ∷ []) answers later Firsts refl in
-    let same : restarted (struck cut fail) one.0 ≡ found one.0 = ap (λ bad. record (read_with bad small one.0) { cut_armed = cut; fail_armed = fail }) one.5.metadata in
+    let same : restarted (struck cut fail) one.0 ≡ found one.0 =
+    ap (λ bad. record (read_with bad small one.0) { cut_armed = cut; fail_armed = fail }) one.5.metadata ∙ no_files one.0 (one.5.storage refl) in
     by_end one.0 one.1 one.2 one.3 (one.5.storage refl) (subst (λ k. Ends (mounted_answer k) k k one.1 one.2) same one.6) one.7 (sym (ap reply_text one.4) ∙ wrote)
   where
     pages : Image → List Page
@@ -215,6 +230,13 @@ restart_shows shown cut fail answers later wrote =
 
     found : Image → Machine
     found image = at_rest (blocks_read small image.is_bad image.word) (pages image) cut fail
+
+    -- there are no files before it, and none after it
+    no_files : (image : Image) → MayLeaveStorage Firsts image (struck cut fail)
+        → record (holding small (blocks_read small image.is_bad image.word) (pages image) (files_read small image)) { cut_armed = cut; fail_armed = fail } ≡ found image
+    no_files image keeps =
+        ap (λ files. record (holding small (blocks_read small image.is_bad image.word) (pages image) files) { cut_armed = cut; fail_armed = fail })
+        (none_read Firsts image keeps.files_left keeps.may_files keeps.files)
 
     by_end : (image : Image) (answer : Answer) (next : Machine) (rest : List Answer) → MayLeaveStorage Firsts image (struck cut fail)
         → Ends (mounted_answer (found image)) (found image) (found image) answer next → Later next (Asked (BRead 0 2) ∷ []) rest

@@ -1,4 +1,4 @@
--- A line of metadata goes bad, while blocks and volume stay mounted, in each mode.
+-- A line of metadata goes bad, while blocks, volume and files stay mounted, in each mode.
 use Rattle.std.proofs.Common.{◌≡◌, ◌≢◌, ◌/◌, ◌<◌, ◌≤◌, ◌==◌, ℕ, Bool, true, false, cond, List, [], ◌∷◌, length, nat_lt, refl, sym, ap, subst, ◌∙◌, arith}
 use Rattle.std.proofs.lemmas.List.{length-map}
 use Rattle.line_device.specs.History.{IsIn}
@@ -14,6 +14,11 @@ use Rattle.block_device.proofs.ReadLemmas.{map_read-stays}
 use Rattle.pm_volume.specs.Object.{VolumeHolds}
 use Rattle.nvm_model.proofs.KeptLemmas.{LineKept}
 use Rattle.pm_volume.proofs.StandingLemmas.{pages-kept, volume_serves-kept}
+use Rattle.file_journal.specs.Standing.{FilesStand}
+use Rattle.file_journal.specs.Tables.{AreTables}
+use Rattle.file_journal.proofs.FileLineLemmas.{page_line_behind}
+use Rattle.file_journal.proofs.ServesLemmas.{journal-kept}
+use Rattle.file_journal.proofs.StandingLemmas.{files-kept}
 use Rattle.scrub.specs.Others.{WritesBackBut}
 use Rattle.scrub.proofs.OthersLemmas.{but-renewed}
 use Rattle.reply_text.specs.Answer.Answer.{Done}
@@ -71,7 +76,7 @@ module _ (host : HostState) (old new : Device) (line : ℕ) (serves : HostServes
       by_line true = refl
       by_line false = strong
 
-  still_mounted : AreMounted host.geometry host.blocks host.volume old.medium → AreMounted host.geometry host.blocks host.volume new.medium
+  still_mounted : AreMounted host.geometry host.blocks host.volume host.journal old.medium → AreMounted host.geometry host.blocks host.volume host.journal new.medium
   still_mounted mounted = record {
     geometry = mounted.geometry;
     settled = mounted.settled;
@@ -79,6 +84,10 @@ module _ (host : HostState) (old new : Device) (line : ℕ) (serves : HostServes
     volume_geometry = mounted.volume_geometry;
     volume_settled = mounted.volume_settled;
     volume_serves = volume_serves-kept host.volume old.medium new.medium (λ p of v at. fewer p v at) (λ n below. still_strong n (mounted.volume_serves.strong n below)) w.count mounted.volume_serves;
+    journal_geometry = mounted.journal_geometry;
+    journal_settled = mounted.journal_settled;
+    journal_serves = journal-kept host.journal old.medium new.medium (λ p of v at. fewer p v at) (λ n below. still_strong n (mounted.journal_serves.strong n below)) w.count mounted.journal_serves;
+    journal_right = mounted.journal_right;
   }
 
   serves_poisoned : HostServes host new
@@ -111,16 +120,25 @@ module _ (host : HostState) (old new : Device) (line : ℕ) (serves : HostServes
               (λ n lt. behind_kept (volume_line v.geo n) (subst (λ g. meta_lines g ≤ volume_line v.geo n) mounted.volume_geometry (volume_behind v.geo n))) holds.stand;
         }
 
+    files_same : host.mode ≡ modes.On → FilesStand host.journal.geo new.medium host.journal.tables h.files
+    files_same on =
+        let mounted = serves.mounted on in
+        let j = host.journal in
+        files-kept j.geo old.medium new.medium j.tables h.files (subst (λ g. AreTables g.fpages j.tables) (sym mounted.journal_geometry) mounted.journal_right)
+        (λ n has. behind_kept n (subst (λ g. meta_lines g ≤ n) mounted.journal_geometry (page_line_behind j.geo n has))) (stands.files on)
+
     stands_poisoned : Stands host new (record h { bad_meta = with_line line h.bad_meta })
     stands_poisoned = record {
       geometry = stands.geometry;
       mode = stands.mode;
       blocks = blocks_same;
       volume = volume_same;
+      files = files_same;
       device = record {
         metadata = metadata-poisoned h.geometry line old.medium new.medium (subst (λ g. line < meta_lines g) stands.geometry within) w h.bad_meta stands.device.metadata;
         blocks = λ none. absurd (some_bad line h.bad_meta none);
         volume = λ none. absurd (some_bad line h.bad_meta none);
+        files = λ none. absurd (some_bad line h.bad_meta none);
         power = ap (λ p. p.power) panel ∙ stands.device.power;
         cut_armed = ap (λ p. p.cut_armed) panel ∙ stands.device.cut_armed;
         fail_armed = ap (λ p. p.fail_armed) panel ∙ stands.device.fail_armed;

@@ -8,6 +8,7 @@ use Rattle.word_tables.specs.Layout.{meta_lines, total_lines, volume_line}
 use Rattle.nvm_model.specs.Page.{read_pages}
 use Rattle.pm_volume.specs.Presence.{presence_read}
 use Rattle.block_device.specs.Reading.{blocks_read}
+use Rattle.file_journal.specs.Standing.{files_read}
 use Rattle.machine_host.specs.Lines.{bad_metadata}
 use Rattle.machine_host.specs.Machine.{Machine}
 use Rattle.machine_host.specs.Recovering.{RecoveryMayLeave, RecoversTo}
@@ -17,7 +18,7 @@ use Rattle.machine_host.proofs.BadLineLemmas.{meta_within}
 use Rattle.machine_host.proofs.LayoutLemmas.{filter-same}
 
 pub read_whole : (geo : Geometry) (image : Image) → bad_metadata geo image.is_bad ≡ []
-    → reading geo image ≡ holding geo (blocks_read geo image.is_bad image.word) (read_pages (volume_line geo) image (presence_read geo image.word))
+    → reading geo image ≡ holding geo (blocks_read geo image.is_bad image.word) (read_pages (volume_line geo) image (presence_read geo image.word)) (files_read geo image)
 unfolding reading
 read_whole geo image none = ap (λ lines. read_with lines geo image) none
 
@@ -40,9 +41,12 @@ recovered_back h next image may = by_lines (bad_metadata h.geometry image.is_bad
     by_lines [] none =
         let read = read_whole h.geometry image none in
         let is = subst (λ (k : Machine). RecoversTo k.bad_meta (back k) next) read may in
+        let pages = read_pages (volume_line h.geometry) image (presence_read h.geometry image.word) in
+        let blocks = blocks_read h.geometry image.is_bad image.word in
         is.state
-        ∙ ap (λ bs. record (holding h.geometry bs next.volume) { cut_armed = h.cut_armed; fail_armed = h.fail_armed }) is.blocks
-        ∙ ap (λ pages. record (holding h.geometry (blocks_read h.geometry image.is_bad image.word) pages) { cut_armed = h.cut_armed; fail_armed = h.fail_armed }) is.volume
+        ∙ ap (λ bs. record (holding h.geometry bs next.volume next.files) { cut_armed = h.cut_armed; fail_armed = h.fail_armed }) is.blocks
+        ∙ ap (λ ps. record (holding h.geometry blocks ps next.files) { cut_armed = h.cut_armed; fail_armed = h.fail_armed }) is.volume
+        ∙ ap (λ files. record (holding h.geometry blocks pages files) { cut_armed = h.cut_armed; fail_armed = h.fail_armed }) is.files
         ∙ ap (λ (k : Machine). record k { cut_armed = h.cut_armed; fail_armed = h.fail_armed }) (sym read)
     by_lines (line ∷ lines) some =
         let read = read_stopped h.geometry image line lines some in

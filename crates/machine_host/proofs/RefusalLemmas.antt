@@ -10,7 +10,7 @@ use Rattle.nvm_model.specs.Storage.{Block}
 use Rattle.block_device.specs.Refusals.{Refusal}
 use Rattle.block_device.specs.Refusals.Refusal.{Unreadable}
 use Rattle.script_text.specs.Action.{Action}
-use Rattle.script_text.specs.Action.Action.{BRead, BWrite, BAtomic, BMulti, BDiscard, BDiscardIf, BExists, BScar, VLoad, VStore, VSync, VRanges, VPSync, VDiscard, VDiscardIf, VExists, PoisonBlock, PoisonVolume, PoisonMeta, WeakenVolume, ClearVolume, Cut, CutIn, FailIn, Restart, Recover}
+use Rattle.script_text.specs.Action.Action.{BRead, BWrite, BAtomic, BMulti, BDiscard, BDiscardIf, BExists, BScar, VLoad, VStore, VSync, VRanges, VPSync, VDiscard, VDiscardIf, VExists, Create, Delete, Rename, Resize, ListFiles, PoisonBlock, PoisonVolume, PoisonMeta, WeakenVolume, ClearVolume, Cut, CutIn, FailIn, Restart, Recover}
 use Rattle.reply_text.specs.declared.reply.Why.{Why}
 use Rattle.reply_text.specs.declared.reply.Why.TheVariants.{Range, Length, Limit}
 use Rattle.reply_text.specs.declared.reply.Why.TheVariants as because
@@ -137,6 +137,11 @@ pub first_alone : {A : Type 0} (o : Option A) → first_there o None ≡ o
 first_alone None = refl
 first_alone (Some x) = refl
 
+-- the first of three reasons
+pub first_assoc : {A : Type 0} (a b c : Option A) → first_there (first_there a b) c ≡ first_there a (first_there b c)
+first_assoc None b c = refl
+first_assoc (Some x) b c = refl
+
 -- where the host finds wrong places, they are the reason
 places_refused : (h : Machine) (action : Action) (why : Why) → (meaning action).checked h.geometry ≡ Some why
     → (((meaning action).reasons h).named ≡ None) × (((meaning action).reasons h).places ≡ Some (Refused why))
@@ -156,6 +161,11 @@ places_refused h (VPSync address len) why is = cc is
 places_refused h (VDiscard page count) why is = cc is
 places_refused h (VDiscardIf page count) why is = cc is
 places_refused h (VExists page) why is = cc is
+places_refused h (Create name pages) why is = cc is
+places_refused h (Delete name) why is = cc is
+places_refused h (Rename name to) why is = cc is
+places_refused h (Resize name pages) why is = cc is
+places_refused h ListFiles why is = cc is
 places_refused h (PoisonBlock block line) why is = cc is
 places_refused h (PoisonVolume offset) why is = cc is
 places_refused h (PoisonMeta line) why is = (refl, ap (option_map Refused) is)
@@ -294,14 +304,21 @@ fate_read h block count on some within few =
     mapped_twice None = refl
     mapped_twice (Some obstacle) = refl
 
--- What comes of a command whose places a part of storage looks at, with the power on: the reasons of its row, places first.
+-- What comes of a command on storage, with the power on: the reasons of its row, kind by kind.
+pub fate_usable : (h : Machine) (action : Action) → (meaning action).needs ≡ Usable → h.mode ≡ On
+    → fate h action ≡ unless_refused h (first_reason None h.bad_meta ((meaning action).reasons h)) ((meaning action).comes h)
+unfolding refusal
+fate_usable h action needs on =
+    ap (λ m. unless_refused h (first_reason m h.bad_meta ((meaning action).reasons h)) ((meaning action).comes h))
+    (ap (mode_refusal h.mode h.bad_meta) needs ∙ ap (λ mode. mode_refusal mode h.bad_meta Usable) on)
+
+-- and of one that names nothing and fills nothing: places first
 pub fate_worked : (h : Machine) (action : Action) → (meaning action).needs ≡ Usable → h.mode ≡ On → ((meaning action).reasons h).named ≡ None → ((meaning action).reasons h).full ≡ None
     → fate h action
     ≡ unless_refused h (first_there ((meaning action).reasons h).places (first_there (metadata_refusal ((meaning action).reasons h).changes_metadata h.bad_meta) ((meaning action).reasons h).unreadable)) ((meaning action).comes h)
-unfolding refusal
 fate_worked h action needs on named full =
     let r = (meaning action).reasons h in
     let comes = (meaning action).comes h in
-    ap (λ m. unless_refused h (first_reason m h.bad_meta r) comes) (ap (mode_refusal h.mode h.bad_meta) needs ∙ ap (λ mode. mode_refusal mode h.bad_meta Usable) on)
+    fate_usable h action needs on
     ∙ ap (λ o. unless_refused h (first_there o (first_there r.places (first_there r.full (first_there (metadata_refusal r.changes_metadata h.bad_meta) r.unreadable)))) comes) named
     ∙ ap (λ o. unless_refused h (first_there r.places (first_there o (first_there (metadata_refusal r.changes_metadata h.bad_meta) r.unreadable))) comes) full

@@ -1,41 +1,47 @@
 -- A mount of a device whose host has not mounted it, while the power is on: it runs through, is interrupted, or wants memory.
-use Rattle.std.proofs.Common.{◌≡◌, ◌≢◌, ◌⊎◌, ℕ, ◌<◌, inl, inr, Bool, true, false, IsTrue, List, [], ◌∷◌, length, Option, Some, None, Err, refl, sym, ap, subst, ◌∙◌, arith}
+use Rattle.std.proofs.Common.{◌≡◌, ◌≢◌, ◌⊎◌, ℕ, inl, inr, Bool, true, false, List, [], ◌∷◌, length, Option, Some, None, Err, refl, sym, ap, subst, ◌∙◌, arith}
 use Rattle.std.proofs.lemmas.Bool.{false≢true}
 use Rattle.std.proofs.lemmas.Option.{none-some}
 use Rattle.std.proofs.lemmas.List.{length-map}
-use Rattle.line_device.specs.Medium.{IsSound, WritesBack, last_image}
+use Rattle.line_device.specs.Medium.{IsSound, last_image}
 use Rattle.line_device.specs.Panel.{Runs}
 use Rattle.line_device.specs.Panel.Outcome.{went}
 use Rattle.line_device.specs.Device.{Device}
 use Rattle.line_words.specs.declared.interruption.Interruption.{Interruption}
 use Rattle.line_words.specs.Ending.{ended}
-use Rattle.line_words.specs.Words.{WritesBackOutside}
 use Rattle.word_tables.specs.declared.geometry.Geometry.{Geometry}
-use Rattle.word_tables.specs.Layout.{meta_lines, volume_line}
+use Rattle.word_tables.specs.Layout.{volume_line}
 use Rattle.word_log.specs.Mount.{Finding}
 use Rattle.word_log.specs.Mount.Finding.{bad_line, wrong_word}
 use Rattle.word_log.specs.Rest.{EachImage, IsReached}
 use Rattle.nvm_model.specs.Page.{is_present, presence_of, PagesStand}
 use Rattle.block_device.specs.Object.{BlocksState, BlocksServe, HasGoodMetadata, blocks_of}
 use Rattle.block_device.specs.Reading.{blocks_read}
-use Rattle.block_device.specs.Images.{AreReadable, EachReads, KeepsReads, ReadsAs}
+use Rattle.block_device.specs.Images.{EachReads, KeepsReads, ReadsAs}
 use Rattle.block_device.proofs.ImageLemmas.{each_reads-then, served_reads}
 use Rattle.block_device.proofs.ReachLemmas.{each_reads-kept}
 use Rattle.block_device.proofs.RestartLemmas.{block_image-last}
 use Rattle.pm_volume.specs.Area.{volume_area}
 use Rattle.pm_volume.specs.Images.{EachReadsPages, ReadsPages}
-use Rattle.pm_volume.specs.Object.{VolumeState, VolumeHolds, VolumeServes}
+use Rattle.pm_volume.specs.Object.{VolumeState, VolumeHolds}
 use Rattle.pm_volume.specs.Presence.{presence_read}
 use Rattle.pm_volume.proofs.StandingLemmas.{each_pages-reached, each_pages-then, pages-kept, presence_read-replays, served_pages}
-use Rattle.recovery.specs.Findings.{geometry_told, early_finding, inspection_finding, first_finding}
-use Rattle.recovery.specs.Mounting.{HasDurableBlocks, IsOfLogs}
-use Rattle.recovery.proofs.FindingLemmas.{early_inspection}
+use Rattle.file_journal.specs.Area.{file_area}
+use Rattle.file_journal.specs.Object.{JournalState}
+use Rattle.file_journal.specs.Reading.{tables_read}
+use Rattle.file_journal.specs.Standing.{EachReadsFiles, FilesStand, ReadsFiles}
+use Rattle.file_journal.specs.Tables.{AreTables, Tables}
+use Rattle.file_journal.proofs.EachFilesLemmas.{each_files-reached, each_files-then}
+use Rattle.file_journal.proofs.ServesLemmas.{served_files}
+use Rattle.file_journal.proofs.StandingLemmas.{files-kept}
+use Rattle.file_journal.proofs.TableReadLemmas.{tables_read-replays}
+use Rattle.recovery.specs.Findings.{geometry_told, first_finding}
 use Rattle.reply_text.specs.Answer.{Answer}
 use Rattle.reply_text.specs.Answer.Answer.{DoneBad, Stopped}
 use Rattle.machine_host.specs.declared.mode.Mode.{Mode}
 use Rattle.machine_host.specs.declared.mode.Mode.TheVariants as modes
 use Rattle.machine_host.specs.Machine.{Machine}
-use Rattle.machine_host.specs.Commands.{MayLeaveBlocks, MayLeaveVolume}
+use Rattle.machine_host.specs.Commands.{MayLeaveBlocks, MayLeaveFiles, MayLeaveVolume}
 use Rattle.machine_host.specs.Interrupted.{Interrupts, interrupted_answer, interrupted_mode, stop_in}
 use Rattle.machine_host.specs.Restarting.{holding, mounted_answer, stopped_by}
 use Rattle.machine_host.specs.Recovering.{RecoversTo, RecoveryMayLeave}
@@ -45,29 +51,12 @@ use Rattle.machine_host.specs.Telling.{Tells}
 use Rattle.machine_host.specs.Faults.{CountsBad}
 use Rattle.machine_host.specs.Lines.{HasLayout, MetadataStands, bad_metadata}
 use Rattle.machine_host.specs.Stands.{HostState, HostServes, Stands, is_powered}
-use Rattle.machine_host.proofs.BadLineLemmas.{bad_early, bad_found, found_bad, good_lines}
-use Rattle.machine_host.proofs.ElsewhereLemmas.{range_kept}
-use Rattle.machine_host.proofs.LayoutLemmas.{IsGood, is_good, layout-outside, layout-write_back, metadata-then, same_bad, stays_bad}
-use Rattle.machine_host.proofs.MountLemmas.{IsTold, first_not_area, is_told, nothing_wrong_there, volume_image-last}
+use Rattle.machine_host.proofs.BadLineLemmas.{bad_found, found_bad, good_lines}
+use Rattle.machine_host.proofs.LogLineLemmas.{file_pages_kept, range_kept}
+use Rattle.machine_host.proofs.MountEffectLemmas.{Gives, IsMount, durable_mount, good_of, layout_mount, marks_mount, none_found, outside_of, readable_mount}
+use Rattle.machine_host.proofs.LayoutLemmas.{IsGood, metadata-then, stays_bad}
+use Rattle.machine_host.proofs.MountLemmas.{IsTold, file_image-last, found_tables, is_told, nothing_wrong_there, volume_image-last}
 use Rattle.machine_host.proofs.TellingLemmas.{interrupts, never_on, never_stops, power_struck, struck, tells_interrupted, tells_work}
-
--- what a mount does, as its clauses say it
-pub record IsMount (old new : Device) : Type 0 where
-  pub outside : WritesBackOutside (IsOfLogs (geometry_told old.medium)) old.medium new.medium
-  pub refused : inspection_finding old.medium ≢ None → WritesBack old.medium new.medium
-  pub reads : early_finding old.medium ≡ None → KeepsReads (geometry_told old.medium) old.medium new.medium
-  pub presence : EachImage (volume_area (geometry_told old.medium)) new.medium (IsReached (volume_area (geometry_told old.medium)) old.medium)
-
--- what it gives where it is done
-pub record Gives (old new : Device) (s : BlocksState) (v : VolumeState) : Type 0 where
-  pub geometry : s.geo ≡ geometry_told old.medium
-  pub settled : IsTrue s.settled
-  pub serves : HasDurableBlocks old.medium → BlocksServe s new.medium
-  pub blocks : blocks_of s new.medium ≡ blocks_read (geometry_told old.medium) old.medium.is_bad (last_image old.medium)
-  pub volume_geometry : v.geo ≡ geometry_told old.medium
-  pub present : v.present ≡ presence_read (geometry_told old.medium) (last_image old.medium)
-  pub volume_settled : IsTrue v.settled
-  pub volume_serves : VolumeServes v new.medium
 
 -- What it comes to in a state that host and device stand for: it ran through, or was interrupted.
 pub record MountsTo (h : Machine) (answer : Answer) (after : HostState) (old new : Device) : Type 0 where
@@ -82,55 +71,10 @@ pub record BroughtUp (h : Machine) (after : HostState) (new : Device) : Type 0 w
   pub may : RecoveryMayLeave h next
   pub stands : Stands after new next
 
--- a mount of lines with the host's layout
-module _ (geo : Geometry) (old new : Device) (layout : HasLayout geo old.medium) (sound : IsSound old.medium) (x : IsMount old new) where
-  good_of : bad_metadata geo old.medium.is_bad ≡ [] → IsGood geo old.medium
-  good_of none = is_good layout (good_lines geo old.medium none)
-
-  -- where a line of metadata is bad it leaves all as it is
-  left_bad : (line : ℕ) (lines : List ℕ) → bad_metadata geo old.medium.is_bad ≡ line ∷ lines → WritesBack old.medium new.medium
-  left_bad line lines is = x.refused (early_inspection old.medium (λ none. none-some (bad_line line) (sym none ∙ bad_early geo old.medium layout sound line lines is)))
-
-  -- and else it changes logs and tables
-  outside_of : bad_metadata geo old.medium.is_bad ≡ [] → WritesBackOutside (IsOfLogs geo) old.medium new.medium
-  outside_of none = subst (λ g. WritesBackOutside (IsOfLogs g) old.medium new.medium) (is_told geo old.medium (good_of none) sound).sizes x.outside
-
-  pub layout_mount : HasLayout geo new.medium
-  layout_mount = by_lines (bad_metadata geo old.medium.is_bad) refl
-    where
-      by_lines : (lines : List ℕ) → bad_metadata geo old.medium.is_bad ≡ lines → HasLayout geo new.medium
-      by_lines [] none = layout-outside geo old.medium new.medium layout (IsOfLogs geo) (first_not_area geo layout.valid) (outside_of none)
-      by_lines (line ∷ lines) is = layout-write_back geo old.medium new.medium layout (left_bad line lines is)
-
-  marks_mount : (n : ℕ) → n < meta_lines geo → new.medium.is_bad n ≡ old.medium.is_bad n
-  marks_mount n below = x.outside.bad n
-
-  pub readable_mount : (bad_metadata geo old.medium.is_bad ≡ [] → AreReadable geo old.medium) → bad_metadata geo new.medium.is_bad ≡ [] → AreReadable geo new.medium
-  readable_mount readable none =
-      let none_was = sym (same_bad geo old.medium new.medium marks_mount) ∙ none in
-      let told = is_told geo old.medium (good_of none_was) sound in
-      each_reads-kept geo old.medium new.medium (λ _. Unit {0}) (subst (λ g. KeepsReads g old.medium new.medium) told.sizes (x.reads told.early)) (readable none_was)
-
-  -- what the map names is durable
-  pub durable_mount : (bad_metadata geo old.medium.is_bad ≡ [] → AreReadable geo old.medium) → bad_metadata geo old.medium.is_bad ≡ [] → HasDurableBlocks old.medium
-  durable_mount readable none found =
-      let good = good_of none in
-      let told = is_told geo old.medium good sound in
-      let reads = readable none (last_image old.medium) (block_image-last geo layout.valid old.medium sound layout.lines) in
-      (subst (λ g. ReadsAs g old.medium (λ _. Unit {0}) (last_image old.medium)) (sym told.sizes) reads).durable
-
-  -- where nothing was found, none was bad
-  pub none_found : first_finding old.medium ≡ None → bad_metadata geo old.medium.is_bad ≡ []
-  none_found found = by_lines (bad_metadata geo old.medium.is_bad) refl
-    where
-      by_lines : (lines : List ℕ) → bad_metadata geo old.medium.is_bad ≡ lines → bad_metadata geo old.medium.is_bad ≡ []
-      by_lines [] is = is
-      by_lines (line ∷ lines) is = absurd (none-some (bad_line line) (sym found ∙ bad_found geo old.medium layout sound line lines is))
-
 module _ (host : HostState) (old new : Device) (serves : HostServes host old) (unsettled : host.mode ≡ modes.Unsettled) (sound : IsSound old.medium) (x : IsMount old new) where
   -- the host in another mode, with nothing mounted
   abbrev pub in_mode : Mode → HostState
-  in_mode mode = record { geometry = host.geometry; mode = mode; blocks = host.blocks; volume = host.volume }
+  in_mode mode = record { geometry = host.geometry; mode = mode; blocks = host.blocks; volume = host.volume; journal = host.journal }
 
   layout_new : HasLayout host.geometry new.medium
   layout_new = layout_mount host.geometry old new serves.layout sound x
@@ -145,9 +89,9 @@ module _ (host : HostState) (old new : Device) (serves : HostServes host old) (u
   }
 
   -- the mount was done
-  module _ (runs : Runs mount_calls mount_persists went old.panel new.panel) (found : first_finding old.medium ≡ None) (s : BlocksState) (v : VolumeState) (given : Gives old new s v) where
+  module _ (runs : Runs mount_calls mount_persists went old.panel new.panel) (found : first_finding old.medium ≡ None) (s : BlocksState) (v : VolumeState) (j : JournalState) (given : Gives old new s v j) where
     abbrev pub taken : HostState
-    taken = record { geometry = host.geometry; mode = modes.On; blocks = s; volume = v }
+    taken = record { geometry = host.geometry; mode = modes.On; blocks = s; volume = v; journal = j }
 
     none : bad_metadata host.geometry old.medium.is_bad ≡ []
     none = none_found host.geometry old new serves.layout sound x found
@@ -157,6 +101,9 @@ module _ (host : HostState) (old new : Device) (serves : HostServes host old) (u
 
     told : IsTold host.geometry old.medium
     told = is_told host.geometry old.medium good sound
+
+    right : AreTables host.geometry.fpages j.tables
+    right = subst (λ g. AreTables g.fpages j.tables) told.sizes (subst (AreTables (geometry_told old.medium).fpages) (sym given.tables) (found_tables old.medium found))
 
     served : BlocksServe s new.medium
     served = given.serves (durable_mount host.geometry old new serves.layout sound x serves.readable none)
@@ -173,6 +120,10 @@ module _ (host : HostState) (old new : Device) (serves : HostServes host old) (u
         volume_geometry = given.volume_geometry ∙ told.sizes;
         volume_settled = given.volume_settled;
         volume_serves = given.volume_serves;
+        journal_geometry = given.journal_geometry ∙ told.sizes;
+        journal_settled = given.journal_settled;
+        journal_serves = given.journal_serves;
+        journal_right = right;
       };
       stopped = λ stop. cc stop;
     }
@@ -204,6 +155,12 @@ module _ (host : HostState) (old new : Device) (serves : HostServes host old) (u
         each_pages-reached geo old.medium new.medium (MayLeaveVolume geo h.interrupted h.volume) was.valid presence
         (range_kept geo old.medium new.medium was.valid (outside_of geo old new was sound x (none_of good))) (stands.device.volume good)
 
+    files_kept : h.bad_meta ≡ [] → EachReadsFiles geo new.medium (MayLeaveFiles h.interrupted h.files)
+    files_kept good =
+        let reached = subst (λ g. EachImage (file_area g) new.medium (IsReached (file_area g) old.medium)) (told_of good).sizes x.files in
+        each_files-reached geo old.medium new.medium (MayLeaveFiles h.interrupted h.files) was.valid reached
+        (file_pages_kept geo old.medium new.medium was.valid (outside_of geo old new was sound x (none_of good))) (stands.device.files good)
+
     -- The state stays, where the mount was not done, in this mode and with what is armed then.
     kept : (mode : Mode) → new.panel.power ≡ is_powered mode → (mode ≡ modes.On → ⊥) → (mode ≡ modes.Stopped → ⊥)
         → Stands (in_mode mode) new (record h { mode = mode; cut_armed = new.panel.cut_armed; fail_armed = new.panel.fail_armed })
@@ -212,10 +169,12 @@ module _ (host : HostState) (old new : Device) (serves : HostServes host old) (u
       mode = refl;
       blocks = λ on. absurd (off on);
       volume = λ on. absurd (off on);
+      files = λ on. absurd (off on);
       device = record {
         metadata = metadata;
         blocks = blocks_kept;
         volume = volume_kept;
+        files = files_kept;
         power = power;
         cut_armed = refl;
         fail_armed = refl;
@@ -230,6 +189,7 @@ module _ (host : HostState) (old new : Device) (serves : HostServes host old) (u
         nothing_wrong_there geo old.medium (good_of geo old new was sound x (none_of good)) (told_of good) sound
         (each_reads-then geo old.medium (MayLeaveBlocks h.interrupted h.blocks) (λ _. Unit {0}) (λ bs is. tt) (stands.device.blocks good))
         (each_pages-then geo old.medium (MayLeaveVolume geo h.interrupted h.volume) (λ _. Unit {0}) (λ _ _. tt) (stands.device.volume good))
+        (each_files-then geo old.medium (MayLeaveFiles h.interrupted h.files) (λ _. Unit {0}) (λ _ _. tt) (stands.device.files good))
 
     -- and no word is found wrong
     pub never_wrong : (at : ℕ) → first_finding old.medium ≡ Some (wrong_word at) → ⊥
@@ -288,10 +248,12 @@ module _ (host : HostState) (old new : Device) (serves : HostServes host old) (u
                 mode = refl;
                 blocks = λ on. cc on;
                 volume = λ on. cc on;
+                files = λ on. cc;
                 device = record {
                   metadata = subst (MetadataStands geo new.medium) is metadata;
                   blocks = λ none. cc none;
                   volume = λ none. cc none;
+                  files = λ none. cc none;
                   power = power_stays;
                   cut_armed = cut_stays;
                   fail_armed = fail_stays;
@@ -311,7 +273,7 @@ module _ (host : HostState) (old new : Device) (serves : HostServes host old) (u
         }
 
       -- A mount that was done brings the host into mode On.
-      module _ (found : first_finding old.medium ≡ None) (s : BlocksState) (v : VolumeState) (given : Gives old new s v) where
+      module _ (found : first_finding old.medium ≡ None) (s : BlocksState) (v : VolumeState) (j : JournalState) (given : Gives old new s v j) where
         good_meta : h.bad_meta ≡ []
         good_meta = sym stands.device.metadata.bad ∙ none_found geo old new was sound x found
 
@@ -335,28 +297,46 @@ module _ (host : HostState) (old new : Device) (serves : HostServes host old) (u
                   (pages-kept geo old.medium new.medium pages pages_last.all (range_kept geo old.medium new.medium was.valid (outside_of geo old new was sound x (none_of good_meta))) pages_last.stand);
             }
 
+        files_last : ReadsFiles geo old.medium (MayLeaveFiles h.interrupted h.files) (last_image old.medium)
+        files_last = stands.device.files good_meta (last_image old.medium) (file_image-last geo old.medium sound (good_of geo old new was sound x (none_of good_meta)))
+
+        -- and the journal for its files
+        stands_for : FilesStand j.geo new.medium j.tables files_last.files
+        stands_for =
+            let t = files_last.tables in
+            let tables = given.tables ∙ ap (λ g. tables_read g (last_image old.medium)) told_now.sizes
+            ∙ tables_read-replays geo (last_image old.medium) files_last.word t files_last.replays files_last.holds files_last.right in
+            subst (λ g. FilesStand g new.medium j.tables files_last.files) (sym (given.journal_geometry ∙ told_now.sizes))
+            (subst (λ (x : Tables). FilesStand geo new.medium x files_last.files) (sym tables)
+            (files-kept geo old.medium new.medium t files_last.files files_last.right
+            (file_pages_kept geo old.medium new.medium was.valid (outside_of geo old new was sound x (none_of good_meta))) files_last.stand))
+
         seen : blocks_of s new.medium ≡ blocks_read geo old.medium.is_bad (last_image old.medium)
         seen = given.blocks ∙ ap (λ g. blocks_read g old.medium.is_bad (last_image old.medium)) told_now.sizes
 
-        pub done_up : BroughtUp h (taken runs found s v given) new
+        pub done_up : BroughtUp h (taken runs found s v j given) new
         done_up =
-            let mounted = (serves_taken runs found s v given).mounted refl in
-            let next : Machine = record (holding geo (blocks_of s new.medium) pages_last.pages) { cut_armed = h.cut_armed; fail_armed = h.fail_armed } in
+            let mounted = (serves_taken runs found s v j given).mounted refl in
+            let next : Machine = record (holding geo (blocks_of s new.medium) pages_last.pages files_last.files) { cut_armed = h.cut_armed; fail_armed = h.fail_armed } in
             record {
               next = next;
               may = subst (λ lines. RecoversTo lines h next) (sym good_meta)
-                  (record { blocks = subst (MayLeaveBlocks h.interrupted h.blocks) (sym seen) reads_last.blocks; volume = pages_last.is; state = refl });
+                  (record { blocks = subst (MayLeaveBlocks h.interrupted h.blocks) (sym seen) reads_last.blocks; volume = pages_last.is; files = files_last.is; state = refl });
               stands = record {
                 geometry = stands.geometry;
                 mode = refl;
                 blocks = λ _. refl;
                 volume = λ _. holds;
+                files = λ _. stands_for;
                 device = record {
                   metadata = subst (MetadataStands geo new.medium) good_meta metadata;
                   blocks = λ _.
                       subst (λ g. EachReads g new.medium (λ bs. bs ≡ blocks_of s new.medium)) (mounted.geometry ∙ stands.geometry)
                       (served_reads s new.medium (subst (λ g. HasGoodMetadata g new.medium) (sym (mounted.geometry ∙ stands.geometry)) (good_lines geo new.medium (metadata.bad ∙ good_meta))) mounted.serves);
                   volume = λ _. subst (λ g. EachReadsPages g new.medium (λ pages. pages ≡ pages_last.pages)) (given.volume_geometry ∙ told_now.sizes) (served_pages v new.medium pages_last.pages given.volume_serves holds);
+                  files = λ _.
+                      subst (λ g. EachReadsFiles g new.medium (λ files. files ≡ files_last.files)) (given.journal_geometry ∙ told_now.sizes)
+                      (served_files j new.medium files_last.files (subst (λ g. AreTables g.fpages j.tables) (sym mounted.journal_geometry) mounted.journal_right) given.journal_serves stands_for);
                   power = power_stays;
                   cut_armed = cut_stays;
                   fail_armed = fail_stays;
@@ -366,11 +346,11 @@ module _ (host : HostState) (old new : Device) (serves : HostServes host old) (u
               };
             }
 
-        pub mounts_done : (answer : Answer) → CountsBad s v new.medium answer → MountsTo h answer (taken runs found s v given) old new
+        pub mounts_done : (answer : Answer) → CountsBad s v j new.medium answer → MountsTo h answer (taken runs found s v j given) old new
         unfolding done_up
         mounts_done answer counts = record {
           next = done_up.next;
-          ends = inl (counts.told ∙ ap (λ n. DoneBad n) (counts.count pages_last.pages holds), done_up.may);
+          ends = inl (counts.told ∙ ap (λ n. DoneBad n) (counts.count pages_last.pages holds files_last.files stands_for), done_up.may);
           tells = tells_work (record { calls = mount_calls; persists = mount_persists }) mount_calls mount_persists (omega arith) (omega arith) old.panel new.panel answer (ap stop_in counts.told) runs;
           stands = done_up.stands;
         }

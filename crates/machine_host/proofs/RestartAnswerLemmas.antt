@@ -9,6 +9,7 @@ use Rattle.line_words.specs.declared.interruption.Interruption.{Interruption}
 use Rattle.line_words.specs.declared.interruption.Interruption.TheVariants.{Failed, PowerLost as Lost}
 use Rattle.pm_volume.specs.Object.{VolumeState}
 use Rattle.block_device.specs.Object.{BlocksState}
+use Rattle.file_journal.specs.Object.{JournalState}
 use Rattle.recovery.specs.Findings.{first_finding}
 use Rattle.recovery.specs.Mounting.{Finds, mount_outcome}
 use Rattle.recovery.specs.declared.Mounted.{Mounted}
@@ -38,7 +39,8 @@ use Rattle.machine_host.proofs.BadLineLemmas.{found_bad}
 use Rattle.machine_host.proofs.CostLemmas.{opens-runs}
 use Rattle.machine_host.proofs.ReadingLemmas.{recovered_back}
 use Rattle.machine_host.proofs.RefusalLemmas.{fate_placed}
-use Rattle.machine_host.proofs.RemountLemmas.{Gives, IsMount, MountsTo, kept_unmounted, mounts_bad, mounts_done, mounts_stopped, never_wrong, serves_taken, serves_unmounted}
+use Rattle.machine_host.proofs.MountEffectLemmas.{Gives, IsMount}
+use Rattle.machine_host.proofs.RemountLemmas.{MountsTo, kept_unmounted, mounts_bad, mounts_done, mounts_stopped, never_wrong, serves_taken, serves_unmounted}
 use Rattle.machine_host.proofs.RestartLemmas.{keeps, serves_back, stands_back}
 
 -- What a mount is answered: that in each state it comes to, in few bytes, and the host may go on.
@@ -50,19 +52,19 @@ pub record MountAnswered (host after : HostState) (answer : Answer) (old new : D
 
 module _ (host : HostState) (old new : Device) (serves : HostServes host old) (unsettled : host.mode ≡ modes.Unsettled) (sound : IsSound old.medium) (x : IsMount old new) where
   abbrev in_mode : Mode → HostState
-  in_mode mode = record { geometry = host.geometry; mode = mode; blocks = host.blocks; volume = host.volume }
+  in_mode mode = record { geometry = host.geometry; mode = mode; blocks = host.blocks; volume = host.volume; journal = host.journal }
 
   on : old.panel.power ≡ true
   on = serves.power ∙ ap is_powered unsettled
 
   -- it was done
-  pub mount_done : (s : BlocksState) (v : VolumeState) (answer : Answer) → Runs mount_calls mount_persists went old.panel new.panel → first_finding old.medium ≡ None → Gives old new s v → CountsBad s v new.medium answer
-      → MountAnswered host (record { geometry = host.geometry; mode = modes.On; blocks = s; volume = v }) answer old new
-  mount_done s v answer runs found given counts = record {
-    step = λ h stands. mounts_done host old new serves unsettled sound x h stands runs found s v given answer counts;
+  pub mount_done : (s : BlocksState) (v : VolumeState) (j : JournalState) (answer : Answer) → Runs mount_calls mount_persists went old.panel new.panel → first_finding old.medium ≡ None → Gives old new s v j → CountsBad s v j new.medium answer
+      → MountAnswered host (record { geometry = host.geometry; mode = modes.On; blocks = s; volume = v; journal = j }) answer old new
+  mount_done s v j answer runs found given counts = record {
+    step = λ h stands. mounts_done host old new serves unsettled sound x h stands runs found s v j given answer counts;
     printable = subst IsPrintable (sym counts.told) tt;
     room = subst (λ a. most_of a ≤ 64) (sym counts.told) (omega arith);
-    serves = serves_taken host old new serves unsettled sound x runs found s v given;
+    serves = serves_taken host old new serves unsettled sound x runs found s v j given;
   }
 
   -- it was not, but had memory

@@ -13,7 +13,7 @@ use Rattle.machine_host.specs.Lines.{MetadataStands, bad_metadata}
 use Rattle.machine_host.specs.Machine.{Machine}
 use Rattle.machine_host.specs.Restarting.{RestartMayLeave, restarted}
 use Rattle.machine_host.specs.Stands.{HostState, HostServes, Stands}
-use Rattle.machine_host.proofs.BackLemmas.{each_back, kept_back, layout_back, readable_back}
+use Rattle.machine_host.proofs.BackLemmas.{each_back, each_files_back, kept_back, layout_back, readable_back}
 use Rattle.machine_host.proofs.BadLineLemmas.{good_lines}
 use Rattle.machine_host.proofs.DepictedLemmas.{reads_remounted}
 use Rattle.machine_host.proofs.LayoutLemmas.{IsGood, is_good, layout-restarted, layout-waits, metadata-then, same_bad}
@@ -74,7 +74,7 @@ module _ (host : HostState) (choice : Choice) (old mid : Device) (start : Start)
     pub keeps : RestartMayLeave choice start.image h
     keeps = record {
       metadata = shown;
-      storage = λ good. kept_back h choice old.medium mid.medium start.image (good_was good) (stands.device.blocks good) (stands.device.volume good) left.lines left.image sound_old sound;
+      storage = λ good. kept_back h choice old.medium mid.medium start.image (good_was good) (stands.device.blocks good) (stands.device.volume good) (stands.device.files good) left.lines left.image sound_old sound;
     }
 
     pub stands_back : Stands back mid came_back
@@ -91,18 +91,21 @@ module _ (host : HostState) (choice : Choice) (old mid : Device) (start : Start)
             let was = good_was good in
             let blocks_were = stands.device.blocks good in
             let volume_was = stands.device.volume good in
+            let files_were = stands.device.files good in
             subst (λ k. Stands back mid (record k { mode = modes.Unsettled; cut_armed = h.cut_armed; fail_armed = h.fail_armed })) (sym (read_whole geo start.image (shown ∙ good))) (record {
               geometry = stands.geometry;
               mode = refl;
               blocks = λ on. cc on;
               volume = λ on. cc on;
+              files = λ on. cc;
               device = record {
                 metadata = subst (MetadataStands geo mid.medium) good metadata;
                 blocks = λ _.
-                    reads_remounted geo mid.medium start.image (layout_back h choice old.medium mid.medium start.image was blocks_were volume_was left.lines left.image sound_old sound) left.image mid.medium
-                    (readable_back h choice old.medium mid.medium start.image was blocks_were volume_was left.lines left.image sound_old sound)
+                    reads_remounted geo mid.medium start.image (layout_back h choice old.medium mid.medium start.image was blocks_were volume_was files_were left.lines left.image sound_old sound) left.image mid.medium
+                    (readable_back h choice old.medium mid.medium start.image was blocks_were volume_was files_were left.lines left.image sound_old sound)
                     (keeps_reads-write_back geo mid.medium mid.medium (write_back-refl mid.medium));
-                volume = λ _. each_back h choice old.medium mid.medium start.image was blocks_were volume_was left.lines left.image sound_old sound;
+                volume = λ _. each_back h choice old.medium mid.medium start.image was blocks_were volume_was files_were left.lines left.image sound_old sound;
+                files = λ _. each_files_back h choice old.medium mid.medium start.image was blocks_were volume_was files_were left.lines left.image sound_old sound;
                 power = ap (λ p. p.power) left.panel;
                 cut_armed = cut_was;
                 fail_armed = fail_was;
@@ -116,10 +119,12 @@ module _ (host : HostState) (choice : Choice) (old mid : Device) (start : Start)
               mode = refl;
               blocks = λ on. cc on;
               volume = λ on. cc on;
+              files = λ on. cc;
               device = record {
                 metadata = subst (MetadataStands geo mid.medium) bad metadata;
                 blocks = λ none. cc none;
                 volume = λ none. cc none;
+                files = λ none. cc none;
                 power = ap (λ p. p.power) left.panel;
                 cut_armed = cut_was;
                 fail_armed = fail_was;

@@ -10,6 +10,7 @@ use Rattle.line_device.specs.declared.line.Choice.TheVariants.{Lasts}
 use Rattle.word_log.specs.Mount.Finding.{bad_line}
 use Rattle.block_device.specs.Object.{BlocksState}
 use Rattle.pm_volume.specs.Object.{VolumeState}
+use Rattle.file_journal.specs.Object.{JournalState}
 use Rattle.recovery.specs.Findings.{first_finding}
 use Rattle.nvm_base.specs.declared.units.LineNo.{LineNo}
 use Rattle.recovery.specs.Mounting.{Finds, mount_outcome}
@@ -28,7 +29,8 @@ use Rattle.machine_host.specs.Settling.{Asks, IsQuiet, IsSettled, LeavesUnmounte
 use Rattle.machine_host.proofs.BadLineLemmas.{found_bad}
 use Rattle.machine_host.proofs.ElsewhereLemmas.{serves_ordered}
 use Rattle.machine_host.proofs.ReadingLemmas.{recovered_back}
-use Rattle.machine_host.proofs.RemountLemmas.{BroughtUp, Gives, IsMount, done_up, kept_unmounted, serves_taken, serves_unmounted, stopped_up}
+use Rattle.machine_host.proofs.MountEffectLemmas.{Gives, IsMount}
+use Rattle.machine_host.proofs.RemountLemmas.{BroughtUp, done_up, kept_unmounted, serves_taken, serves_unmounted, stopped_up}
 use Rattle.machine_host.proofs.RestartLemmas.{keeps, serves_waited, stands_back}
 use Rattle.machine_host.proofs.StepLemmas.{stands_ordered}
 
@@ -78,11 +80,12 @@ module _ (host : HostState) (old new : Device) (serves : HostServes host old) (u
   }
 
   -- it was done
-  pub settled_taken : (after : HostState) (s : BlocksState) (v : VolumeState) → first_finding old.medium ≡ None → Gives old new s v → after ≡ record host { mode = modes.On; blocks = s; volume = v } → IsSettled host after old new
-  settled_taken after s v found given is =
+  pub settled_taken : (after : HostState) (s : BlocksState) (v : VolumeState) (j : JournalState) → first_finding old.medium ≡ None → Gives old new s v j
+      → after ≡ record host { mode = modes.On; blocks = s; volume = v; journal = j } → IsSettled host after old new
+  settled_taken after s v j found given is =
       subst (λ k. IsSettled host k old new) (sym is) (
         refl,
-        λ h stands. settled_up _ h stands (serves_taken host old new serves unsettled sound x runs found s v given) (done_up host old new serves unsettled sound x h stands runs found s v given),
+        λ h stands. settled_up _ h stands (serves_taken host old new serves unsettled sound x runs found s v j given) (done_up host old new serves unsettled sound x h stands runs found s v j given),
       )
 
   -- a line of metadata is bad
@@ -261,7 +264,18 @@ module _ (host : HostState) (old quiet : Device) (serves : HostServes host old) 
   keeps_disarmed : (h : Machine) (start : Start) → RestartMayLeave Lasts start.image (disarmed h) → RestartMayLeave Lasts start.image h
   keeps_disarmed h start k = record {
     metadata = k.metadata;
-    storage = λ good. let kept = k.storage good in record { blocks = kept.blocks; left = kept.left; may = kept.may; there = kept.there; volume = kept.volume };
+    storage = λ good.
+        let kept = k.storage good in
+        record {
+          blocks = kept.blocks;
+          left = kept.left;
+          may = kept.may;
+          there = kept.there;
+          volume = kept.volume;
+          files_left = kept.files_left;
+          may_files = kept.may_files;
+          files = kept.files;
+        };
   }
 
   comes_disarmed : (h : Machine) (mode : Mode) (starts : List Start) (next : Machine) → SettlesTo mode (disarmed h) starts next → SettlesTo mode h starts next

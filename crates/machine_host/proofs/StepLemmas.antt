@@ -10,7 +10,7 @@ use Rattle.line_device.specs.Device.{Device}
 use Rattle.line_words.specs.declared.interruption.Interruption.{Interruption}
 use Rattle.line_words.specs.Ending.{ended}
 use Rattle.nvm_model.specs.Page.{Page}
-use Rattle.nvm_model.specs.Storage.{Block}
+use Rattle.nvm_model.specs.Storage.{Block, File}
 use Rattle.block_device.specs.Area.{IsBlockLine}
 use Rattle.block_device.specs.Object.{blocks_of}
 use Rattle.block_device.specs.Images.{EachReads}
@@ -19,13 +19,16 @@ use Rattle.block_device.proofs.ReadLemmas.{Stays}
 use Rattle.block_device.proofs.ServesLemmas.{blocks_of-stays}
 use Rattle.pm_volume.specs.Images.{EachReadsPages}
 use Rattle.pm_volume.specs.Object.{VolumeHolds}
-use Rattle.nvm_model.proofs.KeptLemmas.{line_kept-write_back}
+use Rattle.nvm_model.proofs.KeptLemmas.{LineKept, line_kept-write_back}
+use Rattle.pm_volume.specs.Area.{IsOfVolume}
+use Rattle.file_journal.specs.Area.{IsOfFiles}
+use Rattle.file_journal.specs.Standing.{EachReadsFiles, FilesStand}
 use Rattle.script_text.specs.Action.{Action}
 use Rattle.script_text.specs.Action.Action.{Cut, CutIn, FailIn}
 use Rattle.reply_text.specs.Answer.{Answer}
 use Rattle.reply_text.specs.Answer.Answer.{Done, Refused}
 use Rattle.machine_host.specs.Machine.{Machine}
-use Rattle.machine_host.specs.Commands.{MayLeaveBlocks, MayLeaveVolume, early_refusal, fate, meaning, spending, unless_refused, while_interrupted}
+use Rattle.machine_host.specs.Commands.{MayLeaveBlocks, MayLeaveFiles, MayLeaveVolume, early_refusal, fate, meaning, spending, unless_refused, while_interrupted}
 use Rattle.machine_host.specs.Machine.Fate.{Works, Orders, Cuts}
 use Rattle.machine_host.specs.Interrupted.{interrupted_answer, interrupted_mode, stop_in}
 use Rattle.machine_host.specs.Run.{answered, with_cut, with_order, worked}
@@ -38,57 +41,86 @@ use Rattle.machine_host.specs.Lines.{MetadataStands, bad_metadata}
 use Rattle.machine_host.specs.Stands.{HostState, HostServes, Stands, Comes, is_powered}
 use Rattle.machine_host.proofs.CostLemmas.{opens-none}
 use Rattle.machine_host.proofs.ElsewhereLemmas.{pages_elsewhere, volume_holds_elsewhere}
+use Rattle.machine_host.proofs.FilesAsideLemmas.{files_elsewhere, files_stand_elsewhere}
 use Rattle.machine_host.proofs.LayoutLemmas.{layout-write_back, metadata-then, stays_of_kept}
 use Rattle.machine_host.proofs.RefusalLemmas.{early_first, early_plain, fate_placed}
 use Rattle.machine_host.proofs.TellingLemmas.{interrupts, never_on, never_stops, power_struck, struck, tells_interrupted, tells_nothing, tells_work}
 
--- of a state that is whole, what blocks and volume stand for
-module _ (host : HostState) (d : Device) (h : Machine) (stands : Stands host d h) where
-  pub whole_blocks : h.interrupted ≡ None → h.bad_meta ≡ [] → EachReads h.geometry d.medium (λ bs. bs ≡ h.blocks)
-  whole_blocks whole good = subst (λ interrupted. EachReads h.geometry d.medium (MayLeaveBlocks interrupted h.blocks)) whole (stands.device.blocks good)
+-- what a device stands for of the state: these blocks, pages and files
+abbrev pub BlocksAre : HostState → Device → Machine → List Block → Type 0
+BlocksAre host d h bs = (h.bad_meta ≡ [] → EachReads h.geometry d.medium (λ x. x ≡ bs)) × (blocks_of host.blocks d.medium ≡ bs)
 
-  pub whole_pages : h.interrupted ≡ None → h.bad_meta ≡ [] → EachReadsPages h.geometry d.medium (λ pages. pages ≡ h.volume)
-  whole_pages whole good = subst (λ interrupted. EachReadsPages h.geometry d.medium (MayLeaveVolume h.geometry interrupted h.volume)) whole (stands.device.volume good)
+abbrev pub PagesAre : HostState → Device → Machine → List Page → Type 0
+PagesAre host d h pages = (h.bad_meta ≡ [] → EachReadsPages h.geometry d.medium (λ x. x ≡ pages)) × VolumeHolds host.volume d.medium pages
 
-  -- with the power on nothing is interrupted
-  pub is_whole : host.mode ≡ modes.On → h.interrupted ≡ None
-  is_whole on = stands.device.whole (sym stands.mode ∙ on)
+abbrev pub FilesAre : HostState → Device → Machine → List File → Type 0
+FilesAre host d h files = (h.bad_meta ≡ [] → EachReadsFiles h.geometry d.medium (λ x. x ≡ files)) × FilesStand host.journal.geo d.medium host.journal.tables files
 
--- blocks stay for what they are, while other lines are worked on
-pub blocks_elsewhere : (host : HostState) (old new : Device) (h : Machine) → Stands host old h → HostServes host old → ((n : ℕ) → IsBlockLine host.geometry n → Stays old.medium new.medium n)
-    → (h.bad_meta ≡ [] → EachReads h.geometry new.medium (MayLeaveBlocks h.interrupted h.blocks)) × (host.mode ≡ modes.On → blocks_of host.blocks new.medium ≡ h.blocks)
-blocks_elsewhere host old new h stands serves stays =
-    let geo = host.geometry in
-    let P = MayLeaveBlocks h.interrupted h.blocks in (
-      λ good.
-          subst (λ g. EachReads g new.medium P) stands.geometry
-          (each_reads-stays geo old.medium new.medium P serves.layout.valid stays
-          (subst (λ g. EachReads g old.medium P) (sym stands.geometry) (stands.device.blocks good))),
-      λ on.
-          let mounted = serves.mounted on in
-          blocks_of-stays host.blocks old.medium new.medium mounted.serves.valid (λ n of. stays n (subst (λ g. IsBlockLine g n) mounted.geometry of)) mounted.serves.all mounted.serves.is_map ∙ stands.blocks on,
-    )
+-- Each part stays for what it is, while lines of other parts are worked on.
+module _ (host : HostState) (old new : Device) (h : Machine) (stands : Stands host old h) (serves : HostServes host old) where
+  pub blocks_elsewhere : ((n : ℕ) → IsBlockLine host.geometry n → Stays old.medium new.medium n)
+      → (h.bad_meta ≡ [] → EachReads h.geometry new.medium (MayLeaveBlocks h.interrupted h.blocks)) × (host.mode ≡ modes.On → blocks_of host.blocks new.medium ≡ h.blocks)
+  blocks_elsewhere stays =
+      let P = MayLeaveBlocks h.interrupted h.blocks in (
+        λ good.
+            subst (λ g. EachReads g new.medium P) stands.geometry
+            (each_reads-stays host.geometry old.medium new.medium P serves.layout.valid stays
+            (subst (λ g. EachReads g old.medium P) (sym stands.geometry) (stands.device.blocks good))),
+        λ on.
+            let mounted = serves.mounted on in
+            blocks_of-stays host.blocks old.medium new.medium mounted.serves.valid (λ n of. stays n (subst (λ g. IsBlockLine g n) mounted.geometry of)) mounted.serves.all mounted.serves.is_map ∙ stands.blocks on,
+      )
 
--- the volume stays for what it is, where all is only written back
-module _ (host : HostState) (old new : Device) (h : Machine) (stands : Stands host old h) (serves : HostServes host old) (w : WritesBack old.medium new.medium) where
-  pub pages_written_back : h.bad_meta ≡ [] → EachReadsPages h.geometry new.medium (MayLeaveVolume h.geometry h.interrupted h.volume)
-  pages_written_back good =
-      let P = MayLeaveVolume h.geometry h.interrupted h.volume in
-      subst (λ g. EachReadsPages g new.medium P) stands.geometry
-      (pages_elsewhere host.geometry old.medium new.medium serves.layout.valid (λ line of. line_kept-write_back old.medium new.medium line w) P
-      (subst (λ g. EachReadsPages g old.medium P) (sym stands.geometry) (stands.device.volume good)))
+  pub volume_elsewhere : ((line : ℕ) → IsOfVolume host.geometry line → LineKept old.medium new.medium line)
+      → (h.bad_meta ≡ [] → EachReadsPages h.geometry new.medium (MayLeaveVolume h.geometry h.interrupted h.volume)) × (host.mode ≡ modes.On → VolumeHolds host.volume new.medium h.volume)
+  volume_elsewhere kept =
+      let P = MayLeaveVolume h.geometry h.interrupted h.volume in (
+        λ good.
+            subst (λ g. EachReadsPages g new.medium P) stands.geometry
+            (pages_elsewhere host.geometry old.medium new.medium serves.layout.valid kept P (subst (λ g. EachReadsPages g old.medium P) (sym stands.geometry) (stands.device.volume good))),
+        λ on.
+            let mounted = serves.mounted on in
+            volume_holds_elsewhere host.geometry old.medium new.medium serves.layout.valid kept host.volume h.volume mounted.volume_geometry mounted.volume_serves.all (stands.volume on),
+      )
 
-  pub holds_written_back : host.mode ≡ modes.On → VolumeHolds host.volume new.medium h.volume
-  holds_written_back on =
-      let mounted = serves.mounted on in
-      volume_holds_elsewhere host.geometry old.medium new.medium serves.layout.valid (λ line of. line_kept-write_back old.medium new.medium line w) host.volume h.volume
-      mounted.volume_geometry mounted.volume_serves.all (stands.volume on)
+  pub files_aside : ((line : ℕ) → IsOfFiles host.geometry line → LineKept old.medium new.medium line)
+      → (h.bad_meta ≡ [] → EachReadsFiles h.geometry new.medium (MayLeaveFiles h.interrupted h.files)) × (host.mode ≡ modes.On → FilesStand host.journal.geo new.medium host.journal.tables h.files)
+  files_aside kept =
+      let P = MayLeaveFiles h.interrupted h.files in (
+        λ good.
+            subst (λ g. EachReadsFiles g new.medium P) stands.geometry
+            (files_elsewhere host.geometry old.medium new.medium kept P (subst (λ g. EachReadsFiles g old.medium P) (sym stands.geometry) (stands.device.files good))),
+        λ on.
+            let mounted = serves.mounted on in
+            files_stand_elsewhere host.geometry old.medium new.medium kept host.journal h.files mounted.journal_geometry mounted.journal_right (stands.files on),
+      )
+
+  -- With the power on nothing is interrupted.
+  module _ (on : host.mode ≡ modes.On) where
+    pub is_whole : h.interrupted ≡ None
+    is_whole = stands.device.whole (sym stands.mode ∙ on)
+
+    pub blocks_still : ((n : ℕ) → IsBlockLine host.geometry n → Stays old.medium new.medium n) → BlocksAre host new h h.blocks
+    blocks_still stays =
+        let kept = blocks_elsewhere stays in
+        (λ good. subst (λ interrupted. EachReads h.geometry new.medium (MayLeaveBlocks interrupted h.blocks)) is_whole (kept.0 good), kept.1 on)
+
+    pub pages_still : ((line : ℕ) → IsOfVolume host.geometry line → LineKept old.medium new.medium line) → PagesAre host new h h.volume
+    pages_still lines =
+        let kept = volume_elsewhere lines in
+        (λ good. subst (λ interrupted. EachReadsPages h.geometry new.medium (MayLeaveVolume h.geometry interrupted h.volume)) is_whole (kept.0 good), kept.1 on)
+
+    pub files_still : ((line : ℕ) → IsOfFiles host.geometry line → LineKept old.medium new.medium line) → FilesAre host new h h.files
+    files_still lines =
+        let kept = files_aside lines in
+        (λ good. subst (λ interrupted. EachReadsFiles h.geometry new.medium (MayLeaveFiles interrupted h.files)) is_whole (kept.0 good), kept.1 on)
 
 -- what an interrupted action left on the device
 pub record DeviceLeft (h : Machine) (action : Action) (new : Medium) : Type 0 where
   pub metadata : MetadataStands h.geometry new h.bad_meta
   pub blocks : h.bad_meta ≡ [] → EachReads h.geometry new (MayLeaveBlocks (Some action) h.blocks)
   pub volume : h.bad_meta ≡ [] → EachReadsPages h.geometry new (MayLeaveVolume h.geometry (Some action) h.volume)
+  pub files : h.bad_meta ≡ [] → EachReadsFiles h.geometry new (MayLeaveFiles (Some action) h.files)
 
 module _ (host after : HostState) (old new : Device) (h : Machine) (action : Action) (stands : Stands host old h) (on : host.mode ≡ modes.On)
     (calls persists : ℕ) (few : calls ≤ (spending h action).calls) (few_persists : persists ≤ (spending h action).persists) (same : after.geometry ≡ host.geometry) where
@@ -103,22 +135,22 @@ module _ (host after : HostState) (old new : Device) (h : Machine) (action : Act
     stands = now;
   }
 
-  -- the state after it, where blocks and pages are these
-  pub stands_done : (bs : List Block) (pages : List Page) → after.mode ≡ modes.On → Runs calls persists went old.panel new.panel → MetadataStands h.geometry new.medium h.bad_meta
-      → (h.bad_meta ≡ [] → EachReads h.geometry new.medium (λ x. x ≡ bs)) → blocks_of after.blocks new.medium ≡ bs → (h.bad_meta ≡ [] → EachReadsPages h.geometry new.medium (λ x. x ≡ pages))
-      → VolumeHolds after.volume new.medium pages
-      → Stands after new (record h { blocks = bs; volume = pages })
-  stands_done bs pages mode runs metadata reads seen each holds =
-      let whole = is_whole host old h stands on in
+  -- the state after it, where blocks, pages and files are these
+  pub stands_done : (bs : List Block) (pages : List Page) (files : List File) → after.mode ≡ modes.On → Runs calls persists went old.panel new.panel → MetadataStands h.geometry new.medium h.bad_meta
+      → BlocksAre after new h bs → PagesAre after new h pages → FilesAre after new h files → Stands after new (record h { blocks = bs; volume = pages; files = files })
+  stands_done bs pages files mode runs metadata blocks_are pages_are files_are =
+      let whole = stands.device.whole (sym stands.mode ∙ on) in
       record {
         geometry = same ∙ stands.geometry;
         mode = mode ∙ sym on ∙ stands.mode;
-        blocks = λ _. seen;
-        volume = λ _. holds;
+        blocks = λ _. blocks_are.1;
+        volume = λ _. pages_are.1;
+        files = λ _. files_are.1;
         device = record {
           metadata = metadata;
-          blocks = λ good. subst (λ interrupted. EachReads h.geometry new.medium (MayLeaveBlocks interrupted bs)) (sym whole) (reads good);
-          volume = λ good. subst (λ interrupted. EachReadsPages h.geometry new.medium (MayLeaveVolume h.geometry interrupted pages)) (sym whole) (each good);
+          blocks = λ good. subst (λ interrupted. EachReads h.geometry new.medium (MayLeaveBlocks interrupted bs)) (sym whole) (blocks_are.0 good);
+          volume = λ good. subst (λ interrupted. EachReadsPages h.geometry new.medium (MayLeaveVolume h.geometry interrupted pages)) (sym whole) (pages_are.0 good);
+          files = λ good. subst (λ interrupted. EachReadsFiles h.geometry new.medium (MayLeaveFiles interrupted files)) (sym whole) (files_are.0 good);
           power = runs.cause.0 ∙ stands.device.power;
           cut_armed = runs.cause.2 ∙ stands.device.cut_armed;
           fail_armed = runs.cause.3 ∙ stands.device.fail_armed;
@@ -145,10 +177,12 @@ module _ (host after : HostState) (old new : Device) (h : Machine) (action : Act
       mode = mode;
       blocks = λ is_on. absurd (never_on by (sym mode ∙ is_on));
       volume = λ is_on. absurd (never_on by (sym mode ∙ is_on));
+      files = λ is_on. absurd (never_on by (sym mode ∙ is_on));
       device = record {
         metadata = left.metadata;
         blocks = left.blocks;
         volume = left.volume;
+        files = left.files;
         power = power_struck by h calls persists old.panel new.panel runs (stands.device.power ∙ ap is_powered (sym stands.mode ∙ on));
         cut_armed = refl;
         fail_armed = refl;
@@ -163,16 +197,21 @@ written_back : (host : HostState) (old new : Device) (h next : Machine) → Stan
     → new.panel.power ≡ is_powered next.mode → new.panel.cut_armed ≡ next.cut_armed → new.panel.fail_armed ≡ next.fail_armed → (next.mode ≡ modes.On → h.mode ≡ modes.On)
     → (next.mode ≡ modes.Stopped → h.mode ≡ modes.Stopped) → Stands (record host { mode = next.mode }) new next
 written_back host old new h next stands serves write_back is power cut fail mode stop =
-    let kept = blocks_elsewhere host old new h stands serves (λ n of. stays_of_kept old.medium new.medium n (line_kept-write_back old.medium new.medium n write_back)) in
+    let lines : (n : ℕ) → LineKept old.medium new.medium n = λ n. line_kept-write_back old.medium new.medium n write_back in
+    let kept = blocks_elsewhere host old new h stands serves (λ n of. stays_of_kept old.medium new.medium n (lines n)) in
+    let pages = volume_elsewhere host old new h stands serves (λ n of. lines n) in
+    let listed = files_aside host old new h stands serves (λ n of. lines n) in
     subst (λ n. Stands (record host { mode = next.mode }) new n) (sym is) (record {
       geometry = stands.geometry;
       mode = refl;
       blocks = λ on. kept.1 (stands.mode ∙ mode on);
-      volume = λ on. holds_written_back host old new h stands serves write_back (stands.mode ∙ mode on);
+      volume = λ on. pages.1 (stands.mode ∙ mode on);
+      files = λ on. listed.1 (stands.mode ∙ mode on);
       device = record {
         metadata = metadata-then h.geometry old.medium new.medium h.bad_meta (layout-write_back h.geometry old.medium new.medium stands.device.metadata.layout write_back) (λ n below. write_back.bad n) stands.device.metadata;
         blocks = kept.0;
-        volume = pages_written_back host old new h stands serves write_back;
+        volume = pages.0;
+        files = listed.0;
         power = power;
         cut_armed = cut;
         fail_armed = fail;

@@ -1,5 +1,5 @@
 -- What a host and its device stand for, after a call on the volume.
-use Rattle.std.proofs.Common.{◌≡◌, ◌≢◌, ◌==◌, ◌<◌, ◌≤◌, ℕ, Bool, true, false, IsTrue, Option, Some, None, option_map, option_and_then, is_none, Result, Ok, Err, OnOk, List, [], refl, sym, ap, subst, ◌∙◌, arith}
+use Rattle.std.proofs.Common.{◌≡◌, ◌≢◌, ◌==◌, ◌<◌, ◌≤◌, ℕ, Bool, true, false, IsTrue, inl, Option, Some, None, option_map, option_and_then, is_none, Result, Ok, Err, OnOk, List, [], refl, sym, ap, subst, ◌∙◌, arith}
 use Rattle.line_device.specs.Medium.{Medium}
 use Rattle.line_device.specs.Panel.{Runs}
 use Rattle.line_device.specs.Device.{Device}
@@ -12,10 +12,9 @@ use Rattle.nvm_model.specs.Interrupted.{MaySync}
 use Rattle.nvm_model.specs.Page.{Page, first_bad_line, persist, presence_of}
 use Rattle.nvm_model.specs.Storage.{Block}
 use Rattle.page_lines.specs.Turns.{WritesBackOthers}
-use Rattle.block_device.specs.Images.{AreReadable, EachReads}
+use Rattle.block_device.specs.Images.{AreReadable}
 use Rattle.block_device.proofs.FrameLemmas.{each_reads-stays}
 use Rattle.block_device.specs.Area.{IsBlockLine}
-use Rattle.block_device.specs.Object.{blocks_of}
 use Rattle.block_device.proofs.ReadLemmas.{Stays}
 use Rattle.block_device.proofs.ImageLemmas.{each_reads-then}
 use Rattle.pm_volume.specs.Area.{IsOfVolume}
@@ -26,6 +25,9 @@ use Rattle.pm_volume.specs.Refusals.VolumeRefusal.{Range, Length, Address, Meta,
 use Rattle.pm_volume.specs.declared.fault.VolumeFault.{VolumeFault}
 use Rattle.pm_volume.specs.declared.fault.VolumeFault.TheVariants as fault
 use Rattle.pm_volume.proofs.StandingLemmas.{served_pages}
+use Rattle.nvm_model.proofs.KeptLemmas.{LineKept}
+use Rattle.file_journal.specs.Area.{IsOfFiles}
+use Rattle.file_journal.proofs.EachFilesLemmas.{each_files-then}
 use Rattle.reply_text.specs.Answer.{Answer, IsPrintable}
 use Rattle.reply_text.specs.Answer.Answer.{Done}
 use Rattle.reply_text.specs.Room.{most_of}
@@ -35,7 +37,7 @@ use Rattle.machine_host.specs.declared.mode.Mode.{Mode}
 use Rattle.machine_host.specs.declared.mode.Mode.TheVariants.{On}
 use Rattle.machine_host.specs.Machine.{Machine}
 use Rattle.machine_host.specs.Machine.Fate.{Works}
-use Rattle.machine_host.specs.Commands.{LeavesVolume, MayLeaveBlocks, MayLeaveVolume, fate, longest, spending, unless_refused}
+use Rattle.machine_host.specs.Commands.{LeavesVolume, MayLeaveBlocks, MayLeaveFiles, MayLeaveVolume, fate, longest, spending, unless_refused}
 use Rattle.machine_host.specs.Faults.{answer_after, mode_after}
 use Rattle.machine_host.specs.Interrupted.{stop_in}
 use Rattle.machine_host.specs.Lines.{HasLayout, MetadataStands, bad_metadata}
@@ -44,10 +46,11 @@ use Rattle.machine_host.specs.OnVolume.{part_synced_at, persist_at, volume_answe
 use Rattle.machine_host.specs.Responding.{Answered}
 use Rattle.machine_host.specs.Stands.{HostState, HostServes, AreMounted, Stands, Comes}
 use Rattle.machine_host.proofs.CallLemmas.{IsPart, comes_of_call, on_refused-then, printable_after, serves_of_call, short_told}
-use Rattle.machine_host.proofs.ElsewhereLemmas.{first_not_volume, mounted-worked, volume_apart}
+use Rattle.machine_host.proofs.ElsewhereLemmas.{first_not_volume, mounted-volume, volume_apart}
+use Rattle.machine_host.proofs.FilesAsideLemmas.{files_not_volume}
 use Rattle.machine_host.proofs.LayoutLemmas.{kept-others, layout-others, metadata-then, same_bad, stays_of_kept}
 use Rattle.machine_host.proofs.RefusalLemmas.{meta_refused}
-use Rattle.machine_host.proofs.StepLemmas.{DeviceLeft, blocks_elsewhere, is_whole, stands_done}
+use Rattle.machine_host.proofs.StepLemmas.{BlocksAre, DeviceLeft, FilesAre, blocks_still, files_still, stands_done}
 
 -- What a call on the volume says, whichever it is. What it may leave is told of the pages that the volume stood for.
 pub record VolumeCalled {T E R : Type 0} (says : E → Told R) (host : HostState) (s : VolumeState) (r : Result T E) (may : List Page → List Page → Type 0) (calls persists : ℕ) (old new : Device) : Type 0 where
@@ -100,27 +103,32 @@ short_after says answer_to part good short (Err f) = short_told answer_to part.s
 
 -- the host in a mode after the call
 abbrev pub volume_after : HostState → VolumeState → Mode → HostState
-volume_after host s mode = record { geometry = host.geometry; mode = mode; blocks = host.blocks; volume = s }
+volume_after host s mode = record host { mode = mode; volume = s }
 
 module _ (host : HostState) (old new : Device) (on : host.mode ≡ On) (serves : HostServes host old) (outside : WritesBackOthers (IsOfVolume host.volume.geo) old.medium new.medium) where
-  mounted : AreMounted host.geometry host.blocks host.volume old.medium
+  mounted : AreMounted host.geometry host.blocks host.volume host.journal old.medium
   mounted = serves.mounted on
 
   work_outside : WritesBackOthers (IsOfVolume host.geometry) old.medium new.medium
   work_outside = subst (λ g. WritesBackOthers (IsOfVolume g) old.medium new.medium) mounted.volume_geometry outside
 
-  -- the blocks' lines are only written back
+  -- lines of other parts are only written back
+  kept_worked : (n : ℕ) → (IsOfVolume host.geometry n → ⊥) → LineKept old.medium new.medium n
+  kept_worked n apart = kept-others (IsOfVolume host.geometry) old.medium new.medium n apart work_outside
+
   blocks_stay : (n : ℕ) → IsBlockLine host.geometry n → Stays old.medium new.medium n
-  blocks_stay n of =
-      stays_of_kept old.medium new.medium n
-      (kept-others (IsOfVolume host.geometry) old.medium new.medium n (λ of_volume. volume_apart host.geometry n serves.layout.valid of_volume of) work_outside)
+  blocks_stay n of = stays_of_kept old.medium new.medium n (kept_worked n (λ of_volume. volume_apart host.geometry n serves.layout.valid of_volume of))
+
+  files_stay : (n : ℕ) → IsOfFiles host.geometry n → LineKept old.medium new.medium n
+  files_stay n of = kept_worked n (files_not_volume host.geometry n serves.layout.valid of)
 
   layout_worked : HasLayout host.geometry new.medium
   layout_worked = layout-others host.geometry old.medium new.medium serves.layout (IsOfVolume host.geometry) (λ of. first_not_volume host.geometry 0 (omega arith) of) work_outside
 
-  mounted_worked : (s : VolumeState) → s.geo ≡ host.volume.geo → IsTrue s.settled → VolumeServes s new.medium → AreMounted host.geometry host.blocks s new.medium
+  mounted_worked : (s : VolumeState) → s.geo ≡ host.volume.geo → IsTrue s.settled → VolumeServes s new.medium → AreMounted host.geometry host.blocks s host.journal new.medium
   mounted_worked s same settled served =
-      mounted-worked host.geometry host.blocks host.volume s old.medium new.medium blocks_stay (λ n below. work_outside.stays_strong n (serves.layout.strong n below)) work_outside.count mounted same settled served
+      mounted-volume host.geometry host.blocks host.volume host.journal old.medium new.medium serves.layout.valid (λ n below. work_outside.stays_strong n (serves.layout.strong n below)) work_outside.count mounted
+      s blocks_stay files_stay same settled served
 
   -- the blocks can be read still
   readable_worked : KeepsMarks host.volume.geo old.medium new.medium → bad_metadata host.geometry new.medium.is_bad ≡ [] → AreReadable host.geometry new.medium
@@ -133,11 +141,12 @@ module _ {E R : Type 0} (says : E → Told R) (host : HostState) (s : VolumeStat
   geo_is : host.volume.geo ≡ h.geometry
   geo_is = (serves.mounted on).volume_geometry ∙ stands.geometry
 
-  -- the blocks, which such a call leaves
-  blocks_after : WritesBackOthers (IsOfVolume host.volume.geo) old.medium new.medium → (h.bad_meta ≡ [] → EachReads h.geometry new.medium (λ bs. bs ≡ h.blocks)) × (blocks_of host.blocks new.medium ≡ h.blocks)
-  blocks_after outside =
-      let kept = blocks_elsewhere host old new h stands serves (blocks_stay host old new on serves outside) in
-      (λ good. subst (λ interrupted. EachReads h.geometry new.medium (MayLeaveBlocks interrupted h.blocks)) (is_whole host old h stands on) (kept.0 good), kept.1 on)
+  -- blocks and files, which such a call leaves
+  blocks_after : WritesBackOthers (IsOfVolume host.volume.geo) old.medium new.medium → BlocksAre host new h h.blocks
+  blocks_after outside = blocks_still host old new h stands serves on (blocks_stay host old new on serves outside)
+
+  files_after : WritesBackOthers (IsOfVolume host.volume.geo) old.medium new.medium → FilesAre host new h h.files
+  files_after outside = files_still host old new h stands serves on (files_stay host old new on serves outside)
 
   -- and the metadata
   metadata_after : WritesBackOthers (IsOfVolume host.volume.geo) old.medium new.medium → KeepsMarks host.volume.geo old.medium new.medium → MetadataStands h.geometry new.medium h.bad_meta
@@ -150,10 +159,10 @@ module _ {E R : Type 0} (says : E → Told R) (host : HostState) (s : VolumeStat
   stands_worked : {T : Type 0} {may : List Page → List Page → Type 0} (r : Result T E) (pages : List Page) → VolumeCalled says host s r may calls persists old new → OnOk r (VolumeHolds s new.medium pages)
       → OnOk r (Stands (volume_after host s On) new (record h { volume = pages }))
   stands_worked (Ok x) pages c holds =
-      let blocks = blocks_after c.outside in
-      stands_done host (volume_after host s On) old new h action stands on calls persists few few_persists refl h.blocks pages refl c.runs (metadata_after c.outside c.marks)
-      blocks.0 blocks.1
-      (λ good. subst (λ g. EachReadsPages g new.medium (λ x. x ≡ pages)) (c.sizes ∙ geo_is) (served_pages s new.medium pages (c.serves c.settled) holds)) holds
+      stands_done host (volume_after host s On) old new h action stands on calls persists few few_persists refl h.blocks pages h.files refl c.runs (metadata_after c.outside c.marks)
+      (blocks_after c.outside)
+      (λ good. subst (λ g. EachReadsPages g new.medium (λ x. x ≡ pages)) (c.sizes ∙ geo_is) (served_pages s new.medium pages (c.serves c.settled) holds), holds)
+      (files_after c.outside)
   stands_worked (Err e) pages c holds = tt
 
   left_by : ((bs : List Block) → bs ≡ h.blocks → MayLeaveBlocks (Some action) h.blocks bs) → WritesBackOthers (IsOfVolume host.volume.geo) old.medium new.medium → KeepsMarks host.volume.geo old.medium new.medium
@@ -162,6 +171,7 @@ module _ {E R : Type 0} (says : E → Told R) (host : HostState) (s : VolumeStat
     metadata = metadata_after outside marks;
     blocks = λ good. each_reads-then h.geometry new.medium (λ bs. bs ≡ h.blocks) (MayLeaveBlocks (Some action) h.blocks) kept ((blocks_after outside).0 good);
     volume = λ good. subst (λ g. EachReadsPages g new.medium (MayLeaveVolume g (Some action) h.volume)) geo_is each;
+    files = λ good. each_files-then h.geometry new.medium (λ files. files ≡ h.files) (MayLeaveFiles (Some action) h.files) (λ files same. inl same) ((files_after outside).0 good);
   }
 
   left_worked : {T : Type 0} (r : Result T E) → ((bs : List Block) → bs ≡ h.blocks → MayLeaveBlocks (Some action) h.blocks bs)
@@ -172,10 +182,10 @@ module _ {E R : Type 0} (says : E → Told R) (host : HostState) (s : VolumeStat
 same_host : {T E R : Type 0} (says : E → Told R) (host : HostState) (s : VolumeState) (r : Result T E) (old new : Device) → OnRefused says r ((s ≡ host.volume) × (new ≡ old))
     → OnRefused says r ((volume_after host s host.mode ≡ host) × (new ≡ old))
 same_host says host s (Ok x) old new untouched = tt
-same_host says host s (Err e) old new untouched = λ told. let same = untouched told in (ap (λ v. record { geometry = host.geometry; mode = host.mode; blocks = host.blocks; volume = v }) same.0, same.1)
+same_host says host s (Err e) old new untouched = λ told. let same = untouched told in (ap (λ v. record host { volume = v }) same.0, same.1)
 
 mounted_ok : {T E R : Type 0} {may : List Page → List Page → Type 0} (says : E → Told R) (host : HostState) (s : VolumeState) (r : Result T E) (calls persists : ℕ) (old new : Device) → host.mode ≡ On → HostServes host old
-    → VolumeCalled says host s r may calls persists old new → OnOk r (AreMounted host.geometry host.blocks s new.medium)
+    → VolumeCalled says host s r may calls persists old new → OnOk r (AreMounted host.geometry host.blocks s host.journal new.medium)
 mounted_ok says host s (Ok x) calls persists old new on serves c = mounted_worked host old new on serves c.outside s c.sizes c.settled (c.serves c.settled)
 mounted_ok says host s (Err e) calls persists old new on serves c = tt
 

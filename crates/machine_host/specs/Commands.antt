@@ -4,11 +4,11 @@ use Rattle.nvm_model.specs.Blocks.{first_there, IsMixed}
 use Rattle.nvm_model.specs.Interrupted.{MayStore, MaySync}
 use Rattle.nvm_model.specs.Numbered.{AreMixed}
 use Rattle.nvm_model.specs.Page.{Page}
-use Rattle.nvm_model.specs.Storage.{Block}
+use Rattle.nvm_model.specs.Storage.{Block, File}
 use Rattle.block_device.specs.Images.{IsEither}
 use Rattle.word_tables.specs.declared.geometry.Geometry.{Geometry}
 use Rattle.script_text.specs.Action.{Action}
-use Rattle.script_text.specs.Action.Action.{BRead, BWrite, BAtomic, BMulti, BDiscard, BDiscardIf, BExists, BScar, VLoad, VStore, VSync, VRanges, VPSync, VDiscard, VDiscardIf, VExists, PoisonBlock, PoisonVolume, PoisonMeta, WeakenVolume, ClearVolume, Cut, CutIn, FailIn, Restart, Recover}
+use Rattle.script_text.specs.Action.Action.{BRead, BWrite, BAtomic, BMulti, BDiscard, BDiscardIf, BExists, BScar, VLoad, VStore, VSync, VRanges, VPSync, VDiscard, VDiscardIf, VExists, Create, Delete, Rename, Resize, ListFiles, PoisonBlock, PoisonVolume, PoisonMeta, WeakenVolume, ClearVolume, Cut, CutIn, FailIn, Restart, Recover}
 use Rattle.reply_text.specs.Answer.{Answer}
 use Rattle.reply_text.specs.Answer.Answer.{Refused}
 use Rattle.machine_host.specs.declared.mode.Mode.{Mode}
@@ -20,6 +20,7 @@ use Rattle.machine_host.specs.Meaning.BlocksLeft.{Same, Either, Mixed}
 use Rattle.machine_host.specs.Meaning.VolumeLeft.{Kept, PartStored, PartSynced, AllOrNone, PageByPage}
 use Rattle.machine_host.specs.OnBlocks as on_blocks
 use Rattle.machine_host.specs.OnVolume as on_volume
+use Rattle.machine_host.specs.OnFiles as on_files
 use Rattle.machine_host.specs.OnMedia as on_media
 use Rattle.machine_host.specs.OnPower as on_power
 
@@ -40,6 +41,11 @@ meaning (VPSync address len) = on_volume.vpsync address len
 meaning (VDiscard page count) = on_volume.vdiscard page count
 meaning (VDiscardIf page count) = on_volume.vdiscardif page count
 meaning (VExists page) = on_volume.vexists page
+meaning (Create name pages) = on_files.create name pages
+meaning (Delete name) = on_files.delete name
+meaning (Rename name to) = on_files.rename name to
+meaning (Resize name pages) = on_files.resize name pages
+meaning ListFiles = on_files.list_files
 meaning (PoisonBlock block line) = on_media.poison_block block line
 meaning (PoisonVolume offset) = on_media.poison_volume offset
 meaning (PoisonMeta line) = on_media.poison_meta line
@@ -100,3 +106,8 @@ MayLeaveBlocks (Some action) old new = LeavesBlocks (meaning action).blocks_left
 abbrev pub MayLeaveVolume : Geometry → Option Action → List Page → List Page → Type 0
 MayLeaveVolume geo None old new = new ≡ old
 MayLeaveVolume geo (Some action) old new = LeavesVolume ((meaning action).volume_left geo) old ((meaning action).volume geo old) new
+
+-- of files all are as they were, or as they were to be
+abbrev pub MayLeaveFiles : Option Action → List File → List File → Type 0
+MayLeaveFiles None old new = new ≡ old
+MayLeaveFiles (Some action) old new = (new ≡ old) ⊎ (new ≡ (meaning action).files old)

@@ -18,13 +18,13 @@ lines_persisted count = record { calls = count; persists = count }
 abbrev pub spent_with : Spending → Spending → Spending
 spent_with one other = record { calls = one.calls + other.calls; persists = one.persists + other.persists }
 
--- What a mount makes at most: it reads the superblock, looks into both logs, makes logs and tables durable, replays, and reads
--- the tables.
+-- What a mount makes at most: it reads the superblock, looks into each log, makes logs and tables durable, replays, and reads the
+-- tables.
 abbrev pub mount_calls : ℕ
-mount_calls = 3107
+mount_calls = 9040
 
 abbrev pub mount_persists : ℕ
-mount_persists = 952
+mount_persists = 3408
 
 -- What a mount does to a device's counts: no more counted calls and persists than these, and no order. No count falls.
 pub record Opens (old new : Panel) : Type 0 where

@@ -10,8 +10,14 @@ use Rattle.script_text.specs.Action.{Action}
 use Rattle.reply_text.specs.Answer.{Answer}
 use Rattle.reply_text.specs.Answer.Answer.{DeviceFailed, DoneBad, PowerLost, Stopped}
 use Rattle.nvm_model.specs.Blocks.{bad_block_lines}
+use Rattle.nvm_model.specs.Files.{bad_file_lines}
 use Rattle.nvm_model.specs.Page.{Page, bad_lines}
+use Rattle.nvm_model.specs.Storage.{File}
 use Rattle.block_device.specs.Object.{BlocksState, blocks_of}
+use Rattle.file_journal.specs.Object.{JournalState}
+use Rattle.file_journal.specs.Standing.{FilesStand}
+use Rattle.file_journal.specs.declared.fault.JournalFault.{JournalFault}
+use Rattle.file_journal.specs.Refusals.{journal_says}
 use Rattle.pm_volume.specs.Object.{VolumeState, VolumeHolds}
 use Rattle.block_device.specs.declared.fault.BlockFault.{BlockFault}
 use Rattle.block_device.specs.Refusals.{block_says}
@@ -22,6 +28,7 @@ use Rattle.recovery.specs.declared.fault.MountFault.TheVariants as mount
 use Rattle.machine_host.specs.Machine.{Machine}
 use Rattle.machine_host.specs.OnBlocks.{refusal_answer}
 use Rattle.machine_host.specs.OnVolume.{volume_answer}
+use Rattle.machine_host.specs.OnFiles.{journal_answer}
 use Rattle.pm_volume.specs.declared.fault.VolumeFault.{VolumeFault}
 use Rattle.pm_volume.specs.Refusals.{volume_says}
 use Rattle.machine_host.specs.Commands.{meaning}
@@ -62,7 +69,7 @@ LeavesStarved Unrecovered host after old new = LeftUnrecovered host after old ne
 abbrev pub Leaves : Action → HostState → HostState → Device → Device → Type 0
 Leaves action = LeavesStarved (meaning action).starved
 
--- the mode after a call whose fault told this, and what it is answered; no call on blocks or volume wants memory
+-- the mode after a call whose fault told this, and what it is answered; no call on blocks, volume or files wants memory
 abbrev pub told_mode : {R : Type 0} → Mode → Told R → Mode
 told_mode mode (Refuses why) = mode
 told_mode mode (Stops by) = interrupted_mode by
@@ -73,7 +80,7 @@ told_answer answer (Refuses why) = answer why
 told_answer answer (Stops by) = interrupted_answer by
 told_answer answer Starves = DeviceFailed
 
--- the same of a fault of the blocks, and of the volume
+-- the same of a fault of the blocks, of the volume, and of the journal of files
 abbrev pub fault_mode : Mode → BlockFault → Mode
 fault_mode mode fault = told_mode mode (block_says fault)
 
@@ -86,6 +93,12 @@ volume_fault_mode mode fault = told_mode mode (volume_says fault)
 abbrev pub volume_fault_answer : VolumeFault → Answer
 volume_fault_answer fault = told_answer volume_answer (volume_says fault)
 
+abbrev pub journal_fault_mode : Mode → JournalFault → Mode
+journal_fault_mode mode fault = told_mode mode (journal_says fault)
+
+abbrev pub journal_fault_answer : JournalFault → Answer
+journal_fault_answer fault = told_answer journal_answer (journal_says fault)
+
 -- the mode after a call whose faults say this, and what it is answered where it gives that at Ok
 abbrev pub mode_after : {T E R : Type 0} → (E → Told R) → Result T E → Mode
 mode_after says (Ok x) = modes.On
@@ -95,11 +108,12 @@ abbrev pub answer_after : {T E R : Type 0} → (E → Told R) → (R → Answer)
 answer_after says answer good (Ok x) = good
 answer_after says answer good (Err f) = told_answer answer (says f)
 
--- what a restart or a recovery is answered after a mount that was done: how many lines of blocks and volume are bad
-pub record CountsBad (b : BlocksState) (v : VolumeState) (m : Medium) (answer : Answer) : Type 0 where
+-- what a restart or a recovery is answered after a mount that was done: how many lines of blocks, volume and files are bad
+pub record CountsBad (b : BlocksState) (v : VolumeState) (j : JournalState) (m : Medium) (answer : Answer) : Type 0 where
   pub bad : ℕ
   pub told : answer ≡ DoneBad bad
-  pub count : (pages : List Page) → VolumeHolds v m pages → bad ≡ bad_block_lines (blocks_of b m) + bad_lines pages
+  pub count : (pages : List Page) → VolumeHolds v m pages → (files : List File) → FilesStand j.geo m j.tables files
+      → bad ≡ bad_block_lines (blocks_of b m) + bad_lines pages + bad_file_lines files
 
 -- what it is answered after one that was not done, and the mode
 abbrev pub unmounted_answer : MountFault → Answer

@@ -4,6 +4,7 @@ pub mod Machine
 pub mod Meaning
 pub mod OnBlocks
 pub mod OnVolume
+pub mod OnFiles
 pub mod OnMedia
 pub mod OnPower
 pub mod Commands
@@ -23,3 +24,4 @@ pub mod CutRows
 pub mod VolumeRows
 pub mod MediaRows
 pub mod FailureRows
+pub mod FileRows

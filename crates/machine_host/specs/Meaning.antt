@@ -4,7 +4,7 @@ use Rattle.line_device.specs.declared.line.Choice.{Choice}
 use Rattle.word_tables.specs.declared.geometry.Geometry.{Geometry}
 use Rattle.nvm_model.specs.Blocks.{first_there}
 use Rattle.nvm_model.specs.Page.{Page}
-use Rattle.nvm_model.specs.Storage.{Block}
+use Rattle.nvm_model.specs.Storage.{Block, File}
 use Rattle.reply_text.specs.declared.reply.Why.{Why}
 use Rattle.reply_text.specs.declared.reply.Why.TheVariants as because
 use Rattle.reply_text.specs.Answer.{Answer}
@@ -52,8 +52,8 @@ pub data Starved : Type 0 where
   Unrecovered : Starved
 
 -- A command: the mode that it needs, the places that the host looks at before anything else does, all that refuses it, what
--- comes of it where nothing does, what it makes of blocks and volume, what an interruption may leave of them and want of memory
--- of all, what it may spend, and the room of its reply.
+-- comes of it where nothing does, what it makes of blocks, volume and files, what an interruption may leave of the first two (of
+-- files it leaves all old or all new) and want of memory of all, what it may spend, and the room of its reply.
 pub record Meaning : Type 0 where
   pub needs : Needs
   pub checked : Geometry → Option Why
@@ -61,6 +61,7 @@ pub record Meaning : Type 0 where
   pub comes : Machine → Fate
   pub blocks : List Block → List Block
   pub volume : Geometry → List Page → List Page
+  pub files : List File → List File
   pub blocks_left : BlocksLeft
   pub volume_left : Geometry → VolumeLeft
   pub starved : Starved
@@ -71,7 +72,7 @@ pub record Meaning : Type 0 where
 abbrev pub placed : (Geometry → Option Why) → Machine → Reasons
 placed checked h = record no_reasons { places = option_map Refused (checked h.geometry) }
 
--- a command that leaves blocks and volume, and makes no call
+-- a command that leaves blocks, volume and files, and makes no call
 abbrev pub quiet : Needs → (Geometry → Option Why) → (Machine → Fate) → Meaning
 quiet needs checked comes = record {
   needs = needs;
@@ -80,6 +81,7 @@ quiet needs checked comes = record {
   comes = comes;
   blocks = λ blocks. blocks;
   volume = λ geo pages. pages;
+  files = λ files. files;
   blocks_left = Same;
   volume_left = λ geo. Kept;
   starved = Untouched;

@@ -1,15 +1,16 @@
 -- What a recovery may leave: a mount while the power stayed on, so that each word has all its values still.
 use Rattle.std.specs.Prelude.{◌≡◌, ℕ, List, [], ◌∷◌}
 use Rattle.machine_host.specs.Machine.{Machine}
-use Rattle.machine_host.specs.Commands.{MayLeaveBlocks, MayLeaveVolume}
+use Rattle.machine_host.specs.Commands.{MayLeaveBlocks, MayLeaveFiles, MayLeaveVolume}
 use Rattle.machine_host.specs.Restarting.{holding, stopped_by}
 
--- The state after it, where no line of metadata is bad: blocks and volume are as an interrupted action may have left them. What
--- is armed stays.
+-- The state after it, where no line of metadata is bad: blocks, volume and files are as an interrupted action may have left them.
+-- What is armed stays.
 pub record IsRemounted (h next : Machine) : Type 0 where
   pub blocks : MayLeaveBlocks h.interrupted h.blocks next.blocks
   pub volume : MayLeaveVolume h.geometry h.interrupted h.volume next.volume
-  pub state : next ≡ record (holding h.geometry next.blocks next.volume) { cut_armed = h.cut_armed; fail_armed = h.fail_armed }
+  pub files : MayLeaveFiles h.interrupted h.files next.files
+  pub state : next ≡ record (holding h.geometry next.blocks next.volume next.files) { cut_armed = h.cut_armed; fail_armed = h.fail_armed }
 
 -- the state after it, by the bad lines of metadata
 abbrev pub RecoversTo : List ℕ → Machine → Machine → Type 0

@@ -6,22 +6,23 @@ use Rattle.word_tables.specs.declared.geometry.Geometry.{Geometry}
 use Rattle.word_tables.specs.Layout.{total_lines, volume_line}
 use Rattle.pm_volume.specs.Presence.{presence_read}
 use Rattle.nvm_model.specs.Page.{Page, presence_of, read_pages, KeepsPages}
-use Rattle.nvm_model.specs.Storage.{Block}
+use Rattle.nvm_model.specs.Storage.{Block, File}
 use Rattle.block_device.specs.Reading.{blocks_read}
+use Rattle.file_journal.specs.Standing.{files_read, KeepsFiles}
 use Rattle.reply_text.specs.Answer.{Answer}
 use Rattle.reply_text.specs.Answer.Answer.{DoneBad, Stopped}
 use Rattle.machine_host.specs.declared.mode.Mode.TheVariants as modes
 use Rattle.machine_host.specs.Machine.{Machine, bad_of}
-use Rattle.machine_host.specs.Commands.{MayLeaveBlocks, MayLeaveVolume}
+use Rattle.machine_host.specs.Commands.{MayLeaveBlocks, MayLeaveFiles, MayLeaveVolume}
 use Rattle.machine_host.specs.Lines.{bad_metadata}
 
--- the state at rest of these blocks and pages
-abbrev pub holding : Geometry → List Block → List Page → Machine
-holding geometry blocks pages = record {
+-- the state at rest of these blocks, pages and files
+abbrev pub holding : Geometry → List Block → List Page → List File → Machine
+holding geometry blocks pages files = record {
   geometry = geometry;
   blocks = blocks;
   volume = pages;
-  files = [];
+  files = files;
   mappings = [];
   next_handle = 0;
   events = [];
@@ -34,12 +35,13 @@ holding geometry blocks pages = record {
 
 -- the state where these lines of metadata are bad: nothing is read
 abbrev pub stopped_by : Geometry → List ℕ → Machine
-stopped_by geometry bad_meta = record (holding geometry [] []) { bad_meta = bad_meta; mode = modes.Stopped }
+stopped_by geometry bad_meta = record (holding geometry [] [] []) { bad_meta = bad_meta; mode = modes.Stopped }
 
 -- the state that a medium stands for, by the bad lines of its metadata
 abbrev pub read_with : List ℕ → Geometry → Image → Machine
 read_with [] geometry image =
     holding geometry (blocks_read geometry image.is_bad image.word) (read_pages (volume_line geometry) image (presence_read geometry image.word))
+    (files_read geometry image)
 read_with (line ∷ lines) geometry image = stopped_by geometry (line ∷ lines)
 
 unfoldable pub reading : Geometry → Image → Machine
@@ -57,14 +59,17 @@ answer_with (line ∷ lines) h = Stopped line
 abbrev pub mounted_answer : Machine → Answer
 mounted_answer h = answer_with h.bad_meta h
 
--- What a restart may leave of blocks and volume: blocks and volume as an interrupted action may have left them, the same pages
--- there, and of each word of them one of its values.
+-- What a restart may leave of storage: blocks, volume and files as an interrupted action may have left them, the same pages there,
+-- and of each word of them one of its values.
 pub record MayLeaveStorage (choice : Choice) (image : Image) (h : Machine) : Type 0 where
   pub blocks : MayLeaveBlocks h.interrupted h.blocks (blocks_read h.geometry image.is_bad image.word)
   pub left : List Page
   pub may : MayLeaveVolume h.geometry h.interrupted h.volume left
   pub there : presence_of left ≡ presence_read h.geometry image.word
   pub volume : KeepsPages choice (volume_line h.geometry) image left
+  pub files_left : List File
+  pub may_files : MayLeaveFiles h.interrupted h.files files_left
+  pub files : KeepsFiles choice h.geometry image files_left
 
 -- What a restart may leave of a state: the same lines of metadata bad, and that of storage where there are none.
 pub record RestartMayLeave (choice : Choice) (image : Image) (h : Machine) : Type 0 where

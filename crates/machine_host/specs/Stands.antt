@@ -11,19 +11,24 @@ use Rattle.reply_text.specs.Answer.{Answer, answer_line}
 use Rattle.machine_host.specs.declared.mode.Mode.{Mode}
 use Rattle.machine_host.specs.declared.mode.Mode.TheVariants as modes
 use Rattle.machine_host.specs.Machine.{Machine, Fate}
-use Rattle.machine_host.specs.Commands.{MayLeaveBlocks, MayLeaveVolume, fate}
+use Rattle.machine_host.specs.Commands.{MayLeaveBlocks, MayLeaveFiles, MayLeaveVolume, fate}
 use Rattle.machine_host.specs.Run.{Transcript, Takes}
 use Rattle.machine_host.specs.Telling.{Tells}
 use Rattle.machine_host.specs.Lines.{HasLayout, MetadataStands, bad_metadata}
+use Rattle.file_journal.specs.Object.{JournalServes, JournalState}
+use Rattle.file_journal.specs.Standing.{EachReadsFiles, FilesStand}
+use Rattle.file_journal.specs.Tables.{AreTables}
 use Rattle.pm_volume.specs.Images.{EachReadsPages}
 use Rattle.pm_volume.specs.Object.{VolumeState, VolumeHolds, VolumeServes}
 
--- what callers see of a host: the sizes of its medium, its mode, and the blocks and the volume that it mounted last
+-- what callers see of a host: the sizes of its medium, its mode, and the blocks, the volume and the journal of files that it
+-- mounted last
 pub record HostState : Type 0 where
   pub geometry : Geometry
   pub mode : Mode
   pub blocks : BlocksState
   pub volume : VolumeState
+  pub journal : JournalState
 
 -- whether the power is on in a mode
 abbrev pub is_powered : Mode → Bool
@@ -32,47 +37,53 @@ is_powered modes.Off = false
 is_powered modes.Unsettled = true
 is_powered modes.Stopped = true
 
--- the mounted blocks and the volume are those of the device, ready for the next call
-pub record AreMounted (geo : Geometry) (b : BlocksState) (v : VolumeState) (m : Medium) : Type 0 where
+-- the mounted blocks, volume and journal are those of the device, ready for the next call
+pub record AreMounted (geo : Geometry) (b : BlocksState) (v : VolumeState) (j : JournalState) (m : Medium) : Type 0 where
   pub geometry : b.geo ≡ geo
   pub settled : IsTrue b.settled
   pub serves : BlocksServe b m
   pub volume_geometry : v.geo ≡ geo
   pub volume_settled : IsTrue v.settled
   pub volume_serves : VolumeServes v m
+  pub journal_geometry : j.geo ≡ geo
+  pub journal_settled : IsTrue j.settled
+  pub journal_serves : JournalServes j m
+  pub journal_right : AreTables geo.fpages j.tables
 
 -- The host may command the device: it has the lines of the host's sizes, and blocks can be read in each image, where no line of
--- metadata is bad. Its power is off exactly in mode Off, in mode On blocks and volume are mounted, and in mode Stopped a line of
+-- metadata is bad. Its power is off exactly in mode Off, in mode On all storage is mounted, and in mode Stopped a line of
 -- metadata is bad.
 pub record HostServes (host : HostState) (d : Device) : Type 0 where
   pub layout : HasLayout host.geometry d.medium
   pub readable : bad_metadata host.geometry d.medium.is_bad ≡ [] → AreReadable host.geometry d.medium
   pub power : d.panel.power ≡ is_powered host.mode
-  pub mounted : host.mode ≡ modes.On → AreMounted host.geometry host.blocks host.volume d.medium
+  pub mounted : host.mode ≡ modes.On → AreMounted host.geometry host.blocks host.volume host.journal d.medium
   pub stopped : host.mode ≡ modes.Stopped → bad_metadata host.geometry d.medium.is_bad ≢ []
 
 -- each word of the device has one value, as where the power just came back
 abbrev pub IsFlushed : Medium → Type 0
 IsFlushed m = (p : ℕ) → p / 8 < m.count → IsOnly (last_image m p) (m.history p)
 
--- The device stands for the state: its metadata, its blocks and pages in each image, where no line of metadata is bad, and what
--- is armed. Where an action was interrupted, blocks and volume are as it may have left them. What is not built yet is not there.
+-- The device stands for the state: its metadata, its blocks, pages and files in each image, where no line of metadata is bad, and
+-- what is armed. Where an action was interrupted, they are as it may have left them. What is not built yet is not there.
 pub record DeviceStands (d : Device) (h : Machine) : Type 0 where
   pub metadata : MetadataStands h.geometry d.medium h.bad_meta
   pub blocks : h.bad_meta ≡ [] → EachReads h.geometry d.medium (MayLeaveBlocks h.interrupted h.blocks)
   pub volume : h.bad_meta ≡ [] → EachReadsPages h.geometry d.medium (MayLeaveVolume h.geometry h.interrupted h.volume)
+  pub files : h.bad_meta ≡ [] → EachReadsFiles h.geometry d.medium (MayLeaveFiles h.interrupted h.files)
   pub power : d.panel.power ≡ is_powered h.mode
   pub cut_armed : d.panel.cut_armed ≡ h.cut_armed
   pub fail_armed : d.panel.fail_armed ≡ h.fail_armed
   pub whole : h.mode ≡ modes.On → h.interrupted ≡ None
   pub stopped : h.mode ≡ modes.Stopped → h.bad_meta ≢ []
 
--- and the host is in its mode, and sees its blocks and pages
+-- and the host is in its mode, and sees its blocks, pages and files
 pub record Stands (host : HostState) (d : Device) (h : Machine) : Type 0 where
   pub geometry : host.geometry ≡ h.geometry
   pub mode : host.mode ≡ h.mode
   pub blocks : host.mode ≡ modes.On → blocks_of host.blocks d.medium ≡ h.blocks
   pub volume : host.mode ≡ modes.On → VolumeHolds host.volume d.medium h.volume
+  pub files : host.mode ≡ modes.On → FilesStand host.journal.geo d.medium host.journal.tables h.files
   pub device : DeviceStands d h
 
 -- The command came to this in h: the device tells what was said, and stands for the state after.

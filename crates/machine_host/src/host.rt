@@ -1,6 +1,7 @@
 // The host: it refuses a command, or performs it on the device and answers it by one line.
 mod blocks;
 mod commands;
+mod files;
 mod media;
 mod power;
 mod refusals;
@@ -12,6 +13,7 @@ mod volume;
 use crate::Mode;
 use block_device::Blocks;
 use commands::longest_reply;
+use file_journal::Journal;
 use line_device::LineDevice;
 use nvm_base::Bytes;
 use pm_volume::Volume;
@@ -22,7 +24,7 @@ use std::alloc::{AllocError, Global};
 use std::marker::Model;
 use word_tables::Geometry;
 
-/// The host of a device. What blocks and volume hold is kept by the device alone.
+/// The host of a device. What blocks, volume and files hold is kept by the device alone.
 #[derive(Drop)]
 pub struct Host {
     alloc: Global,
@@ -30,6 +32,7 @@ pub struct Host {
     mode: Mode,
     blocks: Blocks,
     volume: Volume,
+    journal: Journal,
 }
 
 impl Model for Host {
@@ -37,7 +40,7 @@ impl Model for Host {
 
     ghost Value = { HostState };
 
-    ghost view = { λ h. record { geometry = h.geometry; mode = h.mode; blocks = h.blocks; volume = h.volume } };
+    ghost view = { λ h. record { geometry = h.geometry; mode = h.mode; blocks = h.blocks; volume = h.volume; journal = h.journal } };
 }
 
 impl Host {
@@ -51,6 +54,8 @@ impl Host {
     ghost use Rattle.line_words.specs.Words.{WritesBackOutside};
     ghost use Rattle.word_tables.specs.Layout.{meta_lines};
     ghost use Rattle.word_log.specs.Rest.{EachImage, IsReached};
+    ghost use Rattle.file_journal.specs.Area.{file_area};
+    ghost use Rattle.file_journal.specs.Reading.{tables_read};
     ghost use Rattle.pm_volume.specs.Area.{volume_area};
     ghost use Rattle.pm_volume.specs.Presence.{presence_read};
     ghost use Rattle.block_device.specs.Reading.{blocks_read};
@@ -74,7 +79,8 @@ impl Host {
             × (blocks_of host.blocks (D.state device.new).medium
             ≡ blocks_read (geometry_told (D.state device.old).medium) (D.state device.old).medium.is_bad
             (last_image (D.state device.old).medium))
-            × (host.volume.present ≡ presence_read (geometry_told (D.state device.old).medium) (last_image (D.state device.old).medium))) }
+            × (host.volume.present ≡ presence_read (geometry_told (D.state device.old).medium) (last_image (D.state device.old).medium))
+            × (host.journal.tables ≡ tables_read (geometry_told (D.state device.old).medium) (last_image (D.state device.old).medium))) }
         ensures finds { Finds (first_finding (D.state device.old).medium) result }
         ensures lines { WritesBackOutside (IsOfLogs (geometry_told (D.state device.old).medium))
             (D.state device.old).medium (D.state device.new).medium }
@@ -82,6 +88,8 @@ impl Host {
             → KeepsReads (geometry_told (D.state device.old).medium) (D.state device.old).medium (D.state device.new).medium }
         ensures presence { EachImage (volume_area (geometry_told (D.state device.old).medium)) (D.state device.new).medium
             (IsReached (volume_area (geometry_told (D.state device.old).medium)) (D.state device.old).medium) }
+        ensures files { EachImage (file_area (geometry_told (D.state device.old).medium)) (D.state device.new).medium
+            (IsReached (file_area (geometry_told (D.state device.old).medium)) (D.state device.old).medium) }
         ensures metadata { IfOk result (λ host. MetadataStands host.geometry (D.state device.new).medium []) }
         ensures serves { IfOk result (λ host. HostServes host (D.state device.new)) }
 
@@ -100,6 +108,7 @@ impl Host {
             mode: Mode::On,
             blocks: mounted.blocks,
             volume: mounted.volume,
+            journal: mounted.journal,
         })
     }
 

@@ -8,4 +8,4 @@ mod rows;
 
 pub use host::Host;
 pub use mode::Mode;
-pub use rows::{worked_cuts, worked_failures, worked_scripts};
+pub use rows::{worked_cuts, worked_failures, worked_files, worked_scripts};

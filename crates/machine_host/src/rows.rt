@@ -4,6 +4,7 @@ ghost use Rattle.machine_host.specs.CutRows.{CutRows, CutRuns};
 ghost use Rattle.machine_host.specs.VolumeRows.{VolumeRows, VolumeRuns};
 ghost use Rattle.machine_host.specs.MediaRows.{MediaRows};
 ghost use Rattle.machine_host.specs.FailureRows.{FailureRows, FailureRuns};
+ghost use Rattle.machine_host.specs.FileRows.{FileRows, FileRuns};
 
 /// What the machine writes for the worked scripts.
 pub fn worked_scripts()
@@ -24,4 +25,10 @@ pub fn worked_cuts()
 pub fn worked_failures()
     ensures failures { FailureRows }
     ensures may_fail { FailureRuns }
+{}
+
+/// What it writes for those with files, and what it may write after a cut in a change of them.
+pub fn worked_files()
+    ensures files { FileRows }
+    ensures may_change { FileRuns }
 {}

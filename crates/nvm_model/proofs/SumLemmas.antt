@@ -1,8 +1,9 @@
 -- Sums over files: the order in which they are listed doesn't matter.
-use Rattle.std.proofs.Common.{◌≡◌, ℕ, zero, suc, ◌+◌, List, [], ◌∷◌, length, Option, Some, None, slice_get, sum_by, refl, sym, ap, ap₂, ◌∙◌, inl, inr, arith}
+use Rattle.std.proofs.Common.{◌≡◌, ℕ, zero, suc, ◌+◌, List, [], ◌∷◌, length, Option, Some, None, slice_get, sum_by, refl, sym, ap, ap₂, ◌∙◌, add-one, inl, inr, arith}
 use Rattle.std.proofs.lemmas.Bool.{cases_Bool}
 use Rattle.std.proofs.lemmas.List.Sums.{sum_by-cons}
 use Rattle.nvm_model.specs.Listing.{is_before, put_file, in_order, AreAlike}
+use Rattle.nvm_model.specs.Numbered.{list_from}
 use Rattle.nvm_model.proofs.OrderLemmas.{put-first, put-later}
 
 -- what a slot adds: nothing where it is free
@@ -50,3 +51,22 @@ sum-alike name other R f g [] (y ∷ ys) adds alike = absurd alike
 sum-alike name other R f g (x ∷ xs) [] adds alike = absurd alike
 sum-alike name other R f g (x ∷ xs) (y ∷ ys) adds alike =
     sum_by-cons f x xs ∙ ap₂ (λ m n. m + n) (adds x y alike.1) (sum-alike name other R f g xs ys adds alike.2) ∙ sym (sum_by-cons g y ys)
+
+-- one number more
+pub sum-next : {A : Type 0} (g : A → ℕ) (f : ℕ → A) (n count : ℕ) → sum_by g (list_from f n (count + 1)) ≡ sum_by g (list_from f n count) + g (f (n + count))
+sum-next g f n count = ap (λ k. sum_by g (list_from f n k)) (add-one count) ∙ more n count
+  where
+    swap : (a : ℕ) → a + 0 ≡ 0 + a
+    swap a = omega arith
+
+    later : (a r s b : ℕ) → s ≡ r + b → a + s ≡ a + r + b
+    later a r s b is = omega (arith, is)
+
+    more : (n count : ℕ) → sum_by g (list_from f n (suc count)) ≡ sum_by g (list_from f n count) + g (f (n + count))
+    more n zero = let e : n + 0 ≡ n = omega arith in sum_by-cons g (f n) [] ∙ swap (g (f n)) ∙ ap (λ k. 0 + g (f k)) (sym e)
+    more n (suc count) =
+        let e : suc n + count ≡ n + suc count = omega arith in
+        sum_by-cons g (f n) (list_from f (suc n) (suc count))
+        ∙ later (g (f n)) (sum_by g (list_from f (suc n) count)) (sum_by g (list_from f (suc n) (suc count))) (g (f (n + suc count)))
+        (more (suc n) count ∙ ap (λ k. sum_by g (list_from f (suc n) count) + g (f k)) e)
+        ∙ ap (λ k. k + g (f (n + suc count))) (sym (sum_by-cons g (f n) (list_from f (suc n) count)))

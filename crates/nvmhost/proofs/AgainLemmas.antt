@@ -18,16 +18,19 @@ use Rattle.block_device.proofs.AreaLemmas.{meta_within}
 use Rattle.block_device.proofs.FrameLemmas.{each_reads-stays}
 use Rattle.block_device.proofs.RestartLemmas.{block_on_device}
 use Rattle.pm_volume.specs.Images.{EachReadsPages}
+use Rattle.file_journal.specs.Standing.{EachReadsFiles}
+use Rattle.file_journal.proofs.FileLineLemmas.{files_within}
 use Rattle.nvm_model.proofs.KeptLemmas.{LineKept}
 use Rattle.recovery.proofs.SuperblockLemmas.{some_lines, some_meta}
 use Rattle.machine_host.specs.Lines.{HasLayout, MetadataStands, bad_metadata}
-use Rattle.machine_host.specs.Commands.{MayLeaveBlocks, MayLeaveVolume}
+use Rattle.machine_host.specs.Commands.{MayLeaveBlocks, MayLeaveFiles, MayLeaveVolume}
 use Rattle.machine_host.specs.Machine.{Machine}
 use Rattle.machine_host.proofs.BackLemmas.{kept_back, nothing_back, told_back}
+use Rattle.machine_host.proofs.BadLineLemmas.{bad_found, good_lines}
 use Rattle.machine_host.proofs.ElsewhereLemmas.{pages_elsewhere, volume_within}
+use Rattle.machine_host.proofs.FilesAsideLemmas.{files_elsewhere}
 use Rattle.machine_host.proofs.LayoutLemmas.{IsGood, is_good, layout-kept, layout-restarted, same_bad, stays_of_kept}
 use Rattle.nvmhost.specs.Storing.{IsReadAgain, finding_of}
-use Rattle.nvmhost.proofs.BadMetadataLemmas.{bad_found, good_lines}
 
 -- a device has no more lines than an image may have
 pub fit_image : (geo : Geometry) → IsValid geo → FitImage (total_lines geo)
@@ -141,7 +144,8 @@ module _ (h : Machine) (m : Medium) (lines : List LineState) (sound : IsSound m)
   good none = is_good own_layout (good_lines geo own (own_bad ∙ none))
 
   module _ (each_block : h.bad_meta ≡ [] → EachReads geo m (MayLeaveBlocks h.interrupted h.blocks))
-      (each_page : h.bad_meta ≡ [] → EachReadsPages geo m (MayLeaveVolume geo h.interrupted h.volume)) where
+      (each_page : h.bad_meta ≡ [] → EachReadsPages geo m (MayLeaveVolume geo h.interrupted h.volume))
+      (each_file : h.bad_meta ≡ [] → EachReadsFiles geo m (MayLeaveFiles h.interrupted h.files)) where
     own_blocks : h.bad_meta ≡ [] → EachReads geo own (MayLeaveBlocks h.interrupted h.blocks)
     own_blocks none =
         let valid = stands.layout.valid in
@@ -150,16 +154,19 @@ module _ (h : Machine) (m : Medium) (lines : List LineState) (sound : IsSound m)
     own_pages : h.bad_meta ≡ [] → EachReadsPages geo own (MayLeaveVolume geo h.interrupted h.volume)
     own_pages none = pages_elsewhere geo m own stands.layout.valid (λ k of. kept_of k (volume_within geo k of)) (MayLeaveVolume geo h.interrupted h.volume) (each_page none)
 
+    own_files : h.bad_meta ≡ [] → EachReadsFiles geo own (MayLeaveFiles h.interrupted h.files)
+    own_files none = files_elsewhere geo m own (λ k of. kept_of k (files_within geo k of)) (MayLeaveFiles h.interrupted h.files) (each_file none)
+
     pub is_read_again : IsReadAgain lines h
     is_read_again = by_lines h.bad_meta refl
       where
         by_lines : (bad : List ℕ) → h.bad_meta ≡ bad → IsReadAgain lines h
         by_lines [] none = record {
-          found = nothing_back h Lasts own n (image_of lines) (good none) (own_blocks none) (own_pages none) left (depicted lines) (own_sound m sound) quiet ∙ sym (ap finding_of none);
-          sizes = λ _. (told_back h Lasts own n (image_of lines) (good none) (own_blocks none) (own_pages none) left (depicted lines) (own_sound m sound) quiet).sizes;
+          found = nothing_back h Lasts own n (image_of lines) (good none) (own_blocks none) (own_pages none) (own_files none) left (depicted lines) (own_sound m sound) quiet ∙ sym (ap finding_of none);
+          sizes = λ _. (told_back h Lasts own n (image_of lines) (good none) (own_blocks none) (own_pages none) (own_files none) left (depicted lines) (own_sound m sound) quiet).sizes;
           left = record {
             metadata = image_bad;
-            storage = λ _. kept_back h Lasts own n (image_of lines) (good none) (own_blocks none) (own_pages none) left (depicted lines) (own_sound m sound) quiet;
+            storage = λ _. kept_back h Lasts own n (image_of lines) (good none) (own_blocks none) (own_pages none) (own_files none) left (depicted lines) (own_sound m sound) quiet;
           };
         }
         by_lines (line ∷ rest) some = record {

@@ -191,7 +191,7 @@ run_over from to host after settled script opened_as ran rest held counted (Ok x
           text = subst (λ t. IfSome new.held (λ look. look to ≡ Some t)) image.is done.4;
           others = keeps-then (λ other. other ≢ to) old.held held new.held kept done.5;
         };
-        again = is_read_again comes.next rest.medium image.lines sound image.last stands.metadata stands.blocks stands.volume;
+        again = is_read_again comes.next rest.medium image.lines sound image.last stands.metadata stands.blocks stands.volume stands.files;
       };
       fetches = stores.fetches ∙ counts.fetches;
       replaces = done.1 ∙ ap raised counts.replaces;

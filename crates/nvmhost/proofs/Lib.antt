@@ -5,7 +5,6 @@ mod ReadLemmas
 mod TellLemmas
 mod OpenLemmas
 mod StoreLemmas
-mod BadMetadataLemmas
 mod AgainLemmas
 mod RestLemmas
 mod RunLemmas

@@ -10,9 +10,10 @@ use Rattle.word_tables.specs.Layout.{volume_line}
 use Rattle.block_device.proofs.ReachLemmas.{each_reads-write_back}
 use Rattle.nvm_model.proofs.KeptLemmas.{line_kept-write_back}
 use Rattle.pm_volume.proofs.StandingLemmas.{each_pages-kept, images-kept}
+use Rattle.machine_host.proofs.FilesAsideLemmas.{files_elsewhere}
 use Rattle.machine_host.specs.declared.mode.Mode.{Mode}
 use Rattle.machine_host.specs.declared.mode.Mode.TheVariants as modes
-use Rattle.machine_host.specs.Commands.{MayLeaveBlocks, MayLeaveVolume}
+use Rattle.machine_host.specs.Commands.{MayLeaveBlocks, MayLeaveFiles, MayLeaveVolume}
 use Rattle.machine_host.specs.Machine.{Machine}
 use Rattle.machine_host.specs.Settling.{Asks, LeftUnsettled, SettlesTo}
 use Rattle.machine_host.specs.Stands.{DeviceStands, HostServes, HostState}
@@ -96,6 +97,8 @@ stands-read_out h old new stands w sets power cut fail = record {
       each_pages-kept h.geometry old.medium new.medium (MayLeaveVolume h.geometry h.interrupted h.volume)
       (λ image is. images-kept h.geometry old.medium new.medium (λ p of. line_kept-write_back old.medium new.medium (p / 8) w) image is)
       (λ n below. line_kept-write_back old.medium new.medium (volume_line h.geometry n) w) (stands.volume none);
+  files = λ none.
+      files_elsewhere h.geometry old.medium new.medium (λ line of. line_kept-write_back old.medium new.medium line w) (MayLeaveFiles h.interrupted h.files) (stands.files none);
   power = power ∙ stands.power;
   cut_armed = stays_off old.panel.cut_armed new.panel.cut_armed (stands.cut_armed ∙ cut) sets.armed.cut ∙ sym cut;
   fail_armed = stays_off old.panel.fail_armed new.panel.fail_armed (stands.fail_armed ∙ fail) sets.armed.fail ∙ sym fail;

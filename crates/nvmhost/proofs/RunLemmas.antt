@@ -15,6 +15,7 @@ use Rattle.machine_host.specs.Machine.{Machine}
 use Rattle.machine_host.specs.Run.{Run, Transcript, silence}
 use Rattle.machine_host.specs.Stands.{HostState}
 use Rattle.durable.specs.Durable.{BringBytes}
+use Rattle.durable.proofs.FileLemmas.{files_through}
 use Rattle.durable.proofs.PassLemmas.{keeps_through}
 use Rattle.durable.proofs.ScriptLemmas.{bring-lines, bring-rest}
 use Rattle.durable.proofs.WholeLemmas.{whole-reading}
@@ -42,6 +43,8 @@ is_run lines p performed said begin end begins run = record {
   stays = λ before action after x is.
       keeps_through begin end before after action said x (whole-reading (geometry_told (medium_of lines)) (image_of lines) begin begins.state)
       (bring-rest before action after (subst BringBytes is (bring-lines performed))) (subst (λ inputs. Run begin inputs said end) is run);
+  files = λ before action after is changes.
+      files_through begin end before after action said (whole-reading (geometry_told (medium_of lines)) (image_of lines) begin begins.state) changes (subst (λ inputs. Run begin inputs said end) is run);
 }
 
 -- why a script was not read

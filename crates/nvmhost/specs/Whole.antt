@@ -1,5 +1,5 @@
 -- A run of a script over an image: over which lines, with which answers, and what the device is left as.
-use Rattle.std.specs.Prelude.{◌≡◌, ◌≤◌, ◌+◌, ℕ, List, [], ◌∷◌, ◌++◌, length, Option, Result, Err}
+use Rattle.std.specs.Prelude.{◌≡◌, ◌≤◌, ◌+◌, ℕ, true, List, [], ◌∷◌, ◌++◌, length, Option, Result, Err}
 use Rattle.std.specs.Io.KnownBytes.{Appends}
 use Rattle.nvm_base.specs.Counts.{Rose, raised}
 use Rattle.line_device.specs.Panel.{Panel, ArmsNothing, SetsUp, Start, after_disarm, told}
@@ -19,6 +19,7 @@ use Rattle.machine_host.specs.Stands.{DeviceStands}
 use Rattle.machine_host.specs.Costs.{mount_calls, mount_persists}
 use Rattle.durable.specs.Place.{Place}
 use Rattle.durable.specs.Durable.{KeepsThrough}
+use Rattle.durable.specs.Files.{FilesThrough, changes_files}
 use Rattle.nvmhost.specs.declared.ending.Ending.{Ending}
 use Rattle.nvmhost.specs.Begins.{Begins}
 use Rattle.nvmhost.specs.Ending.{ending_text, line}
@@ -29,13 +30,16 @@ pub record IsFront (part whole : List ℕ) : Type 0 where
   pub rest : List ℕ
   pub joined : part ++ rest ≡ whole
 
--- The machine's run over these lines. What one of its commands made durable is there at its end, unless a later one changed it.
+-- The machine's run over these lines. What one of its commands made durable is there at its end, unless a later one changed it. So
+-- are the files that one made, deleted, renamed or resized: as it made them, or as before where it was stopped on the way.
 pub record IsRun (first : Machine) (p : Panel) (lines : List (List ℕ)) (said : Transcript) (end : Machine) : Type 0 where
   pub begin : Machine
   pub begins : Begins first p begin
   pub run : Run begin (inputs_of lines) said end
   pub stays : (before : List Input) (action : Action) (after : List Input) (x : Place) → inputs_of lines ≡ before ++ Asked action ∷ after
       → KeepsThrough begin before action after said end x
+  pub files : (before : List Input) (action : Action) (after : List Input) → inputs_of lines ≡ before ++ Asked action ∷ after → changes_files action ≡ true
+      → FilesThrough begin before action after said end
 
 -- What a device tells from its opening on until it is read out: what was said in the run, and of the settling its starts alone.
 pub record Settled (said : Transcript) (starts : List Start) (old new : Panel) : Type 0 where

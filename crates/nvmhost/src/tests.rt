@@ -173,7 +173,7 @@ fn a_recorder_tells_what_the_script_asked_for(rt: HostRuntime) -> Result<(), Fai
 }
 
 // Calls one after the other: words, script, status, and what is written. Each run of a fresh image ends in another state.
-static ENDS_OF_RUNS: [(&str, &str, u8, &str); 16] = [
+static ENDS_OF_RUNS: [(&str, &str, u8, &str); 19] = [
     // Without power.
     (
         "run img dark",
@@ -233,6 +233,15 @@ static ENDS_OF_RUNS: [(&str, &str, u8, &str); 16] = [
         "ok\nok\nrefused device\nok\n",
     ),
     ("check unsettled", "", 3, "error meta 2303\n"),
+    // With files, the second time in a change that was cut.
+    ("run img files", "create b 2\ncreate a 1\n", 0, "ok\nok\n"),
+    (
+        "run files files",
+        "list\nrename b c\ncut in 2\ndelete a\n",
+        0,
+        "files a:1 b:2\nok\nok\npower lost\n",
+    ),
+    ("run files files", "list\n", 0, "files a:1 c:2\n"),
     ("check img", "", 0, "ok 5056 bad 0\n"),
 ];
 

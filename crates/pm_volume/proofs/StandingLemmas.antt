@@ -1,10 +1,10 @@
 -- What stands of the volume while other lines are worked on, and where a mount replays its log.
-use Rattle.std.proofs.Common.{◌≡◌, inl, inr, ℕ, zero, suc, ◌+◌, ◌-◌, ◌*◌, ◌/◌, ◌%◌, ◌<◌, ◌==◌, Bool, true, false, Option, Some, None, option_map, option_and_then, get_or, nat_lt, List, [], ◌∷◌, length, map, slice_get, slice_index_or, refl, sym, ap, subst, ◌∙◌, arith}
+use Rattle.std.proofs.Common.{◌≡◌, inl, inr, ℕ, zero, suc, ◌+◌, ◌-◌, ◌*◌, ◌/◌, ◌%◌, ◌<◌, ◌==◌, Bool, true, false, Option, Some, None, option_map, option_and_then, get_or, nat_lt, List, [], ◌∷◌, length, map, slice_get, slice_index_or, refl, sym, ap, ◌∙◌, arith}
 use Rattle.std.proofs.lemmas.List.{length-map}
 use Rattle.std.proofs.lemmas.Option.{slice_get_within}
-use Rattle.line_device.specs.History.{WordWritesBack, IsIn}
-use Rattle.line_device.specs.Medium.{Medium, WritesBack}
-use Rattle.line_device.proofs.HistoryLemmas.{word_write_back-trans, is_in-part}
+use Rattle.line_device.specs.History.{IsIn}
+use Rattle.line_device.specs.Medium.{Medium}
+use Rattle.line_device.proofs.HistoryLemmas.{is_in-part}
 use Rattle.word_tables.specs.declared.geometry.Geometry.{Geometry}
 use Rattle.word_tables.specs.Bounds.{IsValid}
 use Rattle.word_tables.specs.Layout.{presence, first_line, size, meta_lines, volume_line}
@@ -15,8 +15,7 @@ use Rattle.word_log.specs.Rest.{EachImage, IsImageOn, IsReached}
 use Rattle.word_log.proofs.ReplayLemmas.{replays_closed}
 use Rattle.word_log.proofs.RestLemmas.{replays-same, replays-reached}
 use Rattle.nvm_model.specs.Numbered.{list_from}
-use Rattle.nvm_model.specs.Cell.{Cell, CellStands}
-use Rattle.nvm_model.specs.Cell.Cell.{Bad, Kept}
+use Rattle.nvm_model.specs.Cell.{Cell}
 use Rattle.nvm_model.specs.Lines.{AreStrong}
 use Rattle.nvm_model.specs.Page.{Page, cell_in, cell_of, presence_of, PagesStand}
 use Rattle.nvm_model.proofs.KeptLemmas.{LineKept, pages_stand-kept}

@@ -19,6 +19,9 @@ use Rattle.block_device.specs.Mounting.{wrong_map, wrong_place}
 use Rattle.word_log.specs.Replay as log
 use Rattle.pm_volume.specs.Area.{volume_area}
 use Rattle.pm_volume.specs.Presence.{wrong_presence, wrong_volume_place}
+use Rattle.file_journal.specs.Area.{file_area}
+use Rattle.file_journal.specs.Reading as files
+use Rattle.file_journal.specs.Reading.{wrong_file_place}
 use Rattle.recovery.specs.declared.fault.MountFault.{MountFault}
 use Rattle.recovery.specs.declared.fault.MountFault.TheVariants.{Meta, Layout, Device, PowerLost, Memory}
 use Rattle.word_log.specs.Mount.{Finding}
@@ -124,28 +127,51 @@ nothing_early m none = (inspected_parts m (nothing_inspected m none)).0
 pub early_inspection : (m : Medium) → early_finding m ≢ None → inspection_finding m ≢ None
 early_inspection m some none = some (inspected_parts m none).0
 
--- Nothing is found where nothing is wrong with blocks and volume.
+-- three searches
+pub three_none : {A : Type 0} (a b c : Option A) → first_there a (first_there b c) ≡ None → (a ≡ None) × (b ≡ None) × (c ≡ None)
+three_none a b c h =
+    let one = first_none a (first_there b c) h in
+    let two = first_none b c one.1 in
+    (one.0, two.0, two.1)
+
+pub all_none : {A : Type 0} (a b c : Option A) → a ≡ None → b ≡ None → c ≡ None → first_there a (first_there b c) ≡ None
+all_none a b c first second third = both_none a (first_there b c) first (both_none b c second third)
+
+-- each log is in order
+pub logs_right : (geo : Geometry) (word : ℕ → ℕ) → wrong_log geo word ≡ None
+    → (log.first_wrong (block_area geo) word ≡ None) × (log.first_wrong (volume_area geo) word ≡ None) × (log.first_wrong (file_area geo) word ≡ None)
+logs_right geo word = three_none (log.first_wrong (block_area geo) word) (log.first_wrong (volume_area geo) word) (log.first_wrong (file_area geo) word)
+
+-- Nothing is found where nothing is wrong with blocks, volume and files.
 pub nothing_found : (m : Medium) → first_finding m ≡ None → (early_finding m ≡ None) × (wrong_place (geometry_told m) (last_image m) ≡ None) × (wrong_volume_place (geometry_told m) (last_image m) ≡ None)
+    × (wrong_file_place (geometry_told m) (last_image m) ≡ None)
 unfolding first_finding
 nothing_found m none =
     let geo = geometry_told m in
     let word = last_image m in
     let parts = inspected_parts m (nothing_inspected m none) in
-    let logs = first_none (log.first_wrong (block_area geo) word) (log.first_wrong (volume_area geo) word) parts.1 in
-    let tables = first_none (wrong_map geo word) (wrong_presence geo word)
-    (none_mapped wrong_word (wrong_table geo word) (first_none (inspection_finding m) (option_map wrong_word (wrong_table geo word)) none).1) in
-    (parts.0, both_none (log.first_wrong (block_area geo) word) (wrong_map geo word) logs.0 tables.0, both_none (log.first_wrong (volume_area geo) word) (wrong_presence geo word) logs.1 tables.1)
+    let logs = logs_right geo word parts.1 in
+    let tables = three_none (wrong_map geo word) (wrong_presence geo word) (files.wrong_table geo (files.words_read geo word))
+    (none_mapped wrong_word (wrong_table geo word) (first_none (inspection_finding m) (option_map wrong_word (wrong_table geo word)) none).1) in (
+      parts.0,
+      both_none (log.first_wrong (block_area geo) word) (wrong_map geo word) logs.0 tables.0,
+      both_none (log.first_wrong (volume_area geo) word) (wrong_presence geo word) logs.1 tables.1,
+      both_none (log.first_wrong (file_area geo) word) (files.wrong_table geo (files.words_read geo word)) logs.2 tables.2,
+    )
 
-pub all_right : (m : Medium) → early_finding m ≡ None → wrong_place (geometry_told m) (last_image m) ≡ None → wrong_volume_place (geometry_told m) (last_image m) ≡ None → first_finding m ≡ None
+pub all_right : (m : Medium) → early_finding m ≡ None → wrong_place (geometry_told m) (last_image m) ≡ None → wrong_volume_place (geometry_told m) (last_image m) ≡ None
+    → wrong_file_place (geometry_told m) (last_image m) ≡ None → first_finding m ≡ None
 unfolding first_finding inspection_finding
-all_right m early place volume =
+all_right m early place volume file =
     let geo = geometry_told m in
     let word = last_image m in
     let blocks = first_none (log.first_wrong (block_area geo) word) (wrong_map geo word) place in
     let pages = first_none (log.first_wrong (volume_area geo) word) (wrong_presence geo word) volume in
+    let inodes = first_none (log.first_wrong (file_area geo) word) (files.wrong_table geo (files.words_read geo word)) file in
     both_none (first_there (early_finding m) (option_map wrong_word (wrong_log geo word))) (option_map wrong_word (wrong_table geo word))
-    (both_none (early_finding m) (option_map wrong_word (wrong_log geo word)) early (ap (option_map wrong_word) (both_none (log.first_wrong (block_area geo) word) (log.first_wrong (volume_area geo) word) blocks.0 pages.0)))
-    (ap (option_map wrong_word) (both_none (wrong_map geo word) (wrong_presence geo word) blocks.1 pages.1))
+    (both_none (early_finding m) (option_map wrong_word (wrong_log geo word)) early
+    (ap (option_map wrong_word) (all_none (log.first_wrong (block_area geo) word) (log.first_wrong (volume_area geo) word) (log.first_wrong (file_area geo) word) blocks.0 pages.0 inodes.0)))
+    (ap (option_map wrong_word) (all_none (wrong_map geo word) (wrong_presence geo word) (files.wrong_table geo (files.words_read geo word)) blocks.1 pages.1 inodes.1))
 
 pub early_none : (m : Medium) → early_finding m ≡ None → (superblock_finding m ≡ None) × (meta_finding (geometry_told m) m ≡ None)
 unfolding early_finding

@@ -23,9 +23,11 @@ use Rattle.block_device.proofs.RestartLemmas.{block_image-last, block_on_device}
 use Rattle.block_device.proofs.ZerosLemmas.{zeros_read}
 use Rattle.recovery.specs.Findings.{geometry_told, early_finding, first_finding}
 use Rattle.pm_volume.specs.Presence.{wrong_volume_place}
+use Rattle.file_journal.specs.Reading.{wrong_file_place}
 use Rattle.recovery.specs.Fresh.{IsFresh, HasSuperblock, fresh_word}
 use Rattle.recovery.specs.Mounting.{IsMountable}
 use Rattle.recovery.proofs.FindingLemmas.{all_right}
+use Rattle.recovery.proofs.FreshFileLemmas.{fresh_tables}
 use Rattle.recovery.proofs.FreshPageLemmas.{fresh-first, fresh-later, fresh_presence}
 use Rattle.recovery.proofs.SuperblockLemmas.{some_lines, superblock_told, early_none}
 
@@ -139,4 +141,5 @@ module _ (geo : Geometry) (m : Medium) (fresh : IsFresh geo m) where
         let right = reads_right geo m (λ bs. bs ≡ blocks_read geo (λ _. false) (λ _. 0)) (last_image m) (fresh_reads (last_image m) image) in
         all_right m fresh_early
         (ap (λ g. wrong_place g (last_image m)) fresh_told ∙ right)
-        (ap (λ g. wrong_volume_place g (last_image m)) fresh_told ∙ fresh_presence geo m fresh sound)
+        (ap (λ g. wrong_volume_place g (last_image m)) fresh_told ∙ fresh_presence geo m fresh)
+        (ap (λ g. wrong_file_place g (last_image m)) fresh_told ∙ fresh_tables geo m fresh)

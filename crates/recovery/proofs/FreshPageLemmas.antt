@@ -3,7 +3,7 @@ use Rattle.std.proofs.Common.{◌≡◌, ◌+◌, ◌-◌, ◌*◌, ◌/◌, ◌
 use Rattle.std.proofs.lemmas.Bool.{lt-ltb, le-ltb}
 use Rattle.std.proofs.lemmas.Option.{none-some, same_Some}
 use Rattle.line_device.specs.History.{newest, IsIn}
-use Rattle.line_device.specs.Medium.{Medium, IsSound, last_image}
+use Rattle.line_device.specs.Medium.{Medium, last_image}
 use Rattle.line_device.proofs.HistoryLemmas.{is_in-one}
 use Rattle.word_tables.specs.declared.geometry.Geometry.{Geometry}
 use Rattle.word_tables.specs.Layout.{first_line, presence, size, volume_line}
@@ -11,7 +11,6 @@ use Rattle.word_tables.specs.Superblock.{superblock_word}
 use Rattle.word_tables.specs.Words.{place, of_volume_page}
 use Rattle.word_log.specs.Area.{IsOf, gate_place}
 use Rattle.word_log.specs.Replay.{Replays, replayed}
-use Rattle.word_log.specs.Rest.{IsImageOn}
 use Rattle.word_log.proofs.ReplayLemmas.{replays_closed}
 use Rattle.nvm_model.specs.Blocks.{first_there}
 use Rattle.nvm_model.specs.Cell.{Cell}
@@ -24,9 +23,10 @@ use Rattle.block_device.proofs.PositionLemmas.{none_made}
 use Rattle.pm_volume.specs.Area.{volume_area}
 use Rattle.pm_volume.specs.Images.{EachReadsPages}
 use Rattle.pm_volume.specs.Presence.{first_wrong_page, presence_word, presence_words, words_read, wrong_presence, wrong_volume_place}
-use Rattle.pm_volume.proofs.AreaLemmas.{area_in_metadata, page_is_home}
+use Rattle.pm_volume.proofs.AreaLemmas.{page_is_home}
 use Rattle.recovery.specs.Fresh.{IsFresh, fresh_word}
-use Rattle.recovery.proofs.LogLemmas.{logs_behind}
+use Rattle.recovery.specs.Mounting.{IsOfLogs}
+use Rattle.recovery.proofs.LogLemmas.{logs_behind, logs_in_metadata}
 
 pub fresh-first : (geo : Geometry) (p : ℕ) → p < 8 → fresh_word geo p ≡ superblock_word geo p
 fresh-first geo p below = ap (λ b. if b then superblock_word geo p else 0) (lt-ltb p 8 below)
@@ -59,13 +59,19 @@ absent_stand place m count = record { whole = λ i cells at. no_cells cells (non
     no_line n cell (Some (Present cells)) was is = no_cells cells (none_there 0 count (n / 64) (Present cells) was)
 
 module _ (geo : Geometry) (m : Medium) (fresh : IsFresh geo m) where
-  pub zero_at : (image : ℕ → ℕ) → IsImageOn (volume_area geo) m image → (p : ℕ) → IsOf (volume_area geo) p → image p ≡ 0
-  zero_at image is p of =
-      let there : p / 8 < m.count = omega (arith, area_in_metadata geo fresh.valid p of, meta_within geo, fresh.count) in
-      let only : m.history p ≡ 0 ∷ [] = fresh.words p there ∙ ap (λ v. v ∷ []) (fresh-later geo p (logs_behind geo p (inr of))) in
-      is_in-one (image p) 0 (subst (IsIn (image p)) only (is p of))
+  -- the words of logs and of their tables are 0
+  only_zero : (p : ℕ) → IsOfLogs geo p → m.history p ≡ 0 ∷ []
+  only_zero p of =
+      fresh.words p (omega (arith, logs_in_metadata geo fresh.valid p of, meta_within geo, fresh.count)) ∙ ap (λ v. v ∷ []) (fresh-later geo p (logs_behind geo p of))
 
-  pub fresh_replays : (image : ℕ → ℕ) → ((p : ℕ) → IsOf (volume_area geo) p → image p ≡ 0) → Replays (volume_area geo) image (presence_words geo (presence_of (list_from (λ _. Absent) 0 geo.vpages)))
+  pub zero_in : (v p : ℕ) → IsOfLogs geo p → IsIn v (m.history p) → v ≡ 0
+  zero_in v p of at = is_in-one v 0 (subst (IsIn v) (only_zero p of) at)
+
+  pub zero_last : (p : ℕ) → IsOfLogs geo p → last_image m p ≡ 0
+  zero_last p of = ap newest (only_zero p of)
+
+  -- its volume
+  fresh_replays : (image : ℕ → ℕ) → ((p : ℕ) → IsOf (volume_area geo) p → image p ≡ 0) → Replays (volume_area geo) image (presence_words geo (presence_of (list_from (λ _. Absent) 0 geo.vpages)))
   unfolding size
   fresh_replays image zeros =
       replays_closed (volume_area geo) image (presence_words geo (presence_of (list_from (λ _. Absent) 0 geo.vpages)))
@@ -78,18 +84,15 @@ module _ (geo : Geometry) (m : Medium) (fresh : IsFresh geo m) where
     pages = list_from (λ _. Absent) 0 geo.vpages;
     is = refl;
     all = length-list_from (λ _. Absent) 0 geo.vpages;
-    replays = fresh_replays image (zero_at image is);
+    replays = fresh_replays image (λ p of. zero_in (image p) p (inr (inl of)) (is p of));
     stand = absent_stand (volume_line geo) m geo.vpages;
   }
 
   -- nothing is wrong with it
-  pub fresh_presence : IsSound m → wrong_volume_place geo (last_image m) ≡ None
+  pub fresh_presence : wrong_volume_place geo (last_image m) ≡ None
   unfolding words_read
-  fresh_presence sound =
-      let on = λ (p : ℕ) (of : IsOf (volume_area geo) p).
-      let there : p / 8 < m.count = omega (arith, area_in_metadata geo fresh.valid p of, meta_within geo, fresh.count) in
-      ap newest (fresh.words p there ∙ ap (λ v. v ∷ []) (fresh-later geo p (logs_behind geo p (inr of)))) in
-      let replays = fresh_replays (last_image m) on in
+  fresh_presence =
+      let replays = fresh_replays (last_image m) (λ p of. zero_last p (inr (inl of))) in
       let words : ℕ → ℕ = λ i. replayed (volume_area geo) (last_image m) (place geo (of_volume_page i)) in
       let none : first_wrong_page (list_from words 0 geo.vpages) ≡ None =
       none_made words (λ w. nat_lt 1 w) 0 geo.vpages (λ k below.

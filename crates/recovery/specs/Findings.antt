@@ -13,6 +13,8 @@ use Rattle.block_device.specs.Area.{block_area}
 use Rattle.block_device.specs.Mounting.{wrong_map}
 use Rattle.pm_volume.specs.Area.{volume_area}
 use Rattle.pm_volume.specs.Presence.{wrong_presence}
+use Rattle.file_journal.specs.Area.{file_area}
+use Rattle.file_journal.specs.Reading as files
 
 -- the sizes that the first line tells, as last stored
 abbrev pub geometry_told : Medium → Geometry
@@ -34,11 +36,12 @@ early_finding m = first_there (superblock_finding m) (meta_finding (geometry_tol
 
 -- the first wrong word of the logs
 abbrev pub wrong_log : Geometry → (ℕ → ℕ) → Option ℕ
-wrong_log geo word = first_there (log.first_wrong (block_area geo) word) (log.first_wrong (volume_area geo) word)
+wrong_log geo word =
+    first_there (log.first_wrong (block_area geo) word) (first_there (log.first_wrong (volume_area geo) word) (log.first_wrong (file_area geo) word))
 
 -- the first wrong word of the tables that they keep, once they are replayed
 abbrev pub wrong_table : Geometry → (ℕ → ℕ) → Option ℕ
-wrong_table geo word = first_there (wrong_map geo word) (wrong_presence geo word)
+wrong_table geo word = first_there (wrong_map geo word) (first_there (wrong_presence geo word) (files.wrong_table geo (files.words_read geo word)))
 
 -- what is found before any log is replayed
 unfoldable pub inspection_finding : Medium → Option Finding

@@ -15,6 +15,7 @@ use Rattle.block_device.specs.Images.{AreReadable}
 use Rattle.block_device.specs.Reading.{states_read}
 use Rattle.block_device.specs.Object.{AreDurable, HasStrongMetadata, HasGoodMetadata}
 use Rattle.pm_volume.specs.Area.{volume_area}
+use Rattle.file_journal.specs.Area.{file_area}
 use Rattle.recovery.specs.declared.fault.MountFault.{MountFault}
 use Rattle.recovery.specs.declared.fault.MountFault.TheVariants.{Meta, Layout, Device, PowerLost, Memory}
 use Rattle.word_log.specs.Area.{IsOf}
@@ -44,7 +45,7 @@ HasDurableBlocks m = first_finding m ≡ None → AreDurable (geometry_told m) m
 
 -- a word of a log, or of the table that it keeps
 abbrev pub IsOfLogs : Geometry → ℕ → Type 0
-IsOfLogs geo p = IsOf (block_area geo) p ⊎ IsOf (volume_area geo) p
+IsOfLogs geo p = IsOf (block_area geo) p ⊎ IsOf (volume_area geo) p ⊎ IsOf (file_area geo) p
 
 -- the device has these sizes, and no line of metadata is bad or weak
 pub record IsInOrder (geo : Geometry) (m : Medium) : Type 0 where
@@ -63,10 +64,10 @@ vpages_told m = min (geometry_told m).vpages 256
 
 -- counted calls of a mount, at most, and persists
 abbrev pub mount_calls_told : Medium → ℕ
-mount_calls_told m = blocks_told m / 4 + 2019 + 2 * ((vpages_told m + 7) / 8)
+mount_calls_told m = blocks_told m / 4 + 7952 + 2 * ((vpages_told m + 7) / 8)
 
 abbrev pub mount_persists_told : Medium → ℕ
-mount_persists_told m = blocks_told m / 8 + 408 + (vpages_told m + 7) / 8
+mount_persists_told m = blocks_told m / 8 + 2864 + (vpages_told m + 7) / 8
 
 -- A mount may begin whatever a cut leaves: the first line is durable, and the blocks can be read, where nothing is found
 -- before them.

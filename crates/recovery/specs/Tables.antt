@@ -1,15 +1,21 @@
 -- The logs of a device, and the words of the tables that they keep.
 use Rattle.std.specs.Prelude.{◌≡◌, ℕ, true, List, length, Option, option_map}
+use Rattle.line_device.specs.Medium.{Medium, WritesBack, last_image}
+use Rattle.line_words.specs.Words.{WritesBackOutside}
 use Rattle.word_tables.specs.declared.geometry.Geometry.{Geometry}
 use Rattle.word_tables.specs.Words.{place, of_block, of_volume_page}
-use Rattle.word_log.specs.Area.{AreHomeWords}
+use Rattle.word_log.specs.Area.{AreHomeWords, gate_place}
 use Rattle.word_log.specs.Replay.{replayed}
+use Rattle.word_log.specs.Rest.{EachImage, IsReached}
 use Rattle.block_map.specs.Wrong.{first_wrong_entry}
 use Rattle.nvm_model.specs.Blocks.{first_there}
 use Rattle.block_device.specs.Area.{block_area}
 use Rattle.pm_volume.specs.Area.{volume_area}
 use Rattle.pm_volume.specs.Presence.{first_wrong_page}
+use Rattle.file_journal.specs.Area.{file_area}
+use Rattle.file_journal.specs.Reading as files
 use Rattle.recovery.specs.declared.replaying.Tables.{Tables}
+use Rattle.recovery.specs.Mounting.{IsOfLogs}
 
 -- logs at rest, with as many words as they keep
 pub record AreLogs (geo : Geometry) (tables : Tables) : Type 0 where
@@ -17,6 +23,8 @@ pub record AreLogs (geo : Geometry) (tables : Tables) : Type 0 where
   pub map : length tables.map.items ≡ geo.blocks
   pub volume : tables.volume_log ≡ record { area = volume_area geo; settled = true }
   pub presence : length tables.presence.items ≡ geo.vpages
+  pub files : tables.file_log ≡ record { area = file_area geo; settled = true }
+  pub file_words : length tables.file_words.items ≡ 16896
 
 -- these logs, and the words that they replay to
 pub record AreTables (geo : Geometry) (word : ℕ → ℕ) (tables : Tables) : Type 0 where
@@ -24,8 +32,21 @@ pub record AreTables (geo : Geometry) (word : ℕ → ℕ) (tables : Tables) : T
   pub map : AreHomeWords (block_area geo) (replayed (block_area geo) word) tables.map.items
   pub volume : tables.volume_log ≡ record { area = volume_area geo; settled = true }
   pub presence : AreHomeWords (volume_area geo) (replayed (volume_area geo) word) tables.presence.items
+  pub files : tables.file_log ≡ record { area = file_area geo; settled = true }
+  pub file_words : AreHomeWords (file_area geo) (replayed (file_area geo) word) tables.file_words.items
 
--- the place of the first wrong word of a block map, or else of presence words
-abbrev pub wrong_words : Geometry → List ℕ → List ℕ → Option ℕ
-wrong_words geo map presence =
-    first_there (option_map (λ b. place geo (of_block b)) (first_wrong_entry map)) (option_map (λ i. place geo (of_volume_page i)) (first_wrong_page presence))
+-- the place of the first wrong word of a block map, or else of presence words, or else of inodes and page tables
+abbrev pub wrong_words : Geometry → List ℕ → List ℕ → List ℕ → Option ℕ
+wrong_words geo map presence file_words =
+    first_there (option_map (λ b. place geo (of_block b)) (first_wrong_entry map))
+    (first_there (option_map (λ i. place geo (of_volume_page i)) (first_wrong_page presence)) (files.wrong_table geo file_words))
+
+-- Where replays of the logs end: each log and its words are as they were, or replay to the same, nothing is stored where all gates
+-- are closed, and other words are only written back.
+pub record LeavesLogs (geo : Geometry) (old new : Medium) : Type 0 where
+  pub blocks : EachImage (block_area geo) new (IsReached (block_area geo) old)
+  pub volume : EachImage (volume_area geo) new (IsReached (volume_area geo) old)
+  pub files : EachImage (file_area geo) new (IsReached (file_area geo) old)
+  pub closed : last_image old (gate_place (block_area geo)) ≡ 0 → last_image old (gate_place (volume_area geo)) ≡ 0
+      → last_image old (gate_place (file_area geo)) ≡ 0 → WritesBack old new
+  pub outside : WritesBackOutside (IsOfLogs geo) old new

@@ -67,6 +67,23 @@ impl From<pm_volume::MountFault> for MountFault {
     }
 }
 
+impl From<file_journal::MountFault> for MountFault {
+    ghost use Rattle.file_journal.specs.Mounting.{journal_mount_says};
+    ghost use Rattle.recovery.specs.Mounting.{device_says};
+
+    ghost from_gives = { λ files fault. device_says fault ≡ journal_mount_says files };
+
+    fn from(fault: file_journal::MountFault) -> MountFault {
+        match fault {
+            file_journal::MountFault::Poisoned(line) => MountFault::Meta(line),
+            file_journal::MountFault::Bad(place) => MountFault::Layout(place),
+            file_journal::MountFault::Device => MountFault::Device,
+            file_journal::MountFault::PowerLost => MountFault::PowerLost,
+            file_journal::MountFault::Memory => MountFault::Memory,
+        }
+    }
+}
+
 impl From<LogFault> for MountFault {
     ghost use Rattle.word_log.specs.Mount.{says};
     ghost use Rattle.recovery.specs.Mounting.{device_says};

@@ -1,5 +1,5 @@
 // Laws of mounts and of what they find, each a function without a body.
-ghost use Rattle.std.specs.Prelude.{◌≡◌, ◌≤◌, ◌<◌, ℕ, Bool, false, IsTrue, None, Some};
+ghost use Rattle.std.specs.Prelude.{◌≡◌, ◌≤◌, ◌<◌, ℕ, Bool, [], false, IsTrue, None, Some};
 ghost use Rattle.line_device.specs.Medium.{Medium, IsSound, Survivors, Waits, WritesBack, Weakens, poisoned, with_at};
 ghost use Rattle.line_device.specs.declared.line.Choice.{Choice};
 ghost use Rattle.line_words.specs.Words.{WritesBackBeside, WritesBackOutside};
@@ -13,6 +13,7 @@ ghost use Rattle.word_tables.specs.Superblock.{superblock_word};
 ghost use Rattle.block_device.specs.Images.{EachReads, KeepsReads};
 ghost use Rattle.block_device.specs.Object.{HasGoodMetadata, HasStrongMetadata};
 ghost use Rattle.pm_volume.specs.Images.{EachReadsPages};
+ghost use Rattle.file_journal.specs.Standing.{EachReadsFiles};
 ghost use Rattle.recovery.specs.Findings.{geometry_told, early_finding, first_finding};
 ghost use Rattle.word_log.specs.Mount.Finding.{bad_line, wrong_word};
 ghost use Rattle.recovery.specs.Fresh.{HasSuperblock, IsFresh};
@@ -39,6 +40,9 @@ pub fn findings_of_small_devices()
     ensures map { first_finding (small_device nowhere nowhere (superblock_but 144 74)) ≡ Some (wrong_word 144) }
     ensures volume_log { first_finding (small_device nowhere nowhere (superblock_but 152 2)) ≡ Some (wrong_word 152) }
     ensures presence { first_finding (small_device nowhere nowhere (superblock_but 673 2)) ≡ Some (wrong_word 673) }
+    ensures file_log { first_finding (small_device nowhere nowhere (superblock_but 680 2)) ≡ Some (wrong_word 680) }
+    ensures inode { first_finding (small_device nowhere nowhere (superblock_but 1_232 1)) ≡ Some (wrong_word 1_233) }
+    ensures page { first_finding (small_device nowhere nowhere (superblock_but 1_744 1)) ≡ Some (wrong_word 1_744) }
     ensures both { first_finding (small_device nowhere nowhere (with_at (superblock_but 144 74) 152 2)) ≡ Some (wrong_word 152) }
 {}
 
@@ -67,7 +71,7 @@ pub fn superblocks_stay()
     ensures waited { (geo : Geometry) (old new : Medium) → Waits old new → HasSuperblock geo old → HasSuperblock geo new }
 {}
 
-/// A fresh device is in order, and has no blocks and no pages.
+/// A fresh device is in order, and has no blocks, no pages and no files.
 pub fn fresh_devices_are_in_order()
     ensures told { (geo : Geometry) (m : Medium) → IsSound m → IsFresh geo m → geometry_told m ≡ geo }
     ensures mountable { (geo : Geometry) (m : Medium) → IsSound m → IsFresh geo m → IsMountable m }
@@ -76,4 +80,5 @@ pub fn fresh_devices_are_in_order()
     ensures blocks { (geo : Geometry) (m : Medium) → IsFresh geo m → EachReads geo m (λ bs. bs ≡ list_from (λ _. Absent) 0 geo.blocks) }
     ensures pages { (geo : Geometry) (m : Medium) → IsFresh geo m
         → EachReadsPages geo m (λ ps. ps ≡ list_from (λ _. Page.Absent) 0 geo.vpages) }
+    ensures files { (geo : Geometry) (m : Medium) → IsFresh geo m → EachReadsFiles geo m (λ files. files ≡ []) }
 {}

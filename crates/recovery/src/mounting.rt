@@ -12,6 +12,11 @@ ghost use Rattle.block_device.specs.Reading.{blocks_read};
 ghost use Rattle.pm_volume.specs.Area.{volume_area};
 ghost use Rattle.pm_volume.specs.Object.{VolumeServes};
 ghost use Rattle.pm_volume.specs.Presence.{presence_read};
+ghost use Rattle.file_journal.specs.Area.{file_area};
+ghost use Rattle.file_journal.specs.Object.{JournalServes};
+ghost use Rattle.file_journal.specs.Reading.{tables_read};
+ghost use Rattle.file_journal.specs.Tables as file_tables;
+ghost use Rattle.file_journal.specs.Tables.{known_units};
 ghost use Rattle.recovery.specs.Findings.{geometry_told, early_finding, inspection_finding, first_finding};
 ghost use Rattle.recovery.specs.Mounting.{Finds, HasDurableBlocks, IsInOrder, IsOfLogs, mount_calls_told, mount_outcome, mount_persists_told};
 
@@ -23,7 +28,7 @@ use line_device::Lines;
 use std::alloc::Global;
 use word_tables::Geometry;
 
-/// Mounts a device: replays the logs of its blocks and of its volume where they are open, and reads their tables.
+/// Mounts a device: replays the logs of its blocks, of its volume and of its files where they are open, and reads their tables.
 pub fn mount<L: Lines>(alloc: Global, dev: &mut L) -> Result<Mounted, MountFault>
     requires some { 1 ≤ (L.state dev.old).medium.count }
     requires on { IsTrue (L.state dev.old).panel.power }
@@ -32,14 +37,19 @@ pub fn mount<L: Lines>(alloc: Global, dev: &mut L) -> Result<Mounted, MountFault
         × (blocks_of mounted.blocks (L.state dev.new).medium
         ≡ blocks_read (geometry_told (L.state dev.old).medium) (L.state dev.old).medium.is_bad (last_image (L.state dev.old).medium))
         × (mounted.volume.geo ≡ geometry_told (L.state dev.old).medium)
-        × (mounted.volume.present ≡ presence_read (geometry_told (L.state dev.old).medium) (last_image (L.state dev.old).medium))) }
+        × (mounted.volume.present ≡ presence_read (geometry_told (L.state dev.old).medium) (last_image (L.state dev.old).medium))
+        × (mounted.journal.geo ≡ geometry_told (L.state dev.old).medium)
+        × (mounted.journal.tables ≡ tables_read (geometry_told (L.state dev.old).medium) (last_image (L.state dev.old).medium))) }
     ensures finds { Finds (first_finding (L.state dev.old).medium) result }
     ensures reads { early_finding (L.state dev.old).medium ≡ None
         → KeepsReads (geometry_told (L.state dev.old).medium) (L.state dev.old).medium (L.state dev.new).medium }
     ensures presence { EachImage (volume_area (geometry_told (L.state dev.old).medium)) (L.state dev.new).medium
         (IsReached (volume_area (geometry_told (L.state dev.old).medium)) (L.state dev.old).medium) }
+    ensures files { EachImage (file_area (geometry_told (L.state dev.old).medium)) (L.state dev.new).medium
+        (IsReached (file_area (geometry_told (L.state dev.old).medium)) (L.state dev.old).medium) }
     ensures closed { last_image (L.state dev.old).medium (gate_place (block_area (geometry_told (L.state dev.old).medium))) ≡ 0
         → last_image (L.state dev.old).medium (gate_place (volume_area (geometry_told (L.state dev.old).medium))) ≡ 0
+        → last_image (L.state dev.old).medium (gate_place (file_area (geometry_told (L.state dev.old).medium))) ≡ 0
         → WritesBack (L.state dev.old).medium (L.state dev.new).medium }
     ensures refused { inspection_finding (L.state dev.old).medium ≢ None
         → WritesBack (L.state dev.old).medium (L.state dev.new).medium }
@@ -48,7 +58,10 @@ pub fn mount<L: Lines>(alloc: Global, dev: &mut L) -> Result<Mounted, MountFault
     ensures serves { HasDurableBlocks (L.state dev.old).medium
         → IfOk result (λ mounted. BlocksServe mounted.blocks (L.state dev.new).medium) }
     ensures volume { IfOk result (λ mounted. VolumeServes mounted.volume (L.state dev.new).medium) }
-    ensures settled { IfOk result (λ mounted. IsTrue mounted.blocks.settled × IsTrue mounted.volume.settled) }
+    ensures journal { IfOk result (λ mounted. JournalServes mounted.journal (L.state dev.new).medium) }
+    ensures tables { IfOk result (λ mounted. file_tables.AreTables mounted.geo.fpages mounted.journal.tables) }
+    ensures held { IfOk result (λ mounted. known_units mounted.journal.tables.pages mounted.journal.free ≡ mounted.geo.fpages) }
+    ensures settled { IfOk result (λ mounted. IsTrue mounted.blocks.settled × IsTrue mounted.volume.settled × IsTrue mounted.journal.settled) }
     ensures order { IfOk result (λ mounted. IsInOrder mounted.geo (L.state dev.new).medium) }
     ensures runs { Runs (mount_calls_told (L.state dev.old).medium) (mount_persists_told (L.state dev.old).medium)
         (mount_outcome result) (L.state dev.old).panel (L.state dev.new).panel }
@@ -66,7 +79,7 @@ fn inspect<L: Lines>(alloc: Global, dev: &mut L) -> Result<Geometry, MountFault>
     ensures order { IfOk result (λ geo. IsInOrder geo (L.state dev.new).medium) }
     ensures finds { Finds (inspection_finding (L.state dev.old).medium) result }
     ensures lines { WritesBack (L.state dev.old).medium (L.state dev.new).medium }
-    ensures runs { Runs 645 0 (mount_outcome result) (L.state dev.old).panel (L.state dev.new).panel }
+    ensures runs { Runs 1191 0 (mount_outcome result) (L.state dev.old).panel (L.state dev.new).panel }
 {
     let geo = find_sizes(dev)?;
     inspect_logs(alloc, dev, geo)?;

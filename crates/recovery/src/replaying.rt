@@ -4,22 +4,25 @@ ghost use Rattle.line_device.specs.Medium.{WritesBack, last_image};
 ghost use Rattle.line_device.specs.Panel.{Runs};
 ghost use Rattle.line_device.specs.Panel.Outcome.{went};
 ghost use Rattle.line_words.specs.Told.{IsStop};
-ghost use Rattle.line_words.specs.Words.{WritesBackOutside};
 ghost use Rattle.word_tables.specs.Bounds.{IsValid};
-ghost use Rattle.word_log.specs.Area.{AreHomeWords, gate_place};
 ghost use Rattle.word_log.specs.Mount.Finding.{wrong_word};
 ghost use Rattle.word_log.specs.Replay.{replayed};
-ghost use Rattle.word_log.specs.Rest.{EachImage, IsAtRest, IsReached};
+ghost use Rattle.word_log.specs.Rest.{IsAtRest};
 ghost use Rattle.block_map.specs.States.{word_of};
 ghost use Rattle.block_device.specs.Area.{block_area};
 ghost use Rattle.pm_volume.specs.Area.{volume_area};
 ghost use Rattle.pm_volume.specs.Presence.{presence_word};
+ghost use Rattle.file_journal.specs.Area.{file_area};
+ghost use Rattle.file_journal.specs.Reading.{tables_of};
+ghost use Rattle.file_journal.specs.Tables as file_tables;
+ghost use Rattle.file_journal.specs.Tables.{known_units};
 ghost use Rattle.recovery.specs.Findings.{wrong_log};
-ghost use Rattle.recovery.specs.Mounting.{Finds, IsInOrder, IsOfLogs, device_says, mount_outcome};
-ghost use Rattle.recovery.specs.Tables.{AreLogs, AreTables, wrong_words};
+ghost use Rattle.recovery.specs.Mounting.{Finds, IsInOrder, device_says, mount_outcome};
+ghost use Rattle.recovery.specs.Tables.{AreLogs, AreTables, LeavesLogs, wrong_words};
 
 use crate::{MountFault, Mounted};
 use block_device::{Blocks, block_area};
+use file_journal::{Journal, file_area};
 use line_device::Lines;
 use nvm_base::Words;
 use pm_volume::{Volume, volume_area};
@@ -34,22 +37,25 @@ pub struct Tables {
     map: Words,
     volume_log: Log,
     presence: Words,
+    file_log: Log,
+    file_words: Words,
 }
 
-/// Whether both logs are in order.
+/// Whether all logs are in order.
 pub fn inspect_logs<L: Lines>(alloc: Global, dev: &mut L, geo: Geometry) -> Result<(), MountFault>
     requires order { IsInOrder geo (L.state dev.old).medium }
     requires on { IsTrue (L.state dev.old).panel.power }
     ensures finds { Finds (option_map wrong_word (wrong_log geo (last_image (L.state dev.old).medium))) result }
     ensures lines { WritesBack (L.state dev.old).medium (L.state dev.new).medium }
-    ensures runs { Runs 644 0 (mount_outcome result) (L.state dev.old).panel (L.state dev.new).panel }
+    ensures runs { Runs 1190 0 (mount_outcome result) (L.state dev.old).panel (L.state dev.new).panel }
 {
     word_log::inspect(alloc, dev, block_area(geo))?;
     word_log::inspect(alloc, dev, volume_area(geo))?;
+    word_log::inspect(alloc, dev, file_area(geo))?;
     Ok(())
 }
 
-/// Mounts both logs, which are in order, and reads their tables.
+/// Mounts all logs, which are in order, and reads their tables.
 pub fn replay_logs<L: Lines>(
     alloc: Global,
     dev: &mut L,
@@ -61,42 +67,46 @@ pub fn replay_logs<L: Lines>(
     ensures tables { IfOk result (λ tables. AreTables geo (last_image (L.state dev.old).medium) tables) }
     ensures blocks_rest { OnOk result (IsAtRest (block_area geo) (L.state dev.new).medium (replayed (block_area geo) (last_image (L.state dev.old).medium))) }
     ensures volume_rest { OnOk result (IsAtRest (volume_area geo) (L.state dev.new).medium (replayed (volume_area geo) (last_image (L.state dev.old).medium))) }
+    ensures files_rest { OnOk result (IsAtRest (file_area geo) (L.state dev.new).medium (replayed (file_area geo) (last_image (L.state dev.old).medium))) }
     ensures stop { IfErr result (IsStop device_says) }
-    ensures blocks { EachImage (block_area geo) (L.state dev.new).medium (IsReached (block_area geo) (L.state dev.old).medium) }
-    ensures volume { EachImage (volume_area geo) (L.state dev.new).medium (IsReached (volume_area geo) (L.state dev.old).medium) }
-    ensures closed { last_image (L.state dev.old).medium (gate_place (block_area geo)) ≡ 0
-        → last_image (L.state dev.old).medium (gate_place (volume_area geo)) ≡ 0
-        → WritesBack (L.state dev.old).medium (L.state dev.new).medium }
-    ensures outside { WritesBackOutside (IsOfLogs geo) (L.state dev.old).medium (L.state dev.new).medium }
-    ensures runs { Runs (geo.blocks / 4 + 1374 + 2 * ((geo.vpages + 7) / 8)) (geo.blocks / 8 + 408 + (geo.vpages + 7) / 8)
+    ensures left { LeavesLogs geo (L.state dev.old).medium (L.state dev.new).medium }
+    ensures runs { Runs (geo.blocks / 4 + 6761 + 2 * ((geo.vpages + 7) / 8)) (geo.blocks / 8 + 2864 + (geo.vpages + 7) / 8)
         (mount_outcome result) (L.state dev.old).panel (L.state dev.new).panel }
 {
     let (block_log, map) = mount_words(alloc, dev, block_area(geo))?;
     let (volume_log, presence) = mount_words(alloc, dev, volume_area(geo))?;
+    let (file_log, file_words) = mount_words(alloc, dev, file_area(geo))?;
     Ok(Tables {
         block_log,
         map,
         volume_log,
         presence,
+        file_log,
+        file_words,
     })
 }
 
-/// The blocks and the volume of these tables, or what is wrong with them.
+/// The blocks, the volume and the files of these tables, or what is wrong with them.
 pub fn judge_tables(alloc: Global, geo: Geometry, tables: Tables) -> Result<Mounted, MountFault>
     requires valid { IsValid geo }
     requires logs { AreLogs geo tables }
     ensures geo { IfOk result (λ mounted. mounted.geo ≡ geo) }
     ensures blocks { IfOk result (λ mounted. (mounted.blocks.geo ≡ geo) × (map word_of mounted.blocks.map ≡ tables.map.items)) }
     ensures volume { IfOk result (λ mounted. (mounted.volume.geo ≡ geo) × (map presence_word mounted.volume.present ≡ tables.presence.items)) }
-    ensures settled { IfOk result (λ mounted. IsTrue mounted.blocks.settled × IsTrue mounted.volume.settled) }
-    ensures finds { Finds (option_map wrong_word (wrong_words geo tables.map.items tables.presence.items)) result }
+    ensures journal { IfOk result (λ mounted. (mounted.journal.geo ≡ geo) × (mounted.journal.tables ≡ tables_of tables.file_words.items)) }
+    ensures tables { IfOk result (λ mounted. file_tables.AreTables mounted.geo.fpages mounted.journal.tables) }
+    ensures held { IfOk result (λ mounted. known_units mounted.journal.tables.pages mounted.journal.free ≡ mounted.geo.fpages) }
+    ensures settled { IfOk result (λ mounted. IsTrue mounted.blocks.settled × IsTrue mounted.volume.settled × IsTrue mounted.journal.settled) }
+    ensures finds { Finds (option_map wrong_word (wrong_words geo tables.map.items tables.presence.items tables.file_words.items)) result }
     ensures went { mount_outcome result ≡ went }
 {
     let blocks = Blocks::judge(alloc, geo, tables.block_log, tables.map.as_slice())?;
     let volume = Volume::judge(alloc, geo, tables.volume_log, tables.presence.as_slice())?;
+    let journal = Journal::judge(alloc, geo, tables.file_log, tables.file_words.as_slice())?;
     Ok(Mounted {
         geo,
         blocks,
         volume,
+        journal,
     })
 }

@@ -7,15 +7,17 @@ ghost use Rattle.block_device.specs.Object.{BlocksServe};
 
 use crate::{MountFault, Mounted, format, mount};
 use block_device::{BlockFault, Blocks};
+use file_journal::Journal;
 use line_device::{Choice, LineDevice, LineState, Lines, Peek, Plain};
 use line_words::{persist_line, store_word};
-use nvm_base::LineNo;
+use nvm_base::{LineNo, Name};
 use pm_volume::VolumeFault;
 use std::alloc::Global;
 use std::test::Fail;
 use word_tables::Geometry;
 
 mod cuts;
+mod findings;
 
 const SMALL: Geometry = Geometry {
     blocks: 8,
@@ -23,10 +25,8 @@ const SMALL: Geometry = Geometry {
     fpages: 32,
 };
 
-/// The lines of the small device, and those of its metadata.
+/// The lines of the small device.
 const LINES: u64 = 5056;
-
-const META_LINES: u64 = 2304;
 
 // The line is there and can be used, and the power is on.
 fn is_good<L: Lines>(dev: &L, line: u64) -> bool
@@ -100,11 +100,6 @@ fn start(alloc: Global, dev: &mut Plain, choice: Choice) -> Result<Mounted, Moun
     open(alloc, dev, choice)
 }
 
-// What is found of a plain device.
-fn finding(alloc: Global, dev: &mut Plain) -> Option<MountFault> {
-    start(alloc, dev, Choice::Firsts).err()
-}
-
 // The first byte of a block.
 fn byte_of<L: Lines>(blocks: &mut Blocks, dev: &mut L, block: u64) -> Result<u8, BlockFault>
     requires { IsTrue blocks.old.settled → BlocksServe blocks.old (L.state dev.old).medium }
@@ -118,8 +113,13 @@ fn byte_of<L: Lines>(blocks: &mut Blocks, dev: &mut L, block: u64) -> Result<u8,
     Ok(out[0])
 }
 
+// The inode of a file.
+fn inode_of(journal: &Journal, name: &[u8]) -> Option<u64> {
+    journal.find(&Name::read(name)?)
+}
+
 #[test]
-fn a_fresh_device_mounts_with_no_blocks_and_no_pages(rt: HostRuntime) -> Result<(), Fail> {
+fn a_fresh_device_mounts_with_no_blocks_no_pages_and_no_files(rt: HostRuntime) -> Result<(), Fail> {
     let mut device = fresh(rt.alloc(), LINES)?;
     let mut mounted = start(rt.alloc(), &mut device, Choice::Lasts)?;
     assert_eq!(rt; mounted.geo, SMALL);
@@ -128,125 +128,8 @@ fn a_fresh_device_mounts_with_no_blocks_and_no_pages(rt: HostRuntime) -> Result<
     assert_eq!(rt; byte_of(&mut mounted.blocks, &mut device, 7), Ok(0));
     assert_eq!(rt; mounted.volume.exists(1), Ok(false));
     assert_eq!(rt; mounted.volume.exists(2), Err(VolumeFault::Range));
-    Ok(())
-}
-
-#[test]
-fn the_lowest_wrong_word_of_the_superblock_is_found(rt: HostRuntime) -> Result<(), Fail> {
-    let cases: [(&[(u64, u64)], u64); 15] = [
-        (&[(0, 0)], 0),
-        (&[(1, 2)], 1),
-        (&[(2, 0)], 2),
-        (&[(2, 12)], 2),
-        (&[(2, 4104)], 2),
-        (&[(3, 1)], 3),
-        (&[(3, 257)], 3),
-        (&[(4, 31)], 4),
-        (&[(4, 1025)], 4),
-        (&[(5, 2240)], 5),
-        (&[(6, 5057)], 6),
-        (&[(7, 4)], 7),
-        (&[(7, 4), (3, 1)], 3),
-        (&[(2, 16)], 6),
-        (&[(0, 0), (8, 2)], 0),
-    ];
-    for (words, place) in cases {
-        let mut device = fresh(rt.alloc(), LINES)?;
-        assert!(rt; write(&mut device, words));
-        let found = finding(rt.alloc(), &mut device);
-        assert_eq!(rt; found, Some(MountFault::Layout(place)), "at {words:?}");
-    }
-    Ok(())
-}
-
-#[test]
-fn another_number_of_lines_is_found(rt: HostRuntime) -> Result<(), Fail> {
-    for lines in [1, LINES - 1, LINES + 1] {
-        let mut device = fresh(rt.alloc(), lines)?;
-        let found = finding(rt.alloc(), &mut device);
-        assert_eq!(rt; found, Some(MountFault::Layout(6)), "of {lines}");
-    }
-    Ok(())
-}
-
-// What becomes of a line.
-#[derive(Clone, Copy, Debug, PartialEq, Eq)]
-enum Loss {
-    Bad(u64),
-    Weak(u64),
-}
-
-// Does that to lines, if they are there.
-fn lose<L: Lines>(dev: &mut L, losses: &[Loss]) -> Result<(), Fail> {
-    for loss in losses {
-        match *loss {
-            Loss::Bad(line) if line < dev.lines() => dev.poison(LineNo(line)),
-            Loss::Weak(line) if line < dev.lines() => dev.weaken(LineNo(line))?,
-            Loss::Bad(_) | Loss::Weak(_) => return Err(Fail::from("no line")),
-        }
-    }
-    Ok(())
-}
-
-#[test]
-fn bad_lines_of_metadata_are_found_before_weak_ones(rt: HostRuntime) -> Result<(), Fail> {
-    let last = META_LINES - 1;
-    let cases: [(&[Loss], Option<MountFault>); 8] = [
-        (&[Loss::Bad(0)], Some(MountFault::Meta(LineNo(0)))),
-        (&[Loss::Bad(last)], Some(MountFault::Meta(LineNo(last)))),
-        (
-            &[Loss::Bad(99), Loss::Bad(9)],
-            Some(MountFault::Meta(LineNo(9))),
-        ),
-        (
-            &[Loss::Weak(9), Loss::Bad(99)],
-            Some(MountFault::Meta(LineNo(99))),
-        ),
-        (&[Loss::Weak(0)], Some(MountFault::Layout(0))),
-        (&[Loss::Weak(last)], Some(MountFault::Layout(8 * last))),
-        (
-            &[Loss::Weak(99), Loss::Weak(9)],
-            Some(MountFault::Layout(72)),
-        ),
-        (&[Loss::Bad(META_LINES), Loss::Weak(META_LINES + 1)], None),
-    ];
-    for (losses, found) in cases {
-        let mut device = fresh(rt.alloc(), LINES)?;
-        lose(&mut device, losses)?;
-        assert_eq!(rt; finding(rt.alloc(), &mut device), found, "at {losses:?}");
-    }
-    Ok(())
-}
-
-#[test]
-fn wrong_words_of_logs_and_tables_come_last(rt: HostRuntime) -> Result<(), Fail> {
-    let cases: [(&[(u64, u64)], &[Loss], MountFault); 10] = [
-        (&[(8, 2)], &[], MountFault::Layout(8)),
-        (&[(144, 74)], &[], MountFault::Layout(144)),
-        (&[(144, 74), (8, 2)], &[], MountFault::Layout(8)),
-        (&[(152, 2), (8, 2)], &[], MountFault::Layout(8)),
-        (&[(144, 74), (152, 2)], &[], MountFault::Layout(152)),
-        (&[(673, 2), (144, 74)], &[], MountFault::Layout(144)),
-        (&[(673, 2)], &[], MountFault::Layout(673)),
-        // an entry at a presence word past the two pages
-        (
-            &[(153, 1), (160, 674), (161, 1), (152, 1)],
-            &[],
-            MountFault::Layout(160),
-        ),
-        (&[(8, 2)], &[Loss::Bad(200)], MountFault::Meta(LineNo(200))),
-        (&[(7, 9), (8, 2)], &[Loss::Weak(0)], MountFault::Layout(7)),
-    ];
-    for (words, losses, found) in cases {
-        let mut device = fresh(rt.alloc(), LINES)?;
-        assert!(rt; write(&mut device, words));
-        lose(&mut device, losses)?;
-        assert_eq!(rt;
-            finding(rt.alloc(), &mut device),
-            Some(found),
-            "at {words:?}"
-        );
-    }
+    assert_eq!(rt; inode_of(&mounted.journal, b"a"), None);
+    assert_eq!(rt; mounted.journal.used(), 0);
     Ok(())
 }
 
@@ -257,6 +140,26 @@ fn an_open_log_of_the_volume_is_replayed(rt: HostRuntime) -> Result<(), Fail> {
     let mounted = start(rt.alloc(), &mut device, Choice::Firsts)?;
     assert_eq!(rt; mounted.volume.exists(0), Ok(false));
     assert_eq!(rt; mounted.volume.exists(1), Ok(true));
+    Ok(())
+}
+
+#[test]
+fn an_open_log_of_files_is_replayed(rt: HostRuntime) -> Result<(), Fail> {
+    let mut device = fresh(rt.alloc(), LINES)?;
+    // inode 1 becomes `a` with 2 pages, of which the second one is on unit 4
+    let entries = [(1240, 3), (1241, 0x61), (2001, 5)];
+    assert!(rt; write(&mut device, &[(681, 3)]));
+    for (k, (place, value)) in entries.iter().enumerate() {
+        let at = 688 + 2 * k as u64;
+        assert!(rt; write(&mut device, &[(at, *place), (at + 1, *value)]));
+    }
+    assert!(rt; write(&mut device, &[(680, 1)]));
+    let mounted = start(rt.alloc(), &mut device, Choice::Firsts)?;
+    assert_eq!(rt; inode_of(&mounted.journal, b"a"), Some(1));
+    assert_eq!(rt; mounted.journal.pages(1), 2);
+    assert_eq!(rt; mounted.journal.unit(1, 0), None);
+    assert_eq!(rt; mounted.journal.unit(1, 1), Some(4));
+    assert_eq!(rt; mounted.journal.used(), 1);
     Ok(())
 }
 

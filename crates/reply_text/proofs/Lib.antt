@@ -1,1 +1,2 @@
+mod FileTextLemmas
 mod RangeTextLemmas

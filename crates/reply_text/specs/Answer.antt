@@ -2,8 +2,9 @@
 use Rattle.std.specs.Prelude.{ℕ, ◌+◌, ◌^◌, ◌<◌, List, [], ◌∷◌, ◌++◌, codes, decimal, sum_by}
 use Rattle.nvm_base.specs.Data.{data_text}
 use Rattle.nvm_base.specs.declared.units.Span.{Span}
+use Rattle.nvm_base.specs.declared.files.FileEntry.{FileEntry}
 use Rattle.reply_text.specs.declared.reply.Why.{Why}
-use Rattle.reply_text.specs.declared.reply.Why.TheVariants.{Syntax, Off, On, Recover, Range, Length, Limit, Overlap, Address, Nothing, NotPoisoned}
+use Rattle.reply_text.specs.declared.reply.Why.TheVariants.{Syntax, Off, On, Recover, Missing, Exists, Range, Length, Limit, Overlap, Address, Slots, Full, Nothing, NotPoisoned}
 use Rattle.reply_text.specs.declared.reply.Reply.{Reply}
 use Rattle.reply_text.specs.declared.reply.Reply.TheVariants as reply
 
@@ -12,6 +13,7 @@ pub data Answer : Type 0 where
   DoneBad : ℕ → Answer
   Bytes : List ℕ → Answer
   Ranges : List Span → Answer
+  Files : List FileEntry → Answer
   Yes : Answer
   No : Answer
   Scarred : ℕ → Answer
@@ -29,6 +31,7 @@ answer_of reply.Done = Done
 answer_of (reply.DoneBad n) = DoneBad n
 answer_of (reply.Bytes bytes) = Bytes bytes.items
 answer_of (reply.Ranges ranges) = Ranges ranges.items
+answer_of (reply.Files files) = Files files.items
 answer_of reply.Yes = Yes
 answer_of reply.No = No
 answer_of (reply.Scarred block) = Scarred block
@@ -46,11 +49,15 @@ why_text Syntax = codes "syntax"
 why_text Off = codes "off"
 why_text On = codes "on"
 why_text Recover = codes "recover"
+why_text Missing = codes "missing"
+why_text Exists = codes "exists"
 why_text Range = codes "range"
 why_text Length = codes "length"
 why_text Limit = codes "limit"
 why_text Overlap = codes "overlap"
 why_text Address = codes "address"
+why_text Slots = codes "slots"
+why_text Full = codes "full"
 why_text Nothing = codes "nothing"
 why_text NotPoisoned = codes "notpoisoned"
 
@@ -63,12 +70,22 @@ abbrev pub ranges_text : ℕ → List Span → List ℕ
 ranges_text offset [] = []
 ranges_text offset (range ∷ ranges) = range_text offset range ++ ranges_text (offset + range.len) ranges
 
+-- a file: its name, a colon, and how many pages it has
+abbrev pub file_text : FileEntry → List ℕ
+file_text file = 32 ∷ file.name ++ 58 ∷ decimal file.pages
+
+-- files one behind the other
+abbrev pub files_text : List FileEntry → List ℕ
+files_text [] = []
+files_text (file ∷ files) = file_text file ++ files_text files
+
 -- an answer as printed
 abbrev pub answer_text : Answer → List ℕ
 answer_text Done = codes "ok"
 answer_text (DoneBad n) = codes "ok bad " ++ decimal n
 answer_text (Bytes bytes) = codes "data " ++ data_text bytes
 answer_text (Ranges ranges) = codes "ranges" ++ ranges_text 0 ranges
+answer_text (Files files) = codes "files" ++ files_text files
 answer_text Yes = codes "yes"
 answer_text No = codes "no"
 answer_text (Scarred block) = codes "scarred " ++ decimal block
@@ -95,6 +112,7 @@ IsPrintable Done = Unit {0}
 IsPrintable (DoneBad n) = Unit {0}
 IsPrintable (Bytes bytes) = Unit {0}
 IsPrintable (Ranges ranges) = sum_by (λ (r : Span). r.len) ranges < 2 ^ 64
+IsPrintable (Files files) = Unit {0}
 IsPrintable Yes = Unit {0}
 IsPrintable No = Unit {0}
 IsPrintable (Scarred block) = Unit {0}

@@ -1,15 +1,17 @@
 -- How much room an answer takes.
-use Rattle.std.specs.Prelude.{ℕ, ◌+◌, ◌*◌, ◌^◌, ◌<◌, length}
+use Rattle.std.specs.Prelude.{ℕ, ◌+◌, ◌*◌, ◌^◌, ◌<◌, ◌≤◌, length}
 use Rattle.nvm_base.specs.declared.units.Span.{Span}
+use Rattle.nvm_base.specs.declared.files.FileEntry.{FileEntry}
 use Rattle.reply_text.specs.Answer.{Answer}
-use Rattle.reply_text.specs.Answer.Answer.{Done, DoneBad, Bytes, Ranges, Yes, No, Scarred, PoisonBlock, PoisonVolume, DeviceFailed, PowerLost, Stopped, Refused, RefusedMeta}
+use Rattle.reply_text.specs.Answer.Answer.{Done, DoneBad, Bytes, Ranges, Files, Yes, No, Scarred, PoisonBlock, PoisonVolume, DeviceFailed, PowerLost, Stopped, Refused, RefusedMeta}
 
--- the most bytes of an answer's line: the most of its DATA or of its ranges, or of an answer that has neither
+-- the most bytes of an answer's line: the most of its DATA, of its ranges or of its files, or of an answer that has none
 abbrev pub most_of : Answer → ℕ
 most_of Done = 64
 most_of (DoneBad n) = 64
 most_of (Bytes bytes) = 6 + 3 * length bytes
 most_of (Ranges ranges) = 7 + 63 * length ranges
+most_of (Files files) = 64 + 54 * length files
 most_of Yes = 64
 most_of No = 64
 most_of (Scarred block) = 64
@@ -24,3 +26,7 @@ most_of (RefusedMeta line) = 64
 -- it begins where 64 bits reach
 abbrev pub HasStart : Span → Type 0
 HasStart range = range.start < 2 ^ 64
+
+-- its name has at most 32 bytes, and its pages are counted in 64 bits
+abbrev pub IsShort : FileEntry → Type 0
+IsShort file = (length file.name ≤ 32) × (file.pages < 2 ^ 64)

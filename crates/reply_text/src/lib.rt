@@ -1,6 +1,7 @@
 //! What commands are answered, and the line of each answer.
 #![tactic(auto)]
 
+mod files;
 mod printing;
 mod reply;
 #[cfg(test)]

@@ -5,6 +5,7 @@ ghost use Rattle.reply_text.specs.Answer.{IsPrintable, answer_line, answer_of, a
 ghost use Rattle.reply_text.specs.Answer.Answer.{PoisonBlock, PoisonVolume, Ranges};
 ghost use Rattle.reply_text.specs.Room.{HasStart, most_of};
 
+use crate::files::print_files;
 use crate::{Reply, Why};
 use nvm_base::{Bytes, Span, print_bytes, print_number};
 use std::alloc::AllocError;
@@ -48,6 +49,7 @@ fn print_text(reply: &Reply, out: &mut Bytes) -> Result<(), AllocError>
             print_bytes(bytes.as_slice(), out)
         }
         Reply::Ranges(ranges) => print_ranges(ranges.as_slice(), out),
+        Reply::Files(files) => print_files(files.as_slice(), out),
         Reply::Yes => out.extend(b"yes"),
         Reply::No => out.extend(b"no"),
         Reply::Scarred(block) => print_counted(b"scarred ", *block, out),
@@ -65,7 +67,7 @@ fn print_text(reply: &Reply, out: &mut Bytes) -> Result<(), AllocError>
 }
 
 // Words and a number.
-fn print_counted(words: &[u8], n: u64, out: &mut Bytes) -> Result<(), AllocError>
+pub(crate) fn print_counted(words: &[u8], n: u64, out: &mut Bytes) -> Result<(), AllocError>
     ensures text { Appends (words.now ++ decimal n) result out.old out.new }
     ensures short { length (decimal n) ≤ 20 }
 {
@@ -134,11 +136,15 @@ fn word_of(why: Why) -> &'static [u8]
         Why::Off => b"off",
         Why::On => b"on",
         Why::Recover => b"recover",
+        Why::Missing => b"missing",
+        Why::Exists => b"exists",
         Why::Range => b"range",
         Why::Length => b"length",
         Why::Limit => b"limit",
         Why::Overlap => b"overlap",
         Why::Address => b"address",
+        Why::Slots => b"slots",
+        Why::Full => b"full",
         Why::Nothing => b"nothing",
         Why::NotPoisoned => b"notpoisoned",
     }

@@ -1,4 +1,4 @@
-use nvm_base::{Bytes, Spans};
+use nvm_base::{Bytes, FileList, Spans};
 
 /// Why a command is not done.
 #[derive(Clone, Copy, Debug, PartialEq, Eq)]
@@ -7,11 +7,19 @@ pub enum Why {
     Off,
     On,
     Recover,
+    /// No file has the name.
+    Missing,
+    /// A file has the new name.
+    Exists,
     Range,
     Length,
     Limit,
     Overlap,
     Address,
+    /// There is no place for another file.
+    Slots,
+    /// There are too few pages left.
+    Full,
     /// The place holds no line.
     Nothing,
     NotPoisoned,
@@ -26,6 +34,8 @@ pub enum Reply {
     Bytes(Bytes),
     /// Where a volume lies: ranges of physical addresses, one behind the other.
     Ranges(Spans),
+    /// Files: the name of each, and how many pages it has.
+    Files(FileList),
     Yes,
     No,
     /// This block was made unreadable.

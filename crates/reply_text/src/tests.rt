@@ -1,5 +1,5 @@
 use crate::{Reply, Why, print};
-use nvm_base::{Bytes, Span, Spans};
+use nvm_base::{Bytes, FileEntry, FileList, Name, Span, Spans};
 use std::alloc::AllocError;
 
 #[test]
@@ -50,17 +50,39 @@ fn ranges_stand_behind_their_offsets(rt: HostRuntime) -> Result<(), AllocError> 
 }
 
 #[test]
+fn files_are_listed_with_their_pages(rt: HostRuntime) -> Result<(), AllocError> {
+    let mut out = Bytes::new(rt.alloc());
+    print(&Reply::Files(FileList::new(rt.alloc())), &mut out)?;
+    let mut files = FileList::new(rt.alloc());
+    for (text, pages) in [("head", 1), ("log.old", 4), ("z", u64::MAX)] {
+        if let Some(name) = Name::read(text.as_bytes()) {
+            files.push(FileEntry { name, pages })?;
+        }
+    }
+    print(&Reply::Files(files), &mut out)?;
+    assert_eq!(rt;
+        out.as_slice(),
+        b"files\nfiles head:1 log.old:4 z:18446744073709551615\n".as_slice()
+    );
+    Ok(())
+}
+
+#[test]
 fn each_refusal_has_its_word(rt: HostRuntime) -> Result<(), AllocError> {
     for (why, line) in [
         (Why::Syntax, "refused syntax\n"),
         (Why::Off, "refused off\n"),
         (Why::On, "refused on\n"),
         (Why::Recover, "refused recover\n"),
+        (Why::Missing, "refused missing\n"),
+        (Why::Exists, "refused exists\n"),
         (Why::Range, "refused range\n"),
         (Why::Length, "refused length\n"),
         (Why::Limit, "refused limit\n"),
         (Why::Overlap, "refused overlap\n"),
         (Why::Address, "refused address\n"),
+        (Why::Slots, "refused slots\n"),
+        (Why::Full, "refused full\n"),
         (Why::Nothing, "refused nothing\n"),
         (Why::NotPoisoned, "refused notpoisoned\n"),
     ] {

@@ -2,4 +2,5 @@ pub mod LineLemmas
 pub mod WordLemmas
 pub mod DataLemmas
 pub mod RangeLemmas
+pub mod OperandLemmas
 pub mod BoundLemmas

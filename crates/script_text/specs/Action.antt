@@ -22,6 +22,11 @@ pub data Action : Type 0 where
   VDiscard : ℕ → ℕ → Action
   VDiscardIf : ℕ → ℕ → Action
   VExists : ℕ → Action
+  Create : List ℕ → ℕ → Action
+  Delete : List ℕ → Action
+  Rename : List ℕ → List ℕ → Action
+  Resize : List ℕ → ℕ → Action
+  ListFiles : Action
   PoisonBlock : ℕ → ℕ → Action
   PoisonVolume : ℕ → Action
   PoisonMeta : ℕ → Action
@@ -51,6 +56,11 @@ action_of (command.VPSync address len) = VPSync address len
 action_of (command.VDiscard page count) = VDiscard page count
 action_of (command.VDiscardIf page count) = VDiscardIf page count
 action_of (command.VExists page) = VExists page
+action_of (command.Create name pages) = Create name pages
+action_of (command.Delete name) = Delete name
+action_of (command.Rename name to) = Rename name to
+action_of (command.Resize name pages) = Resize name pages
+action_of command.List = ListFiles
 action_of (command.PoisonBlock block line) = PoisonBlock block line
 action_of (command.PoisonVolume offset) = PoisonVolume offset
 action_of (command.PoisonMeta line) = PoisonMeta line

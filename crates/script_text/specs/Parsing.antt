@@ -1,14 +1,15 @@
 -- What reading a script's text may give.
-use Rattle.std.specs.Prelude.{◌≡◌, ◌⊎◌, ℕ, ◌<◌, ◌≤◌, ◌^◌, List, [], ◌∷◌, length, Option, Some, None, Result, Ok, Err, codes, All, option_map, sum_by}
+use Rattle.std.specs.Prelude.{◌≡◌, ◌⊎◌, ℕ, true, ◌<◌, ◌≤◌, ◌^◌, List, [], ◌∷◌, length, Option, Some, None, Result, Ok, Err, codes, All, option_map, sum_by}
 use Rattle.nvm_base.specs.declared.units.Span.{Span}
 use Rattle.nvm_base.specs.Stock.{Stock}
+use Rattle.nvm_base.specs.Names.{is_name}
 use Rattle.line_device.specs.declared.line.Choice.{Choice}
 use Rattle.line_device.specs.declared.line.Choice.TheVariants.{Firsts, Lasts, Seed}
 use Rattle.script_text.specs.declared.command.Command.{Command}
 use Rattle.script_text.specs.declared.parsing.LineFault.{LineFault}
 use Rattle.script_text.specs.declared.parsing.LineFault.TheVariants.{Syntax, Memory}
 use Rattle.script_text.specs.Action.{Action, action_of}
-use Rattle.script_text.specs.Action.Action.{BRead, BWrite, BDiscard, BDiscardIf, BExists, BScar, BAtomic, BMulti, VLoad, VStore, VSync, VRanges, VPSync, VDiscard, VDiscardIf, VExists, PoisonBlock, PoisonVolume, PoisonMeta, WeakenVolume, ClearVolume, Cut, CutIn, FailIn, Restart, Recover}
+use Rattle.script_text.specs.Action.Action.{BRead, BWrite, BDiscard, BDiscardIf, BExists, BScar, BAtomic, BMulti, VLoad, VStore, VSync, VRanges, VPSync, VDiscard, VDiscardIf, VExists, Create, Delete, Rename, Resize, ListFiles, PoisonBlock, PoisonVolume, PoisonMeta, WeakenVolume, ClearVolume, Cut, CutIn, FailIn, Restart, Recover}
 use Rattle.std.specs.Borrow.{Bor}
 use Rattle.script_text.specs.Script.{Input, fitting, ranges_of, spans_of, with_range, words_of}
 use Rattle.script_text.specs.Script.Input.{Skipped, Malformed, Asked}
@@ -61,7 +62,7 @@ IsSmallChoice Firsts = Unit {0}
 IsSmallChoice Lasts = Unit {0}
 IsSmallChoice (Seed n) = n < 2 ^ 32
 
--- numbers are below 2 ^ 32, DATA is 1 to 65,536 bytes, of pairs there is one, and ranges have as many bytes as they are long
+-- numbers are below 2 ^ 32, names are names of files, DATA is 1 to 65,536 bytes, of pairs there is one, and ranges have as many bytes as they are long
 abbrev pub InBounds : Action → Type 0
 InBounds (BRead block count) = (block < 2 ^ 32) × (count < 2 ^ 32)
 InBounds (BWrite block bytes) = (block < 2 ^ 32) × (0 < length bytes) × (length bytes ≤ 65536)
@@ -80,6 +81,11 @@ InBounds (VPSync address len) = (address < 2 ^ 32) × (len < 2 ^ 32)
 InBounds (VDiscard page count) = (page < 2 ^ 32) × (count < 2 ^ 32)
 InBounds (VDiscardIf page count) = (page < 2 ^ 32) × (count < 2 ^ 32)
 InBounds (VExists page) = page < 2 ^ 32
+InBounds (Create name pages) = (is_name name ≡ true) × (pages < 2 ^ 32)
+InBounds (Delete name) = is_name name ≡ true
+InBounds (Rename name to) = (is_name name ≡ true) × (is_name to ≡ true)
+InBounds (Resize name pages) = (is_name name ≡ true) × (pages < 2 ^ 32)
+InBounds ListFiles = Unit {0}
 InBounds (PoisonBlock block line) = (block < 2 ^ 32) × (line < 2 ^ 32)
 InBounds (PoisonVolume offset) = offset < 2 ^ 32
 InBounds (PoisonMeta line) = line < 2 ^ 32

@@ -1,7 +1,7 @@
 -- Worked lines: what they ask for.
 use Rattle.std.specs.Prelude.{◌≡◌, ℕ, [], ◌∷◌, ◌++◌, replicate, codes}
 use Rattle.nvm_base.specs.declared.units.Span.{Span}
-use Rattle.script_text.specs.Action.Action.{BAtomic, BMulti, VRanges, VPSync, VDiscard, VDiscardIf, VExists, PoisonBlock, PoisonVolume, PoisonMeta, WeakenVolume, ClearVolume, Cut, CutIn, FailIn, Restart, Recover}
+use Rattle.script_text.specs.Action.Action.{BAtomic, BMulti, VRanges, VPSync, VDiscard, VDiscardIf, VExists, Create, Delete, Rename, Resize, ListFiles, PoisonBlock, PoisonVolume, PoisonMeta, WeakenVolume, ClearVolume, Cut, CutIn, FailIn, Restart, Recover}
 use Rattle.line_device.specs.declared.line.Choice.TheVariants.{Firsts, Seed}
 use Rattle.script_text.specs.Script.{line_input}
 use Rattle.script_text.specs.Script.Input.{Malformed, Asked}
@@ -27,6 +27,27 @@ pub record LineRows : Type 0 where
   pub pages_hinted : line_input (codes "vdiscardif 1 1") ≡ Asked (VDiscardIf 1 1)
   pub page_asked_for : line_input (codes "vexists 15") ≡ Asked (VExists 15)
   pub page_without_a_number : line_input (codes "vexists") ≡ Malformed
+  pub file_created : line_input (codes "create log 4") ≡ Asked (Create (codes "log") 4)
+  pub file_deleted : line_input (codes "delete log") ≡ Asked (Delete (codes "log"))
+  pub file_renamed : line_input (codes "rename log log.old") ≡ Asked (Rename (codes "log") (codes "log.old"))
+  pub file_resized : line_input (codes "resize log 0") ≡ Asked (Resize (codes "log") 0)
+  pub files_listed : line_input (codes "list") ≡ Asked ListFiles
+  pub name_of_digits : line_input (codes "create 7 4") ≡ Asked (Create (codes "7") 4)
+  pub name_of_32_bytes : line_input (codes "delete abcdefghijklmnopqrstuvwxyz-_.012") ≡ Asked (Delete (codes "abcdefghijklmnopqrstuvwxyz-_.012"))
+  pub name_of_33_bytes : line_input (codes "delete abcdefghijklmnopqrstuvwxyz-_.0123") ≡ Malformed
+  pub new_name_of_33_bytes : line_input (codes "rename log abcdefghijklmnopqrstuvwxyz-_.0123") ≡ Malformed
+  pub upper_case_letter_in_a_name : line_input (codes "delete Log") ≡ Malformed
+  pub slash_in_a_new_name : line_input (codes "rename log log/old") ≡ Malformed
+  pub most_pages : line_input (codes "resize log 4294967295") ≡ Asked (Resize (codes "log") 4294967295)
+  pub too_many_pages : line_input (codes "create log 4294967296") ≡ Malformed
+  pub pages_before_the_name : line_input (codes "create 4 log") ≡ Malformed
+  pub file_without_pages : line_input (codes "create log") ≡ Malformed
+  pub file_without_a_name : line_input (codes "delete") ≡ Malformed
+  pub file_without_a_new_name : line_input (codes "rename log") ≡ Malformed
+  pub file_and_two_numbers : line_input (codes "resize log 4 4") ≡ Malformed
+  pub two_files_deleted : line_input (codes "delete log head") ≡ Malformed
+  pub two_new_names : line_input (codes "rename log head tail") ≡ Malformed
+  pub list_of_a_file : line_input (codes "list log") ≡ Malformed
   pub line_of_a_block_poisoned : line_input (codes "poison block 3 7") ≡ Asked (PoisonBlock 3 7)
   pub line_of_the_volume_poisoned : line_input (codes "poison volume 4032") ≡ Asked (PoisonVolume 4032)
   pub line_of_the_metadata_poisoned : line_input (codes "poison meta 2303") ≡ Asked (PoisonMeta 2303)

@@ -5,10 +5,11 @@ use Rattle.std.specs.Str.{bytes_eq}
 use Rattle.std.specs.Io.BufRead.{strip_last}
 use Rattle.nvm_base.specs.declared.units.Span.{Span}
 use Rattle.nvm_base.specs.Numbers.{number_of}
+use Rattle.nvm_base.specs.Names.{name_of}
 use Rattle.nvm_base.specs.Data.{data_of, data_within}
 use Rattle.line_device.specs.declared.line.Choice.TheVariants.{Firsts, Lasts, Seed}
 use Rattle.script_text.specs.Action.{Action}
-use Rattle.script_text.specs.Action.Action.{BRead, BWrite, BDiscard, BDiscardIf, BExists, BScar, BAtomic, BMulti, VLoad, VStore, VSync, VRanges, VPSync, VDiscard, VDiscardIf, VExists, PoisonBlock, PoisonVolume, PoisonMeta, WeakenVolume, ClearVolume, Cut, CutIn, FailIn, Restart, Recover}
+use Rattle.script_text.specs.Action.Action.{BRead, BWrite, BDiscard, BDiscardIf, BExists, BScar, BAtomic, BMulti, VLoad, VStore, VSync, VRanges, VPSync, VDiscard, VDiscardIf, VExists, Create, Delete, Rename, Resize, ListFiles, PoisonBlock, PoisonVolume, PoisonMeta, WeakenVolume, ClearVolume, Cut, CutIn, FailIn, Restart, Recover}
 
 -- a line: nothing to do, no command, or what it asks for
 pub data Input : Type 0 where
@@ -29,11 +30,11 @@ is_blank c = (c == 32) || (c == 9)
 unfoldable pub words_of : List ℕ → List (List ℕ)
 words_of line = filter (λ word. nat_lt 0 (length word)) (slice_split is_blank line)
 
--- an action on two numbers
-abbrev pub of_numbers : (ℕ → ℕ → Action) → Option ℕ → Option ℕ → Option Action
-of_numbers make (Some a) (Some b) = Some (make a b)
-of_numbers make (Some a) None = None
-of_numbers make None b = None
+-- an action on two numbers or names
+abbrev pub of_both : {A B : Type 0} → (A → B → Action) → Option A → Option B → Option Action
+of_both make (Some a) (Some b) = Some (make a b)
+of_both make (Some a) None = None
+of_both make None b = None
 
 -- an action on a number and DATA
 abbrev pub of_data : {E : Type 0} → (ℕ → List ℕ → Action) → Option ℕ → Result (List ℕ) E → Option Action
@@ -41,7 +42,8 @@ of_data make (Some a) (Ok bytes) = Some (make a bytes)
 of_data make (Some a) (Err e) = None
 of_data make None bytes = None
 
--- the words after a command's name: none, one number, two, a number and DATA, pairs of numbers, or pairs of a number and DATA
+-- The words after a command's name: none, one number, two, one name, two, a name and a number, a number and DATA, pairs
+-- of numbers, or pairs of a number and DATA.
 abbrev pub bare_action : Action → List (List ℕ) → Option Action
 bare_action action [] = Some action
 bare_action action (word ∷ words) = None
@@ -51,8 +53,20 @@ number_action make (a ∷ []) = option_map make (number_of a)
 number_action make _ = None
 
 abbrev pub span_action : (ℕ → ℕ → Action) → List (List ℕ) → Option Action
-span_action make (a ∷ b ∷ []) = of_numbers make (number_of a) (number_of b)
+span_action make (a ∷ b ∷ []) = of_both make (number_of a) (number_of b)
 span_action make _ = None
+
+abbrev pub name_action : (List ℕ → Action) → List (List ℕ) → Option Action
+name_action make (a ∷ []) = option_map make (name_of a)
+name_action make _ = None
+
+abbrev pub names_action : (List ℕ → List ℕ → Action) → List (List ℕ) → Option Action
+names_action make (a ∷ b ∷ []) = of_both make (name_of a) (name_of b)
+names_action make _ = None
+
+abbrev pub sized_action : (List ℕ → ℕ → Action) → List (List ℕ) → Option Action
+sized_action make (a ∷ b ∷ []) = of_both make (name_of a) (number_of b)
+sized_action make _ = None
 
 abbrev pub data_action : (ℕ → List ℕ → Action) → List (List ℕ) → Option Action
 data_action make (a ∷ text ∷ []) = of_data make (number_of a) (data_within 65536 text)
@@ -124,7 +138,8 @@ poison_action (word ∷ words) =
     else (if bytes_eq word (codes "meta") then number_action PoisonMeta words else None))
 
 -- What a command's name and words ask for, None where they are no command: of those on the power, of these and those on
--- bad and weak lines, of these and those on the volume that bring no list, of all that bring no list, of all.
+-- bad and weak lines, of these and those on files, of these and those on the volume that bring no list, of all that bring
+-- no list, of all.
 abbrev pub power_action : List ℕ → List (List ℕ) → Option Action
 power_action name words =
     if bytes_eq name (codes "cut") then cut_action words
@@ -138,6 +153,14 @@ media_action name words =
     else (if bytes_eq name (codes "weaken") then in_volume_action WeakenVolume words
     else (if bytes_eq name (codes "clear") then in_volume_action ClearVolume words else power_action name words))
 
+abbrev pub files_action : List ℕ → List (List ℕ) → Option Action
+files_action name words =
+    if bytes_eq name (codes "create") then sized_action Create words
+    else (if bytes_eq name (codes "delete") then name_action Delete words
+    else (if bytes_eq name (codes "rename") then names_action Rename words
+    else (if bytes_eq name (codes "resize") then sized_action Resize words
+    else (if bytes_eq name (codes "list") then bare_action ListFiles words else media_action name words))))
+
 abbrev pub volume_action : List ℕ → List (List ℕ) → Option Action
 volume_action name words =
     if bytes_eq name (codes "vload") then span_action VLoad words
@@ -146,7 +169,7 @@ volume_action name words =
     else (if bytes_eq name (codes "vdiscard") then span_action VDiscard words
     else (if bytes_eq name (codes "vdiscardif") then span_action VDiscardIf words
     else (if bytes_eq name (codes "vexists") then number_action VExists words
-    else (if bytes_eq name (codes "vranges") then bare_action VRanges words else media_action name words))))))
+    else (if bytes_eq name (codes "vranges") then bare_action VRanges words else files_action name words))))))
 
 abbrev pub plain_action : List ℕ → List (List ℕ) → Option Action
 plain_action name words =

@@ -5,12 +5,12 @@ ghost use Rattle.script_text.specs.Parsing.{IsLong, ParsesAs};
 ghost use Rattle.script_text.specs.Script.{command_action, data_action, plain_action, ranges_action, spans_action, volume_action, words_of};
 
 use crate::LineFault;
-use crate::media::read_media;
+use crate::files::read_files;
 use crate::operands::{read_bare, read_data, read_only, read_span};
 use crate::ranges::read_ranges;
 use crate::spans::read_spans;
 use line_device::Choice;
-use nvm_base::{Bytes, Spans};
+use nvm_base::{Bytes, Name, Spans};
 use std::alloc::Global;
 
 /// A command of a script. Blocks and pages of the volume are numbered and counted; offsets and lengths are in bytes of the
@@ -35,6 +35,14 @@ pub enum Command {
     VDiscard { page: u64, count: u64 },
     VDiscardIf { page: u64, count: u64 },
     VExists { page: u64 },
+    /// A file of that name, of so many holes.
+    Create { name: Name, pages: u64 },
+    Delete { name: Name },
+    Rename { name: Name, to: Name },
+    /// Pages of the file are cut, or holes added.
+    Resize { name: Name, pages: u64 },
+    /// The files, in order of name.
+    List,
     /// A line of a block goes bad.
     PoisonBlock { block: u64, line: u64 },
     /// The line of that byte of the volume goes bad.
@@ -111,7 +119,7 @@ fn read_volume(name: &[u8], words: &[u8]) -> Option<Command>
     } else if name == b"vranges".as_slice() {
         read_bare(Command::VRanges, words)
     } else {
-        read_media(name, words)
+        read_files(name, words)
     }
 }
 

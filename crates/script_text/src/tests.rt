@@ -1,6 +1,9 @@
 use crate::{Command, LineFault, parse, split_line};
 use line_device::Choice;
+use nvm_base::Name;
 use std::alloc::{AllocError, Global};
+
+mod files;
 
 // What a line gave. Of bytes and of spans it tells how many there are.
 #[derive(Clone, Copy, Debug, PartialEq, Eq)]
@@ -23,6 +26,11 @@ enum Gave {
     DiscardPages(u64, u64),
     DiscardPagesIf(u64, u64),
     PageExists(u64),
+    Create(Name, u64),
+    Delete(Name),
+    Rename(Name, Name),
+    Resize(Name, u64),
+    List,
     PoisonBlock(u64, u64),
     PoisonVolume(u64),
     PoisonMeta(u64),
@@ -40,33 +48,44 @@ const SYNTAX: Gave = Gave::Fault(LineFault::Syntax);
 fn parsed(alloc: Global, line: &[u8]) -> Gave {
     match parse(alloc, line) {
         Ok(None) => Gave::Nothing,
-        Ok(Some(Command::BRead { block, count })) => Gave::Read(block, count),
-        Ok(Some(Command::BWrite { block, bytes })) => Gave::Write(block, bytes.len()),
-        Ok(Some(Command::BDiscard { block, count })) => Gave::Discard(block, count),
-        Ok(Some(Command::BDiscardIf { block, count })) => Gave::DiscardIf(block, count),
-        Ok(Some(Command::BExists { block })) => Gave::Exists(block),
-        Ok(Some(Command::BScar { ranges })) => Gave::Scar(ranges.len()),
-        Ok(Some(Command::BAtomic { block, bytes })) => Gave::Atomic(block, bytes.len()),
-        Ok(Some(Command::BMulti { ranges, bytes })) => Gave::Multi(ranges.len(), bytes.len()),
-        Ok(Some(Command::VLoad { offset, len })) => Gave::Load(offset, len),
-        Ok(Some(Command::VStore { offset, bytes })) => Gave::Store(offset, bytes.len()),
-        Ok(Some(Command::VSync { offset, len })) => Gave::Sync(offset, len),
-        Ok(Some(Command::VRanges)) => Gave::Ranges,
-        Ok(Some(Command::VPSync { address, len })) => Gave::SyncAddress(address, len),
-        Ok(Some(Command::VDiscard { page, count })) => Gave::DiscardPages(page, count),
-        Ok(Some(Command::VDiscardIf { page, count })) => Gave::DiscardPagesIf(page, count),
-        Ok(Some(Command::VExists { page })) => Gave::PageExists(page),
-        Ok(Some(Command::PoisonBlock { block, line })) => Gave::PoisonBlock(block, line),
-        Ok(Some(Command::PoisonVolume { offset })) => Gave::PoisonVolume(offset),
-        Ok(Some(Command::PoisonMeta { line })) => Gave::PoisonMeta(line),
-        Ok(Some(Command::WeakenVolume { offset })) => Gave::WeakenVolume(offset),
-        Ok(Some(Command::ClearVolume { offset })) => Gave::ClearVolume(offset),
-        Ok(Some(Command::Cut)) => Gave::Cut,
-        Ok(Some(Command::CutIn { calls })) => Gave::CutIn(calls),
-        Ok(Some(Command::FailIn { calls })) => Gave::FailIn(calls),
-        Ok(Some(Command::Restart { choice })) => Gave::Restart(choice),
-        Ok(Some(Command::Recover)) => Gave::Recover,
+        Ok(Some(command)) => given(&command),
         Err(fault) => Gave::Fault(fault),
+    }
+}
+
+fn given(command: &Command) -> Gave {
+    match command {
+        Command::BRead { block, count } => Gave::Read(*block, *count),
+        Command::BWrite { block, bytes } => Gave::Write(*block, bytes.len()),
+        Command::BDiscard { block, count } => Gave::Discard(*block, *count),
+        Command::BDiscardIf { block, count } => Gave::DiscardIf(*block, *count),
+        Command::BExists { block } => Gave::Exists(*block),
+        Command::BScar { ranges } => Gave::Scar(ranges.len()),
+        Command::BAtomic { block, bytes } => Gave::Atomic(*block, bytes.len()),
+        Command::BMulti { ranges, bytes } => Gave::Multi(ranges.len(), bytes.len()),
+        Command::VLoad { offset, len } => Gave::Load(*offset, *len),
+        Command::VStore { offset, bytes } => Gave::Store(*offset, bytes.len()),
+        Command::VSync { offset, len } => Gave::Sync(*offset, *len),
+        Command::VRanges => Gave::Ranges,
+        Command::VPSync { address, len } => Gave::SyncAddress(*address, *len),
+        Command::VDiscard { page, count } => Gave::DiscardPages(*page, *count),
+        Command::VDiscardIf { page, count } => Gave::DiscardPagesIf(*page, *count),
+        Command::VExists { page } => Gave::PageExists(*page),
+        Command::Create { name, pages } => Gave::Create(*name, *pages),
+        Command::Delete { name } => Gave::Delete(*name),
+        Command::Rename { name, to } => Gave::Rename(*name, *to),
+        Command::Resize { name, pages } => Gave::Resize(*name, *pages),
+        Command::List => Gave::List,
+        Command::PoisonBlock { block, line } => Gave::PoisonBlock(*block, *line),
+        Command::PoisonVolume { offset } => Gave::PoisonVolume(*offset),
+        Command::PoisonMeta { line } => Gave::PoisonMeta(*line),
+        Command::WeakenVolume { offset } => Gave::WeakenVolume(*offset),
+        Command::ClearVolume { offset } => Gave::ClearVolume(*offset),
+        Command::Cut => Gave::Cut,
+        Command::CutIn { calls } => Gave::CutIn(*calls),
+        Command::FailIn { calls } => Gave::FailIn(*calls),
+        Command::Restart { choice } => Gave::Restart(*choice),
+        Command::Recover => Gave::Recover,
     }
 }
 

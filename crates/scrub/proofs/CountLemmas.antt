@@ -6,8 +6,9 @@ use Rattle.std.proofs.lemmas.Option.{get_or_from_slice_get, none-some, slice_get
 use Rattle.line_device.specs.Medium.{Medium}
 use Rattle.nvm_model.specs.Cell.{Cell, CellStands}
 use Rattle.nvm_model.specs.Cell.Cell.{Bad, Kept}
-use Rattle.nvm_model.specs.Page.{Page, bad_cells, bad_lines, cell_in, cell_of, is_present}
+use Rattle.nvm_model.specs.Page.{Page, PagesStand, bad_cells, bad_lines, cell_in, cell_of, is_present}
 use Rattle.nvm_model.specs.Page.Page.{Absent, Present}
+use Rattle.word_tables.specs.Layout.{volume_line}
 use Rattle.pm_volume.specs.Object.{VolumeHolds, VolumeState, volume_place}
 use Rattle.pm_volume.proofs.BadLemmas.{page_there}
 use Rattle.pm_volume.proofs.PlaceLemmas.{placed}
@@ -69,7 +70,24 @@ cells_bad m first (x ∷ cells) stands =
         subst (λ b. bad_cells cells ≡ cond b 1 0 + count_by m.is_bad (range_with_len (first + 1) (length cells))) (sym kept.0 ∙ ap m.is_bad e)
         (no_more _ _ rest)
 
--- a page whose lines lie from a line on
+-- a page that is there, whose lines lie from a line on
+pub lines_bad : (place : ℕ → ℕ) (m : Medium) (pages : List Page) (page line : ℕ) (cells : List Cell) → PagesStand place m pages
+    → slice_get pages page ≡ Some (Present cells) → ((k : ℕ) → k < 64 → place (64 * page + k) ≡ line + k)
+    → bad_cells cells ≡ count_by m.is_bad (range_with_len line 64)
+lines_bad place m pages page line cells stand was places =
+    cells_bad m line cells each ∙ ap (λ n. count_by m.is_bad (range_with_len line n)) (stand.whole page cells was)
+  where
+    each : (k : ℕ) (cell : Cell) → slice_get cells k ≡ Some cell → CellStands m (line + k) cell
+    each k cell found =
+        let small : k < 64 = omega (arith, slice_get_within cells k cell found, stand.whole page cells was) in
+        let at : (64 * page + k) / 64 ≡ page = omega (arith, small) in
+        let inside : (64 * page + k) % 64 ≡ k = omega (arith, small) in
+        let is : cell_of pages (64 * page + k) ≡ Some cell =
+        ap (λ i. option_and_then (λ p. cell_in p ((64 * page + k) % 64)) (slice_get pages i)) at
+        ∙ ap (option_and_then (λ p. cell_in p ((64 * page + k) % 64))) was
+        ∙ ap (slice_get cells) inside ∙ found in
+        subst (λ n. CellStands m n cell) (places k small) (stand.lines (64 * page + k) cell is)
+
 pub page_bad : (s : VolumeState) (m : Medium) (pages : List Page) (page line : ℕ) → VolumeHolds s m pages
     → ((k : ℕ) → k < 64 → volume_place s.geo s.present true (64 * page + k) ≡ Some (line + k))
     → bad_in_page (nth_page pages page) ≡ count_by m.is_bad (range_with_len line 64)
@@ -86,20 +104,8 @@ page_bad s m pages page line holds places = by_page (slice_get pages page) refl
     by_page (Some Absent) was = let wrong : Some false ≡ Some true = sym (ap (option_map is_present) was) ∙ present in cc
     by_page (Some (Present cells)) was =
         ap bad_in_page (get_or_from_slice_get pages page (Present cells) Absent was)
-        ∙ cells_bad m line cells each
-        ∙ ap (λ n. count_by m.is_bad (range_with_len line n)) (holds.stand.whole page cells was)
-      where
-        each : (k : ℕ) (cell : Cell) → slice_get cells k ≡ Some cell → CellStands m (line + k) cell
-        each k cell found =
-            let small : k < 64 = omega (arith, slice_get_within cells k cell found, holds.stand.whole page cells was) in
-            let at : (64 * page + k) / 64 ≡ page = omega arith in
-            let inside : (64 * page + k) % 64 ≡ k = omega arith in
-            let is : cell_of pages (64 * page + k) ≡ Some cell =
-            ap (λ i. option_and_then (λ p. cell_in p ((64 * page + k) % 64)) (slice_get pages i)) at
-            ∙ ap (option_and_then (λ p. cell_in p ((64 * page + k) % 64))) was
-            ∙ ap (slice_get cells) inside ∙ found in
-            subst (λ n. CellStands m n cell) (placed s.geo s.present true (64 * page + k) (line + k) (places k small)).1
-            (holds.stand.lines (64 * page + k) cell is)
+        ∙ lines_bad (volume_line s.geo) m pages page line cells holds.stand was
+        (λ k small. (placed s.geo s.present true (64 * page + k) (line + k) (places k small)).1)
 
 pub page_bad-none : (s : VolumeState) (m : Medium) (pages : List Page) (page : ℕ) → VolumeHolds s m pages → slice_get s.present page ≡ Some false
     → bad_in_page (nth_page pages page) ≡ 0

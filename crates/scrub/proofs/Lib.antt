@@ -5,3 +5,4 @@ pub mod ChangedLemmas
 pub mod HealLemmas
 pub mod UnitLemmas
 pub mod LostLemmas
+pub mod FileCountLemmas

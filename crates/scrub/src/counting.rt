@@ -2,25 +2,33 @@
 ghost use Rattle.std.specs.Prelude.{◌≡◌, ◌+◌, ◌<◌, ◌≤◌, List, count_by};
 ghost use Rattle.std.specs.List.{range_with_len};
 ghost use Rattle.nvm_model.specs.Blocks.{bad_block_lines, bad_lines_in, nth};
+ghost use Rattle.nvm_model.specs.Files.{bad_file_lines};
 ghost use Rattle.nvm_model.specs.Page.{Page, bad_lines};
+ghost use Rattle.nvm_model.specs.Storage.{File};
 ghost use Rattle.block_device.specs.Object.{BlocksServe, blocks_of};
+ghost use Rattle.file_journal.specs.Object.{JournalServes};
+ghost use Rattle.file_journal.specs.Standing.{FilesStand};
 ghost use Rattle.pm_volume.specs.Object.{VolumeHolds, VolumeServes};
 ghost use Rattle.scrub.specs.Counting.{bad_in_page, nth_page};
 
+use crate::bad_in_files;
 use block_device::Blocks;
+use file_journal::Journal;
 use line_device::Lines;
 use nvm_base::{BLOCK, LINE, LineNo, PAGE};
 use pm_volume::Volume;
 
 /// How many lines of all that is there are bad.
-pub fn bad_count<L: Lines>(dev: &L, blocks: &Blocks, volume: &Volume) -> u64
+pub fn bad_count<L: Lines>(dev: &L, blocks: &Blocks, volume: &Volume, journal: &Journal) -> u64
     requires blocks { BlocksServe blocks.now (L.state dev.now).medium }
     requires volume { VolumeServes volume.now (L.state dev.now).medium }
+    requires journal { JournalServes journal.now (L.state dev.now).medium }
     ensures count { (pages : List Page) → VolumeHolds volume.now (L.state dev.now).medium pages
-        → result ≡ bad_block_lines (blocks_of blocks.now (L.state dev.now).medium) + bad_lines pages }
-    ensures few { result ≤ 49_152 }
+        → (files : List File) → FilesStand journal.now.geo (L.state dev.now).medium journal.now.tables files
+        → result ≡ bad_block_lines (blocks_of blocks.now (L.state dev.now).medium) + bad_lines pages + bad_file_lines files }
+    ensures few { result ≤ 114_688 }
 {
-    bad_in_blocks(dev, blocks) + bad_in_volume(dev, volume)
+    bad_in_blocks(dev, blocks) + bad_in_volume(dev, volume) + bad_in_files(dev, journal)
 }
 
 /// How many lines of blocks that have lines are bad: a scarred block has none.
@@ -75,7 +83,7 @@ fn count_in_page<L: Lines>(dev: &L, volume: &Volume, page: u64) -> u64
 }
 
 // How many of so many lines of the device, from the first on, are bad.
-fn count_among<L: Lines>(dev: &L, first: u64, count: u64) -> u64
+pub(crate) fn count_among<L: Lines>(dev: &L, first: u64, count: u64) -> u64
     requires { first + count ≤ (L.state dev.now).medium.count }
     ensures count { result ≡ count_by (L.state dev.now).medium.is_bad (range_with_len first count) }
     ensures few { result ≤ count }

@@ -1,4 +1,4 @@
-//! Media errors of blocks and volume: made, counted and cleared.
+//! Media errors of blocks, volume and files: made, counted and cleared.
 // A media error takes the line of a place, wherever the place's storage lies. A clear is one step, and works on a line that is
 // bad alone: what a healthy line holds is never given up.
 #![tactic(auto)]
@@ -6,6 +6,7 @@
 mod clearing;
 mod counting;
 mod fault;
+mod files;
 mod places;
 mod poisoning;
 #[cfg(test)]
@@ -15,5 +16,6 @@ mod weakening;
 pub use clearing::clear_volume;
 pub use counting::{bad_count, bad_in_blocks, bad_in_volume};
 pub use fault::{PlaceFault, ScrubFault, WeakenFault};
+pub use files::bad_in_files;
 pub use poisoning::{poison_block, poison_volume};
 pub use weakening::weaken_volume;

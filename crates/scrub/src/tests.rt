@@ -1,4 +1,4 @@
-// Stories of bad lines of a volume on a plain device, told by what a caller sees.
+// Stories of bad lines on a plain device, told by what a caller sees.
 ghost use Rattle.std.specs.Prelude.{◌≡◌, false, IfOk, IsTrue};
 ghost use Rattle.line_device.specs.Medium.{WritesBack};
 ghost use Rattle.nvm_model.specs.Lines.{AreStrong};
@@ -15,6 +15,7 @@ use word_tables::Geometry;
 
 mod blocks;
 mod clears;
+mod files;
 mod made;
 
 const SMALL: Geometry = Geometry {

@@ -10,6 +10,7 @@ ghost use Rattle.machine_host.specs.Responding.{Responds};
 use super::Host;
 use line_device::LineDevice;
 use nvm_base::BLOCK;
+use page_table::INODES;
 use reply_text::Reply;
 use script_text::Command;
 use std::alloc::AllocError;
@@ -23,6 +24,7 @@ pub fn longest_reply(command: &Command) -> u64
         Command::BRead { count, .. } => 64 + 3 * (BLOCK * *count),
         Command::VLoad { len, .. } => 64 + 3 * *len,
         Command::VRanges => 133,
+        Command::List => 64 + 54 * INODES,
         Command::BWrite { .. }
         | Command::BAtomic { .. }
         | Command::BMulti { .. }
@@ -36,6 +38,10 @@ pub fn longest_reply(command: &Command) -> u64
         | Command::VDiscard { .. }
         | Command::VDiscardIf { .. }
         | Command::VExists { .. }
+        | Command::Create { .. }
+        | Command::Delete { .. }
+        | Command::Rename { .. }
+        | Command::Resize { .. }
         | Command::PoisonBlock { .. }
         | Command::PoisonVolume { .. }
         | Command::PoisonMeta { .. }
@@ -81,6 +87,11 @@ impl Host {
             Command::VDiscard { page, count } => Ok(self.vdiscard(device, *page, *count)),
             Command::VDiscardIf { page, count } => Ok(self.vdiscardif(device, *page, *count)),
             Command::VExists { page } => Ok(self.vexists(device, *page)),
+            Command::Create { name, pages } => Ok(self.create(device, name, *pages)),
+            Command::Delete { name } => Ok(self.delete(device, name)),
+            Command::Rename { name, to } => Ok(self.rename(device, name, to)),
+            Command::Resize { name, pages } => Ok(self.resize(device, name, *pages)),
+            Command::List => self.list(device),
             Command::PoisonBlock { block, line } => Ok(self.poison_block(device, *block, *line)),
             Command::PoisonVolume { offset } => Ok(self.poison_volume(device, *offset)),
             Command::PoisonMeta { line } => Ok(self.poison_meta(device, *line)),

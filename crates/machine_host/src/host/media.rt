@@ -74,13 +74,13 @@ impl Host {
         self.cleared(call)
     }
 
-    /// How many lines of the blocks and pages that are there are bad. It makes no counted call.
+    /// How many lines of the blocks, pages and files that are there are bad. It makes no counted call.
     pub fn bad_lines<D: LineDevice>(&self, device: &D) -> u64
         requires serves { HostServes self.now (D.state device.now) }
         requires on { self.now.mode ≡ On }
         ensures { (h : Machine) → Stands self.now (D.state device.now) h → result ≡ bad_of h }
     {
-        bad_count(device, &self.blocks, &self.volume)
+        bad_count(device, &self.blocks, &self.volume, &self.journal)
     }
 
     // What a clear is answered, and the mode after it.

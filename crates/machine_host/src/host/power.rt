@@ -4,6 +4,7 @@ ghost use Rattle.machine_host.specs.declared.mode.Mode.TheVariants.{On, Off, Uns
 ghost use Rattle.script_text.specs.Action.Action.{Cut, CutIn, FailIn, Restart, Recover};
 ghost use Rattle.reply_text.specs.Answer.{answer_of};
 ghost use Rattle.block_device.specs.Object.{BlocksServe};
+ghost use Rattle.file_journal.specs.Object.{JournalServes};
 ghost use Rattle.pm_volume.specs.Object.{VolumeServes};
 ghost use Rattle.recovery.specs.declared.fault.MountFault.TheVariants.{Memory};
 ghost use Rattle.machine_host.specs.Stands.{HostServes};
@@ -81,20 +82,22 @@ impl Host {
     fn mounted<D: LineDevice>(&mut self, device: &D, mounted: Mounted) -> Reply
         requires blocks { BlocksServe mounted.blocks (D.state device.now).medium }
         requires volume { VolumeServes mounted.volume (D.state device.now).medium }
-        ensures state { self.new ≡ record self.old { mode = On; blocks = mounted.blocks; volume = mounted.volume } }
-        ensures answer { CountsBad mounted.blocks mounted.volume (D.state device.now).medium (answer_of result) }
+        requires journal { JournalServes mounted.journal (D.state device.now).medium }
+        ensures state { self.new ≡ record self.old { mode = On; blocks = mounted.blocks; volume = mounted.volume; journal = mounted.journal } }
+        ensures answer { CountsBad mounted.blocks mounted.volume mounted.journal (D.state device.now).medium (answer_of result) }
     {
-        let bad = bad_count(device, &mounted.blocks, &mounted.volume);
+        let bad = bad_count(device, &mounted.blocks, &mounted.volume, &mounted.journal);
         self.take(mounted);
         Reply::DoneBad(bad)
     }
 
     // The host takes over what was mounted.
     pub(super) fn take(&mut self, mounted: Mounted)
-        ensures { self.new ≡ record self.old { mode = On; blocks = mounted.blocks; volume = mounted.volume } }
+        ensures { self.new ≡ record self.old { mode = On; blocks = mounted.blocks; volume = mounted.volume; journal = mounted.journal } }
     {
         self.blocks = mounted.blocks;
         self.volume = mounted.volume;
+        self.journal = mounted.journal;
         self.mode = Mode::On;
     }
 

@@ -94,6 +94,11 @@ fn needs(command: &Command) -> Needs
         | Command::VDiscard { .. }
         | Command::VDiscardIf { .. }
         | Command::VExists { .. }
+        | Command::Create { .. }
+        | Command::Delete { .. }
+        | Command::Rename { .. }
+        | Command::Resize { .. }
+        | Command::List
         | Command::PoisonBlock { .. }
         | Command::PoisonVolume { .. }
         | Command::WeakenVolume { .. }
@@ -133,6 +138,11 @@ fn place_refusal(geo: Geometry, command: &Command) -> Option<Why>
         | Command::VDiscard { .. }
         | Command::VDiscardIf { .. }
         | Command::VExists { .. }
+        | Command::Create { .. }
+        | Command::Delete { .. }
+        | Command::Rename { .. }
+        | Command::Resize { .. }
+        | Command::List
         | Command::PoisonBlock { .. }
         | Command::PoisonVolume { .. }
         | Command::WeakenVolume { .. }

@@ -12,6 +12,8 @@ use std::process::Abort;
 use std::test::Fail;
 use word_tables::Geometry;
 
+mod files;
+
 // A fresh device, and its host.
 fn set_up(alloc: Global) -> Result<(Host, Plain), Fail>
     ensures { IfOk result (λ both. GoesOn both.0 (device_of both.1)) }

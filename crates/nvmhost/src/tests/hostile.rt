@@ -57,7 +57,7 @@ fn set_count(bytes: &mut [u8]) {
 }
 
 // Each change with what is said.
-static CHANGES: [(Change, &str); 19] = [
+static CHANGES: [(Change, &str); 22] = [
     (Change::Byte(0, 0), "error image 0\n"),
     (Change::Byte(8, 9), "error image 8\n"),
     (Change::TwoWords(0, 0, 0), "error layout 0\n"),
@@ -77,6 +77,9 @@ static CHANGES: [(Change, &str); 19] = [
     (Change::Word(152, 2), "error layout 152\n"),
     (Change::Word(673, 2), "error layout 673\n"),
     (Change::Word(674, 2), "ok 5056 bad 0\n"),
+    (Change::Word(680, 2), "error layout 680\n"),
+    (Change::Word(1232, 1), "error layout 1233\n"),
+    (Change::Word(1744, 1), "error layout 1744\n"),
 ];
 
 #[test]

@@ -12,7 +12,7 @@ const TO_ALL_KINDS: &str =
     "ok\nok\npower lost\nok\nrefused device\nok bad 0\nok\nok\nrefused device\nok\nok bad 0\ndata 11*512\nok\ndata aa*4,00*4\nrefused meta 9\nok\nrefused device\nstopped meta 9\nok\nrefused meta 3\nok\nstopped meta 3\nok\n";
 
 /// Lines to draw from, with cuts, failures and media errors.
-pub static LINES: [&str; 40] = [
+pub static LINES: [&str; 48] = [
     "bwrite 0 11*1024\n",
     "batomic 1 22*1024\n",
     "bmulti 0 33*512 3 44*512\n",
@@ -33,6 +33,14 @@ pub static LINES: [&str; 40] = [
     "vsync 4032 128\n",
     "vdiscard 1 1\n",
     "vexists 1\n",
+    "create a 1\n",
+    "create b 3\n",
+    "rename a c\n",
+    "rename c b\n",
+    "resize b 2\n",
+    "delete a\n",
+    "delete b\n",
+    "list\n",
     "poison volume 64\n",
     "poison block 0 3\n",
     "weaken volume 0\n",
@@ -60,7 +68,7 @@ pub const LAST_LINES: &str =
     "restart all\nrecover\npoison meta 9\nbread 0 1\nvload 0 8\nbscar 0 1\ncut\nrestart all\npoison meta 5\nbread 0 1\n";
 
 /// Each script with its replies.
-pub static STORIES: [(&str, &str); 31] = [
+pub static STORIES: [(&str, &str); 37] = [
     // What is not synced may be lost, or kept.
     (
         "vstore 0 07*8\ncut\nrestart none\nvload 0 8\n",
@@ -188,6 +196,33 @@ pub static STORIES: [(&str, &str); 31] = [
     (
         "poison meta 7\ncut\nrestart all\nfail in 3\ncut in 3\nfail in 0\nrestart all\nrecover\n",
         "ok\nok\nstopped meta 7\nok\nok\nrefused range\nrefused on\nrefused meta 7\n",
+    ),
+    // Files: made, listed in order of name, renamed and deleted.
+    (
+        "list\ncreate a 0\ncreate a 1\ncreate b 257\nrename a a\nlist\ndelete a\ndelete a\n",
+        "files\nok\nrefused exists\nrefused limit\nrefused exists\nfiles a:0\nok\nrefused missing\n",
+    ),
+    (
+        "create b 1\ncreate d 2\ncreate c 3\nrename b e\nlist\nresize d 0\nrename d a\nlist\ncut\nrestart none\nlist\n",
+        "ok\nok\nok\nok\nfiles c:3 d:2 e:1\nok\nok\nfiles a:0 c:3 e:1\nok\nok bad 0\nfiles a:0 c:3 e:1\n",
+    ),
+    (
+        "create A 1\ncreate abcdefghijklmnopqrstuvwxyz-_.456 1\ncreate abcdefghijklmnopqrstuvwxyz-_.4567 1\nlist a\nlist\n",
+        "refused syntax\nok\nrefused syntax\nrefused syntax\nfiles abcdefghijklmnopqrstuvwxyz-_.456:1\n",
+    ),
+    // A change of files that is cut, and one that fails, early in it.
+    (
+        "create a 1\ncut in 2\nrename a b\nlist\nrestart all\nlist\ncut in 2\ndelete a\nrestart none\nlist\n",
+        "ok\nok\npower lost\nrefused off\nok bad 0\nfiles a:1\nok\npower lost\nok bad 0\nfiles a:1\n",
+    ),
+    (
+        "create a 1\nfail in 2\ndelete a\nlist\nrecover\nlist\n",
+        "ok\nok\nrefused device\nrefused recover\nok bad 0\nfiles a:1\n",
+    ),
+    // Bad metadata stops changes of them, and the list once the device is mounted anew.
+    (
+        "create a 1\npoison meta 154\ncreate a 1\ncreate b 1\ndelete b\nrename a b\nlist\ncut\nrestart all\nlist\n",
+        "ok\nok\nrefused exists\nrefused meta 154\nrefused missing\nrefused meta 154\nfiles a:1\nok\nstopped meta 154\nrefused meta 154\n",
     ),
     (ALL_KINDS, TO_ALL_KINDS),
 ];

@@ -5,7 +5,7 @@ ghost use Rattle.test_devices.specs.Faulty.{faulty};
 ghost use Rattle.test_devices.specs.Fuse.{fused};
 ghost use Rattle.block_device.specs.Object.{BlocksServe};
 
-use super::{LINES, byte_of, fresh, open, write};
+use super::{LINES, byte_of, fresh, inode_of, open, write};
 use crate::{MountFault, Mounted, mount};
 use block_device::BlockFault;
 use line_device::{Choice, Lines, Plain};
@@ -14,9 +14,9 @@ use std::alloc::Global;
 use std::test::Fail;
 use test_devices::{Faulty, Fuse};
 
-// The words of two open logs: one puts block 3 on the first unit and scars block 4, the other makes page 1 be there; and a
-// word of that unit.
-const OPEN: [(u64, u64); 11] = [
+// The words of three open logs, of a word of the first unit, and of a file `a` of one page. The logs put block 3 on that unit and
+// scar block 4; make page 1 be there; and give the file the name `b`, and its page unit 4.
+static OPEN: [(u64, u64); 19] = [
     (8 * 2368, 7),
     (9, 2),
     (16, 147),
@@ -26,11 +26,19 @@ const OPEN: [(u64, u64); 11] = [
     (153, 1),
     (160, 673),
     (161, 1),
+    (1232, 2),
+    (1233, 0x61),
+    (681, 2),
+    (688, 1233),
+    (689, 0x62),
+    (690, 1744),
+    (691, 5),
+    (680, 1),
     (152, 1),
     (8, 1),
 ];
 
-// A device with the two logs open.
+// A device with the three logs open.
 fn unfinished(alloc: Global) -> Result<Plain, Fail> {
     let mut device = fresh(alloc, LINES)?;
     if !write(&mut device, &OPEN) {
@@ -39,7 +47,7 @@ fn unfinished(alloc: Global) -> Result<Plain, Fail> {
     Ok(device)
 }
 
-// Whether what the two logs say is there.
+// Whether what the three logs say is there.
 fn is_replayed<L: Lines>(mounted: &mut Mounted, dev: &mut L) -> bool
     requires { IsTrue mounted.old.blocks.settled → BlocksServe mounted.old.blocks (L.state dev.old).medium }
 {
@@ -48,6 +56,9 @@ fn is_replayed<L: Lines>(mounted: &mut Mounted, dev: &mut L) -> bool
         && mounted.blocks.exists(5) == Ok(false)
         && mounted.volume.exists(0) == Ok(false)
         && mounted.volume.exists(1) == Ok(true)
+        && inode_of(&mounted.journal, b"a") == None
+        && inode_of(&mounted.journal, b"b") == Some(0)
+        && mounted.journal.unit(0, 0) == Some(4)
 }
 
 // Takes a plain device behind a fuse through a cut, and mounts it.
@@ -68,15 +79,24 @@ fn start_faulty(
     open(alloc, dev, choice)
 }
 
+// How a mount of the device as it is ends.
+fn first_mount<L: Lines>(alloc: Global, dev: &mut L) -> Result<Option<MountFault>, Fail> {
+    if !dev.power() || dev.lines() == 0 {
+        return Err(Fail::from("no device"));
+    }
+    Ok(mount(alloc, dev).err())
+}
+
 #[test]
 fn a_cut_mount_is_begun_again(rt: HostRuntime) -> Result<(), Fail> {
     for choice in [Choice::Firsts, Choice::Lasts] {
         let mut done = false;
-        for calls in 0..2_000_u64 {
+        for calls in 0..9_040_u64 {
             let mut fuse = Fuse::new(unfinished(rt.alloc())?, calls);
-            let fault = start_fused(rt.alloc(), &mut fuse, choice).err();
+            let fault = first_mount(rt.alloc(), &mut fuse)?;
             done = fault.is_none();
             assert!(rt; done || fault == Some(MountFault::PowerLost));
+            assert!(rt; done != (fuse.counts().cuts == 1));
             let mut mounted = start_fused(rt.alloc(), &mut fuse, choice)?;
             assert!(rt; is_replayed(&mut mounted, &mut fuse), "after {calls}");
             if done {
@@ -88,24 +108,20 @@ fn a_cut_mount_is_begun_again(rt: HostRuntime) -> Result<(), Fail> {
     Ok(())
 }
 
-// The device after a mount in which the call of this number failed, and how that ended.
-fn mount_failing(alloc: Global, number: u64) -> Result<(Faulty<Plain>, Option<MountFault>), Fail> {
+// A device of which the call of this number fails.
+fn failing(alloc: Global, number: u64) -> Result<Faulty<Plain>, Fail> {
     let mut fails = Words::new(alloc);
     fails.push(number)?;
-    let mut device = Faulty::new(unfinished(alloc)?, fails);
-    if !device.power() || device.lines() == 0 {
-        return Err(Fail::from("no device"));
-    }
-    let fault = mount(alloc, &mut device).err();
-    Ok((device, fault))
+    Ok(Faulty::new(unfinished(alloc)?, fails))
 }
 
 #[test]
 fn a_mount_that_failed_is_begun_again(rt: HostRuntime) -> Result<(), Fail> {
     for choice in [Choice::Firsts, Choice::Lasts] {
         let mut done = false;
-        for number in 1..2_000_u64 {
-            let (mut device, fault) = mount_failing(rt.alloc(), number)?;
+        for number in 1..9_041_u64 {
+            let mut device = failing(rt.alloc(), number)?;
+            let fault = first_mount(rt.alloc(), &mut device)?;
             done = fault.is_none();
             assert!(rt; done || fault == Some(MountFault::Device));
             let mut mounted = start_faulty(rt.alloc(), &mut device, choice)?;

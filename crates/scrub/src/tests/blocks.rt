@@ -4,8 +4,8 @@ ghost use Rattle.line_device.specs.Plain.{device_of};
 ghost use Rattle.block_device.specs.Object.{BlocksServe};
 ghost use Rattle.pm_volume.specs.Object.{VolumeServes};
 
-use super::{SMALL, fresh, is_ready, open, spoil, store, switch_off};
-use crate::{PlaceFault, bad_count, bad_in_blocks, poison_block};
+use super::{SMALL, fresh, is_ready, switch_off};
+use crate::{PlaceFault, bad_in_blocks, poison_block};
 use block_device::{BlockFault, Blocks, MountFault};
 use line_device::{Choice, LineDevice, Lines, Plain};
 use nvm_base::Span;
@@ -14,7 +14,7 @@ use std::alloc::Global;
 use std::test::Fail;
 
 // Takes a device through a cut, and mounts its blocks.
-fn start(alloc: Global, dev: &mut Plain) -> Result<Blocks, MountFault>
+pub(super) fn start(alloc: Global, dev: &mut Plain) -> Result<Blocks, MountFault>
     ensures serves { IfOk result (λ blocks. IsTrue blocks.settled → BlocksServe blocks (device_of dev.new).medium) }
     ensures settled { IfOk result (λ blocks. IsTrue blocks.settled) }
     ensures geo { IfOk result (λ blocks. blocks.geo ≡ SMALL) }
@@ -28,9 +28,10 @@ fn start(alloc: Global, dev: &mut Plain) -> Result<Blocks, MountFault>
 }
 
 // The same, and its volume.
-fn start_both(alloc: Global, dev: &mut Plain) -> Result<(Blocks, Volume), Fail>
+pub(super) fn start_both(alloc: Global, dev: &mut Plain) -> Result<(Blocks, Volume), Fail>
     ensures blocks { IfOk result (λ both. IsTrue both.0.settled → BlocksServe both.0 (device_of dev.new).medium) }
     ensures volume { IfOk result (λ both. VolumeServes both.1 (device_of dev.new).medium) }
+    ensures geo { IfOk result (λ both. (both.0.geo ≡ SMALL) × (both.1.geo ≡ SMALL)) }
 {
     let blocks = start(alloc, dev)?;
     if !is_ready(dev) {
@@ -41,7 +42,7 @@ fn start_both(alloc: Global, dev: &mut Plain) -> Result<(Blocks, Volume), Fail>
 }
 
 // Three blocks written, and the second of them scarred.
-fn fill(blocks: &mut Blocks, dev: &mut Plain) -> Result<(), BlockFault>
+pub(super) fn fill(blocks: &mut Blocks, dev: &mut Plain) -> Result<(), BlockFault>
     requires serves { BlocksServe blocks.old (device_of dev.old).medium }
     requires settled { IsTrue blocks.old.settled }
     ensures { IsTrue blocks.new.settled → BlocksServe blocks.new (device_of dev.new).medium }
@@ -96,21 +97,5 @@ fn lines_of_blocks_are_lost(rt: HostRuntime) -> Result<(), Fail> {
     let mut blocks = start(rt.alloc(), &mut device)?;
     let first = obstacle(&mut blocks, &mut device, 0);
     assert_eq!(rt; first, Err(BlockFault::Poison(0, 2)));
-    Ok(())
-}
-
-#[test]
-fn all_bad_lines_are_counted(rt: HostRuntime) -> Result<(), Fail> {
-    let mut device = fresh(rt.alloc())?;
-    let mut volume = open(rt.alloc(), &mut device, Choice::Lasts)?;
-    store(&mut volume, &mut device, 0, &[5])?;
-    let mut blocks = start(rt.alloc(), &mut device)?;
-    fill(&mut blocks, &mut device)?;
-    assert!(rt; blocks.settled());
-    poison_block(&mut device, &blocks, 2, 5)?;
-    spoil(&mut device, 2305);
-    let (blocks, volume) = start_both(rt.alloc(), &mut device)?;
-    assert!(rt; blocks.settled());
-    assert_eq!(rt; bad_count(&device, &blocks, &volume), 2);
     Ok(())
 }

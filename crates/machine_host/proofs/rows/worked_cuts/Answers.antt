@@ -10,6 +10,9 @@ use Rattle.pm_volume.specs.Presence.{words_read}
 use Rattle.nvm_model.specs.Blocks.{write, look_blocks}
 use Rattle.word_log.specs.Replay.{listed}
 use Rattle.block_device.specs.Reading.{states_read, blocks_read}
+use Rattle.inode_table.specs.Words.{slots_of}
+use Rattle.file_journal.specs.Reading.{tables_of, words_read as file_words}
+use Rattle.file_journal.specs.Standing.{files_read}
 use Rattle.reply_text.specs.Answer.{answer_line}
 use Rattle.script_text.specs.Script.{lines_of, words_of, command_action, line_input}
 use Rattle.machine_host.specs.Commands.{refusal}
@@ -31,7 +34,7 @@ unfolding digits number_of data_of runs_of answer_line lines_of words_of command
 many_in_ranges = refl
 
 pub returns-clause-writes : goal.returns-clause-writes
-unfolding digits number_of data_of runs_of data_within data_text read_pages answer_line lines_of words_of command_action line_input refusal size first_line total_lines volume_line reading write look_blocks states_read blocks_read listed words_read
+unfolding digits number_of data_of runs_of data_within data_text read_pages answer_line lines_of words_of command_action line_input refusal size first_line total_lines volume_line reading write look_blocks states_read blocks_read listed files_read file_words tables_of slots_of words_read
 returns-clause-writes c = record {
   ranges_apart_and_whole = refl;
   sixty_four_together = many_together;

@@ -10,6 +10,9 @@ use Rattle.pm_volume.specs.Presence.{words_read}
 use Rattle.nvm_model.specs.Blocks.{look_blocks, write}
 use Rattle.word_log.specs.Replay.{listed}
 use Rattle.block_device.specs.Reading.{states_read, blocks_read}
+use Rattle.inode_table.specs.Words.{slots_of}
+use Rattle.file_journal.specs.Reading.{tables_of, words_read as file_words}
+use Rattle.file_journal.specs.Standing.{files_read}
 use Rattle.reply_text.specs.Answer.{answer_line}
 use Rattle.script_text.specs.Script.{lines_of, words_of, command_action, line_input}
 use Rattle.machine_host.specs.Commands.{refusal}
@@ -18,7 +21,7 @@ use Rattle.machine_host.proofs.FailureRunLemmas.{cut_before_failure, pair_all_or
 use Rattle.machine_host.proofs.rows.worked_failures.Goals as goal
 
 pub returns-clause-failures : goal.returns-clause-failures
-unfolding digits word_from byte_over word_over reaches number_of runs_of data_within data_text fill put persist discard first_bad_line first_uncovered_line look read_pages words_read answer_line lines_of words_of command_action line_input refusal size first_line total_lines volume_line reading write look_blocks states_read blocks_read listed
+unfolding digits word_from byte_over word_over reaches number_of runs_of data_within data_text fill put persist discard first_bad_line first_uncovered_line look read_pages words_read answer_line lines_of words_of command_action line_input refusal size first_line total_lines volume_line reading write look_blocks states_read blocks_read listed files_read file_words tables_of slots_of
 returns-clause-failures c = record {
   stopped_at_the_next_mount = refl;
   last_line_of_metadata = refl;

@@ -10,6 +10,9 @@ use Rattle.pm_volume.specs.Presence.{words_read}
 use Rattle.nvm_model.specs.Blocks.{write, change, look_blocks, lose}
 use Rattle.word_log.specs.Replay.{listed}
 use Rattle.block_device.specs.Reading.{states_read, blocks_read}
+use Rattle.inode_table.specs.Words.{slots_of}
+use Rattle.file_journal.specs.Reading.{tables_of, words_read as file_words}
+use Rattle.file_journal.specs.Standing.{files_read}
 use Rattle.reply_text.specs.Answer.{answer_line}
 use Rattle.script_text.specs.Script.{lines_of, words_of, command_action, line_input}
 use Rattle.machine_host.specs.Commands.{refusal}
@@ -17,7 +20,7 @@ use Rattle.machine_host.specs.Restarting.{reading}
 use Rattle.machine_host.proofs.rows.worked_scripts.Goals as goal
 
 pub returns-clause-volume : goal.returns-clause-volume
-unfolding digits word_from byte_over word_over reaches number_of runs_of data_within data_text fill put persist discard first_bad_line first_uncovered_line look read_pages words_read answer_line lines_of words_of command_action line_input refusal size first_line total_lines volume_line reading states_read blocks_read listed
+unfolding digits word_from byte_over word_over reaches number_of runs_of data_within data_text fill put persist discard first_bad_line first_uncovered_line look read_pages words_read answer_line lines_of words_of command_action line_input refusal size first_line total_lines volume_line reading states_read blocks_read listed files_read file_words tables_of slots_of
 returns-clause-volume c = record {
   unsynced_store_lost = refl;
   synced_store_kept = refl;
@@ -32,7 +35,7 @@ returns-clause-volume c = record {
 }
 
 pub returns-clause-blocks : goal.returns-clause-blocks
-unfolding digits word_from byte_over word_over reaches number_of runs_of data_within data_text fill put persist discard first_bad_line first_uncovered_line look read_pages words_read answer_line lines_of words_of command_action line_input refusal size first_line total_lines volume_line reading write change look_blocks states_read blocks_read listed
+unfolding digits word_from byte_over word_over reaches number_of runs_of data_within data_text fill put persist discard first_bad_line first_uncovered_line look read_pages words_read answer_line lines_of words_of command_action line_input refusal size first_line total_lines volume_line reading write change look_blocks states_read blocks_read listed files_read file_words tables_of slots_of
 returns-clause-blocks c = record {
   read_of_new_blocks = refl;
   discard_of_absent_block = refl;
@@ -47,7 +50,7 @@ returns-clause-blocks c = record {
 }
 
 pub returns-clause-pages : goal.returns-clause-pages
-unfolding digits word_from byte_over word_over reaches number_of runs_of data_within data_text fill put persist discard first_bad_line first_uncovered_line look read_pages words_read answer_line lines_of words_of command_action line_input refusal size first_line total_lines volume_line reading states_read blocks_read listed
+unfolding digits word_from byte_over word_over reaches number_of runs_of data_within data_text fill put persist discard first_bad_line first_uncovered_line look read_pages words_read answer_line lines_of words_of command_action line_input refusal size first_line total_lines volume_line reading states_read blocks_read listed files_read file_words tables_of slots_of
 returns-clause-pages c = record {
   half_synced_by_its_address = refl;
   store_over_the_end_of_a_range = refl;
@@ -61,7 +64,7 @@ returns-clause-pages c = record {
 }
 
 pub returns-clause-errors : goal.returns-clause-errors
-unfolding digits word_from byte_over word_over reaches number_of runs_of data_within data_text change_line fill put persist discard first_bad_line first_uncovered_line look read_pages words_read answer_line lines_of words_of command_action line_input refusal size first_line total_lines volume_line reading write change look_blocks lose states_read blocks_read listed
+unfolding digits word_from byte_over word_over reaches number_of runs_of data_within data_text change_line fill put persist discard first_bad_line first_uncovered_line look read_pages words_read answer_line lines_of words_of command_action line_input refusal size first_line total_lines volume_line reading write change look_blocks lose states_read blocks_read listed files_read file_words tables_of slots_of
 returns-clause-errors c = record {
   bad_line_of_the_volume = refl;
   bad_line_of_a_block = refl;

@@ -5,6 +5,7 @@ use Rattle.block_device.proofs.ZerosLemmas.{zeros_absent}
 use Rattle.nvm_model.specs.Numbered.{list_from}
 use Rattle.nvm_model.specs.Storage.Block.{Absent}
 use Rattle.recovery.proofs.FreshLemmas.{fresh_told, fresh_mountable, fresh_early, fresh_first, fresh_reads}
+use Rattle.recovery.proofs.FreshFileLemmas.{fresh_files}
 use Rattle.recovery.proofs.FreshPageLemmas.{fresh_pages}
 use Rattle.recovery.proofs.laws.fresh_devices_are_in_order.Goals as goal
 
@@ -27,3 +28,6 @@ returns-clause-blocks c geo m fresh =
 
 pub returns-clause-pages : goal.returns-clause-pages
 returns-clause-pages c geo m fresh = fresh_pages geo m fresh
+
+pub returns-clause-files : goal.returns-clause-files
+returns-clause-files c geo m fresh = fresh_files geo m fresh

@@ -4,7 +4,8 @@ use Rattle.block_device.proofs.ReachLemmas.{keeps_reads-write_back}
 use Rattle.recovery.specs.declared.Mounted.{Mounted}
 use Rattle.recovery.specs.Findings.{geometry_told, first_finding}
 use Rattle.recovery.proofs.FindingLemmas.{finds_before, finds_on, finds_stopped, handed, inspected_parts}
-use Rattle.recovery.proofs.MountLemmas.{logs_same, mount_closed, mount_finds, mount_ok, mount_outside, mount_presence, mount_reads, mount_serves, mount_volume, presence_kept}
+use Rattle.recovery.proofs.LeaveLemmas.{leaves-write_back}
+use Rattle.recovery.proofs.MountLemmas.{logs_same, mount_finds, mount_journal, mount_left, mount_ok, mount_reads, mount_serves, mount_volume}
 use Rattle.recovery.proofs.mounting.mount.Goals as goal
 
 pub returns-in_err-geo-clause-finds : goal.returns-in_err-geo-clause-finds
@@ -21,7 +22,12 @@ returns-in_err-geo-clause-reads g c =
 pub returns-in_err-geo-clause-presence : goal.returns-in_err-geo-clause-presence
 returns-in_err-geo-clause-presence g c =
     let old = (g.L.Lines.state c.args.dev.now).medium in
-    presence_kept (geometry_told old) old (g.L.Lines.state c.inspect.new.dev).medium c.in_err-geo.ensures.lines
+    (leaves-write_back (geometry_told old) old (g.L.Lines.state c.inspect.new.dev).medium c.in_err-geo.ensures.lines).volume
+
+pub returns-in_err-geo-clause-files : goal.returns-in_err-geo-clause-files
+returns-in_err-geo-clause-files g c =
+    let old = (g.L.Lines.state c.args.dev.now).medium in
+    (leaves-write_back (geometry_told old) old (g.L.Lines.state c.inspect.new.dev).medium c.in_err-geo.ensures.lines).files
 
 pub replay_logs-requires-clause-right : goal.replay_logs-requires-clause-right
 replay_logs-requires-clause-right g c =
@@ -41,7 +47,7 @@ returns-in_err-tables-clause-reads g c =
     let now = (g.L.Lines.state c.inspect.new.dev).medium in
     let new = (g.L.Lines.state c.replay_logs.new.dev).medium in
     let geo = c.in_ok-geo.ensures in
-    λ _. mount_reads old now c.in_ok-geo.geo geo.geo geo.lines new geo.order c.in_err-tables.ensures.outside c.in_err-tables.ensures.blocks
+    λ _. mount_reads old now c.in_ok-geo.geo geo.geo geo.lines new geo.order c.in_err-tables.ensures.left
 
 pub returns-in_err-tables-clause-presence : goal.returns-in_err-tables-clause-presence
 returns-in_err-tables-clause-presence g c =
@@ -49,7 +55,15 @@ returns-in_err-tables-clause-presence g c =
     let now = (g.L.Lines.state c.inspect.new.dev).medium in
     let new = (g.L.Lines.state c.replay_logs.new.dev).medium in
     let geo = c.in_ok-geo.ensures in
-    mount_presence old now c.in_ok-geo.geo geo.geo geo.lines new c.in_err-tables.ensures.volume
+    (mount_left old now c.in_ok-geo.geo geo.geo geo.lines new geo.order c.in_err-tables.ensures.left).volume
+
+pub returns-in_err-tables-clause-files : goal.returns-in_err-tables-clause-files
+returns-in_err-tables-clause-files g c =
+    let old = (g.L.Lines.state c.args.dev.now).medium in
+    let now = (g.L.Lines.state c.inspect.new.dev).medium in
+    let new = (g.L.Lines.state c.replay_logs.new.dev).medium in
+    let geo = c.in_ok-geo.ensures in
+    (mount_left old now c.in_ok-geo.geo geo.geo geo.lines new geo.order c.in_err-tables.ensures.left).files
 
 pub returns-in_err-tables-clause-closed : goal.returns-in_err-tables-clause-closed
 returns-in_err-tables-clause-closed g c =
@@ -57,7 +71,7 @@ returns-in_err-tables-clause-closed g c =
     let now = (g.L.Lines.state c.inspect.new.dev).medium in
     let new = (g.L.Lines.state c.replay_logs.new.dev).medium in
     let geo = c.in_ok-geo.ensures in
-    mount_closed old now c.in_ok-geo.geo geo.geo geo.lines new c.in_err-tables.ensures.closed
+    (mount_left old now c.in_ok-geo.geo geo.geo geo.lines new geo.order c.in_err-tables.ensures.left).closed
 
 pub returns-in_err-tables-clause-outside : goal.returns-in_err-tables-clause-outside
 returns-in_err-tables-clause-outside g c =
@@ -65,7 +79,7 @@ returns-in_err-tables-clause-outside g c =
     let now = (g.L.Lines.state c.inspect.new.dev).medium in
     let new = (g.L.Lines.state c.replay_logs.new.dev).medium in
     let geo = c.in_ok-geo.ensures in
-    mount_outside old now c.in_ok-geo.geo geo.geo geo.lines new geo.order c.in_err-tables.ensures.outside
+    (mount_left old now c.in_ok-geo.geo geo.geo geo.lines new geo.order c.in_err-tables.ensures.left).outside
 
 pub returns-clause-reads : goal.returns-clause-reads
 returns-clause-reads g c =
@@ -73,7 +87,7 @@ returns-clause-reads g c =
     let now = (g.L.Lines.state c.inspect.new.dev).medium in
     let new = (g.L.Lines.state c.replay_logs.new.dev).medium in
     let geo = c.in_ok-geo.ensures in
-    λ _. mount_reads old now c.in_ok-geo.geo geo.geo geo.lines new geo.order c.in_ok-tables.ensures.outside c.in_ok-tables.ensures.blocks
+    λ _. mount_reads old now c.in_ok-geo.geo geo.geo geo.lines new geo.order c.in_ok-tables.ensures.left
 
 pub returns-clause-presence : goal.returns-clause-presence
 returns-clause-presence g c =
@@ -81,7 +95,15 @@ returns-clause-presence g c =
     let now = (g.L.Lines.state c.inspect.new.dev).medium in
     let new = (g.L.Lines.state c.replay_logs.new.dev).medium in
     let geo = c.in_ok-geo.ensures in
-    mount_presence old now c.in_ok-geo.geo geo.geo geo.lines new c.in_ok-tables.ensures.volume
+    (mount_left old now c.in_ok-geo.geo geo.geo geo.lines new geo.order c.in_ok-tables.ensures.left).volume
+
+pub returns-clause-files : goal.returns-clause-files
+returns-clause-files g c =
+    let old = (g.L.Lines.state c.args.dev.now).medium in
+    let now = (g.L.Lines.state c.inspect.new.dev).medium in
+    let new = (g.L.Lines.state c.replay_logs.new.dev).medium in
+    let geo = c.in_ok-geo.ensures in
+    (mount_left old now c.in_ok-geo.geo geo.geo geo.lines new geo.order c.in_ok-tables.ensures.left).files
 
 pub returns-clause-closed : goal.returns-clause-closed
 returns-clause-closed g c =
@@ -89,7 +111,7 @@ returns-clause-closed g c =
     let now = (g.L.Lines.state c.inspect.new.dev).medium in
     let new = (g.L.Lines.state c.replay_logs.new.dev).medium in
     let geo = c.in_ok-geo.ensures in
-    mount_closed old now c.in_ok-geo.geo geo.geo geo.lines new c.in_ok-tables.ensures.closed
+    (mount_left old now c.in_ok-geo.geo geo.geo geo.lines new geo.order c.in_ok-tables.ensures.left).closed
 
 pub returns-clause-outside : goal.returns-clause-outside
 returns-clause-outside g c =
@@ -97,7 +119,7 @@ returns-clause-outside g c =
     let now = (g.L.Lines.state c.inspect.new.dev).medium in
     let new = (g.L.Lines.state c.replay_logs.new.dev).medium in
     let geo = c.in_ok-geo.ensures in
-    mount_outside old now c.in_ok-geo.geo geo.geo geo.lines new geo.order c.in_ok-tables.ensures.outside
+    (mount_left old now c.in_ok-geo.geo geo.geo geo.lines new geo.order c.in_ok-tables.ensures.left).outside
 
 pub returns-clause-ok : goal.returns-clause-ok
 returns-clause-ok g c =
@@ -105,7 +127,7 @@ returns-clause-ok g c =
     let now = (g.L.Lines.state c.inspect.new.dev).medium in
     let new = (g.L.Lines.state c.replay_logs.new.dev).medium in
     let geo = c.in_ok-geo.ensures in
-    mount_ok old now c.in_ok-geo.geo geo.geo geo.lines geo.finds c.in_ok-tables.tables c.in_ok-tables.ensures.tables new geo.order c.in_ok-tables.ensures.outside c.judge_tables.result c.in_ok-tables.ensures.blocks_rest c.in_ok-tables.ensures.volume_rest c.judge_tables.ensures.geo c.judge_tables.ensures.blocks c.judge_tables.ensures.volume c.judge_tables.ensures.finds
+    mount_ok old now c.in_ok-geo.geo geo.geo geo.lines geo.finds c.in_ok-tables.tables c.in_ok-tables.ensures.tables new geo.order c.in_ok-tables.ensures.left c.judge_tables.result c.in_ok-tables.ensures.blocks_rest c.in_ok-tables.ensures.volume_rest c.judge_tables.ensures.geo c.judge_tables.ensures.blocks c.judge_tables.ensures.volume c.judge_tables.ensures.journal c.judge_tables.ensures.finds
 
 pub returns-clause-finds : goal.returns-clause-finds
 returns-clause-finds g c =
@@ -120,7 +142,7 @@ returns-clause-serves g c =
     let now = (g.L.Lines.state c.inspect.new.dev).medium in
     let new = (g.L.Lines.state c.replay_logs.new.dev).medium in
     let geo = c.in_ok-geo.ensures in
-    mount_serves old now c.in_ok-geo.geo geo.geo geo.lines geo.finds c.in_ok-tables.tables c.in_ok-tables.ensures.tables new geo.order c.in_ok-tables.ensures.outside c.judge_tables.result c.in_ok-tables.ensures.blocks_rest c.judge_tables.ensures.blocks c.judge_tables.ensures.finds
+    mount_serves old now c.in_ok-geo.geo geo.geo geo.lines geo.finds c.in_ok-tables.tables c.in_ok-tables.ensures.tables new geo.order c.in_ok-tables.ensures.left c.judge_tables.result c.in_ok-tables.ensures.blocks_rest c.judge_tables.ensures.blocks c.judge_tables.ensures.finds
 
 pub returns-clause-volume : goal.returns-clause-volume
 returns-clause-volume g c =
@@ -128,4 +150,12 @@ returns-clause-volume g c =
     let now = (g.L.Lines.state c.inspect.new.dev).medium in
     let new = (g.L.Lines.state c.replay_logs.new.dev).medium in
     let geo = c.in_ok-geo.ensures in
-    mount_volume old now c.in_ok-geo.geo geo.geo geo.lines geo.finds c.in_ok-tables.tables c.in_ok-tables.ensures.tables new geo.order c.in_ok-tables.ensures.outside c.judge_tables.result c.in_ok-tables.ensures.volume_rest c.judge_tables.ensures.volume
+    mount_volume old now c.in_ok-geo.geo geo.geo geo.lines geo.finds c.in_ok-tables.tables c.in_ok-tables.ensures.tables new geo.order c.in_ok-tables.ensures.left c.judge_tables.result c.in_ok-tables.ensures.volume_rest c.judge_tables.ensures.volume
+
+pub returns-clause-journal : goal.returns-clause-journal
+returns-clause-journal g c =
+    let old = (g.L.Lines.state c.args.dev.now).medium in
+    let now = (g.L.Lines.state c.inspect.new.dev).medium in
+    let new = (g.L.Lines.state c.replay_logs.new.dev).medium in
+    let geo = c.in_ok-geo.ensures in
+    mount_journal old now c.in_ok-geo.geo geo.geo geo.lines geo.finds c.in_ok-tables.tables c.in_ok-tables.ensures.tables new geo.order c.in_ok-tables.ensures.left c.judge_tables.result c.in_ok-tables.ensures.files_rest c.judge_tables.ensures.journal c.judge_tables.ensures.finds

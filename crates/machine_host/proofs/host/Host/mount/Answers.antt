@@ -1,7 +1,9 @@
 use Rattle.std.proofs.Common.{[], refl, sym, subst, ◌∙◌}
+use Rattle.file_journal.specs.Tables.{AreTables}
+use Rattle.recovery.specs.Findings.{geometry_told}
 use Rattle.recovery.specs.Mounting.{IsInOrder}
 use Rattle.machine_host.specs.Lines.{MetadataStands}
-use Rattle.machine_host.proofs.MountLemmas.{durable_flushed, metadata_mounted}
+use Rattle.machine_host.proofs.MountLemmas.{durable_flushed, found_tables, metadata_mounted}
 use Rattle.machine_host.proofs.MountedLemmas.{readable_served, stands_found}
 use Rattle.machine_host.proofs.BadLineLemmas.{good_lines}
 use Rattle.machine_host.proofs.host.Host.mount.Goals as goal
@@ -16,6 +18,7 @@ returns-clause-metadata g c =
 
 pub returns-clause-serves : goal.returns-clause-serves
 returns-clause-serves g c =
+    let old = (g.D.Lines.state c.args.device.now).medium in
     let new = (g.D.Lines.state c.mount.new.dev).medium in
     let x = c.in_ok-mounted.ensures in
     record {
@@ -29,6 +32,11 @@ returns-clause-serves g c =
         volume_geometry = x.ok.3 ∙ sym x.ok.0;
         volume_settled = x.settled.1;
         volume_serves = x.volume;
+        journal_geometry = x.ok.5 ∙ sym x.ok.0;
+        journal_settled = x.settled.2;
+        journal_serves = x.journal;
+        journal_right = subst (λ geo. AreTables geo.fpages c.in_ok-mounted.mounted.journal.tables) (sym x.ok.0)
+            (subst (AreTables (geometry_told old).fpages) (sym x.ok.6) (found_tables old x.finds));
       };
       stopped = λ stop. cc stop;
     }
@@ -38,5 +46,5 @@ returns-clause-stands g c = λ image shows.
     let old = (g.D.Lines.state c.args.device.now) in
     let new = (g.D.Lines.state c.mount.new.dev) in
     let x = c.in_ok-mounted.ensures in
-    stands_found _ old new image (g.met.D.Lines.sound c.args.device.now) c.requires.flushed x.finds shows x.ok.0 refl x.ok.2 x.ok.4 x.outside (returns-clause-metadata g c)
+    stands_found _ old new image (g.met.D.Lines.sound c.args.device.now) c.requires.flushed x.finds shows x.ok.0 refl x.ok.2 x.ok.4 x.ok.6 x.outside (returns-clause-metadata g c)
     (returns-clause-serves g c)

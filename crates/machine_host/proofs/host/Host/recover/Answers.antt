@@ -3,7 +3,7 @@ use Rattle.reply_text.specs.Answer.{answer_of}
 use Rattle.script_text.specs.Action.Action.{Recover}
 use Rattle.machine_host.specs.Responding.{Answered}
 use Rattle.machine_host.proofs.MountLemmas.{line_zero, mount_within}
-use Rattle.machine_host.proofs.RemountLemmas.{Gives, IsMount, durable_mount, none_found}
+use Rattle.machine_host.proofs.MountEffectLemmas.{Gives, IsMount, durable_mount, none_found}
 use Rattle.machine_host.proofs.RestartAnswerLemmas.{mount_done, recover_answered, recover_unmounted}
 use Rattle.machine_host.proofs.host.Host.recover.Goals as goal
 
@@ -13,7 +13,7 @@ mount-requires-clause-some g c = line_zero c.args.self.now.geometry _ c.requires
 pub mounted-requires-clause-blocks : goal.mounted-requires-clause-blocks
 mounted-requires-clause-blocks g c =
     let x = c.in-Ok.ensures in
-    let mount : IsMount (g.D.Lines.state c.args.device.now) (g.D.Lines.state c.mount.new.dev) = record { outside = x.outside; refused = x.refused; reads = x.reads; presence = x.presence } in
+    let mount : IsMount (g.D.Lines.state c.args.device.now) (g.D.Lines.state c.mount.new.dev) = record { outside = x.outside; refused = x.refused; reads = x.reads; presence = x.presence; files = x.files } in
     let layout = c.requires.serves.layout in
     let sound = g.met.D.Lines.sound c.args.device.now in
     x.serves (durable_mount c.args.self.now.geometry _ _ layout sound mount c.requires.serves.readable (none_found c.args.self.now.geometry _ _ layout sound mount x.finds))
@@ -24,7 +24,7 @@ returns-in-Ok g c =
     let old = (g.D.Lines.state c.args.device.now) in
     let new = (g.D.Lines.state c.mount.new.dev) in
     let x = c.in-Ok.ensures in
-    let given : Gives old new c.in-Ok.mounted.blocks c.in-Ok.mounted.volume = record {
+    let given : Gives old new c.in-Ok.mounted.blocks c.in-Ok.mounted.volume c.in-Ok.mounted.journal = record {
       geometry = x.ok.1;
       settled = x.settled.0;
       serves = x.serves;
@@ -33,12 +33,16 @@ returns-in-Ok g c =
       present = x.ok.4;
       volume_settled = x.settled.1;
       volume_serves = x.volume;
+      journal_geometry = x.ok.5;
+      tables = x.ok.6;
+      journal_settled = x.settled.2;
+      journal_serves = x.journal;
     } in
     subst (λ k. Answered Recover (answer_of c.mounted.result) now k old new) (sym c.mounted.ensures.state)
     (recover_answered now old new c.requires.unsettled _ (answer_of c.mounted.result)
     (mount_done now old new c.requires.serves c.requires.unsettled (g.met.D.Lines.sound c.args.device.now)
-    (record { outside = x.outside; refused = x.refused; reads = x.reads; presence = x.presence })
-    c.in-Ok.mounted.blocks c.in-Ok.mounted.volume (answer_of c.mounted.result) (mount_within old.medium _ old.panel new.panel x.runs) x.finds given c.mounted.ensures.answer))
+    (record { outside = x.outside; refused = x.refused; reads = x.reads; presence = x.presence; files = x.files })
+    c.in-Ok.mounted.blocks c.in-Ok.mounted.volume c.in-Ok.mounted.journal (answer_of c.mounted.result) (mount_within old.medium _ old.panel new.panel x.runs) x.finds given c.mounted.ensures.answer))
 
 pub returns-in-Err : goal.returns-in-Err
 returns-in-Err g c =
@@ -46,5 +50,5 @@ returns-in-Err g c =
     let new = (g.D.Lines.state c.mount.new.dev) in
     let x = c.in-Err.ensures in
     recover_unmounted c.args.self.now c.unmounted.new.self old new c.requires.serves c.requires.unsettled (g.met.D.Lines.sound c.args.device.now)
-    (record { outside = x.outside; refused = x.refused; reads = x.reads; presence = x.presence }) c.in-Err.fault x.finds (mount_within old.medium _ old.panel new.panel x.runs) c.unmounted.ensures.state
+    (record { outside = x.outside; refused = x.refused; reads = x.reads; presence = x.presence; files = x.files }) c.in-Err.fault x.finds (mount_within old.medium _ old.panel new.panel x.runs) c.unmounted.ensures.state
     c.unmounted.result c.unmounted.ensures.answer

@@ -4,7 +4,7 @@ use Rattle.reply_text.specs.Answer.{answer_of}
 use Rattle.script_text.specs.Action.Action.{Restart}
 use Rattle.machine_host.specs.Responding.{Answered}
 use Rattle.machine_host.proofs.MountLemmas.{durable_flushed, flushed-restarted, line_zero, mount_within}
-use Rattle.machine_host.proofs.RemountLemmas.{Gives}
+use Rattle.machine_host.proofs.MountEffectLemmas.{Gives}
 use Rattle.machine_host.proofs.RestartAnswerLemmas.{mount_done, restart_answered, restart_unmounted}
 use Rattle.machine_host.proofs.RestartLemmas.{serves_back, serves_waited}
 use Rattle.machine_host.proofs.host.Host.restart.Goals as goal
@@ -35,7 +35,7 @@ returns-in-Ok g c =
     let left = c.in_ok-restart.ensures in
     let sound_old = g.met.D.Lines.sound c.args.device.now in
     let sound = g.met.D.Lines.sound c.restart.new.self in
-    let given : Gives mid new c.in-Ok.mounted.blocks c.in-Ok.mounted.volume = record {
+    let given : Gives mid new c.in-Ok.mounted.blocks c.in-Ok.mounted.volume c.in-Ok.mounted.journal = record {
       geometry = x.ok.1;
       settled = x.settled.0;
       serves = x.serves;
@@ -44,12 +44,16 @@ returns-in-Ok g c =
       present = x.ok.4;
       volume_settled = x.settled.1;
       volume_serves = x.volume;
+      journal_geometry = x.ok.5;
+      tables = x.ok.6;
+      journal_settled = x.settled.2;
+      journal_serves = x.journal;
     } in
     subst (λ k. Answered (Restart c.args.choice) (answer_of c.mounted.result) now k old new) (sym c.mounted.ensures.state)
     (restart_answered now c.args.choice old mid new left.0 c.requires.serves c.requires.off left.1 sound_old sound _ (answer_of c.mounted.result)
     (mount_done _ mid new (serves_back now c.args.choice old mid left.0 c.requires.serves left.1 sound_old sound) refl sound
-    (record { outside = x.outside; refused = x.refused; reads = x.reads; presence = x.presence })
-    c.in-Ok.mounted.blocks c.in-Ok.mounted.volume (answer_of c.mounted.result) (mount_within mid.medium _ mid.panel new.panel x.runs) x.finds given c.mounted.ensures.answer))
+    (record { outside = x.outside; refused = x.refused; reads = x.reads; presence = x.presence; files = x.files })
+    c.in-Ok.mounted.blocks c.in-Ok.mounted.volume c.in-Ok.mounted.journal (answer_of c.mounted.result) (mount_within mid.medium _ mid.panel new.panel x.runs) x.finds given c.mounted.ensures.answer))
 
 pub returns-in-Err : goal.returns-in-Err
 returns-in-Err g c =
@@ -59,5 +63,5 @@ returns-in-Err g c =
     let x = c.in-Err.ensures in
     let left = c.in_ok-restart.ensures in
     restart_unmounted c.args.self.now c.unmounted.new.self c.args.choice old mid new left.0 c.requires.serves c.requires.off left.1 (g.met.D.Lines.sound c.args.device.now) (g.met.D.Lines.sound c.restart.new.self)
-    (record { outside = x.outside; refused = x.refused; reads = x.reads; presence = x.presence }) c.in-Err.fault x.finds (mount_within mid.medium _ mid.panel new.panel x.runs) c.unmounted.ensures.state
+    (record { outside = x.outside; refused = x.refused; reads = x.reads; presence = x.presence; files = x.files }) c.in-Err.fault x.finds (mount_within mid.medium _ mid.panel new.panel x.runs) c.unmounted.ensures.state
     c.unmounted.result c.unmounted.ensures.answer

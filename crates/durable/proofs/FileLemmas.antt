@@ -1,0 +1,210 @@
+-- Which files there are: by induction over a run.
+use Rattle.std.proofs.Common.{◌≡◌, ◌⊎◌, inl, inr, ℕ, true, false, Option, Some, None, List, [], ◌∷◌, ◌++◌, length, map, refl, sym, ap, ap₂, subst, ◌∙◌}
+use Rattle.std.proofs.lemmas.Bool.{both_ways}
+use Rattle.std.proofs.lemmas.List.{length-map}
+use Rattle.line_device.specs.Panel.{Image}
+use Rattle.line_device.specs.declared.line.Choice.{Choice}
+use Rattle.word_tables.specs.declared.geometry.Geometry.{Geometry}
+use Rattle.nvm_base.specs.declared.files.FileEntry.{FileEntry}
+use Rattle.nvm_model.specs.Files.{entry_of_file}
+use Rattle.nvm_model.specs.Listing.{AreAlike, file_name}
+use Rattle.nvm_model.specs.Page.{is_present}
+use Rattle.nvm_model.specs.Storage.{File}
+use Rattle.nvm_model.proofs.PageLemmas.{length-read_pages}
+use Rattle.file_journal.specs.Files.{UnitFile, files_of, unit_file_name}
+use Rattle.file_journal.specs.Reading.{tables_read}
+use Rattle.file_journal.specs.Standing.{KeepsFile, KeepsFiles, file_read, files_read, line_of_file, pages_there}
+use Rattle.reply_text.specs.Answer.{Answer}
+use Rattle.reply_text.specs.Answer.Answer.{Done}
+use Rattle.reply_text.specs.Answer.Answer.{Files as FilesAre}
+use Rattle.script_text.specs.Action.{Action}
+use Rattle.script_text.specs.Action.Action.{Create, Delete, Rename, Resize, ListFiles}
+use Rattle.script_text.specs.Script.{Input}
+use Rattle.script_text.specs.Script.Input.{Skipped, Malformed, Asked}
+use Rattle.machine_host.specs.declared.mode.Mode.TheVariants.{On}
+use Rattle.machine_host.specs.Machine.{Machine}
+use Rattle.machine_host.specs.Commands.{MayLeaveFiles, meaning, refusal, unless_refused}
+use Rattle.machine_host.specs.Run.{Hears, Run, Takes, Transcript}
+use Rattle.durable.specs.Touching.{is_begun}
+use Rattle.durable.specs.Durable.{Does, HasNothing, IsComplete, NoneBegun}
+use Rattle.durable.specs.Files.{BreaksOff, FilesLast, FilesSettle, FilesThrough, IsStopped, LeavesFiles, changes_files, files_after, files_listed}
+use Rattle.durable.proofs.StepKinds.{Step, Stops}
+use Rattle.durable.proofs.StepKinds.Step.{idles, alters, stops, returns, remounts, empties}
+use Rattle.durable.proofs.StepLemmas.{nothing_run, step_of}
+use Rattle.durable.proofs.KeepLemmas.{stop_begun}
+use Rattle.durable.proofs.LawLemmas.{came_of, none-asked, not_done}
+use Rattle.durable.proofs.PassLemmas.{pass}
+use Rattle.durable.proofs.RefusalLemmas.{is_on, is_refused, refused_told}
+use Rattle.durable.proofs.WholeLemmas.{whole-heard, whole-run}
+
+-- what a restart left of files is listed as what it may have left
+entries_kept : (choice : Choice) (geo : Geometry) (image : Image) (on : List UnitFile) (files : List File) → AreAlike unit_file_name file_name (KeepsFile choice geo image) on files
+    → map entry_of_file (map (file_read geo image) on) ≡ map entry_of_file files
+entries_kept choice geo image [] [] alike = refl
+entries_kept choice geo image [] (y ∷ ys) alike = absurd alike
+entries_kept choice geo image (x ∷ xs) [] alike = absurd alike
+entries_kept choice geo image (x ∷ xs) (y ∷ ys) alike =
+    let pages : length (file_read geo image x).pages ≡ length y.pages =
+    length-read_pages (line_of_file geo x) image (pages_there x) ∙ ap length (sym alike.1.there) ∙ length-map y.pages is_present in
+    let one : entry_of_file (file_read geo image x) ≡ entry_of_file y =
+    ap₂ (λ (n : List ℕ) (k : ℕ). let e : FileEntry = record { name = n; pages = k } in e) alike.0 pages in
+    ap₂ (λ (e : FileEntry) (es : List FileEntry). e ∷ es) one (entries_kept choice geo image xs ys alike.2)
+
+entries_read : (choice : Choice) (geo : Geometry) (image : Image) (files : List File) → KeepsFiles choice geo image files
+    → map entry_of_file (files_read geo image) ≡ map entry_of_file files
+unfolding files_read
+entries_read choice geo image files keeps = entries_kept choice geo image (files_of (tables_read geo image.word)) files keeps
+
+-- a command that changes no files
+files_same : (action : Action) (files : List File) → changes_files action ≡ false → (meaning action).files files ≡ files
+files_same (Create name pages) files none = cc none
+files_same (Delete name) files none = cc none
+files_same (Rename name to) files none = cc none
+files_same (Resize name pages) files none = cc none
+files_same action files none = refl
+
+module _ (P : List FileEntry → Type 0) where
+  -- so they are listed, and so are those that a mount may find
+  record Lists (h : Machine) : Type 0 where
+    now : P (files_listed h)
+    left : (files : List File) → MayLeaveFiles h.interrupted h.files files → P (map entry_of_file files)
+
+  lists_left : (o : Option Action) (old files : List File) → LeavesFiles o → P (map entry_of_file old) → MayLeaveFiles o old files → P (map entry_of_file files)
+  lists_left None old files free now is = subst (λ fs. P (map entry_of_file fs)) {x = old} (sym is) now
+  lists_left (Some action) old files none now (inl is) = subst (λ fs. P (map entry_of_file fs)) {x = old} (sym is) now
+  lists_left (Some action) old files none now (inr is) = subst (λ fs. P (map entry_of_file fs)) {x = old} (sym (is ∙ files_same action old none)) now
+
+  lists_free : (h : Machine) → LeavesFiles h.interrupted → P (files_listed h) → Lists h
+  lists_free h free now = record { now = now; left = λ files may. lists_left h.interrupted h.files files free now may }
+
+  -- a step that leaves files
+  lists_same : (h next : Machine) → next.files ≡ h.files → next.interrupted ≡ h.interrupted → Lists h → Lists next
+  lists_same h next files interrupted lists = record {
+    now = subst (λ fs. P (map entry_of_file fs)) {x = h.files} (sym files) lists.now;
+    left = λ fs may. lists.left fs (subst (λ o. MayLeaveFiles o h.files fs) interrupted (subst (λ old. MayLeaveFiles next.interrupted old fs) files may));
+  }
+
+  -- and any that begins no change of them
+  lists_step : (h : Machine) (action : Action) (answer : Answer) (next : Machine) → (is_begun answer ≡ true → changes_files action ≡ false) → Lists h
+      → Step h action answer next → Lists next ⊎ HasNothing next
+  lists_step h action answer next spares lists (idles why to) = inl (lists_same h next to.files to.interrupted lists)
+  lists_step h action answer next spares lists (alters begun none to) =
+      let leaves : changes_files action ≡ false =
+      elim begun as (λ _. changes_files action ≡ false) [ inl done ↦ spares (ap is_begun done) | inr touches ↦ touches.files ] in
+      inl (lists_same h next (to.files ∙ files_same action h.files leaves) to.interrupted lists)
+  lists_step h action answer next spares lists (stops by is to) =
+      inl (lists_free next (subst LeavesFiles {x = Some action} (sym to.interrupted) (spares (ap is_begun is ∙ stop_begun by)))
+      (subst (λ fs. P (map entry_of_file fs)) {x = h.files} (sym to.files) lists.now))
+  lists_step h action answer next spares lists (returns covers back) =
+      inl (lists_free next (subst LeavesFiles {x = None} (sym back.interrupted) tt)
+      (subst P (sym (ap (map entry_of_file) back.files ∙ entries_read back.choice h.geometry back.image back.may.files_left back.may.files))
+      (lists.left back.may.files_left back.may.may_files)))
+  lists_step h action answer next spares lists (remounts covers back) =
+      inl (lists_free next (subst LeavesFiles {x = None} (sym back.interrupted) tt) (lists.left next.files back.files))
+  lists_step h action answer next spares lists (empties covers to) = inr to.nothing
+
+  lists_heard : (input : Input) (inputs : List Input) (h next : Machine) (first : Transcript) (answers : List Answer) → Hears h input first next
+      → NoneBegun changes_files (input ∷ inputs) (first.answers ++ answers) → Lists h → (Lists next ⊎ HasNothing next) × NoneBegun changes_files inputs answers
+  lists_heard Skipped inputs h next first answers heard none lists =
+      (inl (subst Lists (sym heard.1) lists), subst (λ (s : Transcript). NoneBegun changes_files inputs (s.answers ++ answers)) heard.0 none)
+  lists_heard Malformed inputs h next first answers heard none lists = (
+    inl (subst Lists (sym heard.1) lists),
+    subst (λ (s : Transcript). NoneBegun changes_files (Malformed ∷ inputs) (s.answers ++ answers)) heard.0 none,
+  )
+  lists_heard (Asked action) inputs h next first answers heard none lists =
+      let taken = step_of h action first next heard in
+      let each = none-asked changes_files action inputs first taken.answer answers taken.answers none in
+      (lists_step h action taken.answer next (λ begun. not_done (changes_files action) taken.answer each.0 begun) lists taken.step, each.1)
+
+  lists_run : (inputs : List Input) (h later : Machine) (said : Transcript) → Run h inputs said later → NoneBegun changes_files inputs said.answers
+      → Lists h ⊎ HasNothing h → Lists later ⊎ HasNothing later
+  lists_run inputs h later said run none (inr nothing) = inr (nothing_run h later inputs said nothing run)
+  lists_run [] h later said run none (inl lists) = inl (subst Lists (sym run.1) lists)
+  lists_run (input ∷ inputs) h later said run none (inl lists) =
+      let split = subst (λ (s : Transcript). NoneBegun changes_files (input ∷ inputs) s.answers) run.3 none in
+      let heard = lists_heard input inputs h run.2 run.0 run.1.answers run.4 split lists in lists_run inputs run.2 later run.1 run.5 heard.1 heard.0
+
+  listed_later : (inputs : List Input) (h later : Machine) (said : Transcript) → Run h inputs said later → NoneBegun changes_files inputs said.answers
+      → Lists h → P (files_listed later) ⊎ HasNothing later
+  listed_later inputs h later said run none lists = elim (lists_run inputs h later said run none (inl lists)) as (λ _. P (files_listed later) ⊎ HasNothing later) [
+    | inl ls ↦ inl ls.now
+    | inr nothing ↦ inr nothing
+  ]
+
+-- where no change of them is interrupted
+pub files_last : (h : Machine) → LeavesFiles h.interrupted → FilesLast h (files_listed h)
+files_last h free inputs said later run none =
+    listed_later (λ es. es ≡ files_listed h) inputs h later said run none (lists_free (λ es. es ≡ files_listed h) h free refl)
+
+settled_free : (h : Machine) → IsComplete h → h.mode ≡ On → LeavesFiles h.interrupted
+settled_free h whole on = subst LeavesFiles {x = None} (sym (whole.settled on)) tt
+
+-- a change that was done
+pub files_done : (h next : Machine) (action : Action) → Does h action next → changes_files action ≡ true → FilesLast next (files_after h action)
+files_done h next action does change =
+    let came = came_of h next action does (λ none. both_ways (changes_files action) none.files change) in
+    let free = came.to.interrupted ∙ does.whole.settled (is_on h action came.to.needs came.none) in
+    subst (FilesLast next) (ap (map entry_of_file) came.to.files) (files_last next (subst LeavesFiles {x = None} (sym free) tt))
+
+-- and one that was stopped
+not_stopped : (answer : Answer) → IsStopped (answer ∷ []) → is_refused answer ≡ false
+not_stopped answer (inl is) = cc is
+not_stopped answer (inr is) = cc is
+
+done_or_stopped : (answer : Answer) → IsStopped (answer ∷ []) → answer ≡ Done → ⊥
+done_or_stopped answer (inl is) done = cc (is, done)
+done_or_stopped answer (inr is) done = cc (is, done)
+
+stopped_by : (h : Machine) (action : Action) (answer : Answer) (next : Machine) → changes_files action ≡ true → IsStopped (answer ∷ []) → Step h action answer next
+    → Stops h action next
+stopped_by h action answer next change was (idles (inl why) to) = absurd (both_ways (is_refused answer) (not_stopped answer was) (refused_told h action answer why))
+stopped_by h action answer next change was (idles (inr none) to) = absurd (both_ways (changes_files action) none.files change)
+stopped_by h action answer next change was (alters (inl done) none to) = absurd (done_or_stopped answer was done)
+stopped_by h action answer next change was (alters (inr touches) none to) = absurd (both_ways (changes_files action) touches.files change)
+stopped_by h action answer next change was (stops by is to) = to
+stopped_by h action answer next change was (returns covers back) = absurd (both_ways (changes_files action) covers.files change)
+stopped_by h action answer next change was (remounts covers back) = absurd (both_ways (changes_files action) covers.files change)
+stopped_by h action answer next change was (empties covers to) = absurd (both_ways (changes_files action) covers.files change)
+
+lists_stopped : (h : Machine) (action : Action) (next : Machine) → Stops h action next
+    → Lists (λ es. (es ≡ files_listed h) ⊎ (es ≡ files_after h action)) next
+lists_stopped h action next to = record {
+  now = inl (ap (map entry_of_file) to.files);
+  left = λ files may. by_may files (subst (λ o. MayLeaveFiles o h.files files) to.interrupted (subst (λ old. MayLeaveFiles next.interrupted old files) to.files may));
+}
+  where
+    by_may : (files : List File) → MayLeaveFiles (Some action) h.files files → (map entry_of_file files ≡ files_listed h) ⊎ (map entry_of_file files ≡ files_after h action)
+    by_may files (inl is) = inl (ap (map entry_of_file) is)
+    by_may files (inr is) = inr (ap (map entry_of_file) is)
+
+pub files_settle : (h next : Machine) (action : Action) → BreaksOff h action next → changes_files action ≡ true → FilesSettle next (files_listed h) (files_after h action)
+files_settle h next action breaks change inputs said later run none =
+    let taken = step_of h action breaks.said next breaks.came in
+    let to = stopped_by h action taken.answer next change (subst IsStopped taken.answers breaks.stopped) taken.step in
+    let whole = whole-run inputs next later said (whole-heard h (Asked action) breaks.said next breaks.whole breaks.came) run in
+    record {
+      listed = listed_later (λ es. (es ≡ files_listed h) ⊎ (es ≡ files_after h action)) inputs next later said run none (lists_stopped h action next to);
+      lasts = λ on. files_last later (settled_free later whole on);
+    }
+
+-- the list that is told
+pub files_told : (h next : Machine) (files : List FileEntry) (said : Transcript) → Hears h (Asked ListFiles) said next → said.answers ≡ FilesAre files ∷ [] → files ≡ files_listed h
+files_told h next files said heard told = by_refusal (refusal h ListFiles) refl heard
+  where
+    by_refusal : (o : Option Answer) → refusal h ListFiles ≡ o → Takes h ListFiles (unless_refused h o ((meaning ListFiles).comes h)) said next → files ≡ files_listed h
+    by_refusal None is takes = cc (ap (λ s. s.answers) takes.0, told)
+    by_refusal (Some answer) is takes =
+        let same : answer ≡ FilesAre files = cc (ap (λ s. s.answers) takes.0, told) in
+        absurd (both_ways (is_refused answer) (ap is_refused same) (refused_told h ListFiles answer is))
+
+-- a run as it comes to a command that changes them
+pub files_through : (h end : Machine) (before after : List Input) (action : Action) (said : Transcript) → IsComplete h → changes_files action ≡ true
+    → Run h (before ++ Asked action ∷ after) said end → FilesThrough h before action after said end
+files_through h end before after action said whole change run =
+    let passes = pass before h end action after said run in
+    let here = whole-run before h passes.here passes.early whole passes.run in
+    record {
+      passes = passes;
+      done = λ done. files_done passes.here passes.next action (record { whole = here; said = passes.middle; came = passes.came; done = done }) change;
+      stopped = λ was. files_settle passes.here passes.next action (record { whole = here; said = passes.middle; came = passes.came; stopped = was }) change;
+    }

@@ -1,0 +1,63 @@
+// Lines that name files.
+use super::{Gave, SYNTAX, parsed};
+use nvm_base::Name;
+
+fn named(text: &str) -> Result<Name, &'static str> {
+    Name::read(text.as_bytes()).ok_or("no name")
+}
+
+#[test]
+fn files_are_named(rt: HostRuntime) -> Result<(), &'static str> {
+    let log = named("log")?;
+    let old = named("log.old")?;
+    let most = named("abcdefghijklmnopqrstuvwxyz-_.012")?;
+    for (line, wanted) in [
+        ("create log 4", Gave::Create(log, 4)),
+        ("delete log", Gave::Delete(log)),
+        ("rename log log.old", Gave::Rename(log, old)),
+        ("resize log 0", Gave::Resize(log, 0)),
+        ("list", Gave::List),
+        ("\trename  log.old\tlog \r", Gave::Rename(old, log)),
+        (
+            "create abcdefghijklmnopqrstuvwxyz-_.012 4294967295",
+            Gave::Create(most, 4294967295),
+        ),
+    ] {
+        assert_eq!(rt; parsed(rt.alloc(), line.as_bytes()), wanted, "{line}");
+    }
+    Ok(())
+}
+
+static WRONG: [&str; 24] = [
+    "create",
+    "create log",
+    "create log x",
+    "create log 4 4",
+    "create log 4294967296",
+    "create 4 log",
+    "create Log 4",
+    "create abcdefghijklmnopqrstuvwxyz-_.0123 4",
+    "delete",
+    "delete log head",
+    "delete lo/g",
+    "delete log\r\r",
+    "rename",
+    "rename log",
+    "rename log Head",
+    "rename lOg head",
+    "rename log head tail",
+    "rename log abcdefghijklmnopqrstuvwxyz-_.0123",
+    "resize log",
+    "resize log -1",
+    "resize log 4 4",
+    "list log",
+    "lists",
+    "Create log 4",
+];
+
+#[test]
+fn other_words_ask_for_nothing(rt: HostRuntime) {
+    for line in &WRONG {
+        assert_eq!(rt; parsed(rt.alloc(), line.as_bytes()), SYNTAX, "{line}");
+    }
+}
