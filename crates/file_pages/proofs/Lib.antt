@@ -1,0 +1,5 @@
+mod PlaceLemmas
+mod LineLemmas
+mod HoleLemmas
+mod ListedLemmas
+mod PassLemmas
