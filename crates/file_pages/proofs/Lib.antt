@@ -3,3 +3,4 @@ mod LineLemmas
 mod HoleLemmas
 mod ListedLemmas
 mod PassLemmas
+mod WorkLemmas

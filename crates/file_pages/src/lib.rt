@@ -11,6 +11,7 @@ mod lines;
 mod loading;
 mod mounting;
 mod queries;
+mod syncing;
 
 pub use fault::PageFault;
 use file_journal::Journal;
