@@ -19,3 +19,5 @@ pub mod ListedLemmas
 pub mod AlikeLemmas
 pub mod AlikeChangeLemmas
 pub mod SumLemmas
+pub mod OneFileLemmas
+pub mod TouchedPageLemmas
