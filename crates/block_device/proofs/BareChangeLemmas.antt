@@ -11,11 +11,13 @@ use Rattle.nvm_model.specs.Numbered.{list_from}
 use Rattle.line_device.specs.Medium.{Medium}
 use Rattle.word_tables.specs.declared.geometry.Geometry.{Geometry}
 use Rattle.range_sets.specs.Ranges.{is_disjoint}
+use Rattle.free_pool.specs.Beside.{used_by}
 use Rattle.block_map.specs.declared.state.BlockState.{BlockState}
 use Rattle.block_map.specs.declared.state.BlockState.TheVariants.{Absent, Scarred, At}
 use Rattle.block_map.specs.States.{IsAt}
 use Rattle.block_device.specs.declared.change.Change.{Change}
-use Rattle.block_device.specs.Object.{AreDurable, is_at}
+use Rattle.block_device.specs.Object.{AreDurable, is_at, unit_on}
+use Rattle.block_device.proofs.UnitsOfLemmas.{taken_none, taken_with, unit_on-bare, units_named-cons}
 use Rattle.block_device.specs.Changes.{IsVacant, takes, names, changed_map, changes_in, units_named, MayChange, AreTaken}
 use Rattle.block_device.proofs.ChangeLemmas.{is_at-set, may_change-later}
 use Rattle.block_device.proofs.SpanLemmas.{change_to, length-changes_in}
@@ -103,14 +105,13 @@ module _ (state : BlockState) (bare : is_at state ≡ false) where
 
   -- they name no unit
   pub bare_taken : (free : List Bool) (cs : List Change) → AllTo state cs → AreTaken free cs
-  bare_taken free [] all = tt
-  bare_taken free (c ∷ cs) all = (λ unit is. absurd (not_unit unit (sym all.0 ∙ is)), bare_taken free cs all.1)
+  bare_taken free [] all = taken_none free
+  bare_taken free (c ∷ cs) all = taken_with free c cs (λ unit is. absurd (not_unit unit (sym all.0 ∙ is))) (bare_taken free cs all.1)
 
   pub bare_units : (cs : List Change) → AllTo state cs → units_named cs ≡ 0
   bare_units [] all = refl
   bare_units (c ∷ cs) all =
-      sum_by-cons (λ (d : Change). cond (is_at d.state) 1 0) c cs
-      ∙ ap₂ ◌+◌ (ap (λ b. cond b 1 0) (ap is_at all.0 ∙ bare)) (bare_units cs all.1)
+      units_named-cons c cs ∙ ap₂ ◌+◌ (ap used_by (ap unit_on all.0 ∙ unit_on-bare state bare)) (bare_units cs all.1)
 
   -- what the map names after them it named before
   pub bare_was_at : (states : List BlockState) (cs : List Change) (block unit : ℕ) → AllTo state cs → MayChange states cs → IsAt (changed_map cs states) block unit → IsAt states block unit

@@ -15,7 +15,7 @@ use Rattle.block_device.specs.declared.change.Change.{Change}
 use Rattle.block_device.specs.Object.{is_at}
 use Rattle.block_device.specs.Reading.{block_read, map_read}
 use Rattle.block_device.specs.Changes.{bare_block, changed_map, changes_in}
-use Rattle.block_device.proofs.ChangeLemmas.{slice_get-set_other}
+use Rattle.free_pool.proofs.BesideLemmas.{slice_get-set_other}
 use Rattle.block_device.proofs.SpanLemmas.{change_to}
 
 pub same_items : {A : Type 0} (xs ys : List A) → ((i : ℕ) → slice_get xs i ≡ slice_get ys i) → xs ≡ ys

@@ -2,23 +2,12 @@
 use Rattle.std.proofs.Common.{◌≡◌, ◌⊎◌, inl, inr, ℕ, zero, suc, true, false, ◌==◌, ◌+◌, ◌<◌, ◌≤◌, List, [], ◌∷◌, ◌++◌, length, set, get_or, slice_get, Some, refl, sym, ◌∙◌, ap, subst, arith, length-set}
 use Rattle.std.proofs.lemmas.Bool.{cases_eq, eq-eqb, ne_eqb, or_parts, or_from, both_ways}
 use Rattle.std.proofs.lemmas.Option.{same_Some}
+use Rattle.free_pool.proofs.BesideLemmas.{slice_get-set_other, slice_get-set_same}
 use Rattle.block_map.specs.declared.state.BlockState.{BlockState}
 use Rattle.block_map.specs.declared.state.BlockState.TheVariants.{Absent, Scarred, At}
 use Rattle.block_map.specs.States.{IsAt, IsMap, MayTake, IsBelow}
 use Rattle.block_device.specs.declared.change.Change.{Change}
 use Rattle.block_device.specs.Changes.{IsVacant, is_on, takes, names, changed_map, MayChange, AreWithin}
-
-pub slice_get-set_same : {A : Type 0} (xs : List A) (i : ℕ) (y : A) → i < length xs → slice_get (set xs i y) i ≡ Some y
-slice_get-set_same [] i y below = absurd (omega arith)
-slice_get-set_same (x ∷ xs) zero y below = refl
-slice_get-set_same (x ∷ xs) (suc i) y below = slice_get-set_same xs i y (omega arith)
-
-pub slice_get-set_other : {A : Type 0} (xs : List A) (i k : ℕ) (y : A) → (k ≡ i → ⊥) → slice_get (set xs i y) k ≡ slice_get xs k
-slice_get-set_other [] i k y other = refl
-slice_get-set_other (x ∷ xs) zero zero y other = absurd (other refl)
-slice_get-set_other (x ∷ xs) zero (suc k) y other = refl
-slice_get-set_other (x ∷ xs) (suc i) zero y other = refl
-slice_get-set_other (x ∷ xs) (suc i) (suc k) y other = slice_get-set_other xs i k y (λ e. other (ap suc e))
 
 -- after a change a block is on a unit because of it, or was before
 pub is_at-set : (states : List BlockState) (b block unit : ℕ) (s : BlockState) → b < length states → IsAt (set states b s) block unit → ((block ≡ b) × (s ≡ At unit)) ⊎ ((block ≡ b → ⊥) × IsAt states block unit)

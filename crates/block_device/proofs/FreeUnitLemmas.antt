@@ -11,16 +11,18 @@ use Rattle.block_map.specs.declared.state.BlockState.{BlockState}
 use Rattle.block_map.specs.declared.state.BlockState.TheVariants.{Absent, Scarred, At}
 use Rattle.block_map.specs.States.{IsAt}
 use Rattle.free_pool.specs.Units.{IsFree, IsTaken}
-use Rattle.free_pool.proofs.CountLemmas.{free_count-taken}
+use Rattle.free_pool.proofs.BesideLemmas as pool
+use Rattle.free_pool.proofs.BesideLemmas.{known-taken, slice_get-set_same, taken_beside}
 use Rattle.nvm_model.specs.Numbered.{list_from}
 use Rattle.nvm_model.specs.Storage.Block.{Data}
 use Rattle.nvm_model.specs.Blocks.{data_from}
 use Rattle.block_device.specs.Area.{block_area, IsBlockLine}
-use Rattle.block_device.specs.Object.{AreDurable, IsInStep}
+use Rattle.block_device.specs.Object.{AreDurable, IsInStep, units_of}
 use Rattle.block_device.specs.Reading.{block_read, line_read}
 use Rattle.block_device.proofs.ReadLemmas.{IsNamed}
 use Rattle.block_device.proofs.PlaceLemmas.{area_in_metadata, data_behind_metadata}
-use Rattle.block_device.proofs.ChangeLemmas.{slice_get-set_same, slice_get-set_other, is_at-set}
+use Rattle.block_device.proofs.UnitsOfLemmas.{on_unit}
+use Rattle.block_device.proofs.ChangeLemmas.{is_at-set}
 use Rattle.block_device.proofs.ByteLemmas.{list_from-shift, is_only-newest, line_read-holds}
 
 -- the eight lines of a unit
@@ -32,18 +34,13 @@ is_unit_line geo unit first count n at many h = (omega (arith, h.0), omega (arit
 
 -- a free unit has no block on it
 pub free_is_vacant : (states : List BlockState) (free : List Bool) (unnamed unit : ℕ) → IsInStep states free unnamed → IsFree free unit → (block : ℕ) → IsAt states block unit → ⊥
-free_is_vacant states free unnamed unit step is_free block at = differ (sym is_free ∙ step.taken block unit at)
-  where
-    differ : Some true ≡ Some false → ⊥
-    differ e = cc
+free_is_vacant states free unnamed unit step is_free block at = pool.free_is_vacant (units_of states) free unit is_free step.taken block (on_unit states block unit at)
 
 -- once it is taken, one unit more is taken and not named
 pub in_step-taken : (states : List BlockState) (free : List Bool) (unit unnamed : ℕ) → IsInStep states free unnamed → IsFree free unit → IsInStep states (set free unit false) (unnamed + 1)
 in_step-taken states free unit unnamed step is_free = record {
-  taken = λ block other at.
-      slice_get-set_other free unit other false (λ same. free_is_vacant states free unnamed unit step is_free block (subst (IsAt states block) same at))
-      ∙ step.taken block other at;
-  count = let less = free_count-taken free unit is_free in let same = length-set free unit false in let before = step.count in omega (arith, less, same, before);
+  taken = taken_beside (units_of states) free unit is_free step.taken;
+  count = omega (arith, known-taken (units_of states) free unit is_free, length-set free unit false, step.count);
 }
 
 pub taken-set : (free : List Bool) (unit other : ℕ) → IsFree free unit → At unit ≡ At other → IsTaken (set free unit false) other

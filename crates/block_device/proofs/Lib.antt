@@ -28,6 +28,7 @@ pub mod ZerosLemmas
 pub mod GoodLemmas
 pub mod MountedLemmas
 pub mod MarkLemmas
+pub mod UnitsOfLemmas
 pub mod PoisonLemmas
 pub mod PlainLemmas
 pub mod PreparedLemmas

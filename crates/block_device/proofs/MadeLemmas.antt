@@ -24,6 +24,7 @@ use Rattle.block_device.proofs.PlaceLemmas.{area_is_block, named_apart}
 use Rattle.block_device.proofs.ImageLemmas.{each_reads-then, served_reads}
 use Rattle.block_device.proofs.ChangeLemmas.{is_map-changed, length-changed_map}
 use Rattle.block_device.proofs.SpanLemmas.{list_from-push}
+use Rattle.block_device.proofs.UnitsOfLemmas.{taken_none}
 
 pub before-refl : (s : BlocksState) (m : Medium) → BlocksServe s m → HasGoodMetadata s.geo m → s.settled ≡ false → AreAsBefore s s m m
 before-refl s m serves good unsettled = record {
@@ -116,7 +117,7 @@ pub none_prepared : (v s : BlocksState) (area : LogArea) (m : Medium) (cs : List
 none_prepared v s area m cs same kept serves settled none =
     subst (ArePrepared (record v { settled = false }) m) (sym none) (record {
       may = tt;
-      taken = tt;
+      taken = taken_none v.free;
       in_step = kept.in_step (subst (λ (z : BlocksState). IsTrue z.settled) (sym same) settled);
       durable = (subst (λ z. BlocksServe z m) (sym same) serves).durable;
     })

@@ -11,6 +11,7 @@ use Rattle.block_map.specs.States.{IsMap, IsAt}
 use Rattle.free_pool.specs.Units.{IsFree, IsTaken, free_count}
 use Rattle.free_pool.proofs.CountLemmas.{free_count-taken}
 use Rattle.block_device.specs.Object.{IsInStep, is_at}
+use Rattle.block_device.proofs.UnitsOfLemmas.{at_unit, used_units_of}
 
 -- the units of the first so many blocks are taken, and no others
 pub record AreLeft (map : List BlockState) (blocks k : ℕ) (pool : List Bool) : Type 0 where
@@ -84,10 +85,10 @@ module _ (map : List BlockState) (blocks k : ℕ) (pool : List Bool) (left : Are
 
 pub left_in_step : (map : List BlockState) (blocks k : ℕ) (pool : List Bool) → AreLeft map blocks k pool → length map ≡ blocks → blocks ≤ k → IsInStep map pool 0
 left_in_step map blocks k pool left all end = record {
-  taken = λ b unit at. left.taken b unit (omega (arith, slice_get_within map b (At unit) at)) at;
+  taken = λ b unit on. let at = at_unit map b unit on in left.taken b unit (omega (arith, slice_get_within map b (At unit) at)) at;
   count =
       let whole = ap (count_by is_at) (take_all k map (omega arith)) in
-      omega (arith, left.count, left.size, whole);
+      omega (arith, left.count, left.size, whole, used_units_of map);
 }
 
 pub bare_state : (s : BlockState) → ((unit : ℕ) → s ≡ At unit → ⊥) → is_at s ≡ false

@@ -1,7 +1,7 @@
 -- The first block of several that can't be read.
 use Rattle.std.proofs.Common.{◌≡◌, ◌+◌, ◌<◌, ◌≤◌, ℕ, zero, suc, List, Option, Some, None, option_map, Err, inl, inr, refl, sym, ap, ◌∙◌, subst, arith}
 use Rattle.std.proofs.lemmas.Bool.{cases_lt}
-use Rattle.std.proofs.lemmas.Option.{none-some}
+use Rattle.nvm_base.proofs.FirstLemmas.{neither_there}
 use Rattle.nvm_model.specs.Storage.{Block}
 use Rattle.nvm_model.specs.Blocks.{Obstacle, nth, obstacle_in, first_there, first_obstacle}
 use Rattle.block_device.specs.declared.fault.BlockFault.{BlockFault}
@@ -40,17 +40,13 @@ no_obstacle blocks at zero none = refl
 no_obstacle blocks at (suc count) none =
     skip blocks at count (none at (omega arith) (omega arith)) ∙ no_obstacle blocks (suc at) count (λ j low high. none j (omega arith) (omega arith))
 
-first_none : (o rest : Option Obstacle) → first_there o rest ≡ None → (o ≡ None) × (rest ≡ None)
-first_none None rest none = (refl, none)
-first_none (Some x) rest none = absurd (none-some x (sym none))
-
 -- where there is none, each can be read
 pub readable : (blocks : List Block) (at count k : ℕ) → first_obstacle blocks at count ≡ None → k < count → obstacle_in (at + k) (nth blocks (at + k)) ≡ None
 readable blocks at zero k none within = absurd (omega arith)
 readable blocks at (suc count) zero none within =
     let is : at ≡ at + 0 = omega arith in
-    subst (λ i. obstacle_in i (nth blocks i) ≡ None) is (first_none (obstacle_in at (nth blocks at)) (first_obstacle blocks (suc at) count) none).0
+    subst (λ i. obstacle_in i (nth blocks i) ≡ None) is (neither_there (obstacle_in at (nth blocks at)) (first_obstacle blocks (suc at) count) none).0
 readable blocks at (suc count) (suc k) none within =
     let is : suc at + k ≡ at + suc k = omega arith in
     subst (λ i. obstacle_in i (nth blocks i) ≡ None) is
-    (readable blocks (suc at) count k (first_none (obstacle_in at (nth blocks at)) (first_obstacle blocks (suc at) count) none).1 (omega arith))
+    (readable blocks (suc at) count k (neither_there (obstacle_in at (nth blocks at)) (first_obstacle blocks (suc at) count) none).1 (omega arith))

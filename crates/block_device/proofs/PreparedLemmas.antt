@@ -1,7 +1,7 @@
 -- One prepared change more, on a unit that was free.
-use Rattle.std.proofs.Common.{◌≡◌, inl, inr, ℕ, Bool, true, false, cond, ◌+◌, ◌*◌, ◌/◌, ◌<◌, ◌≤◌, List, [], ◌∷◌, ◌++◌, length, map, get_or, set, take, drop, Some, refl, sym, ◌∙◌, ap, subst, arith}
+use Rattle.std.proofs.Common.{◌≡◌, inl, inr, ℕ, Bool, true, false, cond, ◌+◌, ◌*◌, ◌/◌, ◌<◌, ◌≤◌, List, [], ◌∷◌, ◌++◌, length, map, get_or, set, take, drop, Option, Some, is_some, refl, sym, ◌∙◌, ap, subst, arith}
 use Rattle.std.proofs.lemmas.Bool.{ne_eqb, or_from}
-use Rattle.std.proofs.lemmas.List.{map-set, length-map}
+use Rattle.std.proofs.lemmas.List.{map-append, map-set, length-map}
 use Rattle.std.proofs.lemmas.List.Sums.{sum_by-append}
 use Rattle.line_device.specs.Medium.{Medium, IsSound, last_image}
 use Rattle.line_words.specs.Words.{HoldsLine, WritesBackBeside}
@@ -12,18 +12,21 @@ use Rattle.block_map.specs.declared.state.BlockState.{BlockState}
 use Rattle.block_map.specs.declared.state.BlockState.TheVariants.{Absent, Scarred, At}
 use Rattle.block_map.specs.States.{IsAt}
 use Rattle.free_pool.specs.Units.{IsFree, IsTaken}
+use Rattle.free_pool.specs.Beside.{used_units}
+use Rattle.free_pool.proofs.BesideLemmas.{free_not_taken, still_taken}
 use Rattle.nvm_model.specs.Storage.{Block}
 use Rattle.nvm_model.specs.Blocks.{data_from, write}
 use Rattle.block_device.specs.declared.change.Change.{Change}
 use Rattle.block_device.specs.Area.{IsBlockLine}
-use Rattle.block_device.specs.Object.{BlocksState, IsInStep, BlocksServe, AreDurable, HasGoodMetadata, is_at}
+use Rattle.block_device.specs.Object.{BlocksState, IsInStep, BlocksServe, AreDurable, HasGoodMetadata, unit_on}
 use Rattle.block_device.specs.Reading.{block_read, map_read}
-use Rattle.block_device.specs.Changes.{MayChange, AreTaken, changed_map, is_on, names, takes, units_named}
+use Rattle.block_device.specs.Changes.{MayChange, AreTaken, changed_map, is_on, names, takes, units_in, units_named}
 use Rattle.block_device.specs.Prepared.{ArePrepared, AreAsBefore, blocks_with}
 use Rattle.block_device.proofs.ReadLemmas.{map_read-beside, durable-beside}
 use Rattle.block_device.proofs.ServesLemmas.{serves-beside}
-use Rattle.block_device.proofs.ChangeLemmas.{slice_get-set_other, is_at-set, length-changed_map, may_change-later, may_change-push}
+use Rattle.block_device.proofs.ChangeLemmas.{is_at-set, length-changed_map, may_change-later, may_change-push}
 use Rattle.block_device.proofs.FreeUnitLemmas.{IsUnitLine, HoldsBlock, durable-set, free_is_vacant, holds_block, in_step-taken, is_unit_line, taken-set, unit_is_block, unit_off_area, unit_off_named, unit_reads}
+use Rattle.block_device.proofs.UnitsOfLemmas.{on_unit, taken_first, taken_none, taken_rest, taken_with}
 use Rattle.block_device.proofs.WriteLemmas.{write_one}
 
 abbrev pub put : ℕ → ℕ → Change
@@ -34,19 +37,14 @@ changed_map-push [] c states = refl
 changed_map-push (d ∷ ds) c states = changed_map-push ds c (set states d.block d.state)
 
 pub units_named-push : (cs : List Change) (block unit : ℕ) → units_named (cs ++ put block unit ∷ []) ≡ units_named cs + 1
-units_named-push cs block unit = sum_by-append (λ (c : Change). cond (is_at c.state) 1 0) cs (put block unit ∷ [])
-
-free_not_taken : (free : List Bool) (unit other : ℕ) → IsFree free unit → IsTaken free other → other ≡ unit → ⊥
-free_not_taken free unit other is_free taken same = differ (sym is_free ∙ subst (IsTaken free) same taken)
-  where
-    differ : Some true ≡ Some false → ⊥
-    differ e = cc
+units_named-push cs block unit =
+    ap used_units (map-append (λ (c : Change). unit_on c.state) cs (put block unit ∷ [])) ∙ sum_by-append (λ (o : Option ℕ). cond (is_some o) 1 0) (units_in cs) (Some unit ∷ [])
 
 -- changes to units that are taken put no block on a free one
 takes-free : (free : List Bool) (unit : ℕ) (cs : List Change) → IsFree free unit → AreTaken free cs → takes cs (At unit) ≡ false
 takes-free free unit [] is_free taken = refl
 takes-free free unit (c ∷ cs) is_free taken =
-    or_from (is_on unit c.state) (takes cs (At unit)) (off c.state taken.0) (takes-free free unit cs is_free taken.1)
+    or_from (is_on unit c.state) (takes cs (At unit)) (off c.state (taken_first free c cs taken)) (takes-free free unit cs is_free (taken_rest free c cs taken))
   where
     off : (s : BlockState) → ((u : ℕ) → s ≡ At u → IsTaken free u) → is_on unit s ≡ false
     off Absent of = refl
@@ -54,19 +52,19 @@ takes-free free unit (c ∷ cs) is_free taken =
     off (At u) of = ne_eqb u unit (λ e. free_not_taken free unit u is_free (of u refl) e)
 
 taken-push : (free : List Bool) (block unit : ℕ) (cs : List Change) → IsFree free unit → AreTaken free cs → AreTaken (set free unit false) (cs ++ put block unit ∷ [])
-taken-push free block unit [] is_free taken = (λ u is. taken-set free unit u is_free is, tt)
-taken-push free block unit (c ∷ cs) is_free taken = (
-  λ u is. slice_get-set_other free unit u false (λ e. free_not_taken free unit u is_free (taken.0 u is) e) ∙ taken.0 u is,
-  taken-push free block unit cs is_free taken.1,
-)
+taken-push free block unit [] is_free taken = taken_with (set free unit false) (put block unit) [] (λ u is. taken-set free unit u is_free is) (taken_none (set free unit false))
+taken-push free block unit (c ∷ cs) is_free taken =
+    taken_with (set free unit false) c (cs ++ put block unit ∷ [])
+    (λ u is. let was = taken_first free c cs taken u is in still_taken free unit u false (free_not_taken free unit u is_free was) was)
+    (taken-push free block unit cs is_free (taken_rest free c cs taken))
 
 -- what the map names after them is taken
 changed_taken : (free : List Bool) (cs : List Change) (states : List BlockState) → MayChange states cs → AreTaken free cs → ((block unit : ℕ) → IsAt states block unit → IsTaken free unit) → (block unit : ℕ) → IsAt (changed_map cs states) block unit → IsTaken free unit
 changed_taken free [] states may taken named = named
 changed_taken free (c ∷ cs) states may taken named =
-    changed_taken free cs (set states c.block c.state) (may_change-later states c cs may) taken.1
+    changed_taken free cs (set states c.block c.state) (may_change-later states c cs may) (taken_rest free c cs taken)
     (λ block unit at. elim (is_at-set states c.block block unit c.state may.0 at) as (λ _. IsTaken free unit) [
-      | inl here ↦ taken.0 unit here.1
+      | inl here ↦ taken_first free c cs taken unit here.1
       | inr there ↦ named block unit there.1
     ])
 
@@ -102,7 +100,7 @@ module _ (s : BlocksState) (m n : Medium) (cs : List Change) (unit : ℕ) (x : H
 
   vacant_then : (block : ℕ) → IsAt (changed_map cs s.map) block unit → ⊥
   vacant_then block at =
-      free_not_taken s.free unit unit x.was_free (changed_taken s.free cs s.map x.prepared.may x.prepared.taken x.prepared.in_step.taken block unit at) refl
+      free_not_taken s.free unit unit x.was_free (changed_taken s.free cs s.map x.prepared.may x.prepared.taken (λ b u is. x.prepared.in_step.taken b u (on_unit s.map b u is)) block unit at) refl
 
   serves_then : BlocksServe s n
   serves_then =

@@ -1,29 +1,27 @@
 -- Blocks are served while others work elsewhere.
-use Rattle.std.proofs.Common.{◌≡◌, inr, ℕ, Bool, ◌/◌, length, ◌∙◌}
+use Rattle.std.proofs.Common.{◌≡◌, inr, ℕ, Bool, ◌/◌, length, refl, ◌∙◌}
 use Rattle.line_device.specs.Medium.{Medium, WritesBack}
+use Rattle.line_device.proofs.HistoryLemmas.{is_in-word_write_back}
 use Rattle.line_words.specs.Words.{WritesBackOutside, WritesBackBeside}
 use Rattle.word_tables.specs.declared.geometry.Geometry.{Geometry}
 use Rattle.word_tables.specs.Bounds.{IsValid}
 use Rattle.word_tables.specs.Layout.{total_lines}
-use Rattle.word_log.specs.Area.{IsOf, gate_place}
+use Rattle.word_log.specs.Area.{IsOf}
 use Rattle.word_log.specs.Rest.{IsAtRest}
+use Rattle.word_log.proofs.HeldLemmas.{rest-kept}
 use Rattle.word_log.proofs.PhaseLemmas.{gate_of, rest-write_back}
 use Rattle.word_log.proofs.RestLemmas.{rest-elsewhere}
 use Rattle.block_map.specs.States.{IsMap}
 use Rattle.block_device.specs.Area.{block_area, IsBlockLine}
 use Rattle.block_device.specs.Object.{BlocksState, BlocksServe, HasStrongMetadata, blocks_of, map_words}
-use Rattle.block_device.proofs.ReadLemmas.{IsNamed, Stays, stays-beside, is_only-stays, durable-beside, durable-outside, durable-stays, durable-write_back, map_read-stays, map_read-write_back}
+use Rattle.block_device.proofs.ReadLemmas.{IsNamed, Stays, stays-beside, durable-beside, durable-outside, durable-stays, durable-write_back, map_read-stays, map_read-write_back}
 use Rattle.block_device.proofs.PlaceLemmas.{area_fits, area_is_block, named_is_data}
 
 -- where the lines of log and map stay, the log stays at rest
 pub rest-stays : (geo : Geometry) (words : ℕ → ℕ) (old new : Medium) → IsValid geo → old.count ≡ total_lines geo → ((p : ℕ) → IsOf (block_area geo) p → Stays old new (p / 8)) → IsAtRest (block_area geo) old words → IsAtRest (block_area geo) new words
 rest-stays geo words old new valid count stays rest =
-    let area = block_area geo in
-    let gate = gate_of area old (area_fits geo valid old count) in
-    record {
-      gate = is_only-stays old new (gate_place area) 0 (stays (gate_place area) gate) rest.gate;
-      home = λ p in_home. is_only-stays old new p (words p) (stays p (inr in_home)) (rest.home p in_home);
-    }
+    rest-kept (block_area geo) words old new (gate_of (block_area geo) old (area_fits geo valid old count))
+    (λ p of v. is_in-word_write_back (old.is_weak (p / 8)) v (old.history p) (new.history p) ((stays p of).word_write_back p refl)) rest
 
 -- where those of the units stay too, all does
 pub serves-stays : (s : BlocksState) (old new : Medium) → ((n : ℕ) → IsBlockLine s.geo n → Stays old new n) → HasStrongMetadata s.geo new → new.count ≡ old.count → BlocksServe s old → BlocksServe s new

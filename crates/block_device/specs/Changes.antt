@@ -1,18 +1,19 @@
 -- Changes of a map: blocks and the states that they get.
-use Rattle.std.specs.Prelude.{◌≡◌, ◌<◌, ◌==◌, ◌+◌, ℕ, Bool, false, List, [], ◌∷◌, ◌++◌, length, map, slice_set, count_by}
+use Rattle.std.specs.Prelude.{◌≡◌, ◌<◌, ◌==◌, ◌+◌, ℕ, Bool, false, List, [], ◌∷◌, ◌++◌, Option, length, map, slice_set}
 use Rattle.std.specs.List.{list_any}
 use Rattle.word_tables.specs.declared.geometry.Geometry.{Geometry}
 use Rattle.word_tables.specs.Words.{place, of_block}
 use Rattle.block_map.specs.declared.state.BlockState.{BlockState}
 use Rattle.block_map.specs.declared.state.BlockState.TheVariants.{Absent, Scarred, At}
 use Rattle.block_map.specs.States.{IsAt, IsBelow, word_of}
-use Rattle.free_pool.specs.Units.{IsTaken}
+use Rattle.free_pool.specs.Beside as pool
+use Rattle.free_pool.specs.Beside.{used_units}
 use Rattle.nvm_base.specs.declared.units.Span.{Span}
 use Rattle.nvm_model.specs.Numbered.{list_from}
 use Rattle.nvm_model.specs.Storage.{Block}
 use Rattle.nvm_model.specs.Storage.Block.{Absent as Gone, Scarred as Scar}
 use Rattle.block_device.specs.declared.change.Change.{Change}
-use Rattle.block_device.specs.Object.{is_at}
+use Rattle.block_device.specs.Object.{unit_on}
 
 -- a map after some changes
 abbrev pub changed_map : List Change → List BlockState → List BlockState
@@ -51,14 +52,17 @@ MayChange states (c ∷ cs) =
 abbrev pub word_changes : Geometry → List Change → List (ℕ × ℕ)
 word_changes geo changes = map (λ (c : Change). (place geo (of_block c.block), word_of c.state)) changes
 
--- how many of them put a block on a unit
+-- the units that they put blocks on, in their order
+abbrev pub units_in : List Change → List (Option ℕ)
+units_in changes = map (λ (c : Change). unit_on c.state) changes
+
+-- how many they are
 abbrev pub units_named : List Change → ℕ
-units_named changes = count_by (λ (c : Change). is_at c.state) changes
+units_named changes = used_units (units_in changes)
 
 -- the units of these changes are taken
 abbrev pub AreTaken : List Bool → List Change → Type 0
-AreTaken free [] = Unit {0}
-AreTaken free (c ∷ cs) = (((unit : ℕ) → c.state ≡ At unit → IsTaken free unit)) × AreTaken free cs
+AreTaken free changes = pool.AreTaken (units_in changes) free
 
 -- blocks and units of these changes are on a device of so many blocks
 abbrev pub AreWithin : ℕ → List Change → Type 0

@@ -1,5 +1,5 @@
 -- What callers see of the blocks of a device, and what is kept beside.
-use Rattle.std.specs.Prelude.{◌≡◌, ◌+◌, ◌-◌, ◌*◌, ◌/◌, ◌<◌, ◌≤◌, ℕ, Bool, true, false, IsTrue, List, length, count_by, slice_index_or}
+use Rattle.std.specs.Prelude.{◌≡◌, ◌+◌, ◌-◌, ◌*◌, ◌/◌, ◌<◌, ◌≤◌, ℕ, Bool, true, false, IsTrue, List, length, map, Option, Some, None, slice_index_or}
 use Rattle.line_device.specs.Medium.{Medium, last_image}
 use Rattle.word_tables.specs.declared.geometry.Geometry.{Geometry}
 use Rattle.word_tables.specs.Bounds.{IsValid}
@@ -10,7 +10,7 @@ use Rattle.word_log.specs.Rest.{IsAtRest}
 use Rattle.block_map.specs.declared.state.BlockState.{BlockState}
 use Rattle.block_map.specs.declared.state.BlockState.TheVariants.{Absent, Scarred, At}
 use Rattle.block_map.specs.States.{IsMap, IsAt, word_of}
-use Rattle.free_pool.specs.Units.{IsTaken, free_count}
+use Rattle.free_pool.specs.Beside.{AreTaken, known_units}
 use Rattle.nvm_model.specs.Lines.{AreGood, AreStrong}
 use Rattle.nvm_model.specs.Storage.{Block}
 use Rattle.block_device.specs.Area.{block_area}
@@ -63,10 +63,20 @@ is_at Absent = false
 is_at Scarred = false
 is_at (At unit) = true
 
+-- the unit that a block is on, if it is on one
+abbrev pub unit_on : BlockState → Option ℕ
+unit_on Absent = None
+unit_on Scarred = None
+unit_on (At unit) = Some unit
+
+-- those of all blocks
+abbrev pub units_of : List BlockState → List (Option ℕ)
+units_of states = map unit_on states
+
 -- Units that the map names are taken, and as many are free as it leaves, but for some that are taken and not named yet.
 pub record IsInStep (states : List BlockState) (free : List Bool) (unnamed : ℕ) : Type 0 where
-  pub taken : (block unit : ℕ) → IsAt states block unit → IsTaken free unit
-  pub count : free_count free + count_by is_at states + unnamed ≡ length free
+  pub taken : AreTaken (units_of states) free
+  pub count : known_units (units_of states) free + unnamed ≡ length free
 
 -- what is true of blocks at any time, with the area of their log
 pub record IsKept (s : BlocksState) (log : LogArea) : Type 0 where

@@ -8,7 +8,7 @@ use Rattle.nvm_model.proofs.NumberedLemmas.{length-map_from}
 use Rattle.inode_table.specs.Slots as names
 use Rattle.inode_table.specs.Slots.{MayTake, pages_at, pages_of}
 use Rattle.page_table.specs.Pages.{IsOn, IsWithinCounts, used_by, used_pages}
-use Rattle.page_table.proofs.SetLemmas.{used_after}
+use Rattle.free_pool.proofs.BesideLemmas.{used_after}
 use Rattle.file_journal.specs.Changes.{changed_tables, filled_holes, switched_page, switched_pages, unit_for}
 use Rattle.file_journal.specs.Switches.{AreHeld, AreSwitches, ArePagesOf, IsSwitch}
 use Rattle.file_journal.specs.Tables.{AreTables, Tables, unit_at}

@@ -5,9 +5,8 @@ use Rattle.std.proofs.lemmas.List.{same_lists, take_more, length-take, get_or-ta
 use Rattle.std.proofs.lemmas.List.Sums.{count_by_more_yes, count_by_more_no}
 use Rattle.std.proofs.lemmas.Option.{get_or_from_slice_get, same_Some, slice_get-get_or, slice_get_within}
 use Rattle.free_pool.specs.Units.{IsTaken}
-use Rattle.free_pool.proofs.CountLemmas.{free_count-given}
+use Rattle.free_pool.proofs.BesideLemmas.{given_known, given_taken, still_taken, switched_known, switched_taken}
 use Rattle.page_table.specs.Pages.{IsOn, IsTable, MayTake, TableState, used_by, used_pages}
-use Rattle.page_table.proofs.SetLemmas.{on_after, used_after}
 use Rattle.nvm_model.proofs.NumberedLemmas.{length-map_from}
 use Rattle.file_journal.specs.Changes.{named_units, switched_page, switched_pages, unit_for}
 use Rattle.file_journal.specs.Switches.{AreHeld, AreSwitches, IsSwitch}
@@ -96,13 +95,6 @@ module _ (inode : ℕ) (switches : List (ℕ × Option ℕ)) (pages : List (Opti
       (sized ∙ size ∙ sym (length-map_from (switched_page inode (switches ++ (page, unit) ∷ [])) 0 pages))
       (λ k low. set_at k (omega arith))
 
--- a unit that is taken stays so when another is given back
-taken_after : (free : List Bool) (a u : ℕ) → IsTaken free u → u ≢ a → IsTaken (set free a true) u
-taken_after free a u taken apart =
-    let within = slice_get_within free u false taken in
-    slice_get-get_or (set free a true) u false (omega (arith, length-set free a true))
-    ∙ ap (λ (b : Bool). Some b) (get_or-set_other free a u true false apart ∙ get_or_from_slice_get free u false false taken)
-
 pub named_more : (switches : List (ℕ × Option ℕ)) (i : ℕ) (unit : Option ℕ) → i < length switches → unit_of switches i ≡ unit → named_units (take (i + 1) switches) ≡ named_units (take i switches) + used_by unit
 named_more switches i None below is =
     let same : named_units (take (i + 1) switches) ≡ named_units (take i switches) = count_by_more_no (λ (c : ℕ × Option ℕ). is_some c.1) switches i (0, None) below (ap is_some is) in
@@ -188,29 +180,24 @@ module _ (inode : ℕ) (below : inode < 64) (switches : List (ℕ × Option ℕ)
           ∙ ap (λ (ps : List (Option ℕ)). record old { pages = ps })
           (set_switched inode (take i switches) old.pages (page_of switches i) (unit_of switches i) small within fresh ∙ ap (λ (ss : List (ℕ × Option ℕ)). switched_pages inode ss old.pages) (sym (take_more switches i (0, None) lt)))
 
-      on_next : (e unit : ℕ) → IsOn next.pages e unit → ((e ≡ entry) × (unit_of switches i ≡ Some unit)) ⊎ ((e ≢ entry) × IsOn table.pages e unit)
-      on_next e unit on = on_after table.pages entry (unit_of switches i) e unit (subst (λ (t : TableState). IsOn t.pages e unit) is on)
+      -- a page is on its new unit, which was held
+      held_now : (unit : ℕ) → unit_of switches i ≡ Some unit → IsTaken left unit
+      held_now unit to = let new = new_unit unit to in step.held unit new.0 new.1
 
-      taken_before : (e unit : ℕ) → IsOn next.pages e unit → IsTaken left unit
-      taken_before e unit on =
-          elim (on_next e unit on) [
-            | inl here ↦ let new = new_unit unit here.1 in step.held unit new.0 new.1
-            | inr there ↦ step.taken e unit there.1
-          ]
-
-      used_next : (o : Option ℕ) → slice_get table.pages entry ≡ Some o → used_pages next.pages + used_by o ≡ used_pages table.pages + used_by (unit_of switches i)
-      used_next o at =
-          subst (λ (t : TableState). used_pages t.pages + used_by o ≡ used_pages table.pages + used_by (unit_of switches i)) (sym is)
-          (used_after table.pages entry (unit_of switches i) o at)
+      -- what is said of the pages is said of the table
+      of_next : (P : List (Option ℕ) → Type 0) → P (set table.pages entry (unit_of switches i)) → P next.pages
+      of_next P holds = subst (λ (t : TableState). P t.pages) (sym is) holds
 
       pub stepped_hole : slice_get table.pages entry ≡ Some None → AreStepped inode (take (i + 1) switches) old free next left
       stepped_hole at = record {
         pages = next_pages;
         is_table = is_table;
         all = step.all;
-        taken = taken_before;
+        taken = of_next (λ ps. AreTaken ps left) (switched_taken table.pages entry (unit_of switches i) left step.taken held_now);
         held = step.held;
-        known = omega (arith, step.known, used_next None at, named_more switches i (unit_of switches i) lt refl);
+        known =
+            of_next (λ ps. known_units ps left ≡ known_units table.pages left + used_by (unit_of switches i)) (switched_known table.pages entry (unit_of switches i) left step.taken held_now at)
+            ∙ omega (arith, step.known, named_more switches i (unit_of switches i) lt refl);
       }
 
       module _ (a : ℕ) (at : slice_get table.pages entry ≡ Some (Some a)) where
@@ -220,16 +207,20 @@ module _ (inode : ℕ) (below : inode < 64) (switches : List (ℕ × Option ℕ)
         not_left : (u : ℕ) → IsVacant old.pages u → u ≢ a
         not_left u vacant same = vacant entry (left_unit u (at ∙ ap (λ (x : ℕ). Some (Some x)) (sym same)))
 
+        alone : (e : ℕ) → IsOn table.pages e a → e ≡ entry
+        alone e on = step.is_table.apart e entry a on at
+
+        other_unit : (u : ℕ) → unit_of switches i ≡ Some u → u ≢ a
+        other_unit u to = not_left u (new_unit u to).1
+
         pub stepped_unit : AreStepped inode (take (i + 1) switches) old free next (set left a true)
         stepped_unit = record {
           pages = next_pages;
           is_table = is_table;
           all = length-set left a true ∙ step.all;
-          taken = λ e unit on. taken_after left a unit (taken_before e unit on)
-              (λ same. elim (on_next e unit on) [
-                | inl here ↦ not_left unit (new_unit unit here.1).1 same
-                | inr there ↦ there.0 (step.is_table.apart e entry unit there.1 (at ∙ ap (λ (x : ℕ). Some (Some x)) (sym same)))
-              ]);
-          held = λ unit taken vacant. taken_after left a unit (step.held unit taken vacant) (not_left unit vacant);
-          known = omega (arith, step.known, used_next (Some a) at, named_more switches i (unit_of switches i) lt refl, free_count-given left a left_taken);
+          taken = of_next (λ ps. AreTaken ps (set left a true)) (given_taken table.pages entry (unit_of switches i) left step.taken held_now a at alone other_unit);
+          held = λ unit taken vacant. still_taken left a unit true (not_left unit vacant) (step.held unit taken vacant);
+          known =
+              of_next (λ ps. known_units ps (set left a true) ≡ known_units table.pages left + used_by (unit_of switches i)) (given_known table.pages entry (unit_of switches i) left step.taken held_now a at alone other_unit)
+              ∙ omega (arith, step.known, named_more switches i (unit_of switches i) lt refl);
         }

@@ -21,8 +21,8 @@ slice_get-set_other (x ∷ xs) (suc i) zero y other = refl
 slice_get-set_other (x ∷ xs) (suc i) (suc k) y other = slice_get-set_other xs i k y (λ e. other (ap suc e))
 
 -- a unit is not free and taken
-pub free_not_taken : (free : List Bool) (unit : ℕ) → IsFree free unit → IsTaken free unit → ⊥
-free_not_taken free unit is_free taken = differ (sym is_free ∙ taken)
+pub free_not_taken : (free : List Bool) (unit other : ℕ) → IsFree free unit → IsTaken free other → other ≢ unit
+free_not_taken free unit other is_free taken same = differ (sym is_free ∙ ap (slice_get free) (sym same) ∙ taken)
   where
     differ : Some true ≡ Some false → ⊥
     differ e = cc
@@ -35,10 +35,10 @@ module _ (entries : List (Option ℕ)) (free : List Bool) (unit : ℕ) where
   -- a unit is taken that was free: no entry is on it, and it is held
   module _ (is_free : IsFree free unit) where
     pub free_is_vacant : AreTaken entries free → IsVacant entries unit
-    free_is_vacant taken entry on = free_not_taken free unit is_free (taken entry unit on)
+    free_is_vacant taken entry on = free_not_taken free unit unit is_free (taken entry unit on) refl
 
     pub taken_beside : AreTaken entries free → AreTaken entries (set free unit false)
-    taken_beside taken entry other on = still_taken free unit other false (λ same. free_not_taken free other (ap (slice_get free) same ∙ is_free) (taken entry other on)) (taken entry other on)
+    taken_beside taken entry other on = let was = taken entry other on in still_taken free unit other false (free_not_taken free unit other is_free was) was
 
     pub known-taken : known_units entries (set free unit false) + 1 ≡ known_units entries free
     known-taken = omega (arith, free_count-taken free unit is_free)

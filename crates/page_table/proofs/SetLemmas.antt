@@ -1,36 +1,9 @@
 -- A table in which one page changes.
-use Rattle.std.proofs.Common.{◌≡◌, ◌≢◌, ◌⊎◌, ◌<◌, ◌≤◌, ◌+◌, ℕ, List, Option, Some, None, is_some, cond, length, get_or, map, set, slice_get, sym, ap, ap₂, subst, ◌∙◌, inl, inr, arith, length-set, get_or-set_same, get_or-set_other}
-use Rattle.std.proofs.lemmas.Bool.{cases_eq}
+use Rattle.std.proofs.Common.{◌≡◌, ◌<◌, ℕ, List, Option, Some, None, map, set, slice_get, sym, ap₂, subst, ◌∙◌, inl, inr, length-set}
 use Rattle.std.proofs.lemmas.List.{map-set}
-use Rattle.std.proofs.lemmas.List.Sums.{get_or-le-sum_by, sum_by-set}
-use Rattle.std.proofs.lemmas.Option.{get_or_from_slice_get, none-some, same_Some, slice_get-get_or, slice_get_within}
-use Rattle.page_table.specs.Pages.{IsOn, IsTable, MayTake, TableState, unit_of, used_by, used_pages}
-
-module _ (pages : List (Option ℕ)) (entry : ℕ) (page : Option ℕ) where
-  -- a page that is on a unit afterwards is the one that changed, or was there before
-  pub on_after : (e unit : ℕ) → IsOn (set pages entry page) e unit → ((e ≡ entry) × (page ≡ Some unit)) ⊎ ((e ≢ entry) × IsOn pages e unit)
-  on_after e unit on =
-      let size = length-set pages entry page in
-      let within : e < length pages = omega (arith, slice_get_within (set pages entry page) e (Some unit) on) in
-      let is = get_or_from_slice_get (set pages entry page) e (Some unit) None on in
-      elim (cases_eq e entry) [
-        | inl same ↦ inl (same, sym (get_or-set_same pages e page None within) ∙ ap (λ i. get_or (set pages i page) e None) same ∙ is)
-        | inr apart ↦ inr (apart, slice_get-get_or pages e None within ∙ ap (λ (p : Option ℕ). Some p) (sym (get_or-set_other pages entry e page None apart) ∙ is))
-      ]
-
-  -- the pages that are no holes
-  module _ (old : Option ℕ) (was : slice_get pages entry ≡ Some old) where
-    pub used_before : used_by old ≤ used_pages pages
-    used_before =
-        let at = get_or_from_slice_get pages entry old None was in
-        let le = get_or-le-sum_by (λ (p : Option ℕ). cond (is_some p) 1 0) pages entry None (slice_get_within pages entry old was) in
-        rw at at le
-
-    pub used_after : used_pages (set pages entry page) + used_by old ≡ used_pages pages + used_by page
-    used_after =
-        let at = get_or_from_slice_get pages entry old None was in
-        let sums = sum_by-set (λ (p : Option ℕ). cond (is_some p) 1 0) pages entry page None (slice_get_within pages entry old was) in
-        rw at at sums
+use Rattle.std.proofs.lemmas.Option.{none-some, same_Some}
+use Rattle.free_pool.proofs.BesideLemmas.{on_after}
+use Rattle.page_table.specs.Pages.{IsOn, IsTable, MayTake, TableState, unit_of}
 
 module _ (units : ℕ) (pages : List (Option ℕ)) (entry : ℕ) (is : IsTable (record { units = units; pages = pages })) where
   -- where the page takes no unit of another

@@ -1,5 +1,6 @@
 -- On which unit each page is, and what makes a table of them.
-use Rattle.std.specs.Prelude.{◌≡◌, ◌<◌, ◌≤◌, ◌+◌, ◌/◌, ◌%◌, ℕ, zero, suc, List, Option, Some, None, is_some, length, count_by, slice_get, slice_index, if◌then◌else◌}
+use Rattle.std.specs.Prelude.{◌≡◌, ◌<◌, ◌≤◌, ◌+◌, ◌/◌, ◌%◌, ℕ, zero, suc, List, Option, Some, None, length, slice_index}
+use Rattle.free_pool.specs.Beside as pool
 
 -- How many units there are, and for each page, one inode's after the other's, the unit that it is on. A hole is on none.
 pub record TableState : Type 0 where
@@ -18,15 +19,15 @@ word_of (Some unit) = unit + 1
 
 -- how many units a page uses
 abbrev pub used_by : Option ℕ → ℕ
-used_by page = if is_some page then 1 else 0
+used_by page = pool.used_by page
 
 -- how many pages are no holes
 abbrev pub used_pages : List (Option ℕ) → ℕ
-used_pages pages = count_by is_some pages
+used_pages pages = pool.used_units pages
 
 -- the page of an entry is on a unit
 abbrev pub IsOn : List (Option ℕ) → ℕ → ℕ → Type 0
-IsOn pages entry unit = slice_get pages entry ≡ Some (Some unit)
+IsOn pages entry unit = pool.IsOn pages entry unit
 
 -- 256 pages for each of 64 inodes; each that is no hole has a unit of its own
 pub record IsTable (table : TableState) : Type 0 where

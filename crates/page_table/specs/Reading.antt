@@ -1,6 +1,7 @@
 -- What words are read as.
 use Rattle.std.specs.Prelude.{◌≡◌, ◌<◌, ◌≤◌, ◌+◌, ℕ, Bool, List, None, length, map}
-use Rattle.free_pool.specs.Units.{IsFree, IsTaken, free_count}
+use Rattle.free_pool.specs.Beside.{AreTaken, known_units}
+use Rattle.free_pool.specs.Units.{IsFree}
 use Rattle.page_table.specs.Pages.{IsOn, IsTable, IsWithinCounts, TableState, unit_of, used_pages, word_of}
 use Rattle.page_table.specs.Wrong.{first_wrong_entry}
 
@@ -16,6 +17,6 @@ pub record Reads (units : ℕ) (counts words : List ℕ) (table : TableState) : 
 -- The pool has the units of a table, and those that no page is on are free.
 pub record HasFree (table : TableState) (free : List Bool) : Type 0 where
   pub all : length free ≡ table.units
-  pub taken : (entry unit : ℕ) → IsOn table.pages entry unit → IsTaken free unit
+  pub taken : AreTaken table.pages free
   pub left : (unit : ℕ) → unit < table.units → ((entry : ℕ) → ¬ IsOn table.pages entry unit) → IsFree free unit
-  pub count : free_count free + used_pages table.pages ≡ table.units
+  pub count : known_units table.pages free ≡ table.units

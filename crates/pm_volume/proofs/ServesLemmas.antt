@@ -2,13 +2,14 @@
 use Rattle.std.proofs.Common.{◌≡◌, inr, ℕ, ◌/◌, Bool, List, length, sym, subst, ◌∙◌, arith}
 use Rattle.line_device.specs.Medium.{Medium, WritesBack}
 use Rattle.line_device.proofs.HistoryLemmas.{is_in-word_write_back}
-use Rattle.line_words.specs.Words.{IsOnly, WritesBackOutside}
+use Rattle.line_words.specs.Words.{WritesBackOutside}
 use Rattle.word_tables.specs.declared.geometry.Geometry.{Geometry}
 use Rattle.word_tables.specs.Bounds.{IsValid}
 use Rattle.word_tables.specs.Layout.{total_lines, volume_line, IsVolumeLine}
-use Rattle.word_log.specs.Area.{IsOf, gate_place}
+use Rattle.word_log.specs.Area.{IsOf}
 use Rattle.word_log.specs.Replay.{Replays}
 use Rattle.word_log.specs.Rest.{IsAtRest}
+use Rattle.word_log.proofs.HeldLemmas.{rest-kept}
 use Rattle.word_log.proofs.PhaseLemmas.{gate_of, images_rest, rest-write_back}
 use Rattle.nvm_model.specs.Page.{Page, PagesStand, presence_of}
 use Rattle.page_lines.specs.Turns.{WritesBackOthers}
@@ -20,9 +21,6 @@ use Rattle.pm_volume.proofs.AreaLemmas.{area_fits, area_in_metadata}
 use Rattle.pm_volume.proofs.PlaceLemmas.{area_of_volume, volume_behind_metadata}
 
 -- work on lines of pages
-is_only-others : (lines : ℕ → Type 0) (old new : Medium) (p v : ℕ) → WritesBackOthers lines old new → (lines (p / 8) → ⊥) → IsOnly v (old.history p) → IsOnly v (new.history p)
-is_only-others lines old new p v x apart only w at = only w (is_in-word_write_back (old.is_weak (p / 8)) w (old.history p) (new.history p) (x.word_write_back p apart) at)
-
 pub rest-others : (geo : Geometry) (words : ℕ → ℕ) (old new : Medium) (lines : ℕ → Type 0) → IsValid geo → old.count ≡ total_lines geo → ((n : ℕ) → lines n → IsVolumeLine geo n) → WritesBackOthers lines old new → IsAtRest (volume_area geo) old words → IsAtRest (volume_area geo) new words
 rest-others geo words old new lines valid count are x rest =
     let area = volume_area geo in
@@ -30,10 +28,8 @@ rest-others geo words old new lines valid count are x rest =
     let meta = area_in_metadata geo valid p of in
     let data_ = volume_behind_metadata geo valid (p / 8) (are (p / 8) is) in
     omega (arith, meta, data_.0) in
-    record {
-      gate = is_only-others lines old new (gate_place area) 0 x (apart (gate_place area) (gate_of area old (area_fits geo valid old count))) rest.gate;
-      home = λ p in_home. is_only-others lines old new p (words p) x (apart p (inr in_home)) (rest.home p in_home);
-    }
+    rest-kept area words old new (gate_of area old (area_fits geo valid old count))
+    (λ p of v. is_in-word_write_back (old.is_weak (p / 8)) v (old.history p) (new.history p) (x.word_write_back p (apart p of))) rest
 
 pub serves-others : (s : VolumeState) (old new : Medium) (lines : ℕ → Type 0) → ((n : ℕ) → lines n → IsVolumeLine s.geo n) → WritesBackOthers lines old new → VolumeServes s old → VolumeServes s new
 serves-others s old new lines are x serves = record {

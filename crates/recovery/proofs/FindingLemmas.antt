@@ -4,6 +4,7 @@ use Rattle.std.specs.List.{range_with_len}
 use Rattle.std.specs.Result.{IsErrAnd}
 use Rattle.std.proofs.lemmas.Bool.{cases_Bool}
 use Rattle.std.proofs.lemmas.Option.{none-some}
+use Rattle.nvm_base.proofs.FirstLemmas.{neither_there, none_there, not_mapped}
 use Rattle.line_device.specs.Medium.{Medium, WritesBack, last_image}
 use Rattle.line_words.specs.Told.{Told, IfRefused, IsStop, told_outcome}
 use Rattle.nvm_model.specs.Numbered.{list_from}
@@ -66,10 +67,6 @@ superblock_bad m bad = ap (λ b. if b then Some (bad_line 0) else option_map wro
 superblock_good : (m : Medium) → m.is_bad 0 ≡ false → superblock_finding m ≡ option_map wrong_word (first_wrong_word m.count (last_image m))
 superblock_good m good = ap (λ b. if b then Some (bad_line 0) else option_map wrong_word (first_wrong_word m.count (last_image m))) good
 
-pub none_mapped : {A B : Type 0} (f : A → B) (o : Option A) → option_map f o ≡ None → o ≡ None
-none_mapped f None h = refl
-none_mapped f (Some x) h = absurd (none-some (f x) (sym h))
-
 -- only its words are looked at
 pub words_alone : (lines : ℕ) (word : ℕ → ℕ) → first_wrong_word lines (slice_index (list_from word 0 8)) ≡ first_wrong_word lines word
 unfolding first_wrong_word
@@ -97,29 +94,20 @@ pub is_superblock : (m : Medium) → superblock_finding m ≡ None → IsSuperbl
 is_superblock m none =
     elim (cases_Bool (m.is_bad 0)) as (λ _. IsSuperblock m.count (last_image m)) [
       | inl bad ↦ absurd (none-some (bad_line 0) (sym none ∙ superblock_bad m bad))
-      | inr good ↦ right m.count (last_image m) (none_mapped wrong_word (first_wrong_word m.count (last_image m)) (sym (superblock_good m good) ∙ none))
+      | inr good ↦ right m.count (last_image m) (not_mapped wrong_word (first_wrong_word m.count (last_image m)) (sym (superblock_good m good) ∙ none))
     ]
-
--- of two searches that find nothing
-pub first_none : {A : Type 0} (a b : Option A) → first_there a b ≡ None → (a ≡ None) × (b ≡ None)
-first_none None b h = (refl, h)
-first_none (Some x) b h = absurd (none-some x (sym h))
-
--- and back
-pub both_none : {A : Type 0} (a b : Option A) → a ≡ None → b ≡ None → first_there a b ≡ None
-both_none a b first second = ap (λ o. first_there o b) first ∙ second
 
 -- where nothing is found at all, nothing is found before a log is replayed
 pub nothing_inspected : (m : Medium) → first_finding m ≡ None → inspection_finding m ≡ None
 unfolding first_finding
-nothing_inspected m none = (first_none (inspection_finding m) (option_map wrong_word (wrong_table (geometry_told m) (last_image m))) none).0
+nothing_inspected m none = (neither_there (inspection_finding m) (option_map wrong_word (wrong_table (geometry_told m) (last_image m))) none).0
 
 -- nor before one is read
 pub inspected_parts : (m : Medium) → inspection_finding m ≡ None → (early_finding m ≡ None) × (wrong_log (geometry_told m) (last_image m) ≡ None)
 unfolding inspection_finding
 inspected_parts m none =
-    let parts = first_none (early_finding m) (option_map wrong_word (wrong_log (geometry_told m) (last_image m))) none in
-    (parts.0, none_mapped wrong_word (wrong_log (geometry_told m) (last_image m)) parts.1)
+    let parts = neither_there (early_finding m) (option_map wrong_word (wrong_log (geometry_told m) (last_image m))) none in
+    (parts.0, not_mapped wrong_word (wrong_log (geometry_told m) (last_image m)) parts.1)
 
 pub nothing_early : (m : Medium) → first_finding m ≡ None → early_finding m ≡ None
 nothing_early m none = (inspected_parts m (nothing_inspected m none)).0
@@ -130,12 +118,12 @@ early_inspection m some none = some (inspected_parts m none).0
 -- three searches
 pub three_none : {A : Type 0} (a b c : Option A) → first_there a (first_there b c) ≡ None → (a ≡ None) × (b ≡ None) × (c ≡ None)
 three_none a b c h =
-    let one = first_none a (first_there b c) h in
-    let two = first_none b c one.1 in
+    let one = neither_there a (first_there b c) h in
+    let two = neither_there b c one.1 in
     (one.0, two.0, two.1)
 
 pub all_none : {A : Type 0} (a b c : Option A) → a ≡ None → b ≡ None → c ≡ None → first_there a (first_there b c) ≡ None
-all_none a b c first second third = both_none a (first_there b c) first (both_none b c second third)
+all_none a b c first second third = none_there a (first_there b c) first (none_there b c second third)
 
 -- each log is in order
 pub logs_right : (geo : Geometry) (word : ℕ → ℕ) → wrong_log geo word ≡ None
@@ -152,11 +140,11 @@ nothing_found m none =
     let parts = inspected_parts m (nothing_inspected m none) in
     let logs = logs_right geo word parts.1 in
     let tables = three_none (wrong_map geo word) (wrong_presence geo word) (files.wrong_table geo (files.words_read geo word))
-    (none_mapped wrong_word (wrong_table geo word) (first_none (inspection_finding m) (option_map wrong_word (wrong_table geo word)) none).1) in (
+    (not_mapped wrong_word (wrong_table geo word) (neither_there (inspection_finding m) (option_map wrong_word (wrong_table geo word)) none).1) in (
       parts.0,
-      both_none (log.first_wrong (block_area geo) word) (wrong_map geo word) logs.0 tables.0,
-      both_none (log.first_wrong (volume_area geo) word) (wrong_presence geo word) logs.1 tables.1,
-      both_none (log.first_wrong (file_area geo) word) (files.wrong_table geo (files.words_read geo word)) logs.2 tables.2,
+      none_there (log.first_wrong (block_area geo) word) (wrong_map geo word) logs.0 tables.0,
+      none_there (log.first_wrong (volume_area geo) word) (wrong_presence geo word) logs.1 tables.1,
+      none_there (log.first_wrong (file_area geo) word) (files.wrong_table geo (files.words_read geo word)) logs.2 tables.2,
     )
 
 pub all_right : (m : Medium) → early_finding m ≡ None → wrong_place (geometry_told m) (last_image m) ≡ None → wrong_volume_place (geometry_told m) (last_image m) ≡ None
@@ -165,28 +153,28 @@ unfolding first_finding inspection_finding
 all_right m early place volume file =
     let geo = geometry_told m in
     let word = last_image m in
-    let blocks = first_none (log.first_wrong (block_area geo) word) (wrong_map geo word) place in
-    let pages = first_none (log.first_wrong (volume_area geo) word) (wrong_presence geo word) volume in
-    let inodes = first_none (log.first_wrong (file_area geo) word) (files.wrong_table geo (files.words_read geo word)) file in
-    both_none (first_there (early_finding m) (option_map wrong_word (wrong_log geo word))) (option_map wrong_word (wrong_table geo word))
-    (both_none (early_finding m) (option_map wrong_word (wrong_log geo word)) early
+    let blocks = neither_there (log.first_wrong (block_area geo) word) (wrong_map geo word) place in
+    let pages = neither_there (log.first_wrong (volume_area geo) word) (wrong_presence geo word) volume in
+    let inodes = neither_there (log.first_wrong (file_area geo) word) (files.wrong_table geo (files.words_read geo word)) file in
+    none_there (first_there (early_finding m) (option_map wrong_word (wrong_log geo word))) (option_map wrong_word (wrong_table geo word))
+    (none_there (early_finding m) (option_map wrong_word (wrong_log geo word)) early
     (ap (option_map wrong_word) (all_none (log.first_wrong (block_area geo) word) (log.first_wrong (volume_area geo) word) (log.first_wrong (file_area geo) word) blocks.0 pages.0 inodes.0)))
     (ap (option_map wrong_word) (all_none (wrong_map geo word) (wrong_presence geo word) (files.wrong_table geo (files.words_read geo word)) blocks.1 pages.1 inodes.1))
 
 pub early_none : (m : Medium) → early_finding m ≡ None → (superblock_finding m ≡ None) × (meta_finding (geometry_told m) m ≡ None)
 unfolding early_finding
-early_none m none = first_none (superblock_finding m) (meta_finding (geometry_told m) m) none
+early_none m none = neither_there (superblock_finding m) (meta_finding (geometry_told m) m) none
 
 -- lines of metadata of which none is found
 pub good_metadata : (geo : Geometry) (m : Medium) → meta_finding geo m ≡ None → HasGoodMetadata geo m
 good_metadata geo m none n below =
-    let parts = first_none (option_map bad_line (position m.is_bad (range_with_len 0 (meta_lines geo)))) _ none in
-    fails_below m.is_bad (meta_lines geo) n (none_mapped bad_line _ parts.0) below
+    let parts = neither_there (option_map bad_line (position m.is_bad (range_with_len 0 (meta_lines geo)))) (option_map (λ k. wrong_word (8 * k)) (position m.is_weak (range_with_len 0 (meta_lines geo)))) none in
+    fails_below m.is_bad (meta_lines geo) n (not_mapped bad_line _ parts.0) below
 
 pub strong_metadata : (geo : Geometry) (m : Medium) → meta_finding geo m ≡ None → HasStrongMetadata geo m
 strong_metadata geo m none n below =
-    let parts = first_none (option_map bad_line (position m.is_bad (range_with_len 0 (meta_lines geo)))) _ none in
-    fails_below m.is_weak (meta_lines geo) n (none_mapped (λ k. wrong_word (8 * k)) _ parts.1) below
+    let parts = neither_there (option_map bad_line (position m.is_bad (range_with_len 0 (meta_lines geo)))) (option_map (λ k. wrong_word (8 * k)) (position m.is_weak (range_with_len 0 (meta_lines geo)))) none in
+    fails_below m.is_weak (meta_lines geo) n (not_mapped (λ k. wrong_word (8 * k)) _ parts.1) below
 
 -- lines that are written back keep their marks
 pub bad-write_back : (old new : Medium) → WritesBack old new → new.is_bad ≡ old.is_bad

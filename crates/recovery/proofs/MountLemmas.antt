@@ -1,5 +1,6 @@
 -- What a mount gives, once nothing was found before a log is replayed.
 use Rattle.std.proofs.Common.{◌≡◌, ℕ, List, None, Result, Ok, Err, IfOk, IsTrue, map, option_map, sym, ◌∙◌, ap, ap₂, subst}
+use Rattle.nvm_base.proofs.FirstLemmas.{not_mapped}
 use Rattle.line_device.specs.Medium.{Medium, WritesBack, last_image}
 use Rattle.line_words.proofs.FrameLemmas.{last_image-write_back}
 use Rattle.word_tables.specs.declared.geometry.Geometry.{Geometry}
@@ -30,7 +31,7 @@ use Rattle.recovery.specs.declared.replaying.Tables.{Tables}
 use Rattle.recovery.specs.Findings.{geometry_told, inspection_finding, first_finding, wrong_log, wrong_table}
 use Rattle.recovery.specs.Mounting.{Finds, HasDurableBlocks, IsInOrder, IsOfLogs}
 use Rattle.recovery.specs.Tables.{AreTables, LeavesLogs, wrong_words}
-use Rattle.recovery.proofs.FindingLemmas.{bad-write_back, finds_judged, none_mapped, three_none}
+use Rattle.recovery.proofs.FindingLemmas.{bad-write_back, finds_judged, three_none}
 use Rattle.recovery.proofs.LogLemmas.{logs_in_metadata}
 use Rattle.recovery.proofs.LeaveLemmas.{leaves-then, leaves-write_back}
 
@@ -84,7 +85,7 @@ module _ (old now : Medium) (geo : Geometry) (is : geo ≡ geometry_told old) (x
           × (mounted.journal.geo ≡ geometry_told old) × (mounted.journal.tables ≡ reading.tables_read (geometry_told old) (last_image old)))
       mount_ok (Err f) blocks_rest sizes made present named h = tt
       mount_ok (Ok mounted) blocks_rest sizes made present named h =
-          let reads = blocks.judged_reads geo order.valid (IsOfLogs geo) (logs_in_metadata geo order.valid) now new tables.map.items (record { words = are.map; rest = blocks_rest; outside = left.outside }) (Ok mounted.blocks) made (tables_right (none_mapped wrong_word _ h)).0 in
+          let reads = blocks.judged_reads geo order.valid (IsOfLogs geo) (logs_in_metadata geo order.valid) now new tables.map.items (record { words = are.map; rest = blocks_rest; outside = left.outside }) (Ok mounted.blocks) made (tables_right (not_mapped wrong_word _ h)).0 in
           let there = pages.judged_pages geo now tables.presence.items are.presence (Ok mounted.volume) present in
           let on = files.judged_tables geo now tables.file_words.items are.file_words (Ok mounted.journal) named in
           (sizes ∙ is, reads.0 ∙ is, reads.1 ∙ blocks_same, there.0 ∙ is, there.1 ∙ ap₂ presence_read is (last_image-write_back old now x), on.0 ∙ is, on.1 ∙ ap₂ reading.tables_read is (last_image-write_back old now x))
@@ -98,7 +99,7 @@ module _ (old now : Medium) (geo : Geometry) (is : geo ≡ geometry_told old) (x
           let states = states_read geo (last_image old) in
           let told = subst (λ g. AreDurable g old (states_read g (last_image old))) (sym is) (durable (mount_finds (Ok mounted) h)) in
           let still = subst (λ (word : ℕ → ℕ). AreDurable geo now (states_read geo word)) (sym (last_image-write_back old now x)) (durable-write_back geo states old now x told) in
-          blocks.judged_serves geo order.valid (IsOfLogs geo) (logs_in_metadata geo order.valid) now new tables.map.items (record { words = are.map; rest = rest; outside = left.outside }) (Ok mounted.blocks) order.count order.strong made (tables_right (none_mapped wrong_word _ h)).0 still
+          blocks.judged_serves geo order.valid (IsOfLogs geo) (logs_in_metadata geo order.valid) now new tables.map.items (record { words = are.map; rest = rest; outside = left.outside }) (Ok mounted.blocks) order.count order.strong made (tables_right (not_mapped wrong_word _ h)).0 still
 
       pub mount_volume : (r : Result Mounted MountFault) → IsAtRest (volume_area geo) new (replayed (volume_area geo) (last_image now))
           → IfOk r (λ mounted. (mounted.volume.geo ≡ geo) × (map presence_word mounted.volume.present ≡ tables.presence.items)) → IfOk r (λ mounted. VolumeServes mounted.volume new)
@@ -110,7 +111,7 @@ module _ (old now : Medium) (geo : Geometry) (is : geo ≡ geometry_told old) (x
           → Finds (option_map wrong_word (wrong_words geo tables.map.items tables.presence.items tables.file_words.items)) r → IfOk r (λ mounted. JournalServes mounted.journal new)
       mount_journal (Err f) rest made h = tt
       mount_journal (Ok mounted) rest made h =
-          files.judged_serves geo now new (IsOfLogs geo) tables.file_words.items (record { words = are.file_words; rest = rest; outside = left.outside }) (Ok mounted.journal) order.count order.strong made (tables_right (none_mapped wrong_word _ h)).1
+          files.judged_serves geo now new (IsOfLogs geo) tables.file_words.items (record { words = are.file_words; rest = rest; outside = left.outside }) (Ok mounted.journal) order.count order.strong made (tables_right (not_mapped wrong_word _ h)).1
 
 -- what is mounted can be used, where what the map names is durable
 pub usable : (old new : Medium) (r : Result Mounted MountFault) → HasDurableBlocks old → (HasDurableBlocks old → IfOk r (λ mounted. BlocksServe mounted.blocks new)) → IfOk r (λ mounted. IsTrue mounted.blocks.settled → BlocksServe mounted.blocks new)

@@ -7,6 +7,7 @@ use Rattle.std.proofs.lemmas.Option.{none-some, same_Some}
 use Rattle.line_device.proofs.WordLemmas.{below_eight}
 use Rattle.nvm_base.specs.declared.files.FileEntry.{FileEntry}
 use Rattle.nvm_model.specs.Blocks.{first_there}
+use Rattle.nvm_base.proofs.FirstLemmas.{none_there as both_none}
 use Rattle.word_tables.specs.declared.geometry.Geometry.{Geometry}
 use Rattle.word_tables.specs.Layout.{first_line, inodes}
 use Rattle.word_tables.specs.Words.{place, of_inode, of_file_page}
@@ -28,7 +29,6 @@ use Rattle.page_table.proofs.TableLemmas.{get_or-units}
 use Rattle.page_table.proofs.WrongLemmas.{none_wrong, wrong_first, wrong_no_page}
 use Rattle.file_journal.specs.Area.{file_area}
 use Rattle.file_journal.specs.Reading.{words_read, wrong_inode, wrong_page, wrong_table}
-use Rattle.recovery.proofs.FindingLemmas.{both_none}
 
 -- nothing, so many times
 pub none_at : {A : Type 0} (n i : ℕ) → get_or (replicate {A = Option A} n None) i None ≡ None

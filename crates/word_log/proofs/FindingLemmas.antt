@@ -1,29 +1,21 @@
 -- A mount that reads a table through a log: what it finds, what it leaves, and what it spends.
-use Rattle.std.proofs.Common.{◌≡◌, ℕ, ◌+◌, ◌*◌, ◌/◌, List, Option, None, Result, Err, sym, ◌∙◌, ap, subst}
+use Rattle.std.proofs.Common.{◌≡◌, ℕ, ◌+◌, ◌*◌, ◌/◌, List, Option, None, Result, sym, ◌∙◌, ap, subst}
 use Rattle.std.specs.Option.{option_or}
 use Rattle.line_device.specs.Medium.{Medium, last_image}
 use Rattle.line_device.specs.Panel.{Outcome, Panel, Runs}
-use Rattle.line_words.specs.Told.{Told, Explains}
+use Rattle.line_words.specs.Told.{Told}
 use Rattle.line_words.specs.Words.{WritesBackOutside}
-use Rattle.line_words.proofs.ToldLemmas.{explains-then, if_refused-then}
+use Rattle.line_words.proofs.ToldLemmas.{explains-then}
 use Rattle.word_log.specs.declared.area.LogArea.{LogArea}
 use Rattle.word_log.specs.Area.{AreHomeWords, IsOf, IsWhole}
-use Rattle.word_log.specs.Mount.{Finding, FindsIn, FindsPlace, IsFound, IsPlace, IsWrongIn, wrong_with}
+use Rattle.word_log.specs.Mount.{Finding, FindsIn, FindsPlace, IsPlace, IsWrongIn, wrong_with}
 use Rattle.word_log.specs.Mount.Finding.{bad_line, wrong_word}
 use Rattle.word_log.specs.Replay.{first_wrong, replayed}
 use Rattle.word_log.specs.Rest.{IsAtRest}
 
 -- a search of an image of log and table
 module _ {E : Type 0} (tells : E → Told Finding) (a : LogArea) (table : (ℕ → ℕ) → Option ℕ) (m : Medium) where
-  -- what is wrong with the log is wrong with both
-  log_wrong : (why : Finding) → IsFound a m why → IsWrongIn a (wrong_with a table) m why
-  log_wrong (bad_line line) wrong = wrong
-  log_wrong (wrong_word place) wrong = (wrong.0, ap (λ o. option_or o (table (last_image m))) wrong.1)
-
-  pub finds-log : (T U well : Type 0) (fault : E) → Explains {T = U} tells well (IsFound a m) (Err fault) → FindsIn {T = T} tells a (wrong_with a table) m (Err fault)
-  finds-log T U well fault h = if_refused-then (tells fault) (IsFound a m) (IsWrongIn a (wrong_with a table) m) log_wrong h
-
-  -- and, where the log is valid, what is wrong with the table
+  -- where the log is valid, what is wrong with the table is wrong with both
   module _ (right : IsWhole a m × (first_wrong a (last_image m) ≡ None)) where
     first_of_table : wrong_with a table (last_image m) ≡ table (last_image m)
     first_of_table = ap (λ o. option_or o (table (last_image m))) right.1

@@ -1,16 +1,16 @@
 -- Tables that the words of a log hold: kept by work elsewhere, read by images, and turned by a commit.
-use Rattle.std.proofs.Common.{◌≡◌, ◌⊎◌, inl, inr, ℕ, List, Result, refl, sym, ◌∙◌, subst}
+use Rattle.std.proofs.Common.{◌≡◌, ◌⊎◌, inl, inr, ℕ, List, refl, subst}
 use Rattle.line_device.specs.History.{IsIn}
 use Rattle.line_device.specs.Medium.{Medium, WritesBack}
 use Rattle.line_words.specs.Words.{IsOnly}
 use Rattle.word_log.specs.declared.area.LogArea.{LogArea}
-use Rattle.word_log.specs.Area.{IsHome, IsOf, IsShaped, gate_place}
+use Rattle.word_log.specs.Area.{IsHome, IsOf, gate_place}
 use Rattle.word_log.specs.Changes.{changed}
 use Rattle.word_log.specs.Held.{EachReadsTables, EachReplays, IsEither, ReadsTables, RestsWith, Turns}
 use Rattle.word_log.specs.Replay.{Replays}
-use Rattle.word_log.specs.Rest.{EachImage, IsAtRest, IsImageOn, IsReached}
+use Rattle.word_log.specs.Rest.{EachImage, IsAtRest}
 use Rattle.word_log.proofs.PhaseLemmas.{image_closed, rest-write_back}
-use Rattle.word_log.proofs.RestLemmas.{replays-reached, replays-then}
+use Rattle.word_log.proofs.RestLemmas.{replays-then}
 
 -- the words at rest are known by their home words
 pub rest-then : (a : LogArea) (m : Medium) (v w : ℕ → ℕ) → ((p : ℕ) → IsHome a p → v p ≡ w p) → IsAtRest a m v → IsAtRest a m w
@@ -33,26 +33,6 @@ module _ {T : Type 0} (a : LogArea) (held : (ℕ → ℕ) → T → Type 0) wher
 
   pub rests-write_back : (old new : Medium) (t : T) → WritesBack old new → RestsWith a held old t → RestsWith a held new t
   rests-write_back old new t x rests = record { word = rests.word; rest = rest-write_back a rests.word old new rests.rest x; holds = rests.holds }
-
-  -- at rest each image reads as these tables
-  pub reads-rest : (m : Medium) (t : T) → IsOf a (gate_place a) → RestsWith a held m t → EachReadsTables a held m (λ x. x ≡ t)
-  reads-rest m t gate rests image is = record {
-    tables = t;
-    is = refl;
-    word = rests.word;
-    replays = images_at_rest a rests.word m gate rests.rest image is;
-    holds = rests.holds;
-  }
-
-  pub reads-then : (P Q : T → Type 0) (image : ℕ → ℕ) → ((t : T) → P t → Q t) → ReadsTables a held P image → ReadsTables a held Q image
-  reads-then P Q image so was = record { tables = was.tables; is = so was.tables was.is; word = was.word; replays = was.replays; holds = was.holds }
-
-  -- a mount of the log keeps what images read as
-  pub reads-reached : (old new : Medium) (P : T → Type 0) → IsShaped a → EachImage a new (IsReached a old) → EachReadsTables a held old P → EachReadsTables a held new P
-  reads-reached old new P shape reaches each image is =
-      let reached = reaches image is in
-      let was = each reached.before reached.was in
-      record { tables = was.tables; is = was.is; word = was.word; replays = replays-reached a old image was.word shape reached was.replays; holds = was.holds }
 
 -- what a commit of changes says of all words at rest, before it ends and at its end
 abbrev pub ChangesImages : LogArea → Medium → Medium → List (ℕ × ℕ) → Type 0

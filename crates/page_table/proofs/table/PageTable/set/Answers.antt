@@ -1,6 +1,7 @@
 use Rattle.std.proofs.Common.{◌≡◌, ◌+◌, ◌*◌, ℕ, List, Option, Some, map, set, slice_get, subst, sym, ap, ◌∙◌, arith}
 use Rattle.page_table.specs.Pages.{MayTake, TableState, unit_of}
-use Rattle.page_table.proofs.SetLemmas.{set_is_table, units_set, used_after, used_before}
+use Rattle.free_pool.proofs.BesideLemmas.{used_after, used_before}
+use Rattle.page_table.proofs.SetLemmas.{set_is_table, units_set}
 use Rattle.page_table.proofs.table.PageTable.set.Goals as goal
 
 pub recounted-self-inside-requires-clause-old : goal.recounted-self-inside-requires-clause-old
