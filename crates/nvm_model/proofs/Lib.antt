@@ -19,3 +19,4 @@ pub mod ListedLemmas
 pub mod AlikeLemmas
 pub mod AlikeChangeLemmas
 pub mod SumLemmas
+pub mod FileLeftLemmas
