@@ -1,22 +1,16 @@
 -- What a mount of the blocks' log and a look at their map give.
 use Rattle.std.proofs.Common.{◌≡◌, ℕ, zero, suc, ◌+◌, ◌-◌, ◌*◌, ◌/◌, ◌%◌, ◌<◌, List, [], ◌∷◌, length, get_or, map, Some, None, Result, Ok, Err, IfOk, refl, sym, ◌∙◌, ap, ap₂, subst, arith}
-use Rattle.std.specs.Option.{option_map}
-use Rattle.std.specs.Result.{IsErrAnd}
-use Rattle.line_device.specs.Medium.{Medium, WritesBack, IsSound, last_image}
-use Rattle.line_device.proofs.HistoryLemmas.{is_in-word_write_back}
-use Rattle.line_device.proofs.WriteBackLemmas.{write_back-trans}
-use Rattle.line_words.specs.Words.{IsOnly, WritesBackOutside}
-use Rattle.line_words.proofs.FrameLemmas.{outside-trans, outside-write_back}
+use Rattle.line_device.specs.Medium.{Medium, last_image}
+use Rattle.nvm_base.proofs.FirstLemmas.{not_mapped}
 use Rattle.word_tables.specs.declared.geometry.Geometry.{Geometry}
 use Rattle.word_tables.specs.Bounds.{IsValid}
 use Rattle.word_tables.specs.Layout.{block_log, block_map, first_line, meta_lines, size, total_lines}
 use Rattle.word_tables.specs.Words.{place, of_block}
 use Rattle.word_log.specs.declared.area.LogArea.{LogArea}
-use Rattle.word_log.specs.Area.{AreHomeWords, IsOf, IsHome, IsWhole, Fits}
-use Rattle.word_log.specs.Replay.{first_wrong, replayed}
-use Rattle.word_log.specs.Rest.{IsAtRest, IsReached, EachImage}
-use Rattle.word_log.proofs.FrameLemmas.{whole-outside}
-use Rattle.word_log.proofs.RestLemmas.{rest-last_image}
+use Rattle.word_log.specs.Area.{AreHomeWords, IsHome}
+use Rattle.word_log.specs.Replay.{replayed}
+use Rattle.word_log.proofs.FindingLemmas.{IsRead, runs_of}
+use Rattle.word_log.proofs.HeldLemmas.{rest-then}
 use Rattle.block_map.specs.declared.state.BlockState.{BlockState}
 use Rattle.block_map.specs.declared.state.BlockState.TheVariants.{Absent}
 use Rattle.block_map.specs.States.{IsMap, state_of, word_of}
@@ -24,19 +18,13 @@ use Rattle.block_map.specs.Wrong as table
 use Rattle.block_map.proofs.MapLemmas.{word_of-state_of, is_map as map_right_words}
 use Rattle.nvm_model.specs.Numbered.{list_from}
 use Rattle.nvm_model.proofs.NumberedLemmas.{list_from-is}
-use Rattle.nvm_model.specs.Blocks.{first_there}
 use Rattle.block_device.specs.Area.{block_area}
 use Rattle.block_device.specs.Object.{BlocksState, BlocksServe, AreDurable, HasStrongMetadata, blocks_of, map_words}
 use Rattle.block_device.specs.Reading.{map_read, states_read, blocks_read}
-use Rattle.block_device.specs.Mounting.{FindsBlocks, IsWrong, IsWrongMap, mount_says, wrong_place}
-use Rattle.word_log.specs.Mount.Finding.{bad_line, wrong_word}
+use Rattle.block_device.specs.Mounting.{FindsMap, wrong_map_word}
 use Rattle.block_device.specs.declared.fault.MountFault.{MountFault}
-use Rattle.word_log.specs.Mount.{Finding, IsFound}
-use Rattle.line_words.specs.Told.{Told, Explains, IfRefused, outcome_by, told_outcome}
-use Rattle.line_words.specs.Told.Told.{Refuses, Stops, Starves}
 use Rattle.line_device.specs.Panel.{Outcome, Panel, Runs}
-use Rattle.line_device.specs.Panel.Outcome.{went}
-use Rattle.line_device.proofs.PanelLemmas.{runs_then, runs_within}
+use Rattle.line_device.proofs.PanelLemmas.{runs_within}
 use Rattle.block_device.proofs.ReadLemmas.{IsNamed, list_from-cong, map_read-outside, durable-outside}
 use Rattle.block_device.proofs.PlaceLemmas.{data_behind_metadata, named_is_data}
 use Rattle.block_device.proofs.PositionLemmas.{get_or-list_from}
@@ -85,7 +73,7 @@ pub map_from_right : (states : List BlockState) (words : List ℕ) → map word_
 map_from_right states words is right = subst IsMap (ap (map state_of) (sym is) ∙ map_back states) (map_right_words words right)
 
 -- A mount of the log, where only words of the metadata are changed.
-module _ (geo : Geometry) (valid : IsValid geo) (inside : ℕ → Type 0) (in_meta : (p : ℕ) → inside p → p / 8 < meta_lines geo) (old mid : Medium) (count : old.count ≡ total_lines geo) (x : WritesBackOutside inside old mid) (rest : IsAtRest (block_area geo) mid (replayed (block_area geo) (last_image old))) where
+module _ (geo : Geometry) (valid : IsValid geo) (inside : ℕ → Type 0) (in_meta : (p : ℕ) → inside p → p / 8 < meta_lines geo) (old mid : Medium) (words : List ℕ) (read : IsRead (block_area geo) inside old mid words) where
   home_word : (states : List BlockState) → states ≡ states_read geo (last_image old) → (p : ℕ) → IsHome (block_area geo) p → replayed (block_area geo) (last_image old) p ≡ map_words geo states p
   unfolding after
   home_word states is p in_home =
@@ -113,86 +101,45 @@ module _ (geo : Geometry) (valid : IsValid geo) (inside : ℕ → Type 0) (in_me
     -- the blocks are those of the last image
     mounted_reads : map_read geo mid.is_bad (last_image mid) states ≡ blocks_read geo old.is_bad (last_image old)
     unfolding blocks_read
-    mounted_reads = map_read-outside geo states old mid inside x apart ∙ ap (map_read geo old.is_bad (last_image old)) is
+    mounted_reads = map_read-outside geo states old mid inside read.outside apart ∙ ap (map_read geo old.is_bad (last_image old)) is
 
     -- what the map names is durable, if it was before
-    mounted_serves : (s : BlocksState) → s.geo ≡ geo → s.map ≡ states → HasStrongMetadata geo old → AreDurable geo old (states_read geo (last_image old)) → BlocksServe s mid
-    mounted_serves s geo_is map_is strong durable =
+    mounted_serves : (s : BlocksState) → s.geo ≡ geo → s.map ≡ states → old.count ≡ total_lines geo → HasStrongMetadata geo old → AreDurable geo old (states_read geo (last_image old)) → BlocksServe s mid
+    mounted_serves s geo_is map_is count strong durable =
         let serves : BlocksServe (record s { geo = geo; map = states }) mid =
         record {
           valid = valid;
           all = all;
           is_map = is_map;
-          count = x.count ∙ count;
-          strong = λ n below. x.weak n ∙ strong n below;
-          rest = record { gate = rest.gate; home = λ p in_home. subst (λ v. IsOnly v (mid.history p)) (home_word states is p in_home) (rest.home p in_home) };
-          durable = durable-outside geo states old mid inside x apart (subst (AreDurable geo old) (sym is) durable);
+          count = read.outside.count ∙ count;
+          strong = λ n below. read.outside.weak n ∙ strong n below;
+          rest = rest-then (block_area geo) mid (replayed (block_area geo) (last_image old)) (map_words geo states) (home_word states is) read.rest;
+          durable = durable-outside geo states old mid inside read.outside apart (subst (AreDurable geo old) (sym is) durable);
         } in
         subst (λ g. BlocksServe (record s { geo = g }) mid) (sym geo_is) (subst (λ ss. BlocksServe (record s { geo = geo; map = ss }) mid) (sym map_is)
         (record { valid = serves.valid; all = serves.all; is_map = serves.is_map; count = serves.count; strong = serves.strong; rest = serves.rest; durable = serves.durable }))
 
   -- what is made of them
-  module _ (words : List ℕ) (same : words ≡ map word_of (states_read geo (last_image old))) where
-    pub judged_reads : (r : Result BlocksState MountFault) → IfOk r (λ b. (b.geo ≡ geo) × (map word_of b.map ≡ words)) → Explains mount_says (table.first_wrong_entry words ≡ None) (IsWrongMap geo words) r → IfOk r (λ b. (b.geo ≡ geo) × (blocks_of b mid ≡ blocks_read geo old.is_bad (last_image old)))
-    judged_reads (Ok b) made right = (
-      made.0,
-      ap (λ g. map_read g mid.is_bad (last_image mid) b.map) made.0
-          ∙ mounted_reads b.map (states_same b.map (states_read geo (last_image old)) (made.1 ∙ same)) (map_from_right b.map words made.1 right),
-    )
-    judged_reads (Err f) made right = tt
+  same_states : (map_is : List BlockState) → map word_of map_is ≡ words → map_is ≡ states_read geo (last_image old)
+  same_states map_is made = states_same map_is (states_read geo (last_image old)) (made ∙ mounted_words geo old words read.words)
 
-    pub judged_serves : (r : Result BlocksState MountFault) → HasStrongMetadata geo old → IfOk r (λ b. (b.geo ≡ geo) × (map word_of b.map ≡ words)) → Explains mount_says (table.first_wrong_entry words ≡ None) (IsWrongMap geo words) r → IfOk r (λ b. AreDurable geo old (states_read geo (last_image old)) → BlocksServe b mid)
-    judged_serves (Ok b) strong made right = λ durable.
-        mounted_serves b.map (states_same b.map (states_read geo (last_image old)) (made.1 ∙ same)) (map_from_right b.map words made.1 right) b made.0 refl strong durable
-    judged_serves (Err f) strong made right = tt
+  right_states : (map_is : List BlockState) → map word_of map_is ≡ words → wrong_map_word geo words ≡ None → IsMap map_is
+  right_states map_is made right = map_from_right map_is words made (not_mapped (λ b. place geo (of_block b)) (table.first_wrong_entry words) right)
 
--- nothing is wrong with log and map
-pub right_map : (geo : Geometry) (old : Medium) (words : List ℕ) → first_wrong (block_area geo) (last_image old) ≡ None → words ≡ map word_of (states_read geo (last_image old)) → table.first_wrong_entry words ≡ None → wrong_place geo (last_image old) ≡ None
-right_map geo old words log is right =
-    let where_ : ℕ → ℕ = λ k. place geo (of_block k) in
-    ap (λ o. first_there o (option_map where_ (table.first_wrong_entry (map word_of (states_read geo (last_image old)))))) log
-    ∙ ap (λ (ws : List ℕ). option_map where_ (table.first_wrong_entry ws)) (sym is)
-    ∙ ap (option_map where_) right
+  pub judged_reads : (r : Result BlocksState MountFault) → IfOk r (λ b. (b.geo ≡ geo) × (map word_of b.map ≡ words)) → FindsMap geo words r → IfOk r (λ b. (b.geo ≡ geo) × (blocks_of b mid ≡ blocks_read geo old.is_bad (last_image old)))
+  judged_reads (Ok b) made right = (
+    made.0,
+    ap (λ g. map_read g mid.is_bad (last_image mid) b.map) made.0 ∙ mounted_reads b.map (same_states b.map made.1) (right_states b.map made.1 right),
+  )
+  judged_reads (Err f) made right = tt
 
--- what is wrong with the log, or with the map, is wrong with both
-of_log : (geo : Geometry) (m : Medium) (why : Finding) → IsFound (block_area geo) m why → IsWrong geo m why
-of_log geo m (bad_line n) wrong = wrong
-of_log geo m (wrong_word p) wrong =
-    (wrong.0, ap (λ o. first_there o (option_map (λ k. place geo (of_block k)) (table.first_wrong_entry (map word_of (states_read geo (last_image m)))))) wrong.1)
-
-of_map : (geo : Geometry) (m : Medium) (words : List ℕ) (why : Finding) → IsWhole (block_area geo) m → first_wrong (block_area geo) (last_image m) ≡ None → words ≡ map word_of (states_read geo (last_image m)) → IsWrongMap geo words why → IsWrong geo m why
-of_map geo m words (bad_line n) whole log is wrong = absurd wrong
-of_map geo m words (wrong_word p) whole log is wrong =
-    let where_ : ℕ → ℕ = λ k. place geo (of_block k) in (
-      whole,
-      ap (λ o. first_there o (option_map where_ (table.first_wrong_entry (map word_of (states_read geo (last_image m)))))) log
-          ∙ ap (λ (ws : List ℕ). option_map where_ (table.first_wrong_entry ws)) (sym is)
-          ∙ ap (option_map where_) wrong.1
-          ∙ ap Some (sym wrong.2),
-    )
-
-refused_for : (t : Told Finding) (P Q : Finding → Type 0) → ((why : Finding) → P why → Q why) → IfRefused t P → IfRefused t Q
-refused_for (Refuses why) P Q next h = next why h
-refused_for (Stops stop) P Q next h = tt
-refused_for Starves P Q next h = tt
-
-pub finds_log : (T U : Type 0) (geo : Geometry) (m : Medium) (f : MountFault) (well : Type 0) → Explains {T = U} mount_says well (IsFound (block_area geo) m) (Err f) → FindsBlocks {T = T} geo m (Err f)
-finds_log T U geo m f well h = refused_for (mount_says f) (IsFound (block_area geo) m) (IsWrong geo m) (of_log geo m) h
-
-pub finds_map : {T : Type 0} (geo : Geometry) (m : Medium) (words : List ℕ) (r : Result T MountFault) → IsWhole (block_area geo) m → first_wrong (block_area geo) (last_image m) ≡ None → words ≡ map word_of (states_read geo (last_image m)) → Explains mount_says (table.first_wrong_entry words ≡ None) (IsWrongMap geo words) r → FindsBlocks geo m r
-finds_map geo m words (Ok x) whole log is h = (whole, right_map geo m words log is h)
-finds_map geo m words (Err f) whole log is h = refused_for (mount_says f) (IsWrongMap geo words) (IsWrong geo m) (λ why. of_map geo m words why whole log is) h
-
--- how a mount ended by a fault that is handed on
-pub ended_as : {T : Type 0} (r : Result T MountFault) (t : Told Finding) → IsErrAnd r (λ e. mount_says e ≡ t) → outcome_by mount_says r ≡ told_outcome t
-ended_as (Ok x) t h = absurd h
-ended_as (Err e) t h = ap told_outcome h
+  pub judged_serves : (r : Result BlocksState MountFault) → old.count ≡ total_lines geo → HasStrongMetadata geo old → IfOk r (λ b. (b.geo ≡ geo) × (map word_of b.map ≡ words)) → FindsMap geo words r → IfOk r (λ b. AreDurable geo old (states_read geo (last_image old)) → BlocksServe b mid)
+  judged_serves (Ok b) count strong made right = λ durable. mounted_serves b.map (same_states b.map made.1) (right_states b.map made.1 right) b made.0 refl count strong durable
+  judged_serves (Err f) count strong made right = tt
 
 -- calls of the log's mount with its loads
 pub mounted_runs : (geo : Geometry) (a : LogArea) (e f : Outcome) (p q : Panel) → geo.blocks % 8 ≡ 0 → a ≡ block_area geo → f ≡ e → Runs (a.log.len + a.home.len / 8 + 4 * a.cap + 6 + (a.home.len + 7) / 8) (a.log.len + a.home.len / 8 + a.cap + 3) f p q → Runs (geo.blocks / 4 + 279) (geo.blocks / 8 + 84) e p q
 unfolding size
 mounted_runs geo a e f p q whole is ended x =
-    let same : Runs (size geo block_log + geo.blocks / 8 + 4 * 64 + 6 + (geo.blocks + 7) / 8) (size geo block_log + geo.blocks / 8 + 64 + 3) e p q =
-    subst (λ (b : LogArea). Runs (b.log.len + b.home.len / 8 + 4 * b.cap + 6 + (b.home.len + 7) / 8) (b.log.len + b.home.len / 8 + b.cap + 3) e p q) is
-    (subst (λ (o : Outcome). Runs (a.log.len + a.home.len / 8 + 4 * a.cap + 6 + (a.home.len + 7) / 8) (a.log.len + a.home.len / 8 + a.cap + 3) o p q) ended x) in
+    let same : Runs (size geo block_log + geo.blocks / 8 + 4 * 64 + 6 + (geo.blocks + 7) / 8) (size geo block_log + geo.blocks / 8 + 64 + 3) e p q = runs_of a (block_area geo) is e f p q ended x in
     runs_within _ _ (geo.blocks / 4 + 279) (geo.blocks / 8 + 84) e p q same (omega arith) (omega arith)

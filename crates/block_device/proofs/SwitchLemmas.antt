@@ -2,9 +2,8 @@
 use Rattle.std.proofs.Common.{◌≡◌, ◌⊎◌, inl, inr, ℕ, false, ◌||◌, ◌==◌, ◌-◌, ◌*◌, ◌/◌, ◌<◌, ◌≤◌, List, [], ◌∷◌, length, set, if◌then◌else◌, IsTrue, refl, sym, ◌∙◌, ap, subst, arith, get_or-set_same, get_or-set_other}
 use Rattle.std.proofs.lemmas.Bool.{cases_eq, eq-eqb, ne_eqb, both_ways}
 use Rattle.std.proofs.lemmas.List.{length-map}
-use Rattle.line_device.specs.History.{IsIn}
 use Rattle.line_device.specs.Medium.{Medium, last_image}
-use Rattle.line_words.specs.Words.{IsOnly, WritesBackOutside}
+use Rattle.line_words.specs.Words.{WritesBackOutside}
 use Rattle.word_tables.specs.declared.geometry.Geometry.{Geometry}
 use Rattle.word_tables.specs.Bounds.{IsValid}
 use Rattle.word_tables.specs.Layout.{block_map, first_line}
@@ -13,10 +12,9 @@ use Rattle.word_log.specs.declared.area.LogArea.{LogArea}
 use Rattle.word_log.specs.Area.{IsOf, IsHome, IsWhole, IsStrong, Fits}
 use Rattle.word_log.specs.Changes.{changed, lists, IsDistinct, MayCommit}
 use Rattle.word_log.specs.Replay.{Replays}
-use Rattle.word_log.specs.Rest.{IsAtRest, EachImage}
 use Rattle.word_log.proofs.ChangeLemmas.{changed-cong, changed-unlisted}
 use Rattle.word_log.proofs.FrameLemmas.{whole-outside}
-use Rattle.word_log.proofs.RestLemmas.{replays-then}
+use Rattle.word_log.proofs.HeldLemmas.{ChangesImages, ChangesRest, words-images, words-rest}
 use Rattle.block_map.specs.declared.state.BlockState.{BlockState}
 use Rattle.block_map.specs.declared.state.BlockState.TheVariants.{Absent}
 use Rattle.block_map.specs.States.{IsMap, word_of}
@@ -120,9 +118,6 @@ module _ (s : BlocksState) (area : LogArea) (old : Medium) (cs : List Change) (r
   pub ready_whole : IsWhole area old
   ready_whole = subst (λ a. IsWhole a old) (sym ready.kept.area) (area_whole s.geo ready.kept.valid old ready.good)
 
-  pub ready_rest : IsAtRest area old (map_words s.geo s.map)
-  ready_rest = subst (λ a. IsAtRest a old (map_words s.geo s.map)) (sym ready.kept.area) ready.serves.rest
-
   pub ready_taken : (words : List (ℕ × ℕ)) → words ≡ word_changes s.geo cs → 0 < length cs → length cs ≤ 64 → MayCommit area words
   ready_taken words is some few =
       subst (λ a. MayCommit a words) (sym ready.kept.area)
@@ -136,42 +131,40 @@ module _ (s : BlocksState) (area : LogArea) (old : Medium) (cs : List Change) (r
   apart_of states all is_map p named of =
       named_apart s.geo ready.kept.valid states p all is_map named (subst (λ a. IsOf a p) ready.kept.area of)
 
+  -- the changes turn the words of the map into those of the other one
+  turns : (words : List (ℕ × ℕ)) → words ≡ word_changes s.geo cs → (p : ℕ) → IsHome (block_area s.geo) p → changed words (map_words s.geo s.map) p ≡ map_words s.geo (changed_map cs s.map) p
+  turns words named p in_home = ap (λ ws. changed ws (map_words s.geo s.map) p) named ∙ words-changed s.geo s.map cs p ready.may (omega (arith, in_home))
+
   module _ (new : Medium) (x : WritesBackOutside (IsOf area) old new) where
     -- an image that replays to the words of one of the two maps
-    image_reads : (states : List BlockState) (words image : ℕ → ℕ) → length states ≡ s.geo.blocks → IsMap states → AreDurable s.geo old states → ((p : ℕ) → IsHome (block_area s.geo) p → words p ≡ map_words s.geo states p) → IsBlockImage s.geo new image → Replays area image words → ReadsAs s.geo new (λ bs. bs ≡ map_read s.geo old.is_bad (last_image old) states) image
-    image_reads states words image all is_map durable same is replays =
+    image_reads : (states : List BlockState) (image : ℕ → ℕ) → length states ≡ s.geo.blocks → IsMap states → AreDurable s.geo old states → IsBlockImage s.geo new image → Replays (block_area s.geo) image (map_words s.geo states) → ReadsAs s.geo new (λ bs. bs ≡ map_read s.geo old.is_bad (last_image old) states) image
+    image_reads states image all is_map durable is replays =
         reads-then s.geo new (λ bs. bs ≡ map_read s.geo new.is_bad (last_image new) states) (λ bs. bs ≡ map_read s.geo old.is_bad (last_image old) states) image
         (λ bs e. e ∙ map_read-outside s.geo states old new (IsOf area) x (apart_of states all is_map))
-        (reads s.geo new states image ready.kept.valid all is_map (durable-outside s.geo states old new (IsOf area) x (apart_of states all is_map) durable) is
-        (replays-then (block_area s.geo) image words (map_words s.geo states) same (subst (λ a. Replays a image words) ready.kept.area replays)))
-
-    home_from : (p : ℕ) → IsHome (block_area s.geo) p → changed (word_changes s.geo cs) (map_words s.geo s.map) p ≡ map_words s.geo (changed_map cs s.map) p
-    home_from p in_home = words-changed s.geo s.map cs p ready.may (omega (arith, in_home))
+        (reads s.geo new states image ready.kept.valid all is_map (durable-outside s.geo states old new (IsOf area) x (apart_of states all is_map) durable) is replays)
 
     -- wherever the power goes during the commit, the blocks are as they were or as they become
-    pub switch-images : (words : List (ℕ × ℕ)) → words ≡ word_changes s.geo cs → ((before : ℕ → ℕ) → IsAtRest area old before → EachImage area new (λ image. Replays area image before ⊎ Replays area image (changed words before))) → EachReads s.geo new (IsEither (map_read s.geo old.is_bad (last_image old) s.map) (map_read s.geo old.is_bad (last_image old) (changed_map cs s.map)))
+    pub switch-images : (words : List (ℕ × ℕ)) → words ≡ word_changes s.geo cs → ChangesImages area old new words → EachReads s.geo new (IsEither (map_read s.geo old.is_bad (last_image old) s.map) (map_read s.geo old.is_bad (last_image old) (changed_map cs s.map)))
     switch-images words named images image is =
         let one = map_read s.geo old.is_bad (last_image old) s.map in
         let other = map_read s.geo old.is_bad (last_image old) (changed_map cs s.map) in
         let whole = whole-outside area (IsOf area) old new ready_whole x in
         let on = subst (λ a. IsWhole a new) ready.kept.area whole in
         let of_area = image_on_area s.geo ready.kept.valid new image on is in
-        elim (images (map_words s.geo s.map) ready_rest image (subst (λ a. (p : ℕ) → IsOf a p → IsIn (image p) (new.history p)) (sym ready.kept.area) of_area)) as (λ _. ReadsAs s.geo new (IsEither one other) image) [
+        let replays = words-images area (block_area s.geo) ready.kept.area old new words (map_words s.geo s.map) (map_words s.geo (changed_map cs s.map)) ready.serves.rest (turns words named) images image of_area in
+        elim replays as (λ _. ReadsAs s.geo new (IsEither one other) image) [
           | inl was ↦
               reads-then s.geo new (λ bs. bs ≡ one) (IsEither one other) image (λ bs e. inl e)
-              (image_reads s.map (map_words s.geo s.map) image ready.kept.all ready.kept.is_map ready.serves.durable (λ p _. refl) is was)
+              (image_reads s.map image ready.kept.all ready.kept.is_map ready.serves.durable is was)
           | inr now ↦
               reads-then s.geo new (λ bs. bs ≡ other) (IsEither one other) image (λ bs e. inr e)
-              (image_reads (changed_map cs s.map) (changed (word_changes s.geo cs) (map_words s.geo s.map)) image changed_all (is_map-changed cs s.map ready.may ready.kept.is_map) ready.durable home_from is
-              (subst (λ ws. Replays area image (changed ws (map_words s.geo s.map))) named now))
+              (image_reads (changed_map cs s.map) image changed_all (is_map-changed cs s.map ready.may ready.kept.is_map) ready.durable is now)
         ]
 
     -- after it the device is the one of the new map
-    pub switch-serves : (words : List (ℕ × ℕ)) (t : BlocksState) → words ≡ word_changes s.geo cs → t.geo ≡ s.geo → t.map ≡ changed_map cs s.map → ((before : ℕ → ℕ) → IsAtRest area old before → IsAtRest area new (changed words before)) → BlocksServe t new
+    pub switch-serves : (words : List (ℕ × ℕ)) (t : BlocksState) → words ≡ word_changes s.geo cs → t.geo ≡ s.geo → t.map ≡ changed_map cs s.map → ChangesRest area old new words → BlocksServe t new
     switch-serves words t named geo map rests =
         let after = changed_map cs s.map in
-        let rest = subst (λ ws. IsAtRest area new (changed ws (map_words s.geo s.map))) named (rests (map_words s.geo s.map) ready_rest) in
-        let at = subst (λ a. IsAtRest a new (changed (word_changes s.geo cs) (map_words s.geo s.map))) ready.kept.area rest in
         let serves : BlocksServe (record s { map = after }) new =
         record {
           valid = ready.kept.valid;
@@ -179,7 +172,7 @@ module _ (s : BlocksState) (area : LogArea) (old : Medium) (cs : List Change) (r
           is_map = is_map-changed cs s.map ready.may ready.kept.is_map;
           count = x.count ∙ ready.serves.count;
           strong = λ n below. x.weak n ∙ ready.serves.strong n below;
-          rest = record { gate = at.gate; home = λ p in_home. subst (λ v. IsOnly v (new.history p)) (home_from p in_home) (at.home p in_home) };
+          rest = words-rest area (block_area s.geo) ready.kept.area old new words (map_words s.geo s.map) (map_words s.geo after) ready.serves.rest (turns words named) rests;
           durable = durable-outside s.geo after old new (IsOf area) x (apart_of after changed_all (is_map-changed cs s.map ready.may ready.kept.is_map)) ready.durable;
         } in
         subst (λ g. BlocksServe (record t { geo = g }) new) (sym geo) (subst (λ ss. BlocksServe (record t { geo = s.geo; map = ss }) new) (sym map)

@@ -4,6 +4,7 @@ use Rattle.line_device.specs.History.{IsIn}
 use Rattle.line_device.specs.Medium.{Medium}
 use Rattle.word_tables.specs.declared.geometry.Geometry.{Geometry}
 use Rattle.word_log.specs.Area.{IsOf}
+use Rattle.word_log.specs.Held as held
 use Rattle.word_log.specs.Replay.{Replays, first_wrong, replayed}
 use Rattle.block_map.specs.States.{IsMap}
 use Rattle.nvm_model.specs.Storage.{Block}
@@ -28,7 +29,7 @@ EachReads geo m P = (image : ℕ → ℕ) → IsBlockImage geo m image → Reads
 
 -- the one, or the other
 abbrev pub IsEither : List Block → List Block → List Block → Type 0
-IsEither one other blocks = (blocks ≡ one) ⊎ (blocks ≡ other)
+IsEither one other blocks = held.IsEither one other blocks
 
 -- each image is one of blocks
 abbrev pub AreReadable : Geometry → Medium → Type 0

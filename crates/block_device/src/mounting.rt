@@ -8,7 +8,7 @@ ghost use Rattle.word_tables.specs.Bounds.{IsValid};
 ghost use Rattle.word_tables.specs.Layout.{total_lines};
 ghost use Rattle.word_tables.specs.Words.{place, of_block};
 ghost use Rattle.line_words.specs.Words.{WritesBackOutside};
-ghost use Rattle.line_words.specs.Told.{Explains, IsStop, outcome_by};
+ghost use Rattle.line_words.specs.Told.{IsStop, outcome_by};
 ghost use Rattle.word_log.specs.Area.{IsOf, IsWhole, gate_place};
 ghost use Rattle.word_log.specs.Mount.{IsFound};
 ghost use Rattle.word_log.specs.Replay as log;
@@ -19,7 +19,7 @@ ghost use Rattle.nvm_model.specs.Numbered.{list_from};
 ghost use Rattle.block_device.specs.Area.{block_area};
 ghost use Rattle.block_device.specs.Reading.{states_read, blocks_read};
 ghost use Rattle.block_device.specs.Object.{BlocksServe, IsInStep, AreDurable, HasStrongMetadata, blocks_of};
-ghost use Rattle.block_device.specs.Mounting.{FindsBlocks, IsWrongMap, mount_says};
+ghost use Rattle.block_device.specs.Mounting.{FindsBlocks, FindsMap, mount_says};
 ghost use Rattle.block_device.specs.Images.{KeepsReads};
 
 use crate::area::block_area;
@@ -66,7 +66,7 @@ impl Blocks {
         requires length { length words.now ≡ geo.blocks }
         ensures blocks { IfOk result (λ blocks. (blocks.geo ≡ geo) × (map word_of blocks.map ≡ words.now)) }
         ensures settled { IfOk result (λ blocks. IsTrue blocks.settled) }
-        ensures finds { Explains mount_says (first_wrong_entry words.now ≡ None) (IsWrongMap geo words.now) result }
+        ensures finds { FindsMap geo words.now result }
         ensures went { outcome_by mount_says result ≡ went }
     {
         let map = read_map(alloc, geo, words)?;
@@ -86,7 +86,7 @@ fn read_map(alloc: Global, geo: Geometry, words: &[u64]) -> Result<BlockMap, Mou
     requires valid { IsValid geo }
     requires length { length words.now ≡ geo.blocks }
     ensures ok { IfOk result (λ map_. map word_of map_ ≡ words.now) }
-    ensures finds { Explains mount_says (first_wrong_entry words.now ≡ None) (IsWrongMap geo words.now) result }
+    ensures finds { FindsMap geo words.now result }
     ensures went { outcome_by mount_says result ≡ went }
 {
     match BlockMap::read(alloc, geo, words) {

@@ -4,6 +4,7 @@ use Rattle.std.proofs.lemmas.Bool.{eq-eqb, false≢true, ltb-false}
 use Rattle.line_device.specs.Medium.{Medium}
 use Rattle.line_words.specs.Told.{Answers, OnWorked}
 use Rattle.nvm_base.specs.Names.{is_name}
+use Rattle.nvm_base.proofs.FirstLemmas.{neither_there}
 use Rattle.word_tables.specs.declared.geometry.Geometry.{Geometry}
 use Rattle.word_tables.specs.Layout.{file_pages, HasLine}
 use Rattle.inode_table.specs.Slots.{file_count}
@@ -20,7 +21,6 @@ use Rattle.file_journal.specs.Refusals.{JournalRefusal, create_refusal, delete_r
 use Rattle.file_journal.specs.Standing.{EachReadsFiles, FilesStand}
 use Rattle.file_journal.specs.Tables.{AreTables, Tables, has_file}
 use Rattle.file_journal.proofs.FileChangeLemmas.{Becomes, changed_images, created_becomes, deleted_becomes, renamed_becomes, resized_becomes}
-use Rattle.file_journal.proofs.MountLemmas.{first_none, second_none}
 use Rattle.file_journal.proofs.StandingLemmas.{files-kept}
 
 -- a condition that refuses nothing does not hold
@@ -39,25 +39,26 @@ module _ (s : JournalState) (m : Medium) (name : List ℕ) (are : AreTables s.ge
   pub create_becomes : (pages : ℕ) → is_name name ≡ true → create_refusal s m name pages ≡ None → Becomes s.geo s.tables (created name pages s.tables) (put_file file_name (new_file name pages))
   create_becomes pages good none =
       let later = first_there (limit_refusal pages) (first_there (slots_refusal s) (metadata_refusal s.geo m)) in
-      let rest = second_none (exists_refusal s name) later none in
-      let slots = second_none (limit_refusal pages) (first_there (slots_refusal s) (metadata_refusal s.geo m)) rest in
+      let first = neither_there (exists_refusal s name) later none in
+      let second = neither_there (limit_refusal pages) (first_there (slots_refusal s) (metadata_refusal s.geo m)) first.1 in
+      let third = neither_there (slots_refusal s) (metadata_refusal s.geo m) second.1 in
       created_becomes s.geo s.tables are name pages good
-      (not_limit pages (first_none (limit_refusal pages) (first_there (slots_refusal s) (metadata_refusal s.geo m)) rest))
-      (not_refused (has_file s.tables name) _ (first_none (exists_refusal s name) later none))
-      (not_full (file_count s.tables.files) (not_refused (file_count s.tables.files == 64) _ (first_none (slots_refusal s) (metadata_refusal s.geo m) slots)))
+      (not_limit pages second.0)
+      (not_refused (has_file s.tables name) _ first.0)
+      (not_full (file_count s.tables.files) (not_refused (file_count s.tables.files == 64) _ third.0))
 
   pub delete_becomes : delete_refusal s m name ≡ None → Becomes s.geo s.tables (deleted name s.tables) (without_file file_name name)
   delete_becomes none = deleted_becomes s.geo s.tables are name
 
   pub rename_becomes : (to : List ℕ) → is_name to ≡ true → rename_refusal s m name to ≡ None → Becomes s.geo s.tables (renamed name to s.tables) (rename_file file_name name (with_name to))
   rename_becomes to good none =
-      let rest = second_none (missing_refusal s name) (first_there (exists_refusal s to) (metadata_refusal s.geo m)) none in
-      renamed_becomes s.geo s.tables are name to good (not_refused (has_file s.tables to) _ (first_none (exists_refusal s to) (metadata_refusal s.geo m) rest))
+      let first = neither_there (missing_refusal s name) (first_there (exists_refusal s to) (metadata_refusal s.geo m)) none in
+      renamed_becomes s.geo s.tables are name to good (not_refused (has_file s.tables to) _ (neither_there (exists_refusal s to) (metadata_refusal s.geo m) first.1).0)
 
   pub resize_becomes : (pages : ℕ) → resize_refusal s m name pages ≡ None → Becomes s.geo s.tables (resized name pages s.tables) (change_file file_name name (with_pages pages))
   resize_becomes pages none =
-      let rest = second_none (missing_refusal s name) (first_there (limit_refusal pages) (metadata_refusal s.geo m)) none in
-      resized_becomes s.geo s.tables are name pages (not_limit pages (first_none (limit_refusal pages) (metadata_refusal s.geo m) rest))
+      let first = neither_there (missing_refusal s name) (first_there (limit_refusal pages) (metadata_refusal s.geo m)) none in
+      resized_becomes s.geo s.tables are name pages (not_limit pages (neither_there (limit_refusal pages) (metadata_refusal s.geo m) first.1).0)
 
 -- What is known of a call that was not refused, and of one that ended well.
 pub on_worked-answers : {T P Q : Type 0} (refusal : Option JournalRefusal) (r : Result T JournalFault) → Answers journal_says refusal r → (refusal ≡ None → P → Q)

@@ -1,7 +1,6 @@
 pub mod AreaLemmas
 pub mod ChangeLemmas
 pub mod CheckLemmas
-pub mod CommitLemmas
 pub mod FillLemmas
 pub mod HoldLemmas
 pub mod HoleLemmas

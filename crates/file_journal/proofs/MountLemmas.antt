@@ -1,6 +1,5 @@
 -- Words read as tables, by what their log's mount tells.
 use Rattle.std.proofs.Common.{◌≡◌, ℕ, ◌+◌, ◌*◌, ◌/◌, ◌<◌, List, Option, length, get_or, map, take, drop, Some, None, Result, Ok, Err, IfOk, refl, sym, ◌∙◌, ap, ap₂, subst, arith}
-use Rattle.std.specs.Option.{option_map}
 use Rattle.std.specs.List.{range_with_len}
 use Rattle.std.specs.Result.{IsErrAnd}
 use Rattle.std.proofs.lemmas.Grind.{same_number_lists}
@@ -9,24 +8,24 @@ use Rattle.std.proofs.lemmas.List.FromFn.{get_or-map-range_with_len, length-map-
 use Rattle.line_device.specs.Medium.{Medium, last_image}
 use Rattle.line_device.specs.Panel.{Outcome, Panel, Runs}
 use Rattle.line_device.proofs.PanelLemmas.{runs_within}
-use Rattle.line_words.specs.Told.{Told, IfRefused, outcome_by, told_outcome}
-use Rattle.line_words.specs.Told.Told.{Refuses, Stops, Starves}
-use Rattle.line_words.specs.Words.{WritesBackOutside}
+use Rattle.line_words.specs.Told.{Told, IfRefused}
+use Rattle.line_words.proofs.ToldLemmas.{if_refused-then}
 use Rattle.word_tables.specs.declared.geometry.Geometry.{Geometry}
 use Rattle.word_tables.specs.Layout.{file_log, inodes, first_line, size, meta_lines, total_lines}
 use Rattle.word_tables.specs.Words.{place, of_inode, of_file_page}
 use Rattle.word_log.specs.declared.area.LogArea.{LogArea}
-use Rattle.word_log.specs.Area.{AreHomeWords, IsWhole}
+use Rattle.word_log.specs.Area.{AreHomeWords}
 use Rattle.word_log.specs.Mount.{Finding, IsPlace}
 use Rattle.word_log.specs.Mount.Finding.{bad_line, wrong_word}
-use Rattle.word_log.specs.Replay.{first_wrong, replayed}
-use Rattle.word_log.specs.Rest.{IsAtRest}
+use Rattle.word_log.specs.Replay.{replayed}
+use Rattle.word_log.proofs.FindingLemmas.{IsRead, runs_of}
 use Rattle.inode_table.specs.Holds.{HoldsSlot}
 use Rattle.inode_table.specs.Slots.{pages_of}
 use Rattle.inode_table.specs.Words.{inode_words, slots_of}
 use Rattle.inode_table.specs.Wrong.{first_wrong_word}
 use Rattle.inode_table.proofs.HeldLemmas.{words_held}
 use Rattle.nvm_base.specs.declared.files.FileEntry.{FileEntry}
+use Rattle.nvm_base.proofs.FirstLemmas.{neither_there, not_mapped}
 use Rattle.page_table.specs.Pages.{TableState, unit_of, word_of}
 use Rattle.page_table.specs.Wrong.{first_wrong_entry}
 use Rattle.page_table.proofs.TableLemmas.{get_or-units, word_of-unit_of}
@@ -37,7 +36,7 @@ use Rattle.nvm_model.proofs.NumberedLemmas.{list_from-is}
 use Rattle.file_journal.specs.declared.fault.MountFault.{MountFault}
 use Rattle.file_journal.specs.Area.{file_area}
 use Rattle.file_journal.specs.Holds.{Holds, inode_at}
-use Rattle.file_journal.specs.Mounting.{FindsJournal, FindsTables, IsWrongJournal, journal_mount_says}
+use Rattle.file_journal.specs.Mounting.{FindsTables, journal_mount_says}
 use Rattle.file_journal.specs.Object.{JournalServes, JournalState, RestsWith}
 use Rattle.file_journal.specs.Reading.{tables_of, tables_read, words_read, wrong_inode, wrong_page, wrong_table}
 use Rattle.file_journal.specs.Tables.{Tables}
@@ -81,33 +80,16 @@ module _ (geo : Geometry) (word : ℕ → ℕ) (words : List ℕ) (are : AreHome
     pages = page_held;
   }
 
--- what a search before another one finds
-map_none : {A B : Type 0} (f : A → B) (o : Option A) → option_map f o ≡ None → o ≡ None
-map_none f None is = refl
-map_none f (Some x) is = cc is
-
-pub first_none : {A : Type 0} (a b : Option A) → first_there a b ≡ None → a ≡ None
-first_none None b is = refl
-first_none (Some x) b is = cc is
+-- of words of which none is wrong neither part is
+none_wrong : (geo : Geometry) (words : List ℕ) → wrong_table geo words ≡ None → (wrong_inode geo (take 512 words) ≡ None) × (wrong_page geo (map pages_of (slots_of (take 512 words))) (drop 512 words) ≡ None)
+unfolding wrong_table
+none_wrong geo words none = neither_there (wrong_inode geo (take 512 words)) (wrong_page geo (map pages_of (slots_of (take 512 words))) (drop 512 words)) none
 
 pub inodes_right : (geo : Geometry) (words : List ℕ) → wrong_table geo words ≡ None → first_wrong_word (take 512 words) ≡ None
-unfolding wrong_table
-inodes_right geo words none = map_none _ (first_wrong_word (take 512 words)) (first_none (wrong_inode geo (take 512 words)) (wrong_page geo (map pages_of (slots_of (take 512 words))) (drop 512 words)) none)
-
-pub second_none : {A : Type 0} (a b : Option A) → first_there a b ≡ None → b ≡ None
-second_none None b is = is
-second_none (Some x) b is = cc is
+inodes_right geo words none = not_mapped _ (first_wrong_word (take 512 words)) (none_wrong geo words none).0
 
 pub pages_right : (geo : Geometry) (words : List ℕ) → wrong_table geo words ≡ None → first_wrong_entry geo.fpages (map pages_of (slots_of (take 512 words))) (drop 512 words) ≡ None
-unfolding wrong_table
-pages_right geo words none =
-    let counts = map pages_of (slots_of (take 512 words)) in
-    map_none _ (first_wrong_entry geo.fpages counts (drop 512 words)) (second_none (wrong_inode geo (take 512 words)) (wrong_page geo counts (drop 512 words)) none)
-
-refused_for : (t : Told Finding) (P Q : Finding → Type 0) → ((why : Finding) → P why → Q why) → IfRefused t P → IfRefused t Q
-refused_for (Refuses why) P Q next h = next why h
-refused_for (Stops stop) P Q next h = tt
-refused_for Starves P Q next h = tt
+pages_right geo words none = not_mapped _ (first_wrong_entry geo.fpages (map pages_of (slots_of (take 512 words))) (drop 512 words)) (none_wrong geo words none).1
 
 of_inodes : (geo : Geometry) (words : List ℕ) (why : Finding) → IsPlace (wrong_inode geo (take 512 words)) why → IsPlace (wrong_table geo words) why
 unfolding wrong_table
@@ -119,57 +101,38 @@ unfolding wrong_table
 of_pages geo words (bad_line n) none is = absurd is
 of_pages geo words (wrong_word p) none is = ap (λ o. first_there o (wrong_page geo (map pages_of (slots_of (take 512 words))) (drop 512 words))) none ∙ is
 
-pub finds_inodes : (geo : Geometry) (words : List ℕ) (t : Told Finding) → IfRefused t (IsPlace (wrong_inode geo (take 512 words))) → IfRefused t (IsPlace (wrong_table geo words))
-finds_inodes geo words t = refused_for t (IsPlace (wrong_inode geo (take 512 words))) (IsPlace (wrong_table geo words)) (of_inodes geo words)
+finds_inodes : (geo : Geometry) (words : List ℕ) (t : Told Finding) → IfRefused t (IsPlace (wrong_inode geo (take 512 words))) → IfRefused t (IsPlace (wrong_table geo words))
+finds_inodes geo words t = if_refused-then t (IsPlace (wrong_inode geo (take 512 words))) (IsPlace (wrong_table geo words)) (of_inodes geo words)
 
-pub finds_pages : (geo : Geometry) (words : List ℕ) (t : Told Finding) → wrong_inode geo (take 512 words) ≡ None → IfRefused t (IsPlace (wrong_page geo (map pages_of (slots_of (take 512 words))) (drop 512 words))) → IfRefused t (IsPlace (wrong_table geo words))
-finds_pages geo words t none = refused_for t (IsPlace (wrong_page geo (map pages_of (slots_of (take 512 words))) (drop 512 words))) (IsPlace (wrong_table geo words)) (λ why. of_pages geo words why none)
+finds_pages : (geo : Geometry) (words : List ℕ) (t : Told Finding) → wrong_inode geo (take 512 words) ≡ None → IfRefused t (IsPlace (wrong_page geo (map pages_of (slots_of (take 512 words))) (drop 512 words))) → IfRefused t (IsPlace (wrong_table geo words))
+finds_pages geo words t none = if_refused-then t (IsPlace (wrong_page geo (map pages_of (slots_of (take 512 words))) (drop 512 words))) (IsPlace (wrong_table geo words)) (λ why. of_pages geo words why none)
 
 pub tables_right : (geo : Geometry) (words : List ℕ) → wrong_inode geo (take 512 words) ≡ None → wrong_page geo (map pages_of (slots_of (take 512 words))) (drop 512 words) ≡ None → wrong_table geo words ≡ None
 unfolding wrong_table
 tables_right geo words none right = ap (λ o. first_there o (wrong_page geo (map pages_of (slots_of (take 512 words))) (drop 512 words))) none ∙ right
 
--- what is wrong with the log, or with the tables, is wrong with both
-of_tables : (geo : Geometry) (m : Medium) (words : List ℕ) (why : Finding) → IsWhole (file_area geo) m → first_wrong (file_area geo) (last_image m) ≡ None → words ≡ words_read geo (last_image m) → IsPlace (wrong_table geo words) why → IsWrongJournal geo m why
-of_tables geo m words (bad_line n) whole log is wrong = absurd wrong
-of_tables geo m words (wrong_word p) whole log is wrong = (
-  whole,
-  ap (λ o. first_there o (wrong_table geo (words_read geo (last_image m)))) log ∙ ap (wrong_table geo) (sym is) ∙ wrong,
-)
-
-pub finds_words : {T : Type 0} (geo : Geometry) (m : Medium) (words : List ℕ) (r : Result T MountFault) → IsWhole (file_area geo) m → first_wrong (file_area geo) (last_image m) ≡ None → words ≡ words_read geo (last_image m) → FindsTables geo words r → FindsJournal geo m r
-finds_words geo m words (Ok x) whole log is h = (whole, ap (λ o. first_there o (wrong_table geo (words_read geo (last_image m)))) log ∙ ap (wrong_table geo) (sym is) ∙ h)
-finds_words geo m words (Err f) whole log is h = refused_for (journal_mount_says f) (IsPlace (wrong_table geo words)) (IsWrongJournal geo m) (λ why. of_tables geo m words why whole log is) h
-
-pub ended_as : {T : Type 0} (r : Result T MountFault) (t : Told Finding) → IsErrAnd r (λ e. journal_mount_says e ≡ t) → outcome_by journal_mount_says r ≡ told_outcome t
-ended_as (Ok x) t h = absurd h
-ended_as (Err e) t h = ap told_outcome h
-
 -- what is made of the words
-pub judged_serves : (geo : Geometry) (old mid : Medium) (inside : ℕ → Type 0) (words : List ℕ) → old.count ≡ total_lines geo → AreStrong old (meta_lines geo) → WritesBackOutside inside old mid
-    → IsAtRest (file_area geo) mid (replayed (file_area geo) (last_image old)) → AreHomeWords (file_area geo) (replayed (file_area geo) (last_image old)) words
-    → (r : Result JournalState MountFault) → IfOk r (λ j. (j.geo ≡ geo) × (j.tables ≡ tables_of words)) → FindsTables geo words r → IfOk r (λ j. JournalServes j mid)
-judged_serves geo old mid inside words count strong x rest are (Ok j) made finds =
-    subst (λ (g : Geometry). JournalServes (record j { geo = g }) mid) (sym made.0)
-    (record {
-      count = x.count ∙ count;
-      strong = λ n below. x.weak n ∙ strong n below;
-      rest = subst (RestsWith geo mid) (sym made.1)
-          (record { word = replayed (file_area geo) (last_image old); rest = rest; holds = words_hold geo (replayed (file_area geo) (last_image old)) words are (inodes_right geo words finds) });
-    })
-judged_serves geo old mid inside words count strong x rest are (Err f) made finds = tt
+pub judged_tables : (geo : Geometry) (old : Medium) (words : List ℕ) → AreHomeWords (file_area geo) (replayed (file_area geo) (last_image old)) words → (r : Result JournalState MountFault) → IfOk r (λ j. (j.geo ≡ geo) × (j.tables ≡ tables_of words)) → IfOk r (λ j. (j.geo ≡ geo) × (j.tables ≡ tables_read geo (last_image old)))
+judged_tables geo old words are (Ok j) made = (made.0, made.1 ∙ ap tables_of (mounted_words geo old words are))
+judged_tables geo old words are (Err f) made = tt
 
-pub judged_tables : (geo : Geometry) (old : Medium) (words : List ℕ) → words ≡ words_read geo (last_image old) → (r : Result JournalState MountFault) → IfOk r (λ j. (j.geo ≡ geo) × (j.tables ≡ tables_of words)) → IfOk r (λ j. (j.geo ≡ geo) × (j.tables ≡ tables_read geo (last_image old)))
-judged_tables geo old words is (Ok j) made = (made.0, made.1 ∙ ap tables_of is)
-judged_tables geo old words is (Err f) made = tt
+module _ (geo : Geometry) (old mid : Medium) (inside : ℕ → Type 0) (words : List ℕ) (read : IsRead (file_area geo) inside old mid words) where
+  pub judged_serves : (r : Result JournalState MountFault) → old.count ≡ total_lines geo → AreStrong old (meta_lines geo) → IfOk r (λ j. (j.geo ≡ geo) × (j.tables ≡ tables_of words)) → FindsTables geo words r → IfOk r (λ j. JournalServes j mid)
+  judged_serves (Ok j) count strong made finds =
+      let word = replayed (file_area geo) (last_image old) in
+      subst (λ (g : Geometry). JournalServes (record j { geo = g }) mid) (sym made.0)
+      (record {
+        count = read.outside.count ∙ count;
+        strong = λ n below. read.outside.weak n ∙ strong n below;
+        rest = subst (RestsWith geo mid) (sym made.1) (record { word = word; rest = read.rest; holds = words_hold geo word words read.words (inodes_right geo words finds) });
+      })
+  judged_serves (Err f) count strong made finds = tt
 
 -- calls of the log's mount with its loads
 pub mounted_runs : (geo : Geometry) (a : LogArea) (e f : Outcome) (p q : Panel) → a ≡ file_area geo → f ≡ e → Runs (a.log.len + a.home.len / 8 + 4 * a.cap + 6 + (a.home.len + 7) / 8) (a.log.len + a.home.len / 8 + a.cap + 3) f p q → Runs 5387 2456 e p q
 unfolding size
 mounted_runs geo a e f p q is ended x =
-    let same : Runs (size geo file_log + 16896 / 8 + 4 * 272 + 6 + (16896 + 7) / 8) (size geo file_log + 16896 / 8 + 272 + 3) e p q =
-    subst (λ (b : LogArea). Runs (b.log.len + b.home.len / 8 + 4 * b.cap + 6 + (b.home.len + 7) / 8) (b.log.len + b.home.len / 8 + b.cap + 3) e p q) is
-    (subst (λ (o : Outcome). Runs (a.log.len + a.home.len / 8 + 4 * a.cap + 6 + (a.home.len + 7) / 8) (a.log.len + a.home.len / 8 + a.cap + 3) o p q) ended x) in
+    let same : Runs (size geo file_log + 16896 / 8 + 4 * 272 + 6 + (16896 + 7) / 8) (size geo file_log + 16896 / 8 + 272 + 3) e p q = runs_of a (file_area geo) is e f p q ended x in
     runs_within _ _ 5387 2456 e p q same (omega arith) (omega arith)
 
 -- what is told of the two parts of the words is told of all

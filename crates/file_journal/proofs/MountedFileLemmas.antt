@@ -3,6 +3,7 @@ use Rattle.std.proofs.Common.{◌≡◌, ℕ, ◌/◌, ◌<◌, List, None, sym,
 use Rattle.line_device.specs.Device.{Depicts}
 use Rattle.line_device.specs.Medium.{IsSound, Medium, last_image}
 use Rattle.line_device.specs.Panel.{Image}
+use Rattle.nvm_base.proofs.FirstLemmas.{neither_there}
 use Rattle.word_tables.specs.declared.geometry.Geometry.{Geometry}
 use Rattle.word_tables.specs.Bounds.{IsValid}
 use Rattle.word_tables.specs.Layout.{file_pages, meta_lines, total_lines, HasLine}
@@ -17,7 +18,6 @@ use Rattle.file_journal.specs.Standing.{EachReadsFiles, FilesStand, ReadsFiles, 
 use Rattle.file_journal.specs.Tables.{AreTables, Tables}
 use Rattle.file_journal.proofs.AreaLemmas.{area_in_metadata}
 use Rattle.file_journal.proofs.FileLineLemmas.{area_of_files, files_within}
-use Rattle.file_journal.proofs.MountLemmas.{first_none, second_none}
 use Rattle.file_journal.proofs.RestartLemmas.{read-stands, tables_depicted}
 use Rattle.file_journal.proofs.StandingLemmas.{files-kept}
 use Rattle.file_journal.proofs.TableReadLemmas.{length-words_read, no_wrong_file, right_tables, tables_read-replays}
@@ -57,10 +57,9 @@ pub depicted_files : (geo : Geometry) (old new : Medium) (image : Image) (t : Ta
     → AreTables geo.fpages t × FilesStand geo new t (files_read geo image)
 depicted_files geo old new image t valid count good sound shows none read kept =
     let last = last_image old in
-    let log = first_none (first_wrong (file_area geo) last) (wrong_table geo (words_read geo last)) none in
-    let right = second_none (first_wrong (file_area geo) last) (wrong_table geo (words_read geo last)) none in
-    let shown = tables_depicted geo old image valid count good shows last (file_image-last geo old valid count good sound) log in
+    let right = neither_there (first_wrong (file_area geo) last) (wrong_table geo (words_read geo last)) none in
+    let shown = tables_depicted geo old image valid count good shows last (file_image-last geo old valid count good sound) right.0 in
     let same : tables_read geo image.word ≡ t = shown ∙ sym read in
-    let are : AreTables geo.fpages t = subst (AreTables geo.fpages) (sym read) (right_tables geo (words_read geo last) valid (length-words_read geo last) right) in
+    let are : AreTables geo.fpages t = subst (AreTables geo.fpages) (sym read) (right_tables geo (words_read geo last) valid (length-words_read geo last) right.1) in
     let stand = read-stands geo old image (subst (AreTables geo.fpages) (sym same) are) count shows in
     (are, files-kept geo old new t (files_read geo image) are kept (subst (λ (x : Tables). FilesStand geo old x (files_read geo image)) same stand))

@@ -6,6 +6,7 @@ use Rattle.line_device.specs.Panel.{Image}
 use Rattle.line_device.specs.Device.{Depicts}
 use Rattle.line_device.specs.declared.line.Choice.{Choice}
 use Rattle.line_device.proofs.HistoryLemmas.{is_in-one}
+use Rattle.nvm_base.proofs.FirstLemmas.{neither_there}
 use Rattle.word_tables.specs.declared.geometry.Geometry.{Geometry}
 use Rattle.word_tables.specs.Bounds.{IsValid}
 use Rattle.word_tables.specs.Layout.{meta_lines, total_lines}
@@ -27,7 +28,7 @@ use Rattle.file_journal.specs.Standing.{EachReadsFiles, FileStands, FilesStand, 
 use Rattle.file_journal.specs.Tables.{AreTables, Tables}
 use Rattle.file_journal.proofs.AreaLemmas.{area_in_metadata, area_shaped}
 use Rattle.file_journal.proofs.FileLineLemmas.{area_of_files, files_within, page_line_within}
-use Rattle.file_journal.proofs.MountLemmas.{first_none, inodes_right, second_none, words_hold}
+use Rattle.file_journal.proofs.MountLemmas.{inodes_right, words_hold}
 use Rattle.file_journal.proofs.StandingLemmas.{file_line_in, line_there_in}
 use Rattle.file_journal.proofs.TableReadLemmas.{files_same, home_words-read, length-words_read, right_tables, tables_read-replays}
 
@@ -98,13 +99,12 @@ module _ (geo : Geometry) (m : Medium) (image : Image) (valid : IsValid geo) (co
   -- and so they do where nothing is wrong with them
   pub each_files-depicted : wrong_file_place geo image.word ≡ None → EachReadsFiles geo m (λ x. x ≡ files_read geo image)
   each_files-depicted none =
-      let log = first_none (first_wrong (file_area geo) image.word) (wrong_table geo (words_read geo image.word)) none in
-      let right = second_none (first_wrong (file_area geo) image.word) (wrong_table geo (words_read geo image.word)) none in
+      let right = neither_there (first_wrong (file_area geo) image.word) (wrong_table geo (words_read geo image.word)) none in
       let after = replayed (file_area geo) image.word in
-      let own : Replays (file_area geo) image.word after = record { valid = log; home = λ p _. refl } in
+      let own : Replays (file_area geo) image.word after = record { valid = right.0; home = λ p _. refl } in
       let words = words_read geo image.word in
-      each_files-shown after (tables_of words) own (words_hold geo after words (home_words-read geo image.word after own) (inodes_right geo words right))
-      (right_tables geo words valid (length-words_read geo image.word) right)
+      each_files-shown after (tables_of words) own (words_hold geo after words (home_words-read geo image.word after own) (inodes_right geo words right.1))
+      (right_tables geo words valid (length-words_read geo image.word) right.1)
 
 -- What a restart left of files is one of what the images before read as, and the device stands for what is read.
 pub record CameBack (choice : Choice) (geo : Geometry) (image : Image) (P : List File → Type 0) (mid : Medium) : Type 0 where

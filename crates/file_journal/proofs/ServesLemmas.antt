@@ -1,14 +1,14 @@
 -- A journal is served on while lines of other areas are worked on, and each image reads as its files.
-use Rattle.std.proofs.Common.{◌≡◌, ℕ, inr, List, refl, subst, sym, ◌∙◌}
+use Rattle.std.proofs.Common.{◌≡◌, ℕ, List, refl, subst, sym, ◌∙◌}
 use Rattle.line_device.specs.History.{IsIn}
 use Rattle.line_device.specs.Medium.{Medium, WritesBack}
 use Rattle.word_tables.specs.Layout.{meta_lines}
-use Rattle.word_log.specs.Area.{IsOf, gate_place}
-use Rattle.word_log.proofs.PhaseLemmas.{rest-write_back}
-use Rattle.word_log.proofs.ReplayLemmas.{replays_closed}
+use Rattle.word_log.specs.Area.{IsOf}
+use Rattle.word_log.proofs.HeldLemmas.{images_at_rest, rests-kept, rests-write_back}
 use Rattle.nvm_model.specs.Lines.{AreStrong}
 use Rattle.nvm_model.specs.Storage.{File}
 use Rattle.file_journal.specs.Area.{file_area}
+use Rattle.file_journal.specs.Holds.{Holds}
 use Rattle.file_journal.specs.Object.{JournalServes, JournalState}
 use Rattle.file_journal.specs.Standing.{EachReadsFiles, FilesStand}
 use Rattle.file_journal.specs.Tables.{AreTables, Tables}
@@ -20,21 +20,14 @@ pub journal-kept : (s : JournalState) (old new : Medium) → ((p : ℕ) → IsOf
 journal-kept s old new fewer strong count serves = record {
   count = count ∙ serves.count;
   strong = strong;
-  rest = record {
-    word = serves.rest.word;
-    rest = record {
-      gate = λ v at. serves.rest.rest.gate v (fewer (gate_place (file_area s.geo)) (gate_of_files s.geo) v at);
-      home = λ p home v at. serves.rest.rest.home p home v (fewer p (inr home) v at);
-    };
-    holds = serves.rest.holds;
-  };
+  rest = rests-kept (file_area s.geo) (Holds s.geo) old new s.tables (gate_of_files s.geo) fewer serves.rest;
 }
 
 pub journal-write_back : (s : JournalState) (old new : Medium) → WritesBack old new → JournalServes s old → JournalServes s new
 journal-write_back s old new x serves = record {
   count = x.count ∙ serves.count;
   strong = λ n below. x.weak n ∙ serves.strong n below;
-  rest = record { word = serves.rest.word; rest = rest-write_back (file_area s.geo) serves.rest.word old new serves.rest.rest x; holds = serves.rest.holds };
+  rest = rests-write_back (file_area s.geo) (Holds s.geo) old new s.tables x serves.rest;
 }
 
 -- a journal of the same sizes and tables
@@ -51,9 +44,7 @@ served_files s m files right serves stand image is = record {
   tables = s.tables;
   right = right;
   word = serves.rest.word;
-  replays = replays_closed (file_area s.geo) image serves.rest.word
-      (serves.rest.rest.gate (image (gate_place (file_area s.geo))) (is (gate_place (file_area s.geo)) (gate_of_files s.geo)))
-      (λ p home. serves.rest.rest.home p home (image p) (is p (inr home)));
+  replays = images_at_rest (file_area s.geo) serves.rest.word m (gate_of_files s.geo) serves.rest.rest image is;
   holds = serves.rest.holds;
   files = files;
   is = refl;

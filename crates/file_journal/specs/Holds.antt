@@ -2,7 +2,7 @@
 use Rattle.std.specs.Prelude.{◌≡◌, ◌<◌, ℕ, List, None, slice_index_or}
 use Rattle.word_tables.specs.declared.geometry.Geometry.{Geometry}
 use Rattle.word_tables.specs.Words.{place, of_inode, of_file_page}
-use Rattle.word_log.specs.Changes.{changed, MayCommit}
+use Rattle.word_log.specs.Held as held
 use Rattle.inode_table.specs.Holds.{HoldsSlot}
 use Rattle.page_table.specs.Pages.{word_of}
 use Rattle.nvm_model.specs.Numbered.{list_from}
@@ -19,6 +19,5 @@ pub record Holds (geo : Geometry) (word : ℕ → ℕ) (t : Tables) : Type 0 whe
   pub pages : (inode page : ℕ) → inode < 64 → page < 256 → word (place geo (of_file_page inode page)) ≡ word_of (unit_at t inode page)
 
 -- changes that the log takes, and that make words which hold the old tables hold the new ones
-pub record Turns (geo : Geometry) (changes : List (ℕ × ℕ)) (old new : Tables) : Type 0 where
-  pub may : MayCommit (file_area geo) changes
-  pub holds : (word : ℕ → ℕ) → Holds geo word old → Holds geo (changed changes word) new
+abbrev pub Turns : Geometry → List (ℕ × ℕ) → Tables → Tables → Type 0
+Turns geo changes old new = held.Turns (file_area geo) (Holds geo) changes old new

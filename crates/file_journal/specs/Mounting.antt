@@ -1,12 +1,11 @@
 -- What the answers of a mount say.
-use Rattle.std.specs.Prelude.{◌≡◌, ℕ, true, List, Some, None, Result}
-use Rattle.line_device.specs.Medium.{Medium, last_image}
+use Rattle.std.specs.Prelude.{ℕ, List, Result}
+use Rattle.line_device.specs.Medium.{Medium}
 use Rattle.line_words.specs.declared.interruption.Interruption.TheVariants as stop
-use Rattle.line_words.specs.Told.{Told, Explains}
+use Rattle.line_words.specs.Told.{Told}
 use Rattle.line_words.specs.Told.Told.{Refuses, Stops, Starves}
 use Rattle.word_tables.specs.declared.geometry.Geometry.{Geometry}
-use Rattle.word_log.specs.Area.{IsLineOf, IsWhole}
-use Rattle.word_log.specs.Mount.{Finding, IsPlace}
+use Rattle.word_log.specs.Mount.{Finding, FindsIn, FindsPlace}
 use Rattle.word_log.specs.Mount.Finding.{bad_line, wrong_word}
 use Rattle.file_journal.specs.declared.fault.MountFault.{MountFault}
 use Rattle.file_journal.specs.declared.fault.MountFault.TheVariants.{Poisoned, Bad, Device, PowerLost, Memory}
@@ -21,15 +20,10 @@ journal_mount_says Device = Stops stop.Failed
 journal_mount_says PowerLost = Stops stop.PowerLost
 journal_mount_says Memory = Starves
 
--- what is wrong with log and tables
-abbrev pub IsWrongJournal : Geometry → Medium → Finding → Type 0
-IsWrongJournal geo m (bad_line n) = IsLineOf (file_area geo) n × (m.is_bad n ≡ true)
-IsWrongJournal geo m (wrong_word p) = IsWhole (file_area geo) m × (wrong_file_place geo (last_image m) ≡ Some p)
-
--- A mount ends well only where nothing is wrong with them, and else tells what is.
+-- A mount ends well only where nothing is wrong with log and tables, and else tells what is.
 abbrev pub FindsJournal : {T : Type 0} → Geometry → Medium → Result T MountFault → Type 0
-FindsJournal geo m result = Explains journal_mount_says (IsWhole (file_area geo) m × (wrong_file_place geo (last_image m) ≡ None)) (IsWrongJournal geo m) result
+FindsJournal geo m result = FindsIn journal_mount_says (file_area geo) (wrong_file_place geo) m result
 
 -- The same of the tables' words alone.
 abbrev pub FindsTables : {T : Type 0} → Geometry → List ℕ → Result T MountFault → Type 0
-FindsTables geo words result = Explains journal_mount_says (wrong_table geo words ≡ None) (IsPlace (wrong_table geo words)) result
+FindsTables geo words result = FindsPlace journal_mount_says (wrong_table geo words) result

@@ -6,7 +6,7 @@ use Rattle.word_tables.specs.declared.geometry.Geometry.{Geometry}
 use Rattle.word_tables.specs.Bounds.{IsValid}
 use Rattle.word_tables.specs.Layout.{meta_lines, total_lines}
 use Rattle.word_log.specs.declared.area.LogArea.{LogArea}
-use Rattle.word_log.specs.Rest.{IsAtRest}
+use Rattle.word_log.specs.Held as held
 use Rattle.nvm_model.specs.Lines.{AreStrong}
 use Rattle.file_journal.specs.Area.{file_area}
 use Rattle.file_journal.specs.Holds.{Holds}
@@ -22,10 +22,8 @@ pub record JournalState : Type 0 where
   pub settled : Bool
 
 -- the log is at rest with words that hold these tables
-pub record RestsWith (geo : Geometry) (m : Medium) (t : Tables) : Type 0 where
-  pub word : ℕ → ℕ
-  pub rest : IsAtRest (file_area geo) m word
-  pub holds : Holds geo word t
+abbrev pub RestsWith : Geometry → Medium → Tables → Type 0
+RestsWith geo m t = held.RestsWith (file_area geo) (Holds geo) m t
 
 -- The device is the one whose journal this is. Lines that became bad are no bar.
 pub record JournalServes (s : JournalState) (m : Medium) : Type 0 where

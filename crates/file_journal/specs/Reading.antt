@@ -4,6 +4,7 @@ use Rattle.std.specs.List.{range_with_len}
 use Rattle.word_tables.specs.declared.geometry.Geometry.{Geometry}
 use Rattle.word_tables.specs.Layout.{inodes, first_line}
 use Rattle.word_tables.specs.Words.{place, of_inode, of_file_page}
+use Rattle.word_log.specs.Mount.{wrong_with}
 use Rattle.word_log.specs.Replay as log
 use Rattle.inode_table.specs.Slots.{pages_of}
 use Rattle.inode_table.specs.Words.{slots_of}
@@ -39,4 +40,4 @@ wrong_table geo words = first_there (wrong_inode geo (take 512 words)) (wrong_pa
 
 -- the first place that is wrong: of the log, or else of the tables once it is replayed
 abbrev pub wrong_file_place : Geometry → (ℕ → ℕ) → Option ℕ
-wrong_file_place geo image = first_there (log.first_wrong (file_area geo) image) (wrong_table geo (words_read geo image))
+wrong_file_place geo image = wrong_with (file_area geo) (λ word. wrong_table geo (words_read geo word)) image

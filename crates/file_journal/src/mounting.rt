@@ -4,11 +4,11 @@ ghost use Rattle.std.specs.Prelude.{◌≡◌, ◌+◌, ◌<◌, ◌≤◌, IfEr
 ghost use Rattle.line_device.specs.Medium.{WritesBack, last_image};
 ghost use Rattle.line_device.specs.Panel.{Runs};
 ghost use Rattle.line_device.specs.Panel.Outcome.{went};
-ghost use Rattle.line_words.specs.Told.{Explains, outcome_by};
+ghost use Rattle.line_words.specs.Told.{outcome_by};
 ghost use Rattle.line_words.specs.Words.{WritesBackOutside};
 ghost use Rattle.nvm_model.specs.Lines.{AreStrong};
 ghost use Rattle.word_log.specs.Area.{IsOf, gate_place};
-ghost use Rattle.word_log.specs.Mount.{IsPlace};
+ghost use Rattle.word_log.specs.Mount.{FindsPlace};
 ghost use Rattle.word_log.specs.Rest.{EachImage, IsReached};
 ghost use Rattle.word_tables.specs.Bounds.{IsValid};
 ghost use Rattle.word_tables.specs.Layout.{meta_lines, total_lines};
@@ -91,7 +91,7 @@ fn read_inodes(alloc: Global, geo: Geometry, words: &[u64]) -> Result<Inodes, Mo
     requires length { length words.now ≡ 512 }
     ensures ok { IfOk result (λ inodes. inodes ≡ slots_of words.now) }
     ensures table { IfOk result names.IsTable }
-    ensures finds { Explains journal_mount_says (wrong_inode geo words.now ≡ None) (IsPlace (wrong_inode geo words.now)) result }
+    ensures finds { FindsPlace journal_mount_says (wrong_inode geo words.now) result }
     ensures went { outcome_by journal_mount_says result ≡ went }
 {
     match Inodes::read(alloc, words) {
@@ -115,8 +115,7 @@ fn read_pages(
     requires length { length words.now ≡ 16384 }
     ensures ok { IfOk result (λ both. Reads geo.fpages (map pages_of inodes.now) words.now both.0) }
     ensures free { IfOk result (λ both. HasFree both.0 both.1) }
-    ensures finds { Explains journal_mount_says (wrong_page geo (map pages_of inodes.now) words.now ≡ None)
-        (IsPlace (wrong_page geo (map pages_of inodes.now) words.now)) result }
+    ensures finds { FindsPlace journal_mount_says (wrong_page geo (map pages_of inodes.now) words.now) result }
     ensures went { outcome_by journal_mount_says result ≡ went }
 {
     match PageTable::read_with_pool(alloc, geo, &page_counts(inodes), words) {

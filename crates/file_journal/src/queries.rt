@@ -2,6 +2,7 @@
 ghost use Rattle.std.specs.Prelude.{◌≡◌, ◌↔◌, ◌<◌, ℕ, IfSome, IsNone, IsTrue, None, Some, slice_index_or};
 ghost use Rattle.inode_table.specs.Slots.{IsNamed, inode_of, pages_at};
 ghost use Rattle.page_table.specs.Pages.{used_pages};
+ghost use Rattle.word_tables.specs.Bounds.{IsValid};
 ghost use Rattle.word_tables.specs.Layout.{file_line};
 ghost use Rattle.file_journal.specs.Tables.{AreTables, unit_at};
 
@@ -18,7 +19,8 @@ impl Journal {
     }
 
     pub fn geometry(&self) -> Geometry
-        ensures { result ≡ self.now.geo }
+        ensures geometry { result ≡ self.now.geo }
+        ensures valid { IsValid self.now.geo }
     {
         self.geo
     }

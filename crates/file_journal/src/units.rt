@@ -27,6 +27,7 @@ impl Journal {
     pub fn take_unit(&mut self) -> Option<u64>
         ensures none { IsNone result ↔ (free_count self.old.free ≡ 0) }
         ensures free { IfSome result (IsFree self.old.free) }
+        ensures below { IfSome result (λ unit. unit < self.old.geo.fpages) }
         ensures vacant { IfSome result (IsVacant self.old.tables.pages) }
         ensures after { MatchOption result (self.new ≡ self.old) (λ unit. self.new ≡ record self.old { free = slice_set self.old.free unit false }) }
         ensures serves { (m : Medium) → JournalServes self.old m → JournalServes self.new m }

@@ -1,2 +1,3 @@
 pub mod Sparse
 pub mod Units
+pub mod Beside

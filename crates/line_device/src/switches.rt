@@ -48,6 +48,21 @@ impl Switches {
         ensures after { self.new ≡ after_call self.old }
         ensures runs { Runs 1 0 (outcome result) (panel_of self.old) (panel_of self.new) }
     {
+        // Mostly nothing is armed.
+        match (self.cut, self.fail) {
+            (None, None) => {
+                raise(&mut self.counts.calls);
+                Ok(())
+            }
+            _ => self.count_armed_call(),
+        }
+    }
+
+    fn count_armed_call(&mut self) -> Result<(), DeviceFault>
+        ensures answer { result ≡ call_answer self.old }
+        ensures after { self.new ≡ after_call self.old }
+        ensures runs { Runs 1 0 (outcome result) (panel_of self.old) (panel_of self.new) }
+    {
         let cut = is_due(self.cut);
         let fail = is_due(self.fail);
         self.fail = fail_after(self.cut, self.fail);

@@ -2,13 +2,19 @@
 use Rattle.std.proofs.Common.{◌≡◌, inl, inr, ℕ, zero, suc, Bool, false, ◌+◌, ◌*◌, ◌/◌, ◌%◌, ◌-◌, ◌<◌, ◌≤◌, ◌||◌, List, [], ◌∷◌, length, get_or, take, drop, nat_lt, if◌then◌else◌, refl, sym, ◌∙◌, ap, arith}
 use Rattle.std.proofs.lemmas.Bool.{cases_eq, cases_lt, eq-eqb, lt-ltb, le-ltb}
 use Rattle.std.proofs.lemmas.Nat.{mod_below}
+use Rattle.std.specs.Prelude.{Option, Some, None}
+use Rattle.line_device.specs.Word.{word_at}
 use Rattle.line_device.specs.Medium.{Medium, on_line, zeros}
 use Rattle.line_device.specs.declared.line.Choice.{Choice}
 use Rattle.line_device.specs.declared.line.Choice.TheVariants.{Firsts, Lasts, Seed}
 use Rattle.line_device.proofs.WriteBackLemmas.{on_line-in, on_line-out}
 use Rattle.line_module.specs.Survivors.{drawn, survivor_index, survivor_of}
 use Rattle.line_module.specs.Memory.{has, memory_after_reset, memory_after_restart}
+use Rattle.line_module.specs.Chains.{is_dirty}
+use Rattle.line_module.specs.Held.{history_in}
+use Rattle.line_module.specs.declared.state.State.{State}
 use Rattle.line_module.proofs.WordsLemmas.{true_is_not_false}
+use Rattle.line_module.proofs.HeldLemmas.{Line, quiet-none}
 use Rattle.line_module.proofs.ChangeLemmas.{same_medium}
 
 drop-nil : (n : ℕ) → ◌≡◌ {A = List ℕ} (drop n []) []
@@ -27,6 +33,14 @@ survivor-one Lasts place v = refl
 survivor-one (Seed seed) place v =
     let first : survivor_index seed place 1 ≡ 0 = omega (arith, mod_below (drawn seed place) 1 (omega arith)) in
     ap (λ n. take 1 (drop n (v ∷ []))) first
+
+-- nor does a word of a line that is not dirty change
+pub quiet_kept : (d : Line) (state : Option State) (w place : ℕ) (choice : Choice) → is_dirty state ≡ false → w < 8 → survivor_of choice place (history_in d state w) ≡ history_in d state w
+quiet_kept None state w place choice quiet below = survivor-none choice place
+quiet_kept (Some None) state w place choice quiet below = survivor-none choice place
+quiet_kept (Some (Some b)) state w place choice quiet below =
+    let one : history_in (Some (Some b)) state w ≡ word_at b w ∷ [] = ap (λ h. word_at b w ∷ h) (quiet-none state w quiet below) in
+    ap (survivor_of choice place) one ∙ survivor-one choice place (word_at b w) ∙ sym one
 
 -- the value at a place of the list alone
 pub take_one : (xs : List ℕ) (n d : ℕ) → n < length xs → take 1 (drop n xs) ≡ get_or xs n d ∷ []
@@ -67,6 +81,21 @@ restarted_below-one choice m n =
           ∙ elim (cases_lt (p / 8) n) as (λ _. pick p (nat_lt (p / 8) n) ≡ pick p (nat_lt (p / 8) (n + 1))) [
             | inl less ↦ ap (pick p) (lt-ltb (p / 8) n less) ∙ sym (ap (pick p) (lt-ltb (p / 8) (n + 1) (omega arith)))
             | inr more ↦ ap (pick p) (le-ltb (p / 8) n more) ∙ sym (ap (pick p) (le-ltb (p / 8) (n + 1) (omega arith)))
+          ]
+    ])
+
+-- nor do lines change whose words have one value at most
+pub restarted_below-on : (choice : Choice) (m : Medium) (n next : ℕ) → n ≤ next → ((p : ℕ) → n ≤ p / 8 → p / 8 < next → survivor_of choice p (m.history p) ≡ m.history p) → restarted_below choice n m ≡ restarted_below choice next m
+restarted_below-on choice m n next up kept =
+    let pick = λ (p : ℕ) (b : Bool). if b then survivor_of choice p (m.history p) else m.history p in
+    same_medium (restarted_below choice n m) (restarted_below choice next m) refl (λ k. refl) (λ k. refl)
+    (λ p. elim (cases_lt (p / 8) n) as (λ _. pick p (nat_lt (p / 8) n) ≡ pick p (nat_lt (p / 8) next)) [
+      | inl before ↦ ap (pick p) (lt-ltb (p / 8) n before) ∙ sym (ap (pick p) (lt-ltb (p / 8) next (omega arith)))
+      | inr from ↦
+          ap (pick p) (le-ltb (p / 8) n from)
+          ∙ elim (cases_lt (p / 8) next) as (λ _. m.history p ≡ pick p (nat_lt (p / 8) next)) [
+            | inl below ↦ sym (ap (pick p) (lt-ltb (p / 8) next below) ∙ kept p from below)
+            | inr past ↦ sym (ap (pick p) (le-ltb (p / 8) next past))
           ]
     ])
 

@@ -1,9 +1,10 @@
 -- What follows from what faults tell, whatever the crate's faults and refusals are.
 use Rattle.std.proofs.Common.{◌≡◌, ◌≢◌, true, Option, Some, None, Result, Ok, Err, refl, sym, ◌∙◌, ap}
+use Rattle.std.specs.Result.{IsErrAnd}
 use Rattle.line_device.specs.Panel.Outcome.{went}
 use Rattle.line_words.specs.declared.interruption.Interruption.{Interruption}
 use Rattle.line_words.specs.Ending.{stop_outcome}
-use Rattle.line_words.specs.Told.{Told, refusal_of, told_outcome, outcome_by, is_done, IsStop, IfRefused, Answers, Checks, Finds, OnRefused, OnWorked}
+use Rattle.line_words.specs.Told.{Told, refusal_of, told_outcome, outcome_by, is_done, IsStop, IfRefused, Answers, Checks, Explains, Finds, OnRefused, OnWorked}
 use Rattle.line_words.specs.Told.Told.{Refuses, Stops, Starves}
 
 -- a call that was refused went
@@ -110,3 +111,18 @@ finds_nothing T {R = R} says fault finds = of_told (says fault) finds
     of_told (Refuses w) is = cc is
     of_told (Stops stop) is = refl
     of_told Starves is = refl
+
+-- what is told of a reason is told of what follows from it
+pub if_refused-then : {R : Type 0} (told : Told R) (P Q : R → Type 0) → ((why : R) → P why → Q why) → IfRefused told P → IfRefused told Q
+if_refused-then (Refuses why) P Q next h = next why h
+if_refused-then (Stops stop) P Q next h = tt
+if_refused-then Starves P Q next h = tt
+
+pub explains-then : {T E R : Type 0} (says : E → Told R) (well done : Type 0) (P Q : R → Type 0) (r : Result T E) → (well → done) → ((why : R) → P why → Q why) → Explains says well P r → Explains says done Q r
+explains-then says well done P Q (Ok x) ends next h = ends h
+explains-then says well done P Q (Err fault) ends next h = if_refused-then (says fault) P Q next h
+
+-- an answer that hands a fault on ended as that fault tells
+pub ended_as : {T E R : Type 0} (says : E → Told R) (r : Result T E) (told : Told R) → IsErrAnd r (λ fault. says fault ≡ told) → outcome_by says r ≡ told_outcome told
+ended_as says (Ok x) told h = absurd h
+ended_as says (Err fault) told h = ap told_outcome h

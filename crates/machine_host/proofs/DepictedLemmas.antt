@@ -21,6 +21,8 @@ use Rattle.nvm_model.specs.Page.{is_present, read_pages, PagesStand}
 use Rattle.nvm_model.proofs.NumberedLemmas.{length-list_from}
 use Rattle.nvm_model.proofs.PageLemmas.{length-read_pages, presence_of-read_pages}
 use Rattle.nvm_model.proofs.RestartLemmas.{stand-restarted}
+use Rattle.nvm_model.specs.Device.{device_pages}
+use Rattle.nvm_model.proofs.DeviceLemmas.{device_pages-stand, presence_of-device}
 use Rattle.block_device.specs.Area.{block_area, IsBlockPlace}
 use Rattle.block_device.specs.Reading.{map_read, states_read, blocks_read}
 use Rattle.block_device.specs.Images.{IsBlockImage, ReadsAs, EachReads, AreReadable, KeepsReads}
@@ -32,10 +34,8 @@ use Rattle.block_device.proofs.ReadLemmas.{list_from-cong, map_read-same}
 use Rattle.block_device.proofs.ReachLemmas.{states_read-replays}
 use Rattle.block_device.proofs.RestartLemmas.{block_on_device}
 use Rattle.pm_volume.specs.Area.{volume_area}
-use Rattle.pm_volume.specs.Device.{device_pages}
 use Rattle.pm_volume.specs.Object.{VolumeState, VolumeHolds}
 use Rattle.pm_volume.specs.Presence.{presence_read, words_read}
-use Rattle.pm_volume.proofs.DeviceLemmas.{device_pages-stand, presence_of-device}
 use Rattle.pm_volume.proofs.AreaLemmas.{area_in_metadata}
 use Rattle.pm_volume.proofs.StandingLemmas.{line_of_volume, pages-kept, volume_shaped}
 use Rattle.file_journal.specs.Area.{file_area}

@@ -14,16 +14,16 @@ use Rattle.nvm_model.specs.Blocks.{first_there, lose, nth}
 use Rattle.nvm_model.specs.Cell.{Cell, clear_cell, lose_cell, weaken_cell}
 use Rattle.nvm_model.specs.Page.{Page, cell_of, change_line}
 use Rattle.nvm_model.specs.Storage.{Block}
+use Rattle.nvm_model.specs.Device.{device_pages}
+use Rattle.nvm_model.proofs.DeviceLemmas.{device_pages-stand, presence_of-device}
 use Rattle.block_device.specs.Area.{IsBlockLine}
 use Rattle.block_device.specs.Object.{BlocksServe, blocks_of}
 use Rattle.block_device.proofs.PlaceLemmas.{named_is_data}
 use Rattle.pm_volume.specs.Area.{IsOfVolume}
 use Rattle.page_lines.specs.Turns.{WritesBackOthers}
 use Rattle.page_lines.proofs.OthersLemmas.{others-wider, others-write_back}
-use Rattle.pm_volume.specs.Device.{device_pages}
 use Rattle.pm_volume.specs.Images.{EachReadsPages}
 use Rattle.pm_volume.specs.Object.{VolumeState, VolumeHolds, VolumeServes}
-use Rattle.pm_volume.proofs.DeviceLemmas.{device_pages-stand, presence_of-device}
 use Rattle.scrub.specs.Lines.{IsLineOf}
 use Rattle.scrub.specs.Others.{WritesBackBut}
 use Rattle.scrub.specs.Refusals.{ScrubRefusal, unit_refusal, block_refusal, clear_refusal, line_refusal, place_refusal, place_says, scrub_says, cell_refusal}

@@ -1,4 +1,5 @@
 pub mod AppendLemmas
+pub mod FirstLemmas
 pub mod NameLemmas
 pub mod NumberLemmas
 pub mod ReadingLemmas

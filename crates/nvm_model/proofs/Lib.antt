@@ -20,3 +20,5 @@ pub mod AlikeLemmas
 pub mod AlikeChangeLemmas
 pub mod SumLemmas
 pub mod FileLeftLemmas
+pub mod OneFileLemmas
+pub mod TouchedPageLemmas

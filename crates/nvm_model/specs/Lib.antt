@@ -5,6 +5,7 @@ pub mod Lines
 pub mod Interrupted
 pub mod Storage
 pub mod Blocks
+pub mod Mappings
 pub mod Listing
 pub mod Files
 pub mod Device

@@ -1,6 +1,7 @@
 -- Pages of 64 lines, of the volume and of files. Lines and bytes are counted from the first page on.
-use Rattle.std.specs.Prelude.{◌≡◌, ◌+◌, ◌*◌, ◌/◌, ◌%◌, ◌==◌, ◌&&◌, ℕ, suc, Bool, true, false, not, List, [], ◌∷◌, length, map, nat_lt, Option, Some, None, option_and_then, slice_get, replicate, if◌then◌else◌}
+use Rattle.std.specs.Prelude.{◌≡◌, ◌+◌, ◌*◌, ◌/◌, ◌%◌, ◌==◌, ◌&&◌, ℕ, zero, suc, Bool, true, false, not, List, [], ◌∷◌, length, map, nat_lt, Option, Some, None, option_and_then, slice_get, slice_index_or, replicate, if◌then◌else◌}
 use Rattle.std.specs.List.{list_any}
+use Rattle.nvm_base.specs.Units.{units_of}
 use Rattle.line_device.specs.Medium.{Medium}
 use Rattle.line_device.specs.Panel.{Image}
 use Rattle.line_device.specs.declared.line.Choice.{Choice}
@@ -41,6 +42,14 @@ touches_page start len i = nat_lt start (4096 * i + 4096) && nat_lt (4096 * i) (
 -- whether the span touches a page that is absent, of those that are there or not
 abbrev pub touches_absent : ℕ → ℕ → List Bool → Bool
 touches_absent start len there = list_any (λ lacks. lacks) (map_from (λ i is_there. touches_page start len i && not is_there) 0 there)
+
+-- how many of so many pages from one on are absent, and how many that a span touches
+abbrev pub absent_among : List Bool → ℕ → ℕ → ℕ
+absent_among there first zero = 0
+absent_among there first (suc k) = absent_among there first k + (if slice_index_or there (first + k) true then 0 else 1)
+
+abbrev pub absent_touched : ℕ → ℕ → List Bool → ℕ
+absent_touched start len there = let pages = units_of 4096 (record { start = start; len = len }) in absent_among there pages.start pages.len
 
 -- absent pages that the span touches turned into zeros
 abbrev pub fill_page : ℕ → ℕ → ℕ → Page → Page

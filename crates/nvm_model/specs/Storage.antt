@@ -1,5 +1,6 @@
 -- Blocks, files, mappings and events as the machine sees them.
 use Rattle.std.specs.Prelude.{ℕ, Bool, List, Option}
+use Rattle.nvm_base.specs.declared.files.Kind.{Kind}
 use Rattle.nvm_model.specs.Page.{Page}
 
 -- a block: not allocated, made unreadable, or its eight lines, None where a line is bad
@@ -12,11 +13,7 @@ pub record File : Type 0 where
   pub name : List ℕ
   pub pages : List Page
 
--- whether a mapping shows its file or is a copy of it
-pub data Kind : Type 0 where
-  Shared : Kind
-  Private : Kind
-
+-- a mapping, whose copy is of a private one
 pub record Mapping : Type 0 where
   pub handle : ℕ
   pub name : List ℕ

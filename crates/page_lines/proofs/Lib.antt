@@ -9,3 +9,7 @@ pub mod LoadLemmas
 pub mod BufferLemmas
 pub mod FindLemmas
 pub mod PlaceLemmas
+pub mod StandingLemmas
+pub mod SearchLemmas
+pub mod CountLemmas
+pub mod ResultLemmas

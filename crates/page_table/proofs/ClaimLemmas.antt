@@ -1,5 +1,5 @@
 -- Which units are free once the first pages have taken theirs.
-use Rattle.std.proofs.Common.{◌≡◌, ◌<◌, ◌+◌, ◌||◌, ◌==◌, ℕ, Bool, true, false, List, Option, Some, None, length, get_or, set, take, is_some, ltb, not, refl, sym, ap, subst, ◌∙◌, inl, inr, arith, below_more, length-set, get_or-set_same, get_or-set_other}
+use Rattle.std.proofs.Common.{◌≡◌, ◌<◌, ◌≤◌, ◌+◌, ◌-◌, ◌||◌, ◌==◌, ℕ, zero, suc, Bool, true, false, List, Option, Some, None, length, get_or, set, take, is_some, ltb, not, refl, sym, ap, subst, ◌∙◌, inl, inr, arith, below_more, length-set, get_or-set_same, get_or-set_other}
 use Rattle.std.specs.List.{list_any}
 use Rattle.std.proofs.Math.Bool.{or-true}
 use Rattle.std.proofs.lemmas.Bool.{and_cases, and_parts, cases_eq, cases_lt, eq-eqb, false_from_ne_true, ltb-true, ltb-false, ne_eqb, not-false, not-true, true≢false}
@@ -122,6 +122,23 @@ module _ (units : ℕ) (counts : List ℕ) (pages : List (Option ℕ)) (n : ℕ)
   pub wrong_unclaimed : (page : Option ℕ) → get_or pages n None ≡ page → may_claim free (has_page counts n) page ≡ false → is_wrong units counts pages n ≡ true
   wrong_unclaimed None hole denied = absurd (true≢false denied)
   wrong_unclaimed (Some unit) here denied = ap (is_wrong_after units (take n pages) (has_page counts n)) here ∙ refused (has_page counts n) unit denied
+
+-- so many holes more have taken none
+claimed_holes : (units : ℕ) (counts : List ℕ) (pages : List (Option ℕ)) (n more : ℕ) (free : List Bool) → HasClaimed units counts pages n free → n + more ≤ length pages → ((k : ℕ) → n ≤ k → k < n + more → get_or pages k None ≡ None) → HasClaimed units counts pages (n + more) free
+claimed_holes units counts pages n zero free so_far within holes =
+    let same : n ≡ n + 0 = omega arith in
+    subst (λ (k : ℕ). HasClaimed units counts pages k free) same so_far
+claimed_holes units counts pages n (suc more) free so_far within holes =
+    let same : n + 1 + more ≡ n + suc more = omega arith in
+    let one : HasClaimed units counts pages (n + 1) free = claimed_more units counts pages n free so_far (omega arith) None (holes n (omega arith) (omega arith)) refl in
+    subst (λ (k : ℕ). HasClaimed units counts pages k free) same
+    (claimed_holes units counts pages (n + 1) more free one (omega arith) (λ k from below. holes k (omega arith) (omega arith)))
+
+pub claimed_to : (units : ℕ) (counts : List ℕ) (pages : List (Option ℕ)) (n next : ℕ) (free : List Bool) → HasClaimed units counts pages n free → n ≤ next → next ≤ length pages → ((k : ℕ) → n ≤ k → k < next → get_or pages k None ≡ None) → HasClaimed units counts pages next free
+claimed_to units counts pages n next free so_far up within holes =
+    let same : n + (next - n) ≡ next = omega arith in
+    subst (λ (k : ℕ). HasClaimed units counts pages k free) same
+    (claimed_holes units counts pages n (next - n) free so_far (omega arith) (λ k from below. holes k from (omega arith)))
 
 -- all pages have taken theirs
 module _ (units : ℕ) (counts : List ℕ) (pages : List (Option ℕ)) (n : ℕ) (free : List Bool) (done : HasClaimed units counts pages n free) (all : n ≡ length pages) where

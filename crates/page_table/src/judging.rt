@@ -1,4 +1,4 @@
-ghost use Rattle.std.specs.Prelude.{◌≡◌, ◌<◌, ◌*◌, ◌/◌, IfErr, IfOk, IsTrue, None, OnOk, Some, length, map, true};
+ghost use Rattle.std.specs.Prelude.{◌≡◌, ◌≤◌, ◌<◌, ◌*◌, ◌/◌, ℕ, IfErr, IfOk, IsTrue, None, OnOk, Some, length, map, slice_index, true};
 ghost use Rattle.page_table.specs.Cause.{IsCause};
 ghost use Rattle.page_table.specs.Claims.{after_claim, may_claim};
 ghost use Rattle.page_table.specs.Pages.{unit_of};
@@ -40,12 +40,39 @@ pub(crate) fn check(
     ensures err { IfErr result (IsCause units counts.now words.now) }
 {
     let mut free = Pool::new(alloc, units)?;
-    for (i, word) in words.iter().enumerate() {
-        if !claim(&mut free, counts, i, *word) {
-            return Err(TableFault::Bad(i as u64));
+    let mut entry = 0;
+    while entry < words.len() {
+        if !claim(&mut free, counts, entry, words[entry]) {
+            return Err(TableFault::Bad(entry as u64));
         }
+        entry = past_holes(words, entry + 1);
     }
     Ok(free)
+}
+
+// An entry from this one on, with holes alone between. Most pages are holes, and a restart reads them all.
+fn past_holes(words: &[u64], entry: usize) -> usize
+    requires { entry ≤ length words.now }
+    ensures from { entry ≤ result }
+    ensures within { result ≤ length words.now }
+    ensures holes { (n : ℕ) → entry ≤ n → n < result → slice_index words.now n ≡ 0 }
+{
+    let mut next = entry;
+    while words.len() - next >= 8 && are_holes(&words[next..next + 8]) {
+        next += 8;
+    }
+    next
+}
+
+fn are_holes(words: &[u64]) -> bool
+    ensures { IsTrue result → (n : ℕ) → n < length words.now → slice_index words.now n ≡ 0 }
+{
+    // All of them at once, without a jump at each.
+    let mut all = 0;
+    for word in words {
+        all |= *word;
+    }
+    all == 0
 }
 
 // Takes the unit that a word names, where it may name that one.
@@ -55,7 +82,6 @@ fn claim(free: &mut Pool, counts: &[u64], entry: usize, word: u64) -> bool
     ensures right { result ≡ may_claim free.old (has_page counts.now entry) (unit_of word) }
     ensures free { IsTrue result → free.new ≡ after_claim free.old (unit_of word) }
 {
-    // Most words name none, and a restart reads them all.
     if word == 0 {
         return true;
     }

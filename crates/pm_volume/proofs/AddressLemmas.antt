@@ -8,8 +8,7 @@ use Rattle.word_tables.specs.Bounds.{IsValid}
 use Rattle.word_tables.specs.Layout.{bytes_in, first_line, first_range, second_range, size}
 use Rattle.range_sets.specs.Ranges.{has_address, offset_of, offset_of_span}
 use Rattle.range_sets.proofs.PlaceLemmas.{has_bounds, has_from, offset_first, offset_later}
-use Rattle.pm_volume.specs.Area.{volume_ranges}
-use Rattle.pm_volume.specs.Device.{LeavesRanges}
+use Rattle.pm_volume.specs.Area.{LeavesRanges, volume_ranges}
 use Rattle.pm_volume.specs.Refusals.{physical_offset}
 
 abbrev pub range : ℕ → ℕ → Span

@@ -7,7 +7,7 @@ use Rattle.word_tables.specs.declared.geometry.Geometry.{Geometry}
 use Rattle.word_tables.specs.Layout.{meta_lines, volume_line}
 use Rattle.word_log.specs.Area.{IsOf}
 use Rattle.word_log.specs.Replay.{Replays}
-use Rattle.word_log.specs.Rest.{EachImage}
+use Rattle.word_log.specs.Held.{EachReplays}
 use Rattle.nvm_model.specs.Cell.{Cell}
 use Rattle.nvm_model.specs.Numbered.{AreMixed, is_among, map_from}
 use Rattle.nvm_model.specs.Page.{Page, PagesStand, discard, discard_page, presence_of}
@@ -56,7 +56,7 @@ module _ (s : VolumeState) (old new : Medium) (serves : VolumeServes s old) (x :
   }
 
   -- each image has the pages as they were, or without those
-  pub discarded-images : EachImage (volume_area s.geo) new (λ image. Replays (volume_area s.geo) image (presence_words s.geo s.present) ⊎ Replays (volume_area s.geo) image (presence_words s.geo (switched first count false s.present))) → (P : List Page → Type 0) (pages : List Page) → VolumeHolds s old pages → P pages → P (discard first count pages) → EachReadsPages s.geo new P
+  pub discarded-images : EachReplays (volume_area s.geo) new (presence_words s.geo s.present) (presence_words s.geo (switched first count false s.present)) → (P : List Page → Type 0) (pages : List Page) → VolumeHolds s old pages → P pages → P (discard first count pages) → EachReadsPages s.geo new P
   discarded-images images P pages holds kept gone image at =
       let long = length-pages s old pages holds ∙ serves.all in
       elim (images image at) as (λ _. ReadsPages s.geo new P image) [

@@ -11,7 +11,7 @@ use Rattle.word_tables.specs.Bounds.{IsValid}
 use Rattle.word_tables.specs.Layout.{meta_lines, volume_line, IsVolumeLine}
 use Rattle.word_log.specs.Area.{IsOf}
 use Rattle.word_log.specs.Replay.{Replays}
-use Rattle.word_log.specs.Rest.{EachImage}
+use Rattle.word_log.specs.Held.{EachReplays}
 use Rattle.nvm_model.specs.Cell.{CellStands, covers, zero_cell}
 use Rattle.nvm_model.specs.Lines.{AreGood}
 use Rattle.nvm_model.specs.Page.{Page, PagesStand, fill, is_present, presence_of, touches_absent, touches_page}
@@ -130,7 +130,7 @@ module _ (s : VolumeState) (old : Medium) (serves : VolumeServes s old) where
         stand = subst (λ (g : Geometry). PagesStand (volume_line g) new (fill span.start span.len ps)) (sym geo) (filled-stand ps holds);
       }
 
-      pub filled-images : EachImage (volume_area s.geo) new (λ image. Replays (volume_area s.geo) image (presence_words s.geo s.present) ⊎ Replays (volume_area s.geo) image (presence_words s.geo (switched pages.start pages.len true s.present))) → (ps : List Page) → VolumeHolds s old ps → EachReadsPages s.geo new (λ left. (left ≡ ps) ⊎ (left ≡ fill span.start span.len ps))
+      pub filled-images : EachReplays (volume_area s.geo) new (presence_words s.geo s.present) (presence_words s.geo (switched pages.start pages.len true s.present)) → (ps : List Page) → VolumeHolds s old ps → EachReadsPages s.geo new (λ left. (left ≡ ps) ⊎ (left ≡ fill span.start span.len ps))
       filled-images images ps holds image at =
           let long = length-pages s old ps holds ∙ serves.all in
           elim (images image at) as (λ _. ReadsPages s.geo new (λ left. (left ≡ ps) ⊎ (left ≡ fill span.start span.len ps)) image) [

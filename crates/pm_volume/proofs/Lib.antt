@@ -21,6 +21,5 @@ pub mod PhysicalLemmas
 pub mod TableLemmas
 pub mod MountedLemmas
 pub mod StandingLemmas
-pub mod DeviceLemmas
 pub mod AddressLemmas
 pub mod FirstLineLemmas

@@ -5,5 +5,4 @@ pub mod Costs
 pub mod Refusals
 pub mod Checked
 pub mod Images
-pub mod Device
 pub mod Mounting

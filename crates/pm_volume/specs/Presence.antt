@@ -3,9 +3,9 @@ use Rattle.std.specs.Prelude.{◌-◌, ◌*◌, ◌==◌, ℕ, Bool, true, false
 use Rattle.word_tables.specs.declared.geometry.Geometry.{Geometry}
 use Rattle.word_tables.specs.Layout.{presence, first_line}
 use Rattle.word_tables.specs.Words.{place, of_volume_page}
+use Rattle.word_log.specs.Mount.{wrong_with}
 use Rattle.word_log.specs.Replay as log
 use Rattle.nvm_model.specs.Numbered.{list_from, map_from, is_among}
-use Rattle.nvm_model.specs.Blocks.{first_there}
 use Rattle.pm_volume.specs.Area.{volume_area}
 
 -- the word of a page that is there or not
@@ -28,13 +28,16 @@ presence_read geo word = map (λ w. w == 1) (words_read geo word)
 abbrev pub first_wrong_page : List ℕ → Option ℕ
 first_wrong_page words = position (λ w. nat_lt 1 w) words
 
--- the place of that word
+-- the place of that word, of given words, and of those that are read
+abbrev pub wrong_page_word : Geometry → List ℕ → Option ℕ
+wrong_page_word geo words = option_map (λ i. place geo (of_volume_page i)) (first_wrong_page words)
+
 abbrev pub wrong_presence : Geometry → (ℕ → ℕ) → Option ℕ
-wrong_presence geo word = option_map (λ i. place geo (of_volume_page i)) (first_wrong_page (words_read geo word))
+wrong_presence geo word = wrong_page_word geo (words_read geo word)
 
 -- the first place that is wrong: of the log, or else of the presence words once it is replayed
 abbrev pub wrong_volume_place : Geometry → (ℕ → ℕ) → Option ℕ
-wrong_volume_place geo word = first_there (log.first_wrong (volume_area geo) word) (wrong_presence geo word)
+wrong_volume_place geo word = wrong_with (volume_area geo) (wrong_presence geo) word
 
 -- so many pages from one on there, or absent
 abbrev pub switched : ℕ → ℕ → Bool → List Bool → List Bool

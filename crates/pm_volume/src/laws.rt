@@ -5,8 +5,8 @@ ghost use Rattle.word_tables.specs.declared.geometry.Geometry.{Geometry};
 ghost use Rattle.word_tables.specs.Bounds.{IsValid};
 ghost use Rattle.word_tables.specs.Layout.{volume_line};
 ghost use Rattle.range_sets.specs.Ranges.{offset_of};
-ghost use Rattle.pm_volume.specs.Area.{volume_ranges};
-ghost use Rattle.pm_volume.specs.Device.{LeavesRanges, device_pages};
+ghost use Rattle.nvm_model.specs.Device.{device_pages};
+ghost use Rattle.pm_volume.specs.Area.{LeavesRanges, volume_ranges};
 ghost use Rattle.pm_volume.specs.Object.{VolumeHolds, VolumeState};
 ghost use Rattle.pm_volume.specs.Refusals.{physical_offset};
 

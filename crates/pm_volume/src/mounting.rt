@@ -3,7 +3,7 @@ ghost use Rattle.std.specs.Prelude.{◌≡◌, ◌+◌, ◌/◌, ◌≤◌, ◌*
 ghost use Rattle.line_device.specs.Medium.{WritesBack, last_image};
 ghost use Rattle.line_device.specs.Panel.{Runs};
 ghost use Rattle.line_device.specs.Panel.Outcome.{went};
-ghost use Rattle.line_words.specs.Told.{Explains, outcome_by};
+ghost use Rattle.line_words.specs.Told.{outcome_by};
 ghost use Rattle.line_words.specs.Words.{WritesBackOutside};
 ghost use Rattle.nvm_model.specs.Lines.{AreStrong};
 ghost use Rattle.word_log.specs.Area.{IsOf, gate_place};
@@ -11,7 +11,7 @@ ghost use Rattle.word_log.specs.Rest.{EachImage, IsReached};
 ghost use Rattle.word_tables.specs.Bounds.{IsValid};
 ghost use Rattle.word_tables.specs.Layout.{meta_lines, total_lines};
 ghost use Rattle.pm_volume.specs.Area.{volume_area, volume_ranges};
-ghost use Rattle.pm_volume.specs.Mounting.{FindsVolume, IsWrongPresence, volume_mount_says};
+ghost use Rattle.pm_volume.specs.Mounting.{FindsPresence, FindsVolume, volume_mount_says};
 ghost use Rattle.pm_volume.specs.Object.{VolumeServes};
 ghost use Rattle.pm_volume.specs.Presence.{first_wrong_page, presence_read, presence_word};
 
@@ -54,7 +54,7 @@ impl Volume {
         requires length { length words.now ≡ geo.vpages }
         ensures volume { IfOk result (λ volume. (volume.geo ≡ geo) × (map presence_word volume.present ≡ words.now)) }
         ensures settled { IfOk result (λ volume. IsTrue volume.settled) }
-        ensures finds { Explains volume_mount_says (first_wrong_page words.now ≡ None) (IsWrongPresence geo words.now) result }
+        ensures finds { FindsPresence geo words.now result }
         ensures went { outcome_by volume_mount_says result ≡ went }
     {
         let present = read_presence(alloc, geo, words)?;
@@ -74,7 +74,7 @@ fn read_presence(alloc: Global, geo: Geometry, words: &[u64]) -> Result<Vec<bool
     requires valid { IsValid geo }
     requires length { length words.now ≡ geo.vpages }
     ensures ok { IfOk result (λ present. map presence_word present.items ≡ words.now) }
-    ensures finds { Explains volume_mount_says (first_wrong_page words.now ≡ None) (IsWrongPresence geo words.now) result }
+    ensures finds { FindsPresence geo words.now result }
     ensures went { outcome_by volume_mount_says result ≡ went }
 {
     if let Some(page) = first_wrong(words) {

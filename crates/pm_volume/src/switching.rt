@@ -1,5 +1,5 @@
 // Pages that become there, or absent: one commit for all their words, and then what is kept of them in memory.
-ghost use Rattle.std.specs.Prelude.{◌≡◌, ◌⊎◌, ◌+◌, ◌≤◌, ◌<◌, Bool, IsTrue, List, OnOk, false, length};
+ghost use Rattle.std.specs.Prelude.{◌≡◌, ◌+◌, ◌≤◌, ◌<◌, Bool, IsTrue, List, OnOk, false, length};
 ghost use Rattle.std.specs.Result.{is_ok};
 ghost use Rattle.line_device.specs.Medium.{last_image};
 ghost use Rattle.line_device.specs.Panel.{Runs};
@@ -7,8 +7,8 @@ ghost use Rattle.line_words.specs.Words.{WritesBackOutside};
 ghost use Rattle.line_words.specs.Ending.{ended};
 ghost use Rattle.word_log.specs.Area.{IsOf};
 ghost use Rattle.word_log.specs.Changes.{commit_calls, commit_persists};
-ghost use Rattle.word_log.specs.Replay.{Replays};
-ghost use Rattle.word_log.specs.Rest.{EachImage, IsAtRest};
+ghost use Rattle.word_log.specs.Held.{EachReplays};
+ghost use Rattle.word_log.specs.Rest.{IsAtRest};
 ghost use Rattle.word_tables.specs.Bounds.{IsValid};
 ghost use Rattle.word_tables.specs.Layout.{meta_lines, total_lines};
 ghost use Rattle.nvm_model.specs.Lines.{AreGood, AreStrong};
@@ -43,9 +43,9 @@ impl Volume {
         requires some { 0 < pages.len }
         requires within { pages.start + pages.len ≤ self.old.geo.vpages }
         ensures ok { OnOk result (self.new.present ≡ switched pages.start pages.len there self.old.present) }
-        ensures images { EachImage (volume_area self.old.geo) (L.state dev.new).medium (λ image.
-            Replays (volume_area self.old.geo) image (presence_words self.old.geo self.old.present)
-            ⊎ Replays (volume_area self.old.geo) image (presence_words self.old.geo (switched pages.start pages.len there self.old.present))) }
+        ensures images { EachReplays (volume_area self.old.geo) (L.state dev.new).medium
+            (presence_words self.old.geo self.old.present)
+            (presence_words self.old.geo (switched pages.start pages.len there self.old.present)) }
         ensures outside { WritesBackOutside (IsOf (volume_area self.old.geo)) (L.state dev.old).medium (L.state dev.new).medium }
         ensures serves { OnOk result (VolumeServes self.new (L.state dev.new).medium) }
         ensures object { (self.new.geo ≡ self.old.geo) × (self.new.settled ≡ self.old.settled) × (self.new.quiet ≡ is_ok result) }
@@ -81,9 +81,8 @@ fn commit<L: Lines>(
         → IsAtRest (volume_area geo) (L.state dev.new).medium (presence_words geo (switched pages.start pages.len there before))) }
     ensures images { (before : List Bool) → length before ≡ geo.vpages
         → IsAtRest (volume_area geo) (L.state dev.old).medium (presence_words geo before)
-        → EachImage (volume_area geo) (L.state dev.new).medium (λ image.
-        Replays (volume_area geo) image (presence_words geo before)
-        ⊎ Replays (volume_area geo) image (presence_words geo (switched pages.start pages.len there before))) }
+        → EachReplays (volume_area geo) (L.state dev.new).medium
+        (presence_words geo before) (presence_words geo (switched pages.start pages.len there before)) }
     ensures outside { WritesBackOutside (IsOf (volume_area geo)) (L.state dev.old).medium (L.state dev.new).medium }
     ensures runs { Runs (commit_calls pages.len) (commit_persists pages.len) (ended result) (L.state dev.old).panel (L.state dev.new).panel }
     ensures log { log.new ≡ record log.old { settled = is_ok result } }

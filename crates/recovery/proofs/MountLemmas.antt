@@ -3,14 +3,13 @@ use Rattle.std.proofs.Common.{◌≡◌, ℕ, List, None, Result, Ok, Err, IfOk,
 use Rattle.line_device.specs.Medium.{Medium, WritesBack, last_image}
 use Rattle.line_words.proofs.FrameLemmas.{last_image-write_back}
 use Rattle.word_tables.specs.declared.geometry.Geometry.{Geometry}
-use Rattle.word_tables.specs.Words.{place, of_block, of_volume_page}
 use Rattle.word_log.specs.Mount.Finding.{wrong_word}
 use Rattle.word_log.specs.Replay.{replayed}
 use Rattle.word_log.specs.Rest.{IsAtRest}
 use Rattle.block_map.specs.States.{word_of}
-use Rattle.block_map.specs.Wrong.{first_wrong_entry}
 use Rattle.block_device.specs.Area.{block_area}
 use Rattle.block_device.specs.Images.{KeepsReads}
+use Rattle.block_device.specs.Mounting.{wrong_map_word}
 use Rattle.block_device.specs.Object.{AreDurable, BlocksServe, blocks_of}
 use Rattle.block_device.specs.Reading.{states_read, blocks_read}
 use Rattle.block_device.proofs.MountedLemmas as blocks
@@ -19,7 +18,7 @@ use Rattle.block_device.proofs.ReachLemmas.{keeps_reads-reached, keeps_reads-tra
 use Rattle.block_device.proofs.ReadLemmas.{durable-write_back}
 use Rattle.pm_volume.specs.Area.{volume_area}
 use Rattle.pm_volume.specs.Object.{VolumeServes}
-use Rattle.pm_volume.specs.Presence.{first_wrong_page, presence_read, presence_word, words_read}
+use Rattle.pm_volume.specs.Presence.{presence_read, presence_word, words_read, wrong_page_word}
 use Rattle.pm_volume.proofs.MountedLemmas as pages
 use Rattle.file_journal.specs.Area.{file_area}
 use Rattle.file_journal.specs.Object.{JournalServes}
@@ -70,14 +69,12 @@ module _ (old now : Medium) (geo : Geometry) (is : geo ≡ geometry_told old) (x
     -- and what was made of them
     module _ (new : Medium) (order : IsInOrder geo now) (left : LeavesLogs geo now new) where
       tables_right : wrong_words geo tables.map.items tables.presence.items tables.file_words.items ≡ None
-          → (first_wrong_entry tables.map.items ≡ None) × (reading.wrong_table geo tables.file_words.items ≡ None)
+          → (wrong_map_word geo tables.map.items ≡ None) × (reading.wrong_table geo tables.file_words.items ≡ None)
       tables_right none =
-          let where_ : ℕ → ℕ = λ b. place geo (of_block b) in
-          let at : ℕ → ℕ = λ i. place geo (of_volume_page i) in
-          let parts = three_none (option_map where_ (first_wrong_entry tables.map.items)) (option_map at (first_wrong_page tables.presence.items)) (reading.wrong_table geo tables.file_words.items) none in
-          (none_mapped where_ (first_wrong_entry tables.map.items) parts.0, parts.2)
+          let parts = three_none (wrong_map_word geo tables.map.items) (wrong_page_word geo tables.presence.items) (reading.wrong_table geo tables.file_words.items) none in
+          (parts.0, parts.2)
 
-      pub mount_ok : (r : Result Mounted MountFault) → IsAtRest (block_area geo) new (replayed (block_area geo) (last_image now)) → IsAtRest (volume_area geo) new (replayed (volume_area geo) (last_image now))
+      pub mount_ok : (r : Result Mounted MountFault) → IsAtRest (block_area geo) new (replayed (block_area geo) (last_image now))
           → IfOk r (λ mounted. mounted.geo ≡ geo) → IfOk r (λ mounted. (mounted.blocks.geo ≡ geo) × (map word_of mounted.blocks.map ≡ tables.map.items))
           → IfOk r (λ mounted. (mounted.volume.geo ≡ geo) × (map presence_word mounted.volume.present ≡ tables.presence.items))
           → IfOk r (λ mounted. (mounted.journal.geo ≡ geo) × (mounted.journal.tables ≡ reading.tables_of tables.file_words.items))
@@ -85,11 +82,11 @@ module _ (old now : Medium) (geo : Geometry) (is : geo ≡ geometry_told old) (x
           → IfOk r (λ mounted. (mounted.geo ≡ geometry_told old) × (mounted.blocks.geo ≡ geometry_told old) × (blocks_of mounted.blocks new ≡ blocks_read (geometry_told old) old.is_bad (last_image old))
           × (mounted.volume.geo ≡ geometry_told old) × (mounted.volume.present ≡ presence_read (geometry_told old) (last_image old))
           × (mounted.journal.geo ≡ geometry_told old) × (mounted.journal.tables ≡ reading.tables_read (geometry_told old) (last_image old)))
-      mount_ok (Err f) blocks_rest pages_rest sizes made present named h = tt
-      mount_ok (Ok mounted) blocks_rest pages_rest sizes made present named h =
-          let reads = blocks.judged_reads geo order.valid (IsOfLogs geo) (logs_in_metadata geo order.valid) now new order.count left.outside blocks_rest tables.map.items (blocks.mounted_words geo now tables.map.items are.map) (Ok mounted.blocks) made (tables_right (none_mapped wrong_word _ h)).0 in
-          let there = pages.judged_pages geo order.valid now new order.count order.strong (IsOfLogs geo) left.outside pages_rest tables.presence.items are.presence (Ok mounted.volume) present in
-          let on = files.judged_tables geo now tables.file_words.items (files.mounted_words geo now tables.file_words.items are.file_words) (Ok mounted.journal) named in
+      mount_ok (Err f) blocks_rest sizes made present named h = tt
+      mount_ok (Ok mounted) blocks_rest sizes made present named h =
+          let reads = blocks.judged_reads geo order.valid (IsOfLogs geo) (logs_in_metadata geo order.valid) now new tables.map.items (record { words = are.map; rest = blocks_rest; outside = left.outside }) (Ok mounted.blocks) made (tables_right (none_mapped wrong_word _ h)).0 in
+          let there = pages.judged_pages geo now tables.presence.items are.presence (Ok mounted.volume) present in
+          let on = files.judged_tables geo now tables.file_words.items are.file_words (Ok mounted.journal) named in
           (sizes ∙ is, reads.0 ∙ is, reads.1 ∙ blocks_same, there.0 ∙ is, there.1 ∙ ap₂ presence_read is (last_image-write_back old now x), on.0 ∙ is, on.1 ∙ ap₂ reading.tables_read is (last_image-write_back old now x))
 
       -- they serve, the blocks where what the map names was durable
@@ -101,19 +98,19 @@ module _ (old now : Medium) (geo : Geometry) (is : geo ≡ geometry_told old) (x
           let states = states_read geo (last_image old) in
           let told = subst (λ g. AreDurable g old (states_read g (last_image old))) (sym is) (durable (mount_finds (Ok mounted) h)) in
           let still = subst (λ (word : ℕ → ℕ). AreDurable geo now (states_read geo word)) (sym (last_image-write_back old now x)) (durable-write_back geo states old now x told) in
-          blocks.judged_serves geo order.valid (IsOfLogs geo) (logs_in_metadata geo order.valid) now new order.count left.outside rest tables.map.items (blocks.mounted_words geo now tables.map.items are.map) (Ok mounted.blocks) order.strong made (tables_right (none_mapped wrong_word _ h)).0 still
+          blocks.judged_serves geo order.valid (IsOfLogs geo) (logs_in_metadata geo order.valid) now new tables.map.items (record { words = are.map; rest = rest; outside = left.outside }) (Ok mounted.blocks) order.count order.strong made (tables_right (none_mapped wrong_word _ h)).0 still
 
       pub mount_volume : (r : Result Mounted MountFault) → IsAtRest (volume_area geo) new (replayed (volume_area geo) (last_image now))
           → IfOk r (λ mounted. (mounted.volume.geo ≡ geo) × (map presence_word mounted.volume.present ≡ tables.presence.items)) → IfOk r (λ mounted. VolumeServes mounted.volume new)
       mount_volume (Err f) rest made = tt
-      mount_volume (Ok mounted) rest made = pages.judged_serves geo order.valid now new order.count order.strong (IsOfLogs geo) left.outside rest tables.presence.items are.presence (Ok mounted.volume) made
+      mount_volume (Ok mounted) rest made = pages.judged_serves geo order.valid now new (IsOfLogs geo) tables.presence.items (record { words = are.presence; rest = rest; outside = left.outside }) (Ok mounted.volume) order.count order.strong made
 
       pub mount_journal : (r : Result Mounted MountFault) → IsAtRest (file_area geo) new (replayed (file_area geo) (last_image now))
           → IfOk r (λ mounted. (mounted.journal.geo ≡ geo) × (mounted.journal.tables ≡ reading.tables_of tables.file_words.items))
           → Finds (option_map wrong_word (wrong_words geo tables.map.items tables.presence.items tables.file_words.items)) r → IfOk r (λ mounted. JournalServes mounted.journal new)
       mount_journal (Err f) rest made h = tt
       mount_journal (Ok mounted) rest made h =
-          files.judged_serves geo now new (IsOfLogs geo) tables.file_words.items order.count order.strong left.outside rest are.file_words (Ok mounted.journal) made (tables_right (none_mapped wrong_word _ h)).1
+          files.judged_serves geo now new (IsOfLogs geo) tables.file_words.items (record { words = are.file_words; rest = rest; outside = left.outside }) (Ok mounted.journal) order.count order.strong made (tables_right (none_mapped wrong_word _ h)).1
 
 -- what is mounted can be used, where what the map names is durable
 pub usable : (old new : Medium) (r : Result Mounted MountFault) → HasDurableBlocks old → (HasDurableBlocks old → IfOk r (λ mounted. BlocksServe mounted.blocks new)) → IfOk r (λ mounted. IsTrue mounted.blocks.settled → BlocksServe mounted.blocks new)

@@ -1,17 +1,16 @@
 -- The logs of a device, and the words of the tables that they keep.
-use Rattle.std.specs.Prelude.{◌≡◌, ℕ, true, List, length, Option, option_map}
+use Rattle.std.specs.Prelude.{◌≡◌, ℕ, true, List, length, Option}
 use Rattle.line_device.specs.Medium.{Medium, WritesBack, last_image}
 use Rattle.line_words.specs.Words.{WritesBackOutside}
 use Rattle.word_tables.specs.declared.geometry.Geometry.{Geometry}
-use Rattle.word_tables.specs.Words.{place, of_block, of_volume_page}
 use Rattle.word_log.specs.Area.{AreHomeWords, gate_place}
 use Rattle.word_log.specs.Replay.{replayed}
 use Rattle.word_log.specs.Rest.{EachImage, IsReached}
-use Rattle.block_map.specs.Wrong.{first_wrong_entry}
 use Rattle.nvm_model.specs.Blocks.{first_there}
 use Rattle.block_device.specs.Area.{block_area}
+use Rattle.block_device.specs.Mounting.{wrong_map_word}
 use Rattle.pm_volume.specs.Area.{volume_area}
-use Rattle.pm_volume.specs.Presence.{first_wrong_page}
+use Rattle.pm_volume.specs.Presence.{wrong_page_word}
 use Rattle.file_journal.specs.Area.{file_area}
 use Rattle.file_journal.specs.Reading as files
 use Rattle.recovery.specs.declared.replaying.Tables.{Tables}
@@ -38,8 +37,7 @@ pub record AreTables (geo : Geometry) (word : ℕ → ℕ) (tables : Tables) : T
 -- the place of the first wrong word of a block map, or else of presence words, or else of inodes and page tables
 abbrev pub wrong_words : Geometry → List ℕ → List ℕ → List ℕ → Option ℕ
 wrong_words geo map presence file_words =
-    first_there (option_map (λ b. place geo (of_block b)) (first_wrong_entry map))
-    (first_there (option_map (λ i. place geo (of_volume_page i)) (first_wrong_page presence)) (files.wrong_table geo file_words))
+    first_there (wrong_map_word geo map) (first_there (wrong_page_word geo presence) (files.wrong_table geo file_words))
 
 -- Where replays of the logs end: each log and its words are as they were, or replay to the same, nothing is stored where all gates
 -- are closed, and other words are only written back.

@@ -10,3 +10,5 @@ pub mod ValidLemmas
 pub mod ListLemmas
 pub mod RestLemmas
 pub mod HomeLemmas
+pub mod FindingLemmas
+pub mod HeldLemmas

@@ -2,6 +2,7 @@ pub mod Area
 pub mod Changes
 pub mod Replay
 pub mod Rest
+pub mod Held
 pub mod State
 pub mod Outcomes
 pub mod Mount

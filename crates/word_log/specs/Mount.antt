@@ -1,5 +1,6 @@
 -- What the answers of a mount say of the device as it was.
 use Rattle.std.specs.Prelude.{◌≡◌, ℕ, true, Option, Some, None, Result}
+use Rattle.std.specs.Option.{option_or}
 use Rattle.line_device.specs.Medium.{Medium, last_image}
 use Rattle.line_words.specs.declared.interruption.Interruption.TheVariants as stop
 use Rattle.line_words.specs.Told.{Told, Explains}
@@ -28,18 +29,34 @@ abbrev pub IsPlace : Option ℕ → Finding → Type 0
 IsPlace wrong (bad_line line) = ⊥
 IsPlace wrong (wrong_word place) = wrong ≡ Some place
 
--- nothing is wrong with a log, or it is told which place is
+-- nothing is wrong with words, or it is told which place is the first wrong one
+abbrev pub FindsPlace : {T E : Type 0} → (E → Told Finding) → Option ℕ → Result T E → Type 0
+FindsPlace tells wrong result = Explains tells (wrong ≡ None) (IsPlace wrong) result
+
+-- the same of a log
 abbrev pub TellsPlace : {T : Type 0} → Option ℕ → Result T LogFault → Type 0
-TellsPlace wrong result = Explains says (wrong ≡ None) (IsPlace wrong) result
+TellsPlace wrong result = FindsPlace says wrong result
 
--- so it is with log and home: the line is one of theirs and bad; or none is, and this is the log's first wrong place
+-- what is wrong with log and home, by a search of the last image: the line is one of theirs and bad; or none is, and this is
+-- the first wrong place
+abbrev pub IsWrongIn : LogArea → ((ℕ → ℕ) → Option ℕ) → Medium → Finding → Type 0
+IsWrongIn a wrong m (bad_line line) = IsLineOf a line × (m.is_bad line ≡ true)
+IsWrongIn a wrong m (wrong_word place) = IsWhole a m × (wrong (last_image m) ≡ Some place)
+
+-- the lines are good and no place is wrong, or it is told what is
+abbrev pub FindsIn : {T E : Type 0} → (E → Told Finding) → LogArea → ((ℕ → ℕ) → Option ℕ) → Medium → Result T E → Type 0
+FindsIn tells a wrong m result = Explains tells (IsWhole a m × (wrong (last_image m) ≡ None)) (IsWrongIn a wrong m) result
+
+-- the same of a log alone
 abbrev pub IsFound : LogArea → Medium → Finding → Type 0
-IsFound a m (bad_line line) = IsLineOf a line × (m.is_bad line ≡ true)
-IsFound a m (wrong_word place) = IsWhole a m × (first_wrong a (last_image m) ≡ Some place)
+IsFound a m why = IsWrongIn a (first_wrong a) m why
 
--- the lines are good and the log is valid, or it is told what is wrong
 abbrev pub LogFinds : {T : Type 0} → LogArea → Medium → Result T LogFault → Type 0
-LogFinds a m result = Explains says (IsWhole a m × (first_wrong a (last_image m) ≡ None)) (IsFound a m) result
+LogFinds a m result = FindsIn says a (first_wrong a) m result
+
+-- the first wrong place of a log, or else of the table that its home words are once it is replayed
+abbrev pub wrong_with : LogArea → ((ℕ → ℕ) → Option ℕ) → (ℕ → ℕ) → Option ℕ
+wrong_with a table image = option_or (first_wrong a image) (table image)
 
 -- the device did what it was asked, but there is no log to mount, or no memory
 abbrev pub IsUnstopped : Told Finding → Type 0

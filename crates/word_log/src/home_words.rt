@@ -57,6 +57,7 @@ fn load_home<L: Lines>(alloc: Global, dev: &mut L, area: LogArea) -> Result<Word
 {
     let first = area.home.start / 8;
     let mut words = Words::new(alloc);
+    words.reserve(area.home.len)?;
     for k in 0..area.home.len.div_ceil(8) {
         let eight = load_words(dev, first + k)?;
         words.extend(&eight)?;

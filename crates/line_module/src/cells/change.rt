@@ -31,6 +31,10 @@ impl Cells {
         requires good { (cells_medium self.old).is_bad line.0 ≡ false }
         ensures { memory_in self.new ≡ memory_after_persist (memory_in self.old) line.0 }
     {
+        // Nearly all lines that a restart makes durable are so already.
+        if self.is_clean(line) {
+            return;
+        }
         if self.is_weak(line) {
             self.poison(line);
         } else {

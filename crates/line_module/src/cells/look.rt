@@ -3,6 +3,7 @@ ghost use Rattle.std.specs.Prelude.{◌≡◌, ◌+◌, ◌*◌, ◌<◌, ◌≤
 ghost use Rattle.line_device.specs.History.{newest};
 ghost use Rattle.line_device.specs.Medium.{IsLine, Shows};
 ghost use Rattle.line_device.specs.Word.{word_at};
+ghost use Rattle.line_module.specs.Chains.{is_clean};
 ghost use Rattle.line_module.specs.Memory.{in_the_way, is_dirty_line};
 ghost use Rattle.line_module.specs.Cells.{cells_medium, memory_in};
 
@@ -31,6 +32,14 @@ impl Cells {
         ensures { result ≡ (cells_medium self.now).is_weak line.0 }
     {
         matches!(self.states[line.0 as usize], State::Weak(_))
+    }
+
+    /// Whether the line is neither dirty nor weak.
+    pub(super) fn is_clean(&self, line: LineNo) -> bool
+        requires { line.0 < (cells_medium self.now).count }
+        ensures { result ≡ is_clean (slice_get self.now.states.items line.0) }
+    {
+        matches!(self.states[line.0 as usize], State::Clean)
     }
 
     pub fn is_dirty(&self, line: LineNo) -> bool

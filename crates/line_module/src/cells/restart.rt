@@ -1,8 +1,9 @@
 // What the words of lines keep when the power comes back.
-ghost use Rattle.std.specs.Prelude.{◌≡◌, ◌+◌, ◌*◌, ◌<◌, ◌∷◌, ℕ, [], false};
+ghost use Rattle.std.specs.Prelude.{◌≡◌, ◌+◌, ◌*◌, ◌<◌, ◌≤◌, ◌∷◌, ℕ, [], false, true, slice_get};
 ghost use Rattle.line_device.specs.Word.{word_at};
 ghost use Rattle.line_device.specs.declared.line.Choice.TheVariants.{Firsts, Seed};
 ghost use Rattle.line_module.specs.Survivors.{survivor_of};
+ghost use Rattle.line_module.specs.Chains.{is_clean};
 ghost use Rattle.line_module.specs.Memory.{memory_after_restart, with_survivors};
 ghost use Rattle.line_module.specs.Cells.{cells_medium, memory_in};
 
@@ -16,9 +17,26 @@ impl Cells {
     pub fn restart(&mut self, choice: Choice)
         ensures { memory_in self.new ≡ memory_after_restart (memory_in self.old) choice }
     {
-        for line in 0..self.lines() {
+        let mut line = 0;
+        while line < self.lines() {
             self.settle(LineNo(line), choice);
+            line = self.next_unclean(line);
         }
+    }
+
+    // The first line behind this one that is dirty or weak, or how many lines there are.
+    fn next_unclean(&self, line: u64) -> u64
+        requires { line < (cells_medium self.now).count }
+        ensures behind { line < result }
+        ensures within { result ≤ (cells_medium self.now).count }
+        ensures between { (n : ℕ) → line < n → n < result → is_clean (slice_get self.now.states.items n) ≡ true }
+    {
+        for next in line + 1..self.lines() {
+            if !self.is_clean(LineNo(next)) {
+                return next;
+            }
+        }
+        self.lines()
     }
 
     // Each word of the line keeps one of its values.

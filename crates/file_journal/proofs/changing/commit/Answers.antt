@@ -1,16 +1,15 @@
-use Rattle.std.proofs.Common.{Result, Ok, Err, OnOk, sym, subst}
+use Rattle.std.proofs.Common.{sym, subst}
 use Rattle.line_words.specs.Words.{WritesBackOutside}
 use Rattle.word_log.specs.declared.area.LogArea.{LogArea}
 use Rattle.word_log.specs.Area.{Fits, IsOf, IsStrong, IsWhole}
 use Rattle.word_log.specs.Changes.{MayCommit}
 use Rattle.word_log.specs.Rest.{IsAtRest}
+use Rattle.word_log.proofs.HeldLemmas.{commit-images, commit-rest}
+use Rattle.word_log.proofs.StepLemmas.{on_ok-then}
+use Rattle.file_journal.specs.Area.{file_area}
+use Rattle.file_journal.specs.Holds.{Holds}
 use Rattle.file_journal.proofs.AreaLemmas.{area_fits, area_strong, area_whole}
-use Rattle.file_journal.proofs.CommitLemmas.{commit-images, commit-rest}
 use Rattle.file_journal.proofs.changing.commit.Goals as goal
-
-on_ok-then : {T E : Type 0} (r : Result T E) {P Q : Type 0} → (P → Q) → OnOk r P → OnOk r Q
-on_ok-then (Ok x) next holds = next holds
-on_ok-then (Err e) next holds = tt
 
 pub commit-requires-clause-fits : goal.commit-requires-clause-fits
 commit-requires-clause-fits g c =
@@ -38,16 +37,14 @@ commit-requires-clause-changes g c = subst (λ (a : LogArea). MayCommit a c.args
 
 pub returns-clause-images : goal.returns-clause-images
 returns-clause-images g c = λ before after rest turns.
-    commit-images c.args.geo c.args.log.now.area (g.L.Lines.state c.args.dev.now).medium (g.L.Lines.state c.commit.new.dev).medium c.args.words.now
-    c.requires.area before after rest turns c.commit.ensures.images
+    commit-images c.args.log.now.area (file_area c.args.geo) c.requires.area (g.L.Lines.state c.args.dev.now).medium (g.L.Lines.state c.commit.new.dev).medium
+    c.args.words.now (Holds c.args.geo) before after rest turns c.commit.ensures.images
 
 pub returns-clause-ok : goal.returns-clause-ok
 returns-clause-ok g c =
-    on_ok-then c.commit.result
-    (λ rests before after rest turns.
-    commit-rest c.args.geo c.args.log.now.area (g.L.Lines.state c.args.dev.now).medium (g.L.Lines.state c.commit.new.dev).medium c.args.words.now
-    c.requires.area before after rest turns rests)
-    c.commit.ensures.ok
+    on_ok-then c.commit.result c.commit.ensures.ok (λ rests before after rest turns.
+    commit-rest c.args.log.now.area (file_area c.args.geo) c.requires.area (g.L.Lines.state c.args.dev.now).medium (g.L.Lines.state c.commit.new.dev).medium
+    c.args.words.now (Holds c.args.geo) before after rest turns rests)
 
 pub returns-clause-outside : goal.returns-clause-outside
 returns-clause-outside g c =

@@ -4,7 +4,7 @@ use Rattle.line_words.specs.Words.{WritesBackOutside}
 use Rattle.page_lines.proofs.OthersLemmas.{others-refl}
 use Rattle.word_log.specs.Area.{IsOf}
 use Rattle.word_log.specs.Replay.{Replays}
-use Rattle.word_log.specs.Rest.{EachImage}
+use Rattle.word_log.specs.Held.{EachReplays}
 use Rattle.pm_volume.specs.Area.{volume_area}
 use Rattle.pm_volume.specs.Object.{VolumeState}
 use Rattle.pm_volume.specs.Presence.{presence_words, switched}
@@ -25,7 +25,7 @@ returns-in_err-switch-clause-images g c =
     discarded-images c.args.self.now old new c.requires.serves
     (subst (λ (t : VolumeState). WritesBackOutside (IsOf (volume_area t.geo)) old new) c.self.view_is c.switch.ensures.outside)
     c.args.pages.start c.args.pages.len
-    (subst (λ (t : VolumeState). EachImage (volume_area t.geo) new (λ image. Replays (volume_area t.geo) image (presence_words t.geo t.present) ⊎ Replays (volume_area t.geo) image (presence_words t.geo (switched c.args.pages.start c.args.pages.len false t.present)))) c.self.view_is c.switch.ensures.images)
+    (subst (λ (t : VolumeState). EachReplays (volume_area t.geo) new (presence_words t.geo t.present) (presence_words t.geo (switched c.args.pages.start c.args.pages.len false t.present))) c.self.view_is c.switch.ensures.images)
     _ before holds (inl refl) (inr refl))
 
 pub returns-in_err-switch-clause-outside : goal.returns-in_err-switch-clause-outside
@@ -53,7 +53,7 @@ returns-clause-images g c = λ before holds.
     discarded-images c.args.self.now old new c.requires.serves
     (subst (λ (t : VolumeState). WritesBackOutside (IsOf (volume_area t.geo)) old new) c.self.view_is c.switch.ensures.outside)
     c.args.pages.start c.args.pages.len
-    (subst (λ (t : VolumeState). EachImage (volume_area t.geo) new (λ image. Replays (volume_area t.geo) image (presence_words t.geo t.present) ⊎ Replays (volume_area t.geo) image (presence_words t.geo (switched c.args.pages.start c.args.pages.len false t.present)))) c.self.view_is c.switch.ensures.images)
+    (subst (λ (t : VolumeState). EachReplays (volume_area t.geo) new (presence_words t.geo t.present) (presence_words t.geo (switched c.args.pages.start c.args.pages.len false t.present))) c.self.view_is c.switch.ensures.images)
     _ before holds (inl refl) (inr refl)
 
 pub returns-clause-outside : goal.returns-clause-outside

@@ -8,7 +8,7 @@ use Rattle.pm_volume.specs.Area.{volume_area}
 use Rattle.pm_volume.specs.Object.{VolumeState}
 use Rattle.pm_volume.specs.Presence.{presence_words, switched}
 use Rattle.pm_volume.proofs.ServesLemmas.{serves-same}
-use Rattle.pm_volume.proofs.SwitchLemmas.{switched-serves}
+use Rattle.pm_volume.proofs.SwitchLemmas.{switched-images, switched-serves}
 use Rattle.pm_volume.proofs.Volume.switch.Goals as goal
 
 pub invariant_of-self-2 : goal.invariant_of-self-2
@@ -31,3 +31,13 @@ returns-clause-serves g c =
     (subst (λ (t : VolumeState). WritesBackOutside (IsOf (volume_area t.geo)) (g.L.Lines.state c.args.dev.now).medium (g.L.Lines.state c.commit.new.dev).medium) c.self.view_is c.in_ok-commit.ensures.outside)
     (subst (λ (t : VolumeState). (before : List Bool) → length before ≡ t.geo.vpages → IsAtRest (volume_area t.geo) (g.L.Lines.state c.args.dev.now).medium (presence_words t.geo before) → IsAtRest (volume_area t.geo) (g.L.Lines.state c.commit.new.dev).medium (presence_words t.geo (switched c.args.pages.start c.args.pages.len c.args.there before))) c.self.view_is c.in_ok-commit.ensures.ok
     s.present c.requires.serves.all c.requires.serves.rest))
+
+pub returns-in_err-commit-clause-images : goal.returns-in_err-commit-clause-images
+returns-in_err-commit-clause-images g c =
+    switched-images _ c.args.self.now (g.L.Lines.state c.args.dev.now).medium (g.L.Lines.state c.commit.new.dev).medium c.args.pages.start c.args.pages.len c.args.there
+    c.self.view_is c.requires.serves c.commit.ensures.images
+
+pub returns-clause-images : goal.returns-clause-images
+returns-clause-images g c =
+    switched-images _ c.args.self.now (g.L.Lines.state c.args.dev.now).medium (g.L.Lines.state c.commit.new.dev).medium c.args.pages.start c.args.pages.len c.args.there
+    c.self.view_is c.requires.serves c.commit.ensures.images

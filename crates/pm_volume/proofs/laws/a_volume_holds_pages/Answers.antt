@@ -1,5 +1,5 @@
 use Rattle.word_tables.specs.Layout.{volume_line}
-use Rattle.pm_volume.proofs.DeviceLemmas.{presence_of-device, device_pages-stand}
+use Rattle.nvm_model.proofs.DeviceLemmas.{presence_of-device, device_pages-stand}
 use Rattle.pm_volume.proofs.laws.a_volume_holds_pages.Goals as goal
 
 pub returns : goal.returns

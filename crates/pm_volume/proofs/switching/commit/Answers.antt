@@ -8,10 +8,12 @@ use Rattle.word_log.specs.Area.{Fits, IsOf, IsStrong, IsWhole}
 use Rattle.word_log.specs.Changes.{MayCommit, commit_calls, commit_persists}
 use Rattle.word_log.specs.Rest.{IsAtRest}
 use Rattle.word_log.specs.declared.area.LogArea.{LogArea}
-use Rattle.pm_volume.specs.Presence.{presence_word, presence_words}
+use Rattle.word_log.proofs.HeldLemmas.{words-images, words-rest}
+use Rattle.pm_volume.specs.Area.{volume_area}
+use Rattle.pm_volume.specs.Presence.{presence_word, presence_words, switched}
 use Rattle.pm_volume.proofs.AreaLemmas.{area_fits, area_strong, area_whole}
 use Rattle.pm_volume.proofs.ResultLemmas.{on_ok-then}
-use Rattle.pm_volume.proofs.SwitchLemmas.{commit-images, commit-rest}
+use Rattle.pm_volume.proofs.SwitchLemmas.{turns}
 use Rattle.pm_volume.proofs.WordLemmas.{changes-taken}
 use Rattle.pm_volume.proofs.switching.commit.Goals as goal
 
@@ -42,15 +44,19 @@ commit-requires-clause-changes g c =
 
 pub returns-clause-images : goal.returns-clause-images
 returns-clause-images g c = λ before all rest.
-    commit-images c.args.geo c.args.log.now.area (g.L.Lines.state c.args.dev.now).medium (g.L.Lines.state c.commit.new.dev).medium c.args.pages.start c.args.pages.len c.args.there c.as_slice.result.now
-    c.requires.area (c.as_slice.ensures.value ∙ c.word_changes-words.ensures) before all rest c.commit.ensures.images
+    words-images c.args.log.now.area (volume_area c.args.geo) c.requires.area (g.L.Lines.state c.args.dev.now).medium (g.L.Lines.state c.commit.new.dev).medium c.as_slice.result.now
+    (presence_words c.args.geo before) (presence_words c.args.geo (switched c.args.pages.start c.args.pages.len c.args.there before)) rest
+    (turns c.args.geo c.args.pages.start c.args.pages.len c.args.there c.as_slice.result.now (c.as_slice.ensures.value ∙ c.word_changes-words.ensures) before all)
+    c.commit.ensures.images
 
 pub returns-clause-ok : goal.returns-clause-ok
 returns-clause-ok g c =
     on_ok-then c.commit.result
     (λ rests before all rest.
-    commit-rest c.args.geo c.args.log.now.area (g.L.Lines.state c.args.dev.now).medium (g.L.Lines.state c.commit.new.dev).medium c.args.pages.start c.args.pages.len c.args.there c.as_slice.result.now
-    c.requires.area (c.as_slice.ensures.value ∙ c.word_changes-words.ensures) before all rest rests)
+    words-rest c.args.log.now.area (volume_area c.args.geo) c.requires.area (g.L.Lines.state c.args.dev.now).medium (g.L.Lines.state c.commit.new.dev).medium c.as_slice.result.now
+    (presence_words c.args.geo before) (presence_words c.args.geo (switched c.args.pages.start c.args.pages.len c.args.there before)) rest
+    (turns c.args.geo c.args.pages.start c.args.pages.len c.args.there c.as_slice.result.now (c.as_slice.ensures.value ∙ c.word_changes-words.ensures) before all)
+    rests)
     c.commit.ensures.ok
 
 pub returns-clause-outside : goal.returns-clause-outside

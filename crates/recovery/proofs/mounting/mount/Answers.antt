@@ -127,7 +127,7 @@ returns-clause-ok g c =
     let now = (g.L.Lines.state c.inspect.new.dev).medium in
     let new = (g.L.Lines.state c.replay_logs.new.dev).medium in
     let geo = c.in_ok-geo.ensures in
-    mount_ok old now c.in_ok-geo.geo geo.geo geo.lines geo.finds c.in_ok-tables.tables c.in_ok-tables.ensures.tables new geo.order c.in_ok-tables.ensures.left c.judge_tables.result c.in_ok-tables.ensures.blocks_rest c.in_ok-tables.ensures.volume_rest c.judge_tables.ensures.geo c.judge_tables.ensures.blocks c.judge_tables.ensures.volume c.judge_tables.ensures.journal c.judge_tables.ensures.finds
+    mount_ok old now c.in_ok-geo.geo geo.geo geo.lines geo.finds c.in_ok-tables.tables c.in_ok-tables.ensures.tables new geo.order c.in_ok-tables.ensures.left c.judge_tables.result c.in_ok-tables.ensures.blocks_rest c.judge_tables.ensures.geo c.judge_tables.ensures.blocks c.judge_tables.ensures.volume c.judge_tables.ensures.journal c.judge_tables.ensures.finds
 
 pub returns-clause-finds : goal.returns-clause-finds
 returns-clause-finds g c =

@@ -5,8 +5,11 @@ use Rattle.line_device.proofs.PanelLemmas.{runs-refl, runs_then}
 use Rattle.word_log.proofs.HomeLemmas.{line_more, home_line}
 use Rattle.word_log.proofs.home_words.load_home.Goals as goal
 
+pub returns-in_err-reserve-clause-lines : goal.returns-in_err-reserve-clause-lines
+returns-in_err-reserve-clause-lines g c = write_back-refl _
+
 pub loop-k-init : goal.loop-k-init
-loop-k-init g c = record { all = ap length c.new-words.ensures; each = λ j below. absurd (omega (arith, below)); lines = write_back-refl _; runs = runs-refl _ }
+loop-k-init g c = record { all = ap length (c.in_ok-reserve.ensures.items ∙ c.new-words.ensures); each = λ j below. absurd (omega (arith, below)); lines = write_back-refl _; runs = runs-refl _ }
 
 pub load_words-requires-clause-healthy : goal.load_words-requires-clause-healthy
 load_words-requires-clause-healthy g c =

@@ -1,20 +1,17 @@
-use Rattle.std.proofs.Common.{◌≡◌, ◌+◌, ◌*◌, ◌<◌, ℕ, Bool, true, false, List, [], ◌∷◌, refl, sym, ◌∙◌, ap}
-use Rattle.std.specs.Prelude.{Option, Some, None, slice_get}
-use Rattle.line_device.specs.Word.{word_at}
+use Rattle.std.proofs.Common.{◌≡◌, ◌+◌, ◌*◌, ◌<◌, ℕ, Bool, true, false, List, refl, sym, ◌∙◌, ap}
+use Rattle.std.specs.Prelude.{slice_get}
 use Rattle.line_device.specs.Medium.{on_line}
-use Rattle.line_device.specs.declared.line.Choice.{Choice}
 use Rattle.line_module.specs.Survivors.{survivor_of}
 use Rattle.line_module.specs.Memory.{has, without, is_dirty_line}
 use Rattle.line_module.specs.Chains.{is_dirty, is_listed}
-use Rattle.line_module.specs.Held.{is_bare, history_in}
+use Rattle.line_module.specs.Held.{is_bare}
 use Rattle.line_module.specs.Cells.{cells_medium}
 use Rattle.line_module.specs.declared.cells.Cells.{Cells}
-use Rattle.line_module.specs.declared.state.State.{State}
 use Rattle.line_module.proofs.WordsLemmas.{true_is_not_false}
 use Rattle.line_module.proofs.OrderLemmas.{without_none}
-use Rattle.line_module.proofs.HeldLemmas.{Line, history-line, quiet-none, clean-quiet, dirty-line}
+use Rattle.line_module.proofs.HeldLemmas.{history-line, clean-quiet, dirty-line}
 use Rattle.line_module.proofs.ChangeLemmas.{on_line-renewed}
-use Rattle.line_module.proofs.RestartLemmas.{survivor-none, survivor-one, on_line-same}
+use Rattle.line_module.proofs.RestartLemmas.{quiet_kept, on_line-same}
 use Rattle.line_module.proofs.cells.Cells.settle.Goals as goal
 
 dirty_state : (s : Cells) (line : ℕ) (b : Bool) → line < (cells_medium s).count → is_dirty_line (cells_medium s) line ≡ b → is_dirty (slice_get s.states.items line) ≡ b
@@ -33,13 +30,6 @@ quiet_unlisted s line quiet = (s.kept.each line).in_order ∙ decide (is_listed 
     decide : (b : Bool) → is_listed (slice_get s.states.items line) ≡ b → is_listed (slice_get s.states.items line) ≡ false
     decide false is = is
     decide true is = absurd (true_is_not_false (sym ((s.kept.each line).dirty is) ∙ quiet))
-
-quiet_kept : (d : Line) (state : Option State) (w place : ℕ) (choice : Choice) → is_dirty state ≡ false → w < 8 → survivor_of choice place (history_in d state w) ≡ history_in d state w
-quiet_kept None state w place choice quiet below = survivor-none choice place
-quiet_kept (Some None) state w place choice quiet below = survivor-none choice place
-quiet_kept (Some (Some b)) state w place choice quiet below =
-    let one : history_in (Some (Some b)) state w ≡ word_at b w ∷ [] = ap (λ h. word_at b w ∷ h) (quiet-none state w quiet below) in
-    ap (survivor_of choice place) one ∙ survivor-one choice place (word_at b w) ∙ sym one
 
 pub survivors-bytes-requires-clause-good : goal.survivors-bytes-requires-clause-good
 survivors-bytes-requires-clause-good c =

@@ -1,0 +1,6 @@
+mod PlaceLemmas
+mod LineLemmas
+mod HoleLemmas
+mod ListedLemmas
+mod PassLemmas
+mod WorkLemmas

@@ -1,0 +1,103 @@
+-- What tests of a file's lines say of its pages.
+use Rattle.std.proofs.Common.{◌≡◌, ◌+◌, ◌*◌, ◌≤◌, ℕ, Bool, true, Option, Some, None, Result, Ok, Err, IsErrAnd, OnOk, List, length, is_some, refl, ap, sym, subst, ◌∙◌}
+use Rattle.std.proofs.lemmas.List.{length-map}
+use Rattle.nvm_base.specs.declared.units.Span.{Span}
+use Rattle.nvm_base.specs.Units as base
+use Rattle.line_device.specs.Medium.{Medium}
+use Rattle.line_words.specs.Told.{Checks, refusal_of}
+use Rattle.word_tables.specs.Layout.{meta_lines}
+use Rattle.inode_table.specs.Slots.{pages_at}
+use Rattle.page_table.specs.Pages.{used_pages}
+use Rattle.nvm_model.specs.Blocks.{first_there}
+use Rattle.nvm_model.specs.Lines.{AreGood}
+use Rattle.nvm_model.specs.Page.{Page, absent_among, absent_touched, first_uncovered_line, is_present, presence_of, touches_absent}
+use Rattle.nvm_model.specs.Storage.{File}
+use Rattle.page_lines.specs.declared.finding.BadLines.TheVariants.{All, NotCovered}
+use Rattle.page_lines.specs.Sought.{lowest_bad_in}
+use Rattle.page_lines.proofs.ResultLemmas.{checks_second}
+use Rattle.page_lines.proofs.SearchLemmas.{all_covered, all_good}
+use Rattle.page_lines.proofs.StandingLemmas.{finds_bad, finds_uncovered}
+use Rattle.file_journal.specs.Object.{JournalState}
+use Rattle.file_journal.specs.Tables.{AreTables}
+use Rattle.file_pages.specs.declared.fault.PageFault.{PageFault}
+use Rattle.file_pages.specs.Checked.{IsReadable, IsStorable}
+use Rattle.file_pages.specs.Object.{IsFileAt, file_place, pages_there, units_of}
+use Rattle.file_pages.specs.Refusals.{PageRefusal, bytes_refusal, full_refusal, metadata_refusal_if, page_says, poisoned_at, read_refusal, store_refusal}
+use Rattle.file_pages.proofs.ListedLemmas.{found_on}
+use Rattle.file_pages.proofs.PlaceLemmas.{PagesOn, length-units, line_at, located}
+
+passed : {T : Type 0} (o : Option ℕ) (x : T) → Checks page_says (poisoned_at o) (Ok x) → o ≡ None
+passed None x h = refl
+passed (Some n) x h = absurd h
+
+-- what a first test finds
+pub first_found : (S T : Type 0) (a b : Option PageRefusal) (f : PageFault) (r : Result T PageFault) → IsErrAnd r (λ g. g ≡ f) → Checks {T = S} page_says a (Err f) → Checks {T = T} page_says (first_there a b) r
+first_found S T None b f r is h = absurd h
+first_found S T (Some why) b f (Ok x) is h = absurd is
+first_found S T (Some why) b f (Err g) is h = ap (λ e. refusal_of (page_says e)) is ∙ h
+
+-- and what a later one does
+pub later_found : (S T : Type 0) (b : Option PageRefusal) (f : PageFault) (r : Result T PageFault) → IsErrAnd r (λ g. g ≡ f) → Checks {T = S} page_says b (Err f) → Checks {T = T} page_says b r
+later_found S T None f r is h = absurd h
+later_found S T (Some why) f (Ok x) is h = absurd is
+later_found S T (Some why) f (Err g) is h = ap (λ e. refusal_of (page_says e)) is ∙ h
+
+-- the pages of a file at an inode
+pub pages_on : (s : JournalState) (m : Medium) (inode : ℕ) (files : List File) (file : File) → AreTables s.geo.fpages s.tables → IsFileAt s m inode files file → PagesOn s.geo (units_of s.tables inode) m file.pages
+pages_on s m inode files file are at = found_on s.geo s.tables are inode file.name at.named m files file at.stand at.found
+
+pub length-pages_on : (s : JournalState) (m : Medium) (inode : ℕ) (pages : List Page) → PagesOn s.geo (units_of s.tables inode) m pages → length pages ≡ pages_at s.tables.files inode
+length-pages_on s m inode pages stands =
+    sym (length-map pages is_present) ∙ ap length stands.there ∙ length-map (units_of s.tables inode) is_some ∙ length-units s.tables inode
+
+-- what the tests before a store tell
+abbrev pub store_told : JournalState → Medium → ℕ → Span → Option PageRefusal
+store_told s m inode span =
+    first_there (bytes_refusal (pages_at s.tables.files inode) span.start span.len)
+    (first_there (full_refusal s (absent_touched span.start span.len (pages_there s inode)))
+    (first_there (metadata_refusal_if (touches_absent span.start span.len (pages_there s inode)) s.geo m) (poisoned_at (lowest_bad_in NotCovered (file_place s inode) m span))))
+
+-- the holes among the pages of a span are those that it touches
+pub holes_are : (there : List Bool) (span pages : Span) (holes : ℕ) → pages ≡ base.units_of 4096 span → holes ≡ absent_among there pages.start pages.len → holes ≡ absent_touched span.start span.len there
+holes_are there span pages holes units is = is ∙ ap (λ (p : Span). absent_among there p.start p.len) units
+
+module _ (s : JournalState) (m : Medium) (inode : ℕ) (are : AreTables s.geo.fpages s.tables) (span : Span) {T : Type 0} (r : Result T PageFault) where
+  pub readable : 1 ≤ span.len → span.start + span.len ≤ 4096 * pages_at s.tables.files inode → Checks page_says (poisoned_at (lowest_bad_in All (file_place s inode) m span)) r → OnOk r (IsReadable s m inode span)
+  readable some within checks = by_result r checks
+    where
+      by_result : (r : Result T PageFault) → Checks page_says (poisoned_at (lowest_bad_in All (file_place s inode) m span)) r → OnOk r (IsReadable s m inode span)
+      by_result (Ok x) h = record { some = some; within = within; good = all_good (file_place s inode) m span some (passed _ x h) }
+      by_result (Err f) h = tt
+
+  pub storable : 1 ≤ span.len → span.start + span.len ≤ 4096 * pages_at s.tables.files inode → used_pages s.tables.pages + absent_touched span.start span.len (pages_there s inode) + 16 ≤ s.geo.fpages
+      → (touches_absent span.start span.len (pages_there s inode) ≡ true → AreGood m (meta_lines s.geo)) → Checks page_says (poisoned_at (lowest_bad_in NotCovered (file_place s inode) m span)) r → OnOk r (IsStorable s m inode span)
+  storable some within room good checks = by_result r checks
+    where
+      by_result : (r : Result T PageFault) → Checks page_says (poisoned_at (lowest_bad_in NotCovered (file_place s inode) m span)) r → OnOk r (IsStorable s m inode span)
+      by_result (Ok x) h = record { some = some; within = within; room = room; good = good; covered = all_covered (file_place s inode) m span some (passed _ x h) }
+      by_result (Err f) h = tt
+
+  module _ (files : List File) (file : File) (at : IsFileAt s m inode files file) where
+    size : pages_at s.tables.files inode ≡ length file.pages
+    size = sym (length-pages_on s m inode file.pages (pages_on s m inode files file are at))
+
+    pub bytes_checked : {S : Type 0} (q : Result S PageFault) → Checks page_says (bytes_refusal (pages_at s.tables.files inode) span.start span.len) q → Checks page_says (bytes_refusal (length file.pages) span.start span.len) q
+    bytes_checked q h = subst (λ n. Checks page_says (bytes_refusal n span.start span.len) q) size h
+
+    pub reads_checked : Checks {T = Unit {0}} page_says (bytes_refusal (pages_at s.tables.files inode) span.start span.len) (Ok tt) → Checks page_says (poisoned_at (lowest_bad_in All (file_place s inode) m span)) r
+        → Checks page_says (read_refusal file.pages span.start span.len) r
+    reads_checked extent lines =
+        let stands = pages_on s m inode files file are at in
+        checks_second page_says (bytes_refusal (length file.pages) span.start span.len) _ tt r (bytes_checked (Ok tt) extent)
+        (subst (λ o. Checks page_says (poisoned_at o) r)
+        (finds_bad (file_place s inode) (line_at s.geo (units_of s.tables inode)) (pages_there s inode) (located s.geo (units_of s.tables inode)) m file.pages stands.there stands.stand span) lines)
+
+    -- what the tests before a store tell, by the journal and the device's lines, is what the file's pages say
+    pub stores_checked : Checks page_says (store_told s m inode span) r → Checks page_says (store_refusal s m file.pages span.start span.len) r
+    stores_checked told =
+        let stands = pages_on s m inode files file are at in
+        let poison = poisoned_at (first_uncovered_line file.pages span.start span.len) in
+        let found = finds_uncovered (file_place s inode) (line_at s.geo (units_of s.tables inode)) (pages_there s inode) (located s.geo (units_of s.tables inode)) m file.pages stands.there stands.stand span in
+        subst (λ n. Checks page_says (first_there (bytes_refusal n span.start span.len) (first_there (full_refusal s (absent_touched span.start span.len (presence_of file.pages))) (first_there (metadata_refusal_if (touches_absent span.start span.len (presence_of file.pages)) s.geo m) poison))) r) size
+        (subst (λ bs. Checks page_says (first_there (bytes_refusal (pages_at s.tables.files inode) span.start span.len) (first_there (full_refusal s (absent_touched span.start span.len bs)) (first_there (metadata_refusal_if (touches_absent span.start span.len bs) s.geo m) poison))) r) (sym stands.there)
+        (subst (λ o. Checks page_says (first_there (bytes_refusal (pages_at s.tables.files inode) span.start span.len) (first_there (full_refusal s (absent_touched span.start span.len (pages_there s inode))) (first_there (metadata_refusal_if (touches_absent span.start span.len (pages_there s inode)) s.geo m) (poisoned_at o)))) r) found told))

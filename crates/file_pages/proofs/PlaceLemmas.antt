@@ -1,0 +1,126 @@
+-- Where the lines of pages lie that are on units.
+use Rattle.std.proofs.Common.{◌≡◌, ℕ, ◌+◌, ◌*◌, ◌/◌, ◌%◌, ◌<◌, ◌≤◌, true, is_some, List, map, Option, Some, None, option_map, length, slice_get, slice_index_or, refl, sym, ap, subst, ◌∙◌, inl, inr, arith}
+use Rattle.std.proofs.lemmas.Bool.{cases_lt}
+use Rattle.std.proofs.lemmas.List.{get_or_past}
+use Rattle.std.proofs.lemmas.Option.{get_or_from_slice_get, none-some, same_Some, slice_get-get_or, slice_get-map}
+use Rattle.line_device.specs.Medium.{Medium}
+use Rattle.word_tables.specs.declared.geometry.Geometry.{Geometry}
+use Rattle.word_tables.specs.Layout.{file_line, file_pages, total_lines, HasLine}
+use Rattle.inode_table.specs.Slots.{pages_at}
+use Rattle.page_table.specs.Pages.{IsOn}
+use Rattle.nvm_model.specs.Page.{Page, PagesStand, presence_of}
+use Rattle.nvm_model.proofs.NumberedLemmas.{length-list_from, slice_get-list_from}
+use Rattle.page_lines.specs.Placed.{AreApart}
+use Rattle.page_lines.proofs.StandingLemmas.{Located}
+use Rattle.file_journal.specs.Standing.{line_on}
+use Rattle.file_journal.specs.Tables.{AreTables, Tables, unit_at}
+use Rattle.file_journal.proofs.FileLineLemmas.{page_line_within}
+use Rattle.file_journal.proofs.ReplaceLemmas.{pages_at_most}
+use Rattle.file_journal.proofs.StandingLemmas.{unit_line_in}
+use Rattle.file_pages.specs.Object.{unit_place, units_of}
+
+-- at which line a line lies whose page is there
+abbrev pub line_at : Geometry → List (Option ℕ) → ℕ → ℕ
+line_at geo units n = line_on geo (slice_index_or units (n / 64) None) n
+
+-- the device stands for pages that are on these units
+pub record PagesOn (geo : Geometry) (units : List (Option ℕ)) (m : Medium) (pages : List Page) : Type 0 where
+  pub there : presence_of pages ≡ map is_some units
+  pub stand : PagesStand (line_at geo units) m pages
+
+-- a unit that is listed is in the list
+pub unit_get : (units : List (Option ℕ)) (k u : ℕ) → slice_index_or units k None ≡ Some u → slice_get units k ≡ Some (Some u)
+unit_get units k u is =
+    elim (cases_lt k (length units)) as (λ _. slice_get units k ≡ Some (Some u)) [
+      | inl within ↦ slice_get-get_or units k None within ∙ ap (λ (o : Option ℕ). Some o) is
+      | inr past ↦ absurd (none-some u (sym (get_or_past units k None past) ∙ is))
+    ]
+
+placed_is : (geo : Geometry) (o : Option ℕ) (n line : ℕ) → option_map (λ unit. file_line geo unit + n % 64) o ≡ Some line → (u : ℕ) × (o ≡ Some u) × (file_line geo u + n % 64 ≡ line)
+placed_is geo None n line is = absurd (none-some line is)
+placed_is geo (Some u) n line is = (u, refl, same_Some _ _ is)
+
+-- the unit of a line that has a place
+pub place_is : (geo : Geometry) (units : List (Option ℕ)) (n line : ℕ) → unit_place geo units n ≡ Some line → (u : ℕ) × (slice_index_or units (n / 64) None ≡ Some u) × (file_line geo u + n % 64 ≡ line)
+place_is geo units n line is = placed_is geo (slice_index_or units (n / 64) None) n line is
+
+-- lines of pages that are there have places
+pub located : (geo : Geometry) (units : List (Option ℕ)) → Located (unit_place geo units) (line_at geo units) (map is_some units)
+located geo units = record { here = here; nowhere = nowhere }
+  where
+    here : (n : ℕ) → slice_get (map is_some units) (n / 64) ≡ Some true → unit_place geo units n ≡ Some (line_at geo units n)
+    here n is = by_page (slice_get units (n / 64)) refl (sym (slice_get-map is_some units (n / 64)) ∙ is)
+      where
+        by_page : (o : Option (Option ℕ)) → slice_get units (n / 64) ≡ o → option_map is_some o ≡ Some true → unit_place geo units n ≡ Some (line_at geo units n)
+        by_page None was is = cc
+        by_page (Some None) was is = cc
+        by_page (Some (Some u)) was is =
+            let at = get_or_from_slice_get units (n / 64) (Some u) None was in
+            ap (option_map (λ unit. file_line geo unit + n % 64)) at ∙ sym (ap (λ o. Some (line_on geo o n)) at)
+
+    nowhere : (n : ℕ) → (slice_get (map is_some units) (n / 64) ≡ Some true → ⊥) → unit_place geo units n ≡ None
+    nowhere n out = by_unit (slice_index_or units (n / 64) None) refl
+      where
+        by_unit : (o : Option ℕ) → slice_index_or units (n / 64) None ≡ o → unit_place geo units n ≡ None
+        by_unit None is = ap (option_map (λ unit. file_line geo unit + n % 64)) is
+        by_unit (Some u) is = absurd (out (slice_get-map is_some units (n / 64) ∙ ap (option_map is_some) (unit_get units (n / 64) u is)))
+
+-- units are the device's, and each is one page's
+pub record AreOwn (size : ℕ) (units : List (Option ℕ)) : Type 0 where
+  pub below : (k u : ℕ) → slice_index_or units k None ≡ Some u → u < size
+  pub once : (k j u : ℕ) → slice_index_or units k None ≡ Some u → slice_index_or units j None ≡ Some u → k ≡ j
+
+module _ (geo : Geometry) (units : List (Option ℕ)) (own : AreOwn geo.fpages units) where
+  -- so their lines are lines of pages, and apart
+  pub place_in : (n line : ℕ) → unit_place geo units n ≡ Some line → HasLine geo file_pages line
+  place_in n line is =
+      let at = place_is geo units n line is in
+      subst (HasLine geo file_pages) at.2 (unit_line_in geo at.0 n (own.below (n / 64) at.0 at.1))
+
+  pub places_apart : (count : ℕ) → count ≡ total_lines geo → AreApart (unit_place geo units) count
+  places_apart count all = record {
+    on = λ n line is. subst (λ c. line < c) (sym all) (page_line_within geo line (place_in n line is));
+    once = λ n other line one two.
+        let a = place_is geo units n line one in
+        let b = place_is geo units other line two in
+        let same : b.0 ≡ a.0 = omega (arith, a.2, b.2) in
+        let page = own.once (n / 64) (other / 64) a.0 a.1 (b.1 ∙ ap (λ (u : ℕ). Some u) same) in
+        omega (arith, page, a.2, b.2, same);
+  }
+
+-- the units of an inode's pages
+pub length-units : (t : Tables) (inode : ℕ) → length (units_of t inode) ≡ pages_at t.files inode
+length-units t inode = length-list_from (unit_at t inode) 0 (pages_at t.files inode)
+
+pub unit_here : (t : Tables) (inode k : ℕ) → k < pages_at t.files inode → slice_index_or (units_of t inode) k None ≡ unit_at t inode k
+unit_here t inode k within =
+    let e : 0 + k ≡ k = omega arith in
+    get_or_from_slice_get (units_of t inode) k (unit_at t inode k) None
+    (slice_get-list_from (unit_at t inode) 0 (pages_at t.files inode) k within ∙ ap (λ i. Some (unit_at t inode i)) e)
+
+pub unit_past : (t : Tables) (inode k : ℕ) → pages_at t.files inode ≤ k → slice_index_or (units_of t inode) k None ≡ None
+unit_past t inode k past = get_or_past (units_of t inode) k None (omega (arith, past, length-units t inode))
+
+-- an entry of the page tables is on a unit where its page is
+pub entry_on : (t : Tables) (inode k u : ℕ) → length t.pages ≡ 16384 → inode < 64 → k < 256 → unit_at t inode k ≡ Some u → IsOn t.pages (256 * inode + k) u
+entry_on t inode k u all low below is = slice_get-get_or t.pages (256 * inode + k) None (omega (arith, all, low, below)) ∙ ap (λ (o : Option ℕ). Some o) is
+
+module _ (size : ℕ) (t : Tables) (are : AreTables size t) (inode : ℕ) (low : inode < 64) where
+  -- a page of an inode that is on a unit
+  pub unit_on : (k u : ℕ) → slice_index_or (units_of t inode) k None ≡ Some u → (k < pages_at t.files inode) × (k < 256) × IsOn t.pages (256 * inode + k) u
+  unit_on k u is =
+      elim (cases_lt k (pages_at t.files inode)) as (λ _. (k < pages_at t.files inode) × (k < 256) × IsOn t.pages (256 * inode + k) u) [
+        | inl within ↦
+            let most = pages_at_most t.files inode are.names low in
+            let small : k < 256 = omega (arith, within, most) in
+            (within, small, entry_on t inode k u are.table.all low small (sym (unit_here t inode k within) ∙ is))
+        | inr past ↦ absurd (none-some u (sym (unit_past t inode k past) ∙ is))
+      ]
+
+  pub units_own : AreOwn size (units_of t inode)
+  units_own = record {
+    below = λ k u is. are.table.within (256 * inode + k) u (unit_on k u is).2;
+    once = λ k j u one two.
+        let same = are.table.apart (256 * inode + k) (256 * inode + j) u (unit_on k u one).2 (unit_on j u two).2 in
+        omega (arith, same);
+  }

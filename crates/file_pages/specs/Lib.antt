@@ -1,0 +1,6 @@
+pub mod Object
+pub mod Refusals
+pub mod Checked
+pub mod Costs
+pub mod Fresh
+pub mod Lends

@@ -1,0 +1,4 @@
+pub mod HandleLemmas
+pub mod ListedLemmas
+pub mod KeptLemmas
+pub mod CopyLemmas

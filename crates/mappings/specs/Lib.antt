@@ -1,0 +1,4 @@
+pub mod Object
+pub mod Table
+pub mod KeptLends
+pub mod Lends
