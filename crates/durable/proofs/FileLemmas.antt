@@ -10,6 +10,8 @@ use Rattle.nvm_model.specs.Files.{entry_of_file}
 use Rattle.nvm_model.specs.Listing.{AreAlike, file_name}
 use Rattle.nvm_model.specs.Page.{is_present}
 use Rattle.nvm_model.specs.Storage.{File}
+use Rattle.nvm_model.specs.Interrupted.{MayStore}
+use Rattle.nvm_model.proofs.FileLeftLemmas.{may_store-length, one_left-entries}
 use Rattle.nvm_model.proofs.PageLemmas.{length-read_pages}
 use Rattle.file_journal.specs.Files.{UnitFile, files_of, unit_file_name}
 use Rattle.file_journal.specs.Reading.{tables_read}
@@ -23,7 +25,9 @@ use Rattle.script_text.specs.Script.{Input}
 use Rattle.script_text.specs.Script.Input.{Skipped, Malformed, Asked}
 use Rattle.machine_host.specs.declared.mode.Mode.TheVariants.{On}
 use Rattle.machine_host.specs.Machine.{Machine}
-use Rattle.machine_host.specs.Commands.{MayLeaveFiles, meaning, refusal, unless_refused}
+use Rattle.machine_host.specs.Commands.{MayLeaveFiles, meaning, refusal, unless_refused, LeavesFiles as LeftFiles}
+use Rattle.machine_host.specs.Meaning.{FilesLeft}
+use Rattle.machine_host.specs.Meaning.FilesLeft.{Unchanged, OldOrNew, StoredInPart}
 use Rattle.machine_host.specs.Run.{Hears, Run, Takes, Transcript}
 use Rattle.durable.specs.Touching.{is_begun}
 use Rattle.durable.specs.Durable.{Does, HasNothing, IsComplete, NoneBegun}
@@ -71,8 +75,13 @@ module _ (P : List FileEntry → Type 0) where
 
   lists_left : (o : Option Action) (old files : List File) → LeavesFiles o → P (map entry_of_file old) → MayLeaveFiles o old files → P (map entry_of_file files)
   lists_left None old files free now is = subst (λ fs. P (map entry_of_file fs)) {x = old} (sym is) now
-  lists_left (Some action) old files none now (inl is) = subst (λ fs. P (map entry_of_file fs)) {x = old} (sym is) now
-  lists_left (Some action) old files none now (inr is) = subst (λ fs. P (map entry_of_file fs)) {x = old} (sym (is ∙ files_same action old none)) now
+  lists_left (Some action) old files none now may = by_how (meaning action).files_left may
+    where
+      by_how : (how : FilesLeft) → LeftFiles how old ((meaning action).files old) files → P (map entry_of_file files)
+      by_how Unchanged is = subst (λ fs. P (map entry_of_file fs)) {x = old} (sym is) now
+      by_how OldOrNew (inl is) = subst (λ fs. P (map entry_of_file fs)) {x = old} (sym is) now
+      by_how OldOrNew (inr is) = subst (λ fs. P (map entry_of_file fs)) {x = old} (sym (is ∙ files_same action old none)) now
+      by_how (StoredInPart name offset bytes) left = subst P (sym (one_left-entries name (MayStore offset bytes) (may_store-length offset bytes) old files left)) now
 
   lists_free : (h : Machine) → LeavesFiles h.interrupted → P (files_listed h) → Lists h
   lists_free h free now = record { now = now; left = λ files may. lists_left h.interrupted h.files files free now may }
@@ -173,9 +182,14 @@ lists_stopped h action next to = record {
   left = λ files may. by_may files (subst (λ o. MayLeaveFiles o h.files files) to.interrupted (subst (λ old. MayLeaveFiles next.interrupted old files) to.files may));
 }
   where
+    by_how : (files : List File) (how : FilesLeft) → LeftFiles how h.files ((meaning action).files h.files) files → (map entry_of_file files ≡ files_listed h) ⊎ (map entry_of_file files ≡ files_after h action)
+    by_how files Unchanged is = inl (ap (map entry_of_file) is)
+    by_how files OldOrNew (inl is) = inl (ap (map entry_of_file) is)
+    by_how files OldOrNew (inr is) = inr (ap (map entry_of_file) is)
+    by_how files (StoredInPart name offset bytes) left = inl (one_left-entries name (MayStore offset bytes) (may_store-length offset bytes) h.files files left)
+
     by_may : (files : List File) → MayLeaveFiles (Some action) h.files files → (map entry_of_file files ≡ files_listed h) ⊎ (map entry_of_file files ≡ files_after h action)
-    by_may files (inl is) = inl (ap (map entry_of_file) is)
-    by_may files (inr is) = inr (ap (map entry_of_file) is)
+    by_may files may = by_how files (meaning action).files_left may
 
 pub files_settle : (h next : Machine) (action : Action) → BreaksOff h action next → changes_files action ≡ true → FilesSettle next (files_listed h) (files_after h action)
 files_settle h next action breaks change inputs said later run none =

@@ -51,6 +51,7 @@ use Rattle.machine_host.proofs.CallLemmas.{IsPart, comes_of_call, printable_afte
 use Rattle.machine_host.proofs.BadLineLemmas.{good_lines}
 use Rattle.machine_host.proofs.ElsewhereLemmas.{first_not_blocks, mounted-blocks, volume_apart}
 use Rattle.machine_host.proofs.FilesAsideLemmas.{files_not_blocks}
+use Rattle.machine_host.proofs.FilesLeftLemmas.{may_leave-same}
 use Rattle.machine_host.proofs.LayoutLemmas.{kept-beside, layout-beside, metadata-then, same_bad}
 use Rattle.machine_host.proofs.StepLemmas.{DeviceLeft, FilesAre, PagesAre, files_still, pages_still, stands_done}
 
@@ -87,7 +88,7 @@ no_stop (Unreadable (scar block)) = refl
 no_stop (Unreadable (bad_line block line)) = refl
 
 -- what a call is answered that gives no bytes is short
-short_refusal : (w : Refusal) → most_of (refusal_answer w) ≤ 64
+short_refusal : (w : Refusal) → most_of (refusal_answer w) ≤ 72
 short_refusal Range = omega arith
 short_refusal Length = omega arith
 short_refusal Limit = omega arith
@@ -108,7 +109,7 @@ printable_refusal (Unreadable (bad_line block line)) = tt
 pub blocks_part : IsPart block_says refusal_answer
 blocks_part = record { printable = printable_refusal; quiet = no_stop; short = short_refusal; fed = never_starves }
 
-short_after : (r : Result (Unit {0}) BlockFault) → most_of (answer_after block_says refusal_answer Done r) ≤ 64
+short_after : (r : Result (Unit {0}) BlockFault) → most_of (answer_after block_says refusal_answer Done r) ≤ 72
 short_after (Ok x) = omega arith
 short_after (Err f) = short_told refusal_answer short_refusal (block_says f)
 
@@ -117,7 +118,7 @@ abbrev pub host_after : HostState → BlocksState → Mode → HostState
 host_after host s mode = record host { mode = mode; blocks = s }
 
 module _ (host : HostState) (s : BlocksState) (old new : Device) (on : host.mode ≡ On) (serves : HostServes host old) (outside : WritesBackBeside (IsBlockLine host.blocks.geo) old.medium new.medium) where
-  mounted : AreMounted host.geometry host.blocks host.volume host.journal old.medium
+  mounted : AreMounted host.geometry host.blocks host.volume host.files old.medium
   mounted = serves.mounted on
 
   -- lines of other parts are kept
@@ -133,9 +134,9 @@ module _ (host : HostState) (s : BlocksState) (old new : Device) (on : host.mode
   pub layout_after : HasLayout host.geometry new.medium
   layout_after = layout-beside host.geometry old.medium new.medium serves.layout (IsBlockLine host.blocks.geo) (first_not_blocks host.blocks.geo) outside
 
-  mounted_after : s.geo ≡ host.blocks.geo → IsTrue s.settled → object.BlocksServe s new.medium → AreMounted host.geometry s host.volume host.journal new.medium
+  mounted_after : s.geo ≡ host.blocks.geo → IsTrue s.settled → object.BlocksServe s new.medium → AreMounted host.geometry s host.volume host.files new.medium
   mounted_after geo settled served =
-      mounted-blocks host.geometry host.blocks host.volume host.journal old.medium new.medium serves.layout.valid (λ n below. outside.stays_strong n (serves.layout.strong n below)) outside.count mounted
+      mounted-blocks host.geometry host.blocks host.volume host.files old.medium new.medium serves.layout.valid (λ n below. outside.stays_strong n (serves.layout.strong n below)) outside.count mounted
       s pages_beside files_beside geo settled served
 
   pub served_after : (served : object.BlocksServe s new.medium) → HasGoodMetadata host.geometry new.medium → s.geo ≡ host.blocks.geo → EachReads host.geometry new.medium (λ bs. bs ≡ blocks_of s new.medium)
@@ -201,7 +202,7 @@ module _ (host : HostState) (s : BlocksState) (action : Action) (calls persists 
     volume = λ good.
         each_pages-then h.geometry new.medium (λ pages. pages ≡ h.volume) (MayLeaveVolume h.geometry (Some action) h.volume)
         (λ pages same. subst (MayLeaveVolume h.geometry (Some action) h.volume) (sym same) left) ((pages_left c.outside).0 good);
-    files = λ good. each_files-then h.geometry new.medium (λ files. files ≡ h.files) (MayLeaveFiles (Some action) h.files) (λ files same. inl same) ((files_left c.outside).0 good);
+    files = λ good. each_files-then h.geometry new.medium (λ files. files ≡ h.files) (MayLeaveFiles (Some action) h.files) (may_leave-same (Some action) h.files) ((files_left c.outside).0 good);
   }
 
   left_called : {T : Type 0} (r : Result T BlockFault) → MayLeaveVolume h.geometry (Some action) h.volume h.volume → Called host s r may calls persists old new → OnWorked r (DeviceLeft h action new.medium)
@@ -213,7 +214,7 @@ same_host host s (Ok x) old new untouched = tt
 same_host host s (Err e) old new untouched = λ told. let same = untouched told in (ap (λ b. record host { blocks = b }) same.0, same.1)
 
 mounted_ok : {T : Type 0} (host : HostState) (s : BlocksState) (r : Result T BlockFault) (P : List Block → Type 0) (calls persists : ℕ) (old new : Device) → host.mode ≡ On → HostServes host old → Called host s r P calls persists old new
-    → OnOk r (AreMounted host.geometry s host.volume host.journal new.medium)
+    → OnOk r (AreMounted host.geometry s host.volume host.files new.medium)
 mounted_ok host s (Ok x) P calls persists old new on serves c = mounted_after host s old new on serves c.outside c.object.0 c.object.1 (c.serves c.object.1)
 mounted_ok host s (Err e) P calls persists old new on serves c = tt
 
@@ -348,6 +349,6 @@ module _ (now host after : HostState) (s : BlocksState) (r : Result (Unit {0}) B
         ∙ ap (λ o. unless_refused h o (Works Done (record h { blocks = f h.blocks }))) (refused_places host old h serves stands on places))
         refused ok answer_is;
     printable = subst IsPrintable (sym answer_is) (printable_after block_says refusal_answer blocks_part Done tt r);
-    room = let short = subst (λ a. most_of a ≤ 64) (sym answer_is) (short_after r) in subst (λ m. most_of answer ≤ m.room) (sym row) short;
+    room = let short = subst (λ a. most_of a ≤ 72) (sym answer_is) (short_after r) in subst (λ m. most_of answer ≤ m.room) (sym row) short;
     serves = change_serves;
   }

@@ -163,8 +163,8 @@ module _ (now host after : HostState) (s : BlocksState) (r : Result (Unit {0}) B
   }
 
 -- the answer of a fault is short
-pub room_of_fault : (f : BlockFault) (answer : Answer) (count : ℕ) → answer ≡ fault_answer f → most_of answer ≤ 64 + 3 * (512 * count)
-room_of_fault f answer count is = let short = subst (λ a. most_of a ≤ 64) (sym is) (short_told refusal_answer blocks_part.short (block_says f)) in omega (arith, short)
+pub room_of_fault : (f : BlockFault) (answer : Answer) (count : ℕ) → answer ≡ fault_answer f → most_of answer ≤ 72 + 3 * (512 * count)
+room_of_fault f answer count is = let short = subst (λ a. most_of a ≤ 72) (sym is) (short_told refusal_answer blocks_part.short (block_says f)) in omega (arith, short)
 
 pub printable_fault : (f : BlockFault) (answer : Answer) → answer ≡ fault_answer f → IsPrintable answer
 printable_fault f answer is = subst IsPrintable (sym is) (printable_told refusal_answer blocks_part.printable (block_says f))

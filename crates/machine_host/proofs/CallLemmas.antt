@@ -40,7 +40,7 @@ on_refused-then says (Ok x) then_ p = tt
 on_refused-then says (Err f) then_ p = λ told. then_ (p told)
 
 -- what a call is answered that gives no bytes is short
-pub short_told : {R : Type 0} (answer : R → Answer) → ((w : R) → most_of (answer w) ≤ 64) → (t : Told R) → most_of (told_answer answer t) ≤ 64
+pub short_told : {R : Type 0} (answer : R → Answer) → ((w : R) → most_of (answer w) ≤ 72) → (t : Told R) → most_of (told_answer answer t) ≤ 72
 short_told answer short (Refuses why) = short why
 short_told answer short (Stops Failed) = omega arith
 short_told answer short (Stops PowerLost) = omega arith
@@ -56,7 +56,7 @@ printable_told answer printable Starves = tt
 pub record IsPart {E R : Type 0} (says : E → Told R) (answer : R → Answer) : Type 0 where
   pub printable : (w : R) → IsPrintable (answer w)
   pub quiet : (w : R) → stop_in (answer w) ≡ None
-  pub short : (w : R) → most_of (answer w) ≤ 64
+  pub short : (w : R) → most_of (answer w) ≤ 72
   pub fed : (f : E) → says f ≡ Starves → ⊥
 
 pub printable_after : {T E R : Type 0} (says : E → Told R) (answer : R → Answer) → IsPart says answer → (good : Answer) → IsPrintable good → (r : Result T E) → IsPrintable (answer_after says answer good r)
@@ -103,7 +103,7 @@ module _ {E R : Type 0} (says : E → Told R) (answer : R → Answer) (part : Is
 
   -- the host may go on
   pub serves_of_call : {T : Type 0} (r : Result T E) → HostServes host old → OnRefused says r ((after host.mode ≡ host) × (new ≡ old)) → HasLayout host.geometry new.medium → (bad_metadata host.geometry new.medium.is_bad ≡ [] → AreReadable host.geometry new.medium)
-      → OnOk r (AreMounted host.geometry (after On).blocks (after On).volume (after On).journal new.medium) → Runs calls persists (outcome_by says r) old.panel new.panel → HostServes (after (mode_after says r)) new
+      → OnOk r (AreMounted host.geometry (after On).blocks (after On).volume (after On).files new.medium) → Runs calls persists (outcome_by says r) old.panel new.panel → HostServes (after (mode_after says r)) new
   serves_of_call {T} r serves untouched layout readable mounted runs = by_result r untouched mounted runs
     where
       power_was : old.panel.power ≡ true
@@ -138,13 +138,13 @@ module _ {E R : Type 0} (says : E → Told R) (answer : R → Answer) (part : Is
       }
       by_told Starves never untouched runs = absurd (never refl)
 
-      by_result : (r : Result T E) → OnRefused says r ((after host.mode ≡ host) × (new ≡ old)) → OnOk r (AreMounted host.geometry (after On).blocks (after On).volume (after On).journal new.medium)
+      by_result : (r : Result T E) → OnRefused says r ((after host.mode ≡ host) × (new ≡ old)) → OnOk r (AreMounted host.geometry (after On).blocks (after On).volume (after On).files new.medium)
           → Runs calls persists (outcome_by says r) old.panel new.panel → HostServes (after (mode_after says r)) new
       by_result (Ok x) untouched mounted runs = record {
         layout = layout_now On;
         readable = readable_now On;
         power = powered On true (runs.cause.0 ∙ power_was) refl;
-        mounted = λ _. subst (λ g. AreMounted g (after On).blocks (after On).volume (after On).journal new.medium) (sym (same On)) mounted;
+        mounted = λ _. subst (λ g. AreMounted g (after On).blocks (after On).volume (after On).files new.medium) (sym (same On)) mounted;
         stopped = λ e. let is = in_mode On in cc (is, e);
       }
       by_result (Err f) untouched mounted runs = by_told (says f) (part.fed f) untouched runs

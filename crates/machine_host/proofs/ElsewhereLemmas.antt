@@ -23,8 +23,9 @@ use Rattle.pm_volume.specs.Object.{VolumeState, VolumeHolds, VolumeServes}
 use Rattle.nvm_model.proofs.KeptLemmas.{LineKept, line_kept-write_back}
 use Rattle.pm_volume.proofs.StandingLemmas.{pages-kept, each_pages-kept, images-kept, volume_serves-kept}
 use Rattle.file_journal.specs.Area.{IsOfFiles}
-use Rattle.file_journal.specs.Object.{JournalServes, JournalState}
-use Rattle.file_journal.specs.Tables.{AreTables}
+use Rattle.file_journal.specs.Object.{JournalServes}
+use Rattle.file_journal.specs.Tables.{AreTables, known_units}
+use Rattle.file_pages.specs.Object.{PagesState}
 use Rattle.machine_host.specs.declared.mode.Mode.{Mode}
 use Rattle.machine_host.specs.declared.mode.Mode.TheVariants.{On, Stopped}
 use Rattle.machine_host.specs.Stands.{HostState, HostServes, AreMounted, is_powered}
@@ -102,8 +103,8 @@ module _ (geo : Geometry) (old new : Medium) (valid : IsValid geo) (kept : (line
   }
 
 -- What is mounted stays so where work on one part of storage leaves the lines of the others.
-module _ (geo : Geometry) (b : BlocksState) (v : VolumeState) (j : JournalState) (old new : Medium) (valid : IsValid geo) (strong : AreStrong new (meta_lines geo))
-    (count : new.count ≡ old.count) (mounted : AreMounted geo b v j old) where
+module _ (geo : Geometry) (b : BlocksState) (v : VolumeState) (p : PagesState) (old new : Medium) (valid : IsValid geo) (strong : AreStrong new (meta_lines geo))
+    (count : new.count ≡ old.count) (mounted : AreMounted geo b v p old) where
   strong_of : (g : Geometry) → g ≡ geo → AreStrong new (meta_lines g)
   strong_of g same = subst (λ k. AreStrong new (meta_lines k)) (sym same) strong
 
@@ -113,12 +114,12 @@ module _ (geo : Geometry) (b : BlocksState) (v : VolumeState) (j : JournalState)
   volume_serves_on : ((line : ℕ) → IsOfVolume geo line → LineKept old new line) → VolumeServes v new
   volume_serves_on kept = volume_serves_elsewhere geo old new valid kept v mounted.volume_geometry (strong_of v.geo mounted.volume_geometry) count mounted.volume_serves
 
-  journal_serves_on : ((line : ℕ) → IsOfFiles geo line → LineKept old new line) → JournalServes j new
-  journal_serves_on kept = journal_serves_elsewhere geo old new kept j mounted.journal_geometry (strong_of j.geo mounted.journal_geometry) count mounted.journal_serves
+  journal_serves_on : ((line : ℕ) → IsOfFiles geo line → LineKept old new line) → JournalServes p.journal new
+  journal_serves_on kept = journal_serves_elsewhere geo old new kept p.journal mounted.journal_geometry (strong_of p.journal.geo mounted.journal_geometry) count mounted.journal_serves
 
   -- on the blocks
   pub mounted-blocks : (s : BlocksState) → ((line : ℕ) → IsOfVolume geo line → LineKept old new line) → ((line : ℕ) → IsOfFiles geo line → LineKept old new line)
-      → s.geo ≡ b.geo → IsTrue s.settled → BlocksServe s new → AreMounted geo s v j new
+      → s.geo ≡ b.geo → IsTrue s.settled → BlocksServe s new → AreMounted geo s v p new
   mounted-blocks s volume files same settled serves = record {
     geometry = same ∙ mounted.geometry;
     settled = settled;
@@ -130,11 +131,13 @@ module _ (geo : Geometry) (b : BlocksState) (v : VolumeState) (j : JournalState)
     journal_settled = mounted.journal_settled;
     journal_serves = journal_serves_on files;
     journal_right = mounted.journal_right;
+    journal_held = mounted.journal_held;
+    pages_settled = mounted.pages_settled;
   }
 
   -- on the volume
   pub mounted-volume : (w : VolumeState) → ((n : ℕ) → IsBlockLine geo n → Stays old new n) → ((line : ℕ) → IsOfFiles geo line → LineKept old new line)
-      → w.geo ≡ v.geo → IsTrue w.settled → VolumeServes w new → AreMounted geo b w j new
+      → w.geo ≡ v.geo → IsTrue w.settled → VolumeServes w new → AreMounted geo b w p new
   mounted-volume w blocks files same settled serves = record {
     geometry = mounted.geometry;
     settled = mounted.settled;
@@ -146,12 +149,15 @@ module _ (geo : Geometry) (b : BlocksState) (v : VolumeState) (j : JournalState)
     journal_settled = mounted.journal_settled;
     journal_serves = journal_serves_on files;
     journal_right = mounted.journal_right;
+    journal_held = mounted.journal_held;
+    pages_settled = mounted.pages_settled;
   }
 
   -- on files
-  pub mounted-files : (k : JournalState) → ((n : ℕ) → IsBlockLine geo n → Stays old new n) → ((line : ℕ) → IsOfVolume geo line → LineKept old new line)
-      → k.geo ≡ j.geo → IsTrue k.settled → JournalServes k new → AreTables geo.fpages k.tables → AreMounted geo b v k new
-  mounted-files k blocks volume same settled serves right = record {
+  pub mounted-files : (q : PagesState) → ((n : ℕ) → IsBlockLine geo n → Stays old new n) → ((line : ℕ) → IsOfVolume geo line → LineKept old new line)
+      → q.journal.geo ≡ p.journal.geo → IsTrue q.journal.settled → IsTrue q.settled → JournalServes q.journal new → AreTables geo.fpages q.journal.tables
+      → known_units q.journal.tables.pages q.journal.free ≡ known_units p.journal.tables.pages p.journal.free → AreMounted geo b v q new
+  mounted-files q blocks volume same journal pages serves right held = record {
     geometry = mounted.geometry;
     settled = mounted.settled;
     serves = blocks_serve_on blocks;
@@ -159,15 +165,17 @@ module _ (geo : Geometry) (b : BlocksState) (v : VolumeState) (j : JournalState)
     volume_settled = mounted.volume_settled;
     volume_serves = volume_serves_on volume;
     journal_geometry = same ∙ mounted.journal_geometry;
-    journal_settled = settled;
+    journal_settled = journal;
     journal_serves = serves;
     journal_right = right;
+    journal_held = held ∙ mounted.journal_held;
+    pages_settled = pages;
   }
 
 -- and where all lines are only written back
-pub mounted-write_back : (geo : Geometry) (b : BlocksState) (v : VolumeState) (j : JournalState) (old new : Medium) → IsValid geo → WritesBack old new → AreMounted geo b v j old → AreMounted geo b v j new
-mounted-write_back geo b v j old new valid w mounted =
-    mounted-blocks geo b v j old new valid (λ n below. w.weak n ∙ mounted.serves.strong n (subst (λ g. n < meta_lines g) (sym mounted.geometry) below)) w.count mounted
+pub mounted-write_back : (geo : Geometry) (b : BlocksState) (v : VolumeState) (p : PagesState) (old new : Medium) → IsValid geo → WritesBack old new → AreMounted geo b v p old → AreMounted geo b v p new
+mounted-write_back geo b v p old new valid w mounted =
+    mounted-blocks geo b v p old new valid (λ n below. w.weak n ∙ mounted.serves.strong n (subst (λ g. n < meta_lines g) (sym mounted.geometry) below)) w.count mounted
     b (λ line of. line_kept-write_back old new line w) (λ line of. line_kept-write_back old new line w) refl mounted.settled (serves-write_back b old new w mounted.serves)
 
 -- an order to the device, or a cut, leaves its lines but for write-back
@@ -178,6 +186,6 @@ serves_ordered host mode old new serves w power was_on was_stopped = record {
   readable = λ none.
       each_reads-write_back host.geometry old.medium new.medium (λ _. Unit {0}) serves.layout.valid w (serves.readable (sym (same_bad host.geometry old.medium new.medium (λ n below. w.bad n)) ∙ none));
   power = power;
-  mounted = λ on. mounted-write_back host.geometry host.blocks host.volume host.journal old.medium new.medium serves.layout.valid w (serves.mounted (was_on on));
+  mounted = λ on. mounted-write_back host.geometry host.blocks host.volume host.files old.medium new.medium serves.layout.valid w (serves.mounted (was_on on));
   stopped = λ stop. stays_bad host.geometry old.medium new.medium (λ n below. w.bad n) (serves.stopped (was_stopped stop));
 }

@@ -214,25 +214,25 @@ pub write_lost : MayWrite with_failed_write [] (failed_write_lines (codes "data 
 unfolding digits number_of data_of runs_of data_within data_text read_pages answer_line lines_of words_of command_action line_input refusal size first_line total_lines volume_line reading write look_blocks states_read blocks_read listed files_read file_words tables_of slots_of words_read
 write_lost =
     may_write with_failed_write (Through ∷ Halted Failed false false ∷ Through ∷ Recovered untouched ∷ Through ∷ []) (failed_write_lines (codes "data 00*512"))
-    (tt, (refl, (tt, (record { blocks = inl refl; volume = refl; files = inl refl; state = refl }, (tt, tt))))) refl
+    (tt, (refl, (tt, (record { blocks = inl refl; volume = refl; files = refl; state = refl }, (tt, tt))))) refl
 
 pub write_kept : MayWrite with_failed_write [] (failed_write_lines (codes "data 01*512"))
 unfolding digits number_of data_of runs_of data_within data_text read_pages answer_line lines_of words_of command_action line_input refusal size first_line total_lines volume_line reading write look_blocks states_read blocks_read listed files_read file_words tables_of slots_of words_read
 write_kept =
     may_write with_failed_write (Through ∷ Halted Failed false false ∷ Through ∷ Recovered with_ones ∷ Through ∷ []) (failed_write_lines (codes "data 01*512"))
-    (tt, (refl, (tt, (record { blocks = inr refl; volume = refl; files = inl refl; state = refl }, (tt, tt))))) refl
+    (tt, (refl, (tt, (record { blocks = inr refl; volume = refl; files = refl; state = refl }, (tt, tt))))) refl
 
 pub write_lost_by_the_second_recovery : MayWrite with_failed_recovery [] (failed_recovery_lines (codes "data 00*512"))
 unfolding digits number_of data_of runs_of data_within data_text read_pages answer_line lines_of words_of command_action line_input refusal size first_line total_lines volume_line reading write look_blocks states_read blocks_read listed files_read file_words tables_of slots_of words_read
 write_lost_by_the_second_recovery =
     may_write with_failed_recovery (Through ∷ Halted Failed false false ∷ Through ∷ Halted Failed false false ∷ Recovered untouched ∷ Through ∷ []) (failed_recovery_lines (codes "data 00*512"))
-    (tt, (refl, (tt, (refl, (record { blocks = inl refl; volume = refl; files = inl refl; state = refl }, (tt, tt)))))) refl
+    (tt, (refl, (tt, (refl, (record { blocks = inl refl; volume = refl; files = refl; state = refl }, (tt, tt)))))) refl
 
 pub write_kept_by_the_second_recovery : MayWrite with_failed_recovery [] (failed_recovery_lines (codes "data 01*512"))
 unfolding digits number_of data_of runs_of data_within data_text read_pages answer_line lines_of words_of command_action line_input refusal size first_line total_lines volume_line reading write look_blocks states_read blocks_read listed files_read file_words tables_of slots_of words_read
 write_kept_by_the_second_recovery =
     may_write with_failed_recovery (Through ∷ Halted Failed false false ∷ Through ∷ Halted Failed false false ∷ Recovered with_ones ∷ Through ∷ []) (failed_recovery_lines (codes "data 01*512"))
-    (tt, (refl, (tt, (refl, (record { blocks = inr refl; volume = refl; files = inl refl; state = refl }, (tt, tt)))))) refl
+    (tt, (refl, (tt, (refl, (record { blocks = inr refl; volume = refl; files = refl; state = refl }, (tt, tt)))))) refl
 
 pub restart_cut : MayWrite with_cut_restart (leaving_fives ∷ leaving_fives ∷ []) cut_restart_lines
 unfolding digits number_of data_of runs_of data_within data_text read_pages answer_line lines_of words_of command_action line_input refusal size first_line total_lines volume_line reading write look_blocks states_read blocks_read listed files_read file_words tables_of slots_of words_read
@@ -256,13 +256,13 @@ pub cut_before_failure : MayWrite with_cut_before_failure (leaving Lasts [] ∷ 
 unfolding digits number_of data_of runs_of data_within data_text read_pages answer_line lines_of words_of command_action line_input refusal size first_line total_lines volume_line reading write look_blocks states_read blocks_read listed files_read file_words tables_of slots_of words_read
 cut_before_failure =
     may_write with_cut_before_failure (Through ∷ Through ∷ Halted Lost false true ∷ StartHalted (leaving Lasts []) Failed false false ∷ []) cut_before_failure_lines
-    (tt, (tt, (refl, ((refl, left_by _ _ _ [] refl (inl refl) refl refl refl (inl refl) tt, refl), tt)))) refl
+    (tt, (tt, (refl, ((refl, left_by _ _ _ [] refl (inl refl) refl refl refl refl tt, refl), tt)))) refl
 
 pub sync_failed : MayWrite with_failed_sync [] failed_sync_lines
 unfolding digits word_from byte_over word_over reaches number_of runs_of data_within data_text fill put persist discard first_bad_line first_uncovered_line look read_pages answer_line lines_of words_of command_action line_input refusal size first_line total_lines volume_line reading states_read blocks_read listed files_read file_words tables_of slots_of words_read
 sync_failed =
     may_write with_failed_sync (Through ∷ Through ∷ Through ∷ Through ∷ Halted Failed false false ∷ Through ∷ Recovered with_sevens ∷ Through ∷ []) failed_sync_lines
-    (tt, (tt, (tt, (tt, (refl, (tt, (record { blocks = refl; volume = unsynced 0 8 with_sevens.volume; files = inl refl; state = refl }, (tt, tt)))))))) refl
+    (tt, (tt, (tt, (tt, (refl, (tt, (record { blocks = refl; volume = unsynced 0 8 with_sevens.volume; files = refl; state = refl }, (tt, tt)))))))) refl
 
 -- the write of two blocks where a failure is armed, and once it came, with what is armed still
 abbrev ready : Machine

@@ -22,7 +22,7 @@ use Rattle.pm_volume.proofs.StandingLemmas.{each_pages-then}
 use Rattle.file_journal.specs.Area.{IsOfFiles, file_area}
 use Rattle.file_journal.specs.Images.{EachReadsTables, IsEither}
 use Rattle.file_journal.specs.Listing.{listed}
-use Rattle.file_journal.specs.Object.{JournalServes, JournalState}
+use Rattle.file_journal.specs.Object.{JournalServes, JournalState, KeepsUnits}
 use Rattle.file_journal.specs.Refusals.{JournalRefusal, journal_says}
 use Rattle.file_journal.specs.Refusals.JournalRefusal.{Missing, Exists, Limit, Slots, Full, Meta}
 use Rattle.file_journal.specs.Standing.{EachReadsFiles, FilesStand}
@@ -42,7 +42,7 @@ use Rattle.machine_host.specs.declared.mode.Mode.{Mode}
 use Rattle.machine_host.specs.declared.mode.Mode.TheVariants.{On}
 use Rattle.machine_host.specs.Machine.{Machine}
 use Rattle.machine_host.specs.Machine.Fate.{Works}
-use Rattle.machine_host.specs.Commands.{LeavesBlocks, LeavesVolume, MayLeaveBlocks, MayLeaveVolume, fate, meaning, spending, unless_refused}
+use Rattle.machine_host.specs.Commands.{LeavesBlocks, LeavesFiles, LeavesVolume, MayLeaveBlocks, MayLeaveVolume, fate, meaning, spending, unless_refused}
 use Rattle.machine_host.specs.Faults.{answer_after, mode_after}
 use Rattle.machine_host.specs.Interrupted.{stop_in}
 use Rattle.machine_host.specs.Lines.{HasLayout, MetadataStands, bad_metadata}
@@ -62,12 +62,13 @@ use Rattle.machine_host.proofs.VolumeCallLemmas.{short_after}
 -- What a call that changes files says, whichever it is: it leaves these tables, or those before it.
 pub record FilesCalled (host : HostState) (s : JournalState) (r : Result (Unit {0}) JournalFault) (why : Option JournalRefusal) (to : Tables) (words : ℕ) (old new : Device) : Type 0 where
   pub refused : Answers journal_says why r
-  pub untouched : OnRefused journal_says r ((s ≡ host.journal) × (new ≡ old))
+  pub untouched : OnRefused journal_says r ((s ≡ host.files.journal) × (new ≡ old))
   pub ok : OnOk r (s.tables ≡ to)
-  pub images : OnWorked journal_says r (EachReadsTables host.journal.geo new.medium (IsEither host.journal.tables to))
-  pub outside : WritesBackOutside (IsOf (file_area host.journal.geo)) old.medium new.medium
+  pub images : OnWorked journal_says r (EachReadsTables host.files.journal.geo new.medium (IsEither host.files.journal.tables to))
+  pub outside : WritesBackOutside (IsOf (file_area host.files.journal.geo)) old.medium new.medium
   pub serves : IsTrue s.settled → JournalServes s new.medium
-  pub object : (s.geo ≡ host.journal.geo) × (s.settled ≡ is_done (outcome_by journal_says r))
+  pub object : (s.geo ≡ host.files.journal.geo) × (s.settled ≡ is_done (outcome_by journal_says r))
+  pub units : OnOk r (KeepsUnits 0 host.files.journal s)
   pub runs : Runs (commit_calls words) (commit_persists words) (outcome_by journal_says r) old.panel new.panel
 
 -- its answers
@@ -89,7 +90,7 @@ no_stop Slots = refl
 no_stop Full = refl
 no_stop (Meta line) = refl
 
-short_refusal : (w : JournalRefusal) → most_of (journal_answer w) ≤ 64
+short_refusal : (w : JournalRefusal) → most_of (journal_answer w) ≤ 72
 short_refusal Missing = omega arith
 short_refusal Exists = omega arith
 short_refusal Limit = omega arith
@@ -117,20 +118,20 @@ worked_none says (Some w) (Err f) answers = λ stop. cc (stop, answers)
 
 -- the host in a mode after the call
 abbrev pub journal_after : HostState → JournalState → Mode → HostState
-journal_after host s mode = record host { mode = mode; journal = s }
+journal_after host s mode = record host { mode = mode; files = record host.files { journal = s } }
 
-module _ (host : HostState) (old new : Device) (on : host.mode ≡ On) (serves : HostServes host old) (outside : WritesBackOutside (IsOf (file_area host.journal.geo)) old.medium new.medium) where
-  mounted : AreMounted host.geometry host.blocks host.volume host.journal old.medium
+module _ (host : HostState) (old new : Device) (on : host.mode ≡ On) (serves : HostServes host old) (outside : WritesBackOutside (IsOf (file_area host.files.journal.geo)) old.medium new.medium) where
+  mounted : AreMounted host.geometry host.blocks host.volume host.files old.medium
   mounted = serves.mounted on
 
-  right_was : AreTables host.journal.geo.fpages host.journal.tables
-  right_was = subst (λ g. AreTables g.fpages host.journal.tables) (sym mounted.journal_geometry) mounted.journal_right
+  right_was : AreTables host.files.journal.geo.fpages host.files.journal.tables
+  right_was = subst (λ g. AreTables g.fpages host.files.journal.tables) (sym mounted.journal_geometry) mounted.journal_right
 
   -- lines of other parts are only written back, and so are those of pages
   kept_changed : (n : ℕ) → (IsOfFiles host.geometry n → ⊥) → LineKept old.medium new.medium n
   kept_changed n apart =
-      kept-outside (IsOf (file_area host.journal.geo)) old.medium new.medium n
-      (λ p at of. apart (subst (λ g. IsOfFiles g n) mounted.journal_geometry (subst (IsOfFiles host.journal.geo) at (area_of_files host.journal.geo p of)))) outside
+      kept-outside (IsOf (file_area host.files.journal.geo)) old.medium new.medium n
+      (λ p at of. apart (subst (λ g. IsOfFiles g n) mounted.journal_geometry (subst (IsOfFiles host.files.journal.geo) at (area_of_files host.files.journal.geo p of)))) outside
 
   blocks_stay : (n : ℕ) → IsBlockLine host.geometry n → Stays old.medium new.medium n
   blocks_stay n of = stays_of_kept old.medium new.medium n (kept_changed n (λ of_files. files_not_blocks host.geometry n of_files of))
@@ -138,20 +139,21 @@ module _ (host : HostState) (old new : Device) (on : host.mode ≡ On) (serves :
   volume_stays : (n : ℕ) → IsOfVolume host.geometry n → LineKept old.medium new.medium n
   volume_stays n of = kept_changed n (λ of_files. files_not_volume host.geometry n serves.layout.valid of_files of)
 
-  pages_stay : (n : ℕ) → HasLine host.journal.geo file_pages n → LineKept old.medium new.medium n
-  pages_stay = page_lines-kept host.journal.geo old.medium new.medium (subst IsValid (sym mounted.journal_geometry) serves.layout.valid) outside
+  pages_stay : (n : ℕ) → HasLine host.files.journal.geo file_pages n → LineKept old.medium new.medium n
+  pages_stay = page_lines-kept host.files.journal.geo old.medium new.medium (subst IsValid (sym mounted.journal_geometry) serves.layout.valid) outside
 
-  first_words : (p : ℕ) → p < 8 → IsOf (file_area host.journal.geo) p → ⊥
-  first_words p below of = let first : p / 8 ≡ 0 = omega (arith, below) in first_not_files host.journal.geo (subst (IsOfFiles host.journal.geo) first (area_of_files host.journal.geo p of))
+  first_words : (p : ℕ) → p < 8 → IsOf (file_area host.files.journal.geo) p → ⊥
+  first_words p below of = let first : p / 8 ≡ 0 = omega (arith, below) in first_not_files host.files.journal.geo (subst (IsOfFiles host.files.journal.geo) first (area_of_files host.files.journal.geo p of))
 
   layout_changed : HasLayout host.geometry new.medium
-  layout_changed = layout-outside host.geometry old.medium new.medium serves.layout (IsOf (file_area host.journal.geo)) first_words outside
+  layout_changed = layout-outside host.geometry old.medium new.medium serves.layout (IsOf (file_area host.files.journal.geo)) first_words outside
 
-  mounted_changed : (s : JournalState) → s.geo ≡ host.journal.geo → IsTrue s.settled → JournalServes s new.medium → AreTables host.journal.geo.fpages s.tables
-      → AreMounted host.geometry host.blocks host.volume s new.medium
-  mounted_changed s same settled served right =
-      mounted-files host.geometry host.blocks host.volume host.journal old.medium new.medium serves.layout.valid layout_changed.strong outside.count mounted
-      s blocks_stay volume_stays same settled served (subst (λ g. AreTables g.fpages s.tables) mounted.journal_geometry right)
+  mounted_changed : (s : JournalState) → s.geo ≡ host.files.journal.geo → IsTrue s.settled → JournalServes s new.medium → AreTables host.files.journal.geo.fpages s.tables → KeepsUnits 0 host.files.journal s
+      → AreMounted host.geometry host.blocks host.volume (record host.files { journal = s }) new.medium
+  mounted_changed s same settled served right units =
+      mounted-files host.geometry host.blocks host.volume host.files old.medium new.medium serves.layout.valid layout_changed.strong outside.count mounted
+      (record host.files { journal = s }) blocks_stay volume_stays same settled mounted.pages_settled served (subst (λ g. AreTables g.fpages s.tables) mounted.journal_geometry right)
+      (omega (arith, units.known))
 
   -- the blocks can be read still
   readable_changed : bad_metadata host.geometry new.medium.is_bad ≡ [] → AreReadable host.geometry new.medium
@@ -161,25 +163,25 @@ module _ (host : HostState) (old new : Device) (on : host.mode ≡ On) (serves :
 
 module _ (host : HostState) (s : JournalState) (r : Result (Unit {0}) JournalFault) (why : Option JournalRefusal) (to : Tables) (words : ℕ) (f : List File → List File) (old new : Device)
     (on : host.mode ≡ On) (serves : HostServes host old) (call : FilesCalled host s r why to words old new)
-    (becomes : AreTables host.journal.geo.fpages host.journal.tables → why ≡ None → Becomes host.journal.geo host.journal.tables to f) where
-  became : why ≡ None → Becomes host.journal.geo host.journal.tables to f
+    (becomes : AreTables host.files.journal.geo.fpages host.files.journal.tables → why ≡ None → Becomes host.files.journal.geo host.files.journal.tables to f) where
+  became : why ≡ None → Becomes host.files.journal.geo host.files.journal.tables to f
   became = becomes (right_was host old new on serves call.outside)
 
-  mounted_ok : OnOk r (AreMounted host.geometry host.blocks host.volume s new.medium)
-  mounted_ok = by_result r call.refused call.object.1 call.ok
+  mounted_ok : OnOk r (AreMounted host.geometry host.blocks host.volume (record host.files { journal = s }) new.medium)
+  mounted_ok = by_result r call.refused call.object.1 call.ok call.units
     where
-      by_result : (q : Result (Unit {0}) JournalFault) → Answers journal_says why q → s.settled ≡ is_done (outcome_by journal_says q) → OnOk q (s.tables ≡ to)
-          → OnOk q (AreMounted host.geometry host.blocks host.volume s new.medium)
-      by_result (Ok x) answers settled is =
+      by_result : (q : Result (Unit {0}) JournalFault) → Answers journal_says why q → s.settled ≡ is_done (outcome_by journal_says q) → OnOk q (s.tables ≡ to) → OnOk q (KeepsUnits 0 host.files.journal s)
+          → OnOk q (AreMounted host.geometry host.blocks host.volume (record host.files { journal = s }) new.medium)
+      by_result (Ok x) answers settled is units =
           mounted_changed host old new on serves call.outside s call.object.0 settled (call.serves settled)
-          (subst (AreTables host.journal.geo.fpages) (sym is) (became (worked_none journal_says why (Ok x) answers)).right)
-      by_result (Err e) answers settled is = tt
+          (subst (AreTables host.files.journal.geo.fpages) (sym is) (became (worked_none journal_says why (Ok x) answers)).right) units
+      by_result (Err e) answers settled is units = tt
 
   same_host : OnRefused journal_says r ((journal_after host s host.mode ≡ host) × (new ≡ old))
-  same_host = on_refused-then journal_says r (λ same. (ap (λ j. record host { journal = j }) same.0, same.1)) call.untouched
+  same_host = on_refused-then journal_says r (λ same. (ap (λ j. record host { files = record host.files { journal = j } }) same.0, same.1)) call.untouched
 
   module _ (h : Machine) (stands : Stands host old h) where
-    geo_is : host.journal.geo ≡ h.geometry
+    geo_is : host.files.journal.geo ≡ h.geometry
     geo_is = (serves.mounted on).journal_geometry ∙ stands.geometry
 
     metadata_changed : MetadataStands h.geometry new.medium h.bad_meta
@@ -196,11 +198,11 @@ module _ (host : HostState) (s : JournalState) (r : Result (Unit {0}) JournalFau
             → Runs (commit_calls words) (commit_persists words) (outcome_by journal_says q) old.panel new.panel → OnOk q (Stands (journal_after host s On) new (record h { files = f h.files }))
         by_result (Ok x) answers settled is runs =
             let became_ = became (worked_none journal_says why (Ok x) answers) in
-            let was = files-kept host.journal.geo old.medium new.medium host.journal.tables h.files (right_was host old new on serves call.outside) (pages_stay host old new on serves call.outside) (stands.files on) in
-            let right : AreTables s.geo.fpages s.tables = subst (λ g. AreTables g.fpages s.tables) (sym call.object.0) (subst (AreTables host.journal.geo.fpages) (sym is) became_.right) in
+            let was = files-kept host.files.journal.geo old.medium new.medium host.files.journal.tables h.files (right_was host old new on serves call.outside) (pages_stay host old new on serves call.outside) (stands.files on) in
+            let right : AreTables s.geo.fpages s.tables = subst (λ g. AreTables g.fpages s.tables) (sym call.object.0) (subst (AreTables host.files.journal.geo.fpages) (sym is) became_.right) in
             let now : FilesStand s.geo new.medium s.tables (f h.files) =
             subst (λ g. FilesStand g new.medium s.tables (f h.files)) (sym call.object.0)
-            (subst (λ t. FilesStand host.journal.geo new.medium t (f h.files)) (sym is) (became_.keeps new.medium h.files was)) in
+            (subst (λ t. FilesStand host.files.journal.geo new.medium t (f h.files)) (sym is) (became_.keeps new.medium h.files was)) in
             stands_done host (journal_after host s On) old new h action stands on (commit_calls words) (commit_persists words) few few_persists refl h.blocks h.volume (f h.files) refl runs metadata_changed
             (blocks_still host old new h stands serves on (blocks_stay host old new on serves call.outside)) (pages_still host old new h stands serves on (volume_stays host old new on serves call.outside))
             (λ good. subst (λ g. EachReadsFiles g new.medium (λ x. x ≡ f h.files)) (call.object.0 ∙ geo_is) (served_files s new.medium (f h.files) right (call.serves settled) now), now)
@@ -216,7 +218,7 @@ module _ (host : HostState) (s : JournalState) (r : Result (Unit {0}) JournalFau
         kept_volume : MayLeaveVolume h.geometry (Some action) h.volume h.volume
         kept_volume = subst (λ m. LeavesVolume (m.volume_left h.geometry) h.volume (m.volume h.geometry h.volume) h.volume) (sym row) refl
 
-        left : EachReadsTables host.journal.geo new.medium (IsEither host.journal.tables to) → why ≡ None → DeviceLeft h action new.medium
+        left : EachReadsTables host.files.journal.geo new.medium (IsEither host.files.journal.tables to) → why ≡ None → DeviceLeft h action new.medium
         left images none = record {
           metadata = metadata_changed;
           blocks = λ good.
@@ -227,24 +229,25 @@ module _ (host : HostState) (s : JournalState) (r : Result (Unit {0}) JournalFau
               (λ pages same. subst (MayLeaveVolume h.geometry (Some action) h.volume) (sym same) kept_volume)
               ((pages_still host old new h stands serves on (volume_stays host old new on serves call.outside)).0 good);
           files = λ good.
-              subst (λ m. EachReadsFiles h.geometry new.medium (λ x. (x ≡ h.files) ⊎ (x ≡ m.files h.files))) (sym row)
+              subst (λ m. EachReadsFiles h.geometry new.medium (λ x. LeavesFiles m.files_left h.files (m.files h.files) x)) (sym row)
               (subst (λ g. EachReadsFiles g new.medium (λ x. (x ≡ h.files) ⊎ (x ≡ f h.files))) geo_is
-              (changed_images host.journal.geo old.medium new.medium host.journal.tables to f h.files (right_was host old new on serves call.outside) (became none) (stands.files on)
+              (changed_images host.files.journal.geo old.medium new.medium host.files.journal.tables to f h.files (right_was host old new on serves call.outside) (became none) (stands.files on)
               (pages_stay host old new on serves call.outside) images));
         }
 
-        by_result : (q : Result (Unit {0}) JournalFault) → Answers journal_says why q → OnWorked journal_says q (EachReadsTables host.journal.geo new.medium (IsEither host.journal.tables to))
+        by_result : (q : Result (Unit {0}) JournalFault) → Answers journal_says why q → OnWorked journal_says q (EachReadsTables host.files.journal.geo new.medium (IsEither host.files.journal.tables to))
             → OnWorked journal_says q (DeviceLeft h action new.medium)
         by_result (Ok x) answers images = left images (worked_none journal_says why (Ok x) answers)
         by_result (Err e) answers images = λ stop. left (images stop) (worked_none {T = Unit {0}} journal_says why (Err e) answers stop)
 
 -- a call that changes files, whichever, by its clauses
 pub files_called : {D : Type 0} (state : D → Device) (host : HostState) (s : JournalState) (r : Result (Unit {0}) JournalFault) (why : Option JournalRefusal) (to : Tables) (words : ℕ) (before after : D)
-    → Answers journal_says why r → OnRefused journal_says r ((s ≡ host.journal) × (after ≡ before)) → OnOk r (s.tables ≡ to)
-    → OnWorked journal_says r (EachReadsTables host.journal.geo (state after).medium (IsEither host.journal.tables to)) → WritesBackOutside (IsOf (file_area host.journal.geo)) (state before).medium (state after).medium
-    → (IsTrue s.settled → JournalServes s (state after).medium) → (s.geo ≡ host.journal.geo) × (s.settled ≡ is_done (outcome_by journal_says r))
+    → Answers journal_says why r → OnRefused journal_says r ((s ≡ host.files.journal) × (after ≡ before)) → OnOk r (s.tables ≡ to)
+    → OnWorked journal_says r (EachReadsTables host.files.journal.geo (state after).medium (IsEither host.files.journal.tables to)) → WritesBackOutside (IsOf (file_area host.files.journal.geo)) (state before).medium (state after).medium
+    → (IsTrue s.settled → JournalServes s (state after).medium) → (s.geo ≡ host.files.journal.geo) × (s.settled ≡ is_done (outcome_by journal_says r))
+    → OnOk r (KeepsUnits 0 host.files.journal s)
     → Runs (commit_calls words) (commit_persists words) (outcome_by journal_says r) (state before).panel (state after).panel → FilesCalled host s r why to words (state before) (state after)
-files_called state host s r why to words before after refused untouched ok images outside serves object runs = record {
+files_called state host s r why to words before after refused untouched ok images outside serves object units runs = record {
   refused = refused;
   untouched = on_refused-then journal_says r (λ same. (same.0, ap state same.1)) untouched;
   ok = ok;
@@ -252,13 +255,14 @@ files_called state host s r why to words before after refused untouched ok image
   outside = outside;
   serves = serves;
   object = object;
+  units = units;
   runs = runs;
 }
 
 -- A change of files, by its row, is answered. Of a host behind a reference `host` is what is inside `now`, and `after` what the answer leaves.
 module _ (now host after : HostState) (s : JournalState) (r : Result (Unit {0}) JournalFault) (why : Option JournalRefusal) (to : Tables) (words : ℕ) (f : List File → List File) (old new : Device)
     (inside : host ≡ now) (state : after ≡ journal_after host s (mode_after journal_says r)) (on : now.mode ≡ On) (serves : HostServes now old)
-    (call : FilesCalled host s r why to words old new) (becomes : AreTables host.journal.geo.fpages host.journal.tables → why ≡ None → Becomes host.journal.geo host.journal.tables to f)
+    (call : FilesCalled host s r why to words old new) (becomes : AreTables host.files.journal.geo.fpages host.files.journal.tables → why ≡ None → Becomes host.files.journal.geo host.files.journal.tables to f)
     (action : Action) (reasons : List File → Reasons) (row : meaning action ≡ changing_files reasons f words) where
   on_inside : host.mode ≡ On
   on_inside = ap (λ k. k.mode) inside ∙ on
@@ -292,30 +296,30 @@ module _ (now host after : HostState) (s : JournalState) (r : Result (Unit {0}) 
   change_answered answer fate_is answer_is = record {
     step = λ h stands. change_comes h answer stands (fate_is h stands) answer_is;
     printable = subst IsPrintable (sym answer_is) (printable_after journal_says journal_answer files_part Done tt r);
-    room = let short = subst (λ a. most_of a ≤ 64) (sym answer_is) (short_after journal_says journal_answer files_part Done (omega arith) r) in subst (λ m. most_of answer ≤ m.room) (sym row) short;
+    room = let short = subst (λ a. most_of a ≤ 72) (sym answer_is) (short_after journal_says journal_answer files_part Done (omega arith) r) in subst (λ m. most_of answer ≤ m.room) (sym row) short;
     serves = change_serves;
   }
 
 -- What the journal tells of files is told of the machine's, of a state that the host stands for.
 module _ (now host : HostState) (old : Device) (h : Machine) (inside : host ≡ now) (on : now.mode ≡ On) (serves : HostServes now old) (stands : Stands now old h) where
-  journal_sizes : host.journal.geo ≡ h.geometry
-  journal_sizes = ap (λ k. k.journal.geo) inside ∙ (serves.mounted on).journal_geometry ∙ stands.geometry
+  journal_sizes : host.files.journal.geo ≡ h.geometry
+  journal_sizes = ap (λ k. k.files.journal.geo) inside ∙ (serves.mounted on).journal_geometry ∙ stands.geometry
 
-  files_seen : FilesStand host.journal.geo old.medium host.journal.tables h.files
-  files_seen = subst (λ k. FilesStand k.journal.geo old.medium k.journal.tables h.files) (sym inside) (stands.files on)
+  files_seen : FilesStand host.files.journal.geo old.medium host.files.journal.tables h.files
+  files_seen = subst (λ k. FilesStand k.files.journal.geo old.medium k.files.journal.tables h.files) (sym inside) (stands.files on)
 
-  right_seen : AreTables now.geometry.fpages host.journal.tables
-  right_seen = subst (λ k. AreTables now.geometry.fpages k.journal.tables) (sym inside) (serves.mounted on).journal_right
+  right_seen : AreTables now.geometry.fpages host.files.journal.tables
+  right_seen = subst (λ k. AreTables now.geometry.fpages k.files.journal.tables) (sym inside) (serves.mounted on).journal_right
 
-  pub sees_files : SeesFiles h host.journal old.medium
+  pub sees_files : SeesFiles h host.files.journal old.medium
   sees_files = record {
     on = sym stands.mode ∙ on;
     meta = ap (metadata_refusal true) (sym stands.device.metadata.bad ∙ ap (λ g. bad_metadata g old.medium.is_bad) (sym journal_sizes))
-        ∙ meta_refused Meta journal_answer (λ n. refl) host.journal.geo old.medium.is_bad;
-    names = λ name. sym (has_file-stands host.journal.geo old.medium host.journal.tables h.files files_seen now.geometry.fpages name right_seen);
-    count = sym (file_count-stands host.journal.geo old.medium host.journal.tables h.files files_seen);
+        ∙ meta_refused Meta journal_answer (λ n. refl) host.files.journal.geo old.medium.is_bad;
+    names = λ name. sym (has_file-stands host.files.journal.geo old.medium host.files.journal.tables h.files files_seen now.geometry.fpages name right_seen);
+    count = sym (file_count-stands host.files.journal.geo old.medium host.files.journal.tables h.files files_seen);
   }
 
   -- the same list of them
-  pub listed_seen : listed host.journal.tables ≡ map entry_of_file h.files
-  listed_seen = listed-stands host.journal.geo old.medium host.journal.tables h.files files_seen
+  pub listed_seen : listed host.files.journal.tables ≡ map entry_of_file h.files
+  listed_seen = listed-stands host.files.journal.geo old.medium host.files.journal.tables h.files files_seen

@@ -32,6 +32,7 @@ pub mod RemountLemmas
 pub mod SettlingLemmas
 pub mod VolumeFateLemmas
 pub mod FilesFateLemmas
+pub mod FilesLeftLemmas
 pub mod FilesCallLemmas
 mod ListingLemmas
 pub mod LoadLemmas

@@ -61,7 +61,7 @@ quiet_line Range = refl
 quiet_line Nothing = refl
 quiet_line NotPoisoned = refl
 
-pub short_line : (w : ScrubRefusal) → most_of (line_answer w) ≤ 64
+pub short_line : (w : ScrubRefusal) → most_of (line_answer w) ≤ 72
 short_line Range = omega arith
 short_line Nothing = omega arith
 short_line NotPoisoned = omega arith
@@ -80,7 +80,7 @@ pub if_err_all : {T E : Type 0} {P : E → Type 0} (r : Result T E) → ((f : E)
 if_err_all (Ok x) all = tt
 if_err_all (Err f) all = all f
 
-short_after : {E : Type 0} (says : E → Told ScrubRefusal) (r : Result (Unit {0}) E) → most_of (answer_after says line_answer Done r) ≤ 64
+short_after : {E : Type 0} (says : E → Told ScrubRefusal) (r : Result (Unit {0}) E) → most_of (answer_after says line_answer Done r) ≤ 72
 short_after says (Ok x) = omega arith
 short_after says (Err f) = short_told line_answer short_line (says f)
 
@@ -130,7 +130,7 @@ unfolding first_line size
 data_behind geo n has = omega (arith, has)
 
 module _ (host : HostState) (old new : Device) (serves : HostServes host old) (on : host.mode ≡ On) (panel : new.panel ≡ old.panel) where
-  mounted : AreMounted host.geometry host.blocks host.volume host.journal old.medium
+  mounted : AreMounted host.geometry host.blocks host.volume host.files old.medium
   mounted = serves.mounted on
 
   -- it was refused, so all is as it was
@@ -157,7 +157,7 @@ module _ (host : HostState) (old new : Device) (serves : HostServes host old) (o
         (comes_of_marking place_says line_answer quiet_line host old new h (record h { blocks = lose block line h.blocks }) (PoisonBlock block line) r (block_refusal h.geometry.blocks h.blocks block line) stands panel
         (subst (λ o. Answers place_says o r) seen refused) (if_err_all r place_refuses) untouched (stands_ok r refused ok h stands)));
     printable = subst IsPrintable (sym answer_is) (line_printable place_says r);
-    room = subst (λ a. most_of a ≤ 64) (sym answer_is) (short_after place_says r);
+    room = subst (λ a. most_of a ≤ 72) (sym answer_is) (short_after place_says r);
     serves = serves_by r refused untouched;
   }
     where
@@ -189,7 +189,7 @@ module _ (host : HostState) (old new : Device) (serves : HostServes host old) (o
       serves_by (Err f) refused untouched = same_serves (refused_same place_says f (place_refuses f) untouched)
 
   -- a line of the volume
-  pub volume_line_answered : {E : Type 0} (says : E → Told ScrubRefusal) (mark : Cell → Cell) (action : Action) (offset : ℕ) (r : Result (Unit {0}) E) (answer : Answer) → longest action ≡ 64
+  pub volume_line_answered : {E : Type 0} (says : E → Told ScrubRefusal) (mark : Cell → Cell) (action : Action) (offset : ℕ) (r : Result (Unit {0}) E) (answer : Answer) → longest action ≡ 72
       → ((h : Machine) → Stands host old h → fate h action ≡ unless_refused h (option_map line_answer (place_refusal h.geometry h.volume offset)) (Gives Done (record h { volume = change_line mark (offset / 64) h.volume })))
       → ((pages : List Page) → VolumeHolds host.volume old.medium pages → Answers says (place_refusal host.volume.geo pages offset) r) → IfErr r (λ f. IsRefusal (says f)) → OnRefused says r (new ≡ old)
       → OnOk r ((pages : List Page) → VolumeHolds host.volume old.medium pages → VolumeHolds host.volume new.medium (change_line mark (offset / 64) pages))
@@ -203,7 +203,7 @@ module _ (host : HostState) (old new : Device) (serves : HostServes host old) (o
         (comes_of_marking says line_answer quiet_line host old new h (record h { volume = change_line mark (offset / 64) h.volume }) action r (place_refusal h.geometry h.volume offset) stands panel
         (subst (λ g. Answers says (place_refusal g h.volume offset) r) (mounted.volume_geometry ∙ stands.geometry) (refused h.volume pages)) told untouched (stands_ok r refused ok h stands)));
     printable = subst IsPrintable (sym answer_is) (line_printable says r);
-    room = subst (λ n. most_of answer ≤ n) (sym long) (subst (λ a. most_of a ≤ 64) (sym answer_is) (short_after says r));
+    room = subst (λ n. most_of answer ≤ n) (sym long) (subst (λ a. most_of a ≤ 72) (sym answer_is) (short_after says r));
     serves = serves_by r refused told untouched;
   }
     where

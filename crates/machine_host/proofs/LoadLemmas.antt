@@ -110,5 +110,5 @@ module _ (now host after : HostState) (s : VolumeState) (r : Result (Unit {0}) V
   }
 
 -- as many bytes as the buffer has
-pub taken_short : (len : ℕ) (items bytes : List ℕ) → length items ≡ len → most_of (Bytes (take (length items) bytes)) ≤ 64 + 3 * len
+pub taken_short : (len : ℕ) (items bytes : List ℕ) → length items ≡ len → most_of (Bytes (take (length items) bytes)) ≤ 72 + 3 * len
 taken_short len items bytes size = let few : length (take (length items) bytes) ≤ length items = subst (λ n. n ≤ length items) (sym (length-take (length items) bytes)) (min-le_left (length items) (length bytes)) in omega (arith, few, size)

@@ -102,7 +102,7 @@ module _ (host : HostState) (old new : Device) (serves : HostServes host old) (o
   abbrev geo : Geometry
   geo = host.geometry
 
-  mounted : AreMounted geo host.blocks host.volume host.journal old.medium
+  mounted : AreMounted geo host.blocks host.volume host.files old.medium
   mounted = serves.mounted on
 
   metadata_line : (n : ℕ) → n < meta_lines geo → LineKept old.medium new.medium n
@@ -114,7 +114,7 @@ module _ (host : HostState) (old new : Device) (serves : HostServes host old) (o
   strong_marked : (n : ℕ) → n < meta_lines geo → new.medium.is_weak n ≡ false
   strong_marked n below = (metadata_line n below).weak ∙ serves.layout.strong n below
 
-  goes_on : AreMounted geo host.blocks host.volume host.journal new.medium → HostServes host new
+  goes_on : AreMounted geo host.blocks host.volume host.files new.medium → HostServes host new
   goes_on now = record {
     layout = layout_marked;
     readable = λ none. readable_served geo host.blocks new.medium now.geometry now.serves (good_lines geo new.medium none);
@@ -141,7 +141,7 @@ module _ (host : HostState) (old new : Device) (serves : HostServes host old) (o
 
     pub blocks_marked_serve : HostServes host new
     blocks_marked_serve =
-        goes_on (mounted-blocks geo host.blocks host.volume host.journal old.medium new.medium serves.layout.valid strong_marked x.count mounted
+        goes_on (mounted-blocks geo host.blocks host.volume host.files old.medium new.medium serves.layout.valid strong_marked x.count mounted
         host.blocks volume_line_kept file_line_kept refl mounted.settled served)
 
     pub blocks_marked : (h : Machine) (action : Action) (f : List Block → List Block) → Stands host old h → blocks_of host.blocks new.medium ≡ f (blocks_of host.blocks old.medium)
@@ -166,7 +166,7 @@ module _ (host : HostState) (old new : Device) (serves : HostServes host old) (o
 
     pub volume_marked_serves : HostServes host new
     volume_marked_serves =
-        goes_on (mounted-volume geo host.blocks host.volume host.journal old.medium new.medium serves.layout.valid strong_marked x.count mounted
+        goes_on (mounted-volume geo host.blocks host.volume host.files old.medium new.medium serves.layout.valid strong_marked x.count mounted
         host.volume block_line_stays file_line_stays refl mounted.volume_settled served)
 
     pub volume_marked : (h : Machine) (action : Action) (pages : List Page) → Stands host old h → VolumeHolds host.volume new.medium pages → Stands host new (record h { volume = pages })

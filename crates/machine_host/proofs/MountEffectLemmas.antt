@@ -19,6 +19,7 @@ use Rattle.pm_volume.specs.Presence.{presence_read}
 use Rattle.file_journal.specs.Area.{file_area}
 use Rattle.file_journal.specs.Object.{JournalServes, JournalState}
 use Rattle.file_journal.specs.Reading.{tables_read}
+use Rattle.file_journal.specs.Tables.{known_units}
 use Rattle.recovery.specs.Findings.{geometry_told, early_finding, inspection_finding, first_finding}
 use Rattle.recovery.specs.Mounting.{HasDurableBlocks, IsOfLogs}
 use Rattle.recovery.proofs.FindingLemmas.{early_inspection}
@@ -49,6 +50,7 @@ pub record Gives (old new : Device) (s : BlocksState) (v : VolumeState) (j : Jou
   pub tables : j.tables ≡ tables_read (geometry_told old.medium) (last_image old.medium)
   pub journal_settled : IsTrue j.settled
   pub journal_serves : JournalServes j new.medium
+  pub journal_held : known_units j.tables.pages j.free ≡ (geometry_told old.medium).fpages
 
 -- a mount of lines with the host's layout
 module _ (geo : Geometry) (old new : Device) (layout : HasLayout geo old.medium) (sound : IsSound old.medium) (x : IsMount old new) where

@@ -207,12 +207,11 @@ mounted_shows shown found pages cut fail (inr new) healthy rest later e =
     inr (back_shows shown found pages cut fail (written (fresh small)).blocks new (codes "11*1024") new_shows healthy rest later e)
 
 -- without files before a command that leaves them, a restart reads none
-pub none_left : (left : List File) → (left ≡ (fresh small).files) ⊎ (left ≡ (fresh small).files) → left ≡ []
+pub none_left : (left : List File) → left ≡ (fresh small).files → left ≡ []
 unfolding reading files_read file_words tables_of slots_of listed size first_line
-none_left left (inl is) = is
-none_left left (inr is) = is
+none_left left is = is
 
-none_read : (choice : Choice) (image : Image) (left : List File) → (left ≡ (fresh small).files) ⊎ (left ≡ (fresh small).files) → KeepsFiles choice small image left
+none_read : (choice : Choice) (image : Image) (left : List File) → left ≡ (fresh small).files → KeepsFiles choice small image left
     → files_read small image ≡ []
 none_read choice image left may keeps = holes_read choice small image [] tt (subst (KeepsFiles choice small image) (none_left left may) keeps)
 

@@ -76,7 +76,7 @@ module _ (host : HostState) (old new : Device) (line : ℕ) (serves : HostServes
       by_line true = refl
       by_line false = strong
 
-  still_mounted : AreMounted host.geometry host.blocks host.volume host.journal old.medium → AreMounted host.geometry host.blocks host.volume host.journal new.medium
+  still_mounted : AreMounted host.geometry host.blocks host.volume host.files old.medium → AreMounted host.geometry host.blocks host.volume host.files new.medium
   still_mounted mounted = record {
     geometry = mounted.geometry;
     settled = mounted.settled;
@@ -86,8 +86,10 @@ module _ (host : HostState) (old new : Device) (line : ℕ) (serves : HostServes
     volume_serves = volume_serves-kept host.volume old.medium new.medium (λ p of v at. fewer p v at) (λ n below. still_strong n (mounted.volume_serves.strong n below)) w.count mounted.volume_serves;
     journal_geometry = mounted.journal_geometry;
     journal_settled = mounted.journal_settled;
-    journal_serves = journal-kept host.journal old.medium new.medium (λ p of v at. fewer p v at) (λ n below. still_strong n (mounted.journal_serves.strong n below)) w.count mounted.journal_serves;
+    journal_serves = journal-kept host.files.journal old.medium new.medium (λ p of v at. fewer p v at) (λ n below. still_strong n (mounted.journal_serves.strong n below)) w.count mounted.journal_serves;
     journal_right = mounted.journal_right;
+    journal_held = mounted.journal_held;
+    pages_settled = mounted.pages_settled;
   }
 
   serves_poisoned : HostServes host new
@@ -120,10 +122,10 @@ module _ (host : HostState) (old new : Device) (line : ℕ) (serves : HostServes
               (λ n lt. behind_kept (volume_line v.geo n) (subst (λ g. meta_lines g ≤ volume_line v.geo n) mounted.volume_geometry (volume_behind v.geo n))) holds.stand;
         }
 
-    files_same : host.mode ≡ modes.On → FilesStand host.journal.geo new.medium host.journal.tables h.files
+    files_same : host.mode ≡ modes.On → FilesStand host.files.journal.geo new.medium host.files.journal.tables h.files
     files_same on =
         let mounted = serves.mounted on in
-        let j = host.journal in
+        let j = host.files.journal in
         files-kept j.geo old.medium new.medium j.tables h.files (subst (λ g. AreTables g.fpages j.tables) (sym mounted.journal_geometry) mounted.journal_right)
         (λ n has. behind_kept n (subst (λ g. meta_lines g ≤ n) mounted.journal_geometry (page_line_behind j.geo n has))) (stands.files on)
 

@@ -50,7 +50,7 @@ use Rattle.machine_host.specs.Run.{worked}
 use Rattle.machine_host.specs.Telling.{Tells}
 use Rattle.machine_host.specs.Faults.{CountsBad}
 use Rattle.machine_host.specs.Lines.{HasLayout, MetadataStands, bad_metadata}
-use Rattle.machine_host.specs.Stands.{HostState, HostServes, Stands, is_powered}
+use Rattle.machine_host.specs.Stands.{HostState, HostServes, Stands, is_powered, just_mounted}
 use Rattle.machine_host.proofs.BadLineLemmas.{bad_found, found_bad, good_lines}
 use Rattle.machine_host.proofs.LogLineLemmas.{file_pages_kept, range_kept}
 use Rattle.machine_host.proofs.MountEffectLemmas.{Gives, IsMount, durable_mount, good_of, layout_mount, marks_mount, none_found, outside_of, readable_mount}
@@ -74,7 +74,7 @@ pub record BroughtUp (h : Machine) (after : HostState) (new : Device) : Type 0 w
 module _ (host : HostState) (old new : Device) (serves : HostServes host old) (unsettled : host.mode ≡ modes.Unsettled) (sound : IsSound old.medium) (x : IsMount old new) where
   -- the host in another mode, with nothing mounted
   abbrev pub in_mode : Mode → HostState
-  in_mode mode = record { geometry = host.geometry; mode = mode; blocks = host.blocks; volume = host.volume; journal = host.journal }
+  in_mode mode = record { geometry = host.geometry; mode = mode; blocks = host.blocks; volume = host.volume; files = host.files }
 
   layout_new : HasLayout host.geometry new.medium
   layout_new = layout_mount host.geometry old new serves.layout sound x
@@ -91,7 +91,7 @@ module _ (host : HostState) (old new : Device) (serves : HostServes host old) (u
   -- the mount was done
   module _ (runs : Runs mount_calls mount_persists went old.panel new.panel) (found : first_finding old.medium ≡ None) (s : BlocksState) (v : VolumeState) (j : JournalState) (given : Gives old new s v j) where
     abbrev pub taken : HostState
-    taken = record { geometry = host.geometry; mode = modes.On; blocks = s; volume = v; journal = j }
+    taken = record { geometry = host.geometry; mode = modes.On; blocks = s; volume = v; files = just_mounted j }
 
     none : bad_metadata host.geometry old.medium.is_bad ≡ []
     none = none_found host.geometry old new serves.layout sound x found
@@ -124,6 +124,8 @@ module _ (host : HostState) (old new : Device) (serves : HostServes host old) (u
         journal_settled = given.journal_settled;
         journal_serves = given.journal_serves;
         journal_right = right;
+        journal_held = given.journal_held ∙ ap (λ g. g.fpages) told.sizes;
+        pages_settled = refl;
       };
       stopped = λ stop. cc stop;
     }

@@ -31,7 +31,7 @@ use Rattle.machine_host.specs.Recovering.{RecoveryMayLeave}
 use Rattle.machine_host.specs.Restarting.{mounted_answer, restarted}
 use Rattle.machine_host.specs.Run.{Ends, with_start, worked}
 use Rattle.machine_host.specs.Telling.{Tells}
-use Rattle.machine_host.specs.Stands.{HostState, HostServes, Stands, Comes, is_powered}
+use Rattle.machine_host.specs.Stands.{HostState, HostServes, Stands, Comes, is_powered, just_mounted}
 use Rattle.machine_host.specs.Faults.{CountsBad, LeftUnmounted, unmounted_answer, unmounted_mode}
 use Rattle.machine_host.specs.Meaning.{mode_refusal}
 use Rattle.machine_host.specs.Responding.{Answered, Responds}
@@ -47,23 +47,23 @@ use Rattle.machine_host.proofs.RestartLemmas.{keeps, serves_back, stands_back}
 pub record MountAnswered (host after : HostState) (answer : Answer) (old new : Device) : Type 0 where
   pub step : (h : Machine) → Stands host old h → MountsTo h answer after old new
   pub printable : IsPrintable answer
-  pub room : most_of answer ≤ 64
+  pub room : most_of answer ≤ 72
   pub serves : HostServes after new
 
 module _ (host : HostState) (old new : Device) (serves : HostServes host old) (unsettled : host.mode ≡ modes.Unsettled) (sound : IsSound old.medium) (x : IsMount old new) where
   abbrev in_mode : Mode → HostState
-  in_mode mode = record { geometry = host.geometry; mode = mode; blocks = host.blocks; volume = host.volume; journal = host.journal }
+  in_mode mode = record { geometry = host.geometry; mode = mode; blocks = host.blocks; volume = host.volume; files = host.files }
 
   on : old.panel.power ≡ true
   on = serves.power ∙ ap is_powered unsettled
 
   -- it was done
   pub mount_done : (s : BlocksState) (v : VolumeState) (j : JournalState) (answer : Answer) → Runs mount_calls mount_persists went old.panel new.panel → first_finding old.medium ≡ None → Gives old new s v j → CountsBad s v j new.medium answer
-      → MountAnswered host (record { geometry = host.geometry; mode = modes.On; blocks = s; volume = v; journal = j }) answer old new
+      → MountAnswered host (record { geometry = host.geometry; mode = modes.On; blocks = s; volume = v; files = just_mounted j }) answer old new
   mount_done s v j answer runs found given counts = record {
     step = λ h stands. mounts_done host old new serves unsettled sound x h stands runs found s v j given answer counts;
     printable = subst IsPrintable (sym counts.told) tt;
-    room = subst (λ a. most_of a ≤ 64) (sym counts.told) (omega arith);
+    room = subst (λ a. most_of a ≤ 72) (sym counts.told) (omega arith);
     serves = serves_taken host old new serves unsettled sound x runs found s v j given;
   }
 

@@ -23,7 +23,7 @@ use Rattle.machine_host.specs.Machine.{Machine}
 use Rattle.machine_host.specs.Recovering.{RecoveryMayLeave}
 use Rattle.machine_host.specs.Restarting.{RestartMayLeave, restarted}
 use Rattle.machine_host.specs.Costs.{mount_calls, mount_persists}
-use Rattle.machine_host.specs.Stands.{HostState, HostServes, Stands, is_powered}
+use Rattle.machine_host.specs.Stands.{HostState, HostServes, Stands, is_powered, just_mounted}
 use Rattle.machine_host.specs.Telling.{bumped_by}
 use Rattle.machine_host.specs.Settling.{Asks, IsQuiet, IsSettled, LeavesUnmounted, StaysUnmounted, LeftUnsettled, MountsAnew, Settled, Settles, SettlesTo, disarmed, is_down}
 use Rattle.machine_host.proofs.BadLineLemmas.{found_bad}
@@ -81,7 +81,7 @@ module _ (host : HostState) (old new : Device) (serves : HostServes host old) (u
 
   -- it was done
   pub settled_taken : (after : HostState) (s : BlocksState) (v : VolumeState) (j : JournalState) → first_finding old.medium ≡ None → Gives old new s v j
-      → after ≡ record host { mode = modes.On; blocks = s; volume = v; journal = j } → IsSettled host after old new
+      → after ≡ record host { mode = modes.On; blocks = s; volume = v; files = just_mounted j } → IsSettled host after old new
   settled_taken after s v j found given is =
       subst (λ k. IsSettled host k old new) (sym is) (
         refl,

@@ -54,7 +54,7 @@ abbrev pub PagesAre : HostState → Device → Machine → List Page → Type 0
 PagesAre host d h pages = (h.bad_meta ≡ [] → EachReadsPages h.geometry d.medium (λ x. x ≡ pages)) × VolumeHolds host.volume d.medium pages
 
 abbrev pub FilesAre : HostState → Device → Machine → List File → Type 0
-FilesAre host d h files = (h.bad_meta ≡ [] → EachReadsFiles h.geometry d.medium (λ x. x ≡ files)) × FilesStand host.journal.geo d.medium host.journal.tables files
+FilesAre host d h files = (h.bad_meta ≡ [] → EachReadsFiles h.geometry d.medium (λ x. x ≡ files)) × FilesStand host.files.journal.geo d.medium host.files.journal.tables files
 
 -- Each part stays for what it is, while lines of other parts are worked on.
 module _ (host : HostState) (old new : Device) (h : Machine) (stands : Stands host old h) (serves : HostServes host old) where
@@ -84,7 +84,7 @@ module _ (host : HostState) (old new : Device) (h : Machine) (stands : Stands ho
       )
 
   pub files_aside : ((line : ℕ) → IsOfFiles host.geometry line → LineKept old.medium new.medium line)
-      → (h.bad_meta ≡ [] → EachReadsFiles h.geometry new.medium (MayLeaveFiles h.interrupted h.files)) × (host.mode ≡ modes.On → FilesStand host.journal.geo new.medium host.journal.tables h.files)
+      → (h.bad_meta ≡ [] → EachReadsFiles h.geometry new.medium (MayLeaveFiles h.interrupted h.files)) × (host.mode ≡ modes.On → FilesStand host.files.journal.geo new.medium host.files.journal.tables h.files)
   files_aside kept =
       let P = MayLeaveFiles h.interrupted h.files in (
         λ good.
@@ -92,7 +92,7 @@ module _ (host : HostState) (old new : Device) (h : Machine) (stands : Stands ho
             (files_elsewhere host.geometry old.medium new.medium kept P (subst (λ g. EachReadsFiles g old.medium P) (sym stands.geometry) (stands.device.files good))),
         λ on.
             let mounted = serves.mounted on in
-            files_stand_elsewhere host.geometry old.medium new.medium kept host.journal h.files mounted.journal_geometry mounted.journal_right (stands.files on),
+            files_stand_elsewhere host.geometry old.medium new.medium kept host.files.journal h.files mounted.journal_geometry mounted.journal_right (stands.files on),
       )
 
   -- With the power on nothing is interrupted.

@@ -48,6 +48,7 @@ use Rattle.machine_host.specs.Stands.{HostState, HostServes, AreMounted, Stands,
 use Rattle.machine_host.proofs.CallLemmas.{IsPart, comes_of_call, on_refused-then, printable_after, serves_of_call, short_told}
 use Rattle.machine_host.proofs.ElsewhereLemmas.{first_not_volume, mounted-volume, volume_apart}
 use Rattle.machine_host.proofs.FilesAsideLemmas.{files_not_volume}
+use Rattle.machine_host.proofs.FilesLeftLemmas.{may_leave-same}
 use Rattle.machine_host.proofs.LayoutLemmas.{kept-others, layout-others, metadata-then, same_bad, stays_of_kept}
 use Rattle.machine_host.proofs.RefusalLemmas.{meta_refused}
 use Rattle.machine_host.proofs.StepLemmas.{BlocksAre, DeviceLeft, FilesAre, blocks_still, files_still, stands_done}
@@ -80,7 +81,7 @@ no_stop Address = refl
 no_stop (Meta line) = refl
 no_stop (Poison offset) = refl
 
-short_refusal : (w : VolumeRefusal) → most_of (volume_answer w) ≤ 64
+short_refusal : (w : VolumeRefusal) → most_of (volume_answer w) ≤ 72
 short_refusal Range = omega arith
 short_refusal Length = omega arith
 short_refusal Address = omega arith
@@ -97,7 +98,7 @@ printable_refusal (Poison offset) = tt
 pub volume_part : IsPart volume_says volume_answer
 volume_part = record { printable = printable_refusal; quiet = no_stop; short = short_refusal; fed = never_starves }
 
-pub short_after : {E R : Type 0} (says : E → Told R) (answer_to : R → Answer) → IsPart says answer_to → (good : Answer) → most_of good ≤ 64 → (r : Result (Unit {0}) E) → most_of (answer_after says answer_to good r) ≤ 64
+pub short_after : {E R : Type 0} (says : E → Told R) (answer_to : R → Answer) → IsPart says answer_to → (good : Answer) → most_of good ≤ 72 → (r : Result (Unit {0}) E) → most_of (answer_after says answer_to good r) ≤ 72
 short_after says answer_to part good short (Ok x) = short
 short_after says answer_to part good short (Err f) = short_told answer_to part.short (says f)
 
@@ -106,7 +107,7 @@ abbrev pub volume_after : HostState → VolumeState → Mode → HostState
 volume_after host s mode = record host { mode = mode; volume = s }
 
 module _ (host : HostState) (old new : Device) (on : host.mode ≡ On) (serves : HostServes host old) (outside : WritesBackOthers (IsOfVolume host.volume.geo) old.medium new.medium) where
-  mounted : AreMounted host.geometry host.blocks host.volume host.journal old.medium
+  mounted : AreMounted host.geometry host.blocks host.volume host.files old.medium
   mounted = serves.mounted on
 
   work_outside : WritesBackOthers (IsOfVolume host.geometry) old.medium new.medium
@@ -125,9 +126,9 @@ module _ (host : HostState) (old new : Device) (on : host.mode ≡ On) (serves :
   layout_worked : HasLayout host.geometry new.medium
   layout_worked = layout-others host.geometry old.medium new.medium serves.layout (IsOfVolume host.geometry) (λ of. first_not_volume host.geometry 0 (omega arith) of) work_outside
 
-  mounted_worked : (s : VolumeState) → s.geo ≡ host.volume.geo → IsTrue s.settled → VolumeServes s new.medium → AreMounted host.geometry host.blocks s host.journal new.medium
+  mounted_worked : (s : VolumeState) → s.geo ≡ host.volume.geo → IsTrue s.settled → VolumeServes s new.medium → AreMounted host.geometry host.blocks s host.files new.medium
   mounted_worked s same settled served =
-      mounted-volume host.geometry host.blocks host.volume host.journal old.medium new.medium serves.layout.valid (λ n below. work_outside.stays_strong n (serves.layout.strong n below)) work_outside.count mounted
+      mounted-volume host.geometry host.blocks host.volume host.files old.medium new.medium serves.layout.valid (λ n below. work_outside.stays_strong n (serves.layout.strong n below)) work_outside.count mounted
       s blocks_stay files_stay same settled served
 
   -- the blocks can be read still
@@ -171,7 +172,7 @@ module _ {E R : Type 0} (says : E → Told R) (host : HostState) (s : VolumeStat
     metadata = metadata_after outside marks;
     blocks = λ good. each_reads-then h.geometry new.medium (λ bs. bs ≡ h.blocks) (MayLeaveBlocks (Some action) h.blocks) kept ((blocks_after outside).0 good);
     volume = λ good. subst (λ g. EachReadsPages g new.medium (MayLeaveVolume g (Some action) h.volume)) geo_is each;
-    files = λ good. each_files-then h.geometry new.medium (λ files. files ≡ h.files) (MayLeaveFiles (Some action) h.files) (λ files same. inl same) ((files_after outside).0 good);
+    files = λ good. each_files-then h.geometry new.medium (λ files. files ≡ h.files) (MayLeaveFiles (Some action) h.files) (may_leave-same (Some action) h.files) ((files_after outside).0 good);
   }
 
   left_worked : {T : Type 0} (r : Result T E) → ((bs : List Block) → bs ≡ h.blocks → MayLeaveBlocks (Some action) h.blocks bs)
@@ -185,7 +186,7 @@ same_host says host s (Ok x) old new untouched = tt
 same_host says host s (Err e) old new untouched = λ told. let same = untouched told in (ap (λ v. record host { volume = v }) same.0, same.1)
 
 mounted_ok : {T E R : Type 0} {may : List Page → List Page → Type 0} (says : E → Told R) (host : HostState) (s : VolumeState) (r : Result T E) (calls persists : ℕ) (old new : Device) → host.mode ≡ On → HostServes host old
-    → VolumeCalled says host s r may calls persists old new → OnOk r (AreMounted host.geometry host.blocks s host.journal new.medium)
+    → VolumeCalled says host s r may calls persists old new → OnOk r (AreMounted host.geometry host.blocks s host.files new.medium)
 mounted_ok says host s (Ok x) calls persists old new on serves c = mounted_worked host old new on serves c.outside s c.sizes c.settled (c.serves c.settled)
 mounted_ok says host s (Err e) calls persists old new on serves c = tt
 
@@ -279,14 +280,14 @@ module _ {E R : Type 0} (says : E → Told R) (answer_to : R → Answer) (part :
     (kept : (h : Machine) (bs : List Block) → bs ≡ h.blocks → MayLeaveBlocks (Some action) h.blocks bs)
     (call : VolumeCalled says host s r (MayLeaveVolume host.volume.geo (Some action)) calls persists old new) where
   -- A change of the volume is answered.
-  pub work_answered : (answer : Answer) (why : List Page → Option R) (to : Machine → List Page) → longest action ≡ 64
+  pub work_answered : (answer : Answer) (why : List Page → Option R) (to : Machine → List Page) → longest action ≡ 72
       → ((h : Machine) → Stands now old h → fate h action ≡ unless_refused h (option_map answer_to (why h.volume)) (Works Done (record h { volume = to h })))
       → ((h : Machine) → Stands now old h → Answers says (why h.volume) r) → ((h : Machine) → Stands now old h → OnOk r (VolumeHolds s new.medium (to h)))
       → answer ≡ answer_after says answer_to Done r → Answered action answer now after old new
   work_answered answer why to long fate_is refused ok answer_is = record {
     step = λ h stands. work_comes says answer_to part now host after s r calls persists old new inside state on serves action few kept call h Done answer (why h.volume) (to h) refl stands (fate_is h stands) (refused h stands) (ok h stands) answer_is;
     printable = subst IsPrintable (sym answer_is) (printable_after says answer_to part Done tt r);
-    room = let short = subst (λ a. most_of a ≤ 64) (sym answer_is) (short_after says answer_to part Done (omega arith) r) in subst (λ n. most_of answer ≤ n) (sym long) short;
+    room = let short = subst (λ a. most_of a ≤ 72) (sym answer_is) (short_after says answer_to part Done (omega arith) r) in subst (λ n. most_of answer ≤ n) (sym long) short;
     serves = work_serves says answer_to part now host after s r calls persists old new inside state on serves action few kept call;
   }
 

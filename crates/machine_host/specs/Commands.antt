@@ -1,6 +1,7 @@
 -- The table of commands: a row each, and what follows from the rows.
 use Rattle.std.specs.Prelude.{◌≡◌, ◌⊎◌, ℕ, List, Option, Some, None, option_map}
 use Rattle.nvm_model.specs.Blocks.{first_there, IsMixed}
+use Rattle.nvm_model.specs.Files.{OneFileLeft}
 use Rattle.nvm_model.specs.Interrupted.{MayStore, MaySync}
 use Rattle.nvm_model.specs.Numbered.{AreMixed}
 use Rattle.nvm_model.specs.Page.{Page}
@@ -15,8 +16,9 @@ use Rattle.machine_host.specs.declared.mode.Mode.{Mode}
 use Rattle.machine_host.specs.Costs.{Spending}
 use Rattle.machine_host.specs.Machine.{Machine, Fate}
 use Rattle.machine_host.specs.Machine.Fate.{Gives}
-use Rattle.machine_host.specs.Meaning.{BlocksLeft, Meaning, VolumeLeft, first_reason, mode_refusal}
+use Rattle.machine_host.specs.Meaning.{BlocksLeft, FilesLeft, Meaning, VolumeLeft, first_reason, mode_refusal}
 use Rattle.machine_host.specs.Meaning.BlocksLeft.{Same, Either, Mixed}
+use Rattle.machine_host.specs.Meaning.FilesLeft.{Unchanged, OldOrNew, StoredInPart}
 use Rattle.machine_host.specs.Meaning.VolumeLeft.{Kept, PartStored, PartSynced, AllOrNone, PageByPage}
 use Rattle.machine_host.specs.OnBlocks as on_blocks
 use Rattle.machine_host.specs.OnVolume as on_volume
@@ -85,7 +87,7 @@ spending h action = (meaning action).spends h
 abbrev pub longest : Action → ℕ
 longest action = (meaning action).room
 
--- what an interruption leaves of blocks that would become others, and of pages
+-- what an interruption leaves of blocks that would become others, of pages, and of files
 abbrev pub LeavesBlocks : BlocksLeft → List Block → List Block → List Block → Type 0
 LeavesBlocks Same old to new = new ≡ old
 LeavesBlocks Either old to new = IsEither old to new
@@ -98,6 +100,11 @@ LeavesVolume (PartSynced offset len) old to new = MaySync offset len old new
 LeavesVolume AllOrNone old to new = (new ≡ old) ⊎ (new ≡ to)
 LeavesVolume PageByPage old to new = AreMixed Page old to new
 
+abbrev pub LeavesFiles : FilesLeft → List File → List File → List File → Type 0
+LeavesFiles Unchanged old to new = new ≡ old
+LeavesFiles OldOrNew old to new = (new ≡ old) ⊎ (new ≡ to)
+LeavesFiles (StoredInPart name offset bytes) old to new = OneFileLeft name (MayStore offset bytes) old new
+
 -- what the interrupted action may have left, if there is one
 abbrev pub MayLeaveBlocks : Option Action → List Block → List Block → Type 0
 MayLeaveBlocks None old new = new ≡ old
@@ -107,7 +114,6 @@ abbrev pub MayLeaveVolume : Geometry → Option Action → List Page → List Pa
 MayLeaveVolume geo None old new = new ≡ old
 MayLeaveVolume geo (Some action) old new = LeavesVolume ((meaning action).volume_left geo) old ((meaning action).volume geo old) new
 
--- of files all are as they were, or as they were to be
 abbrev pub MayLeaveFiles : Option Action → List File → List File → Type 0
 MayLeaveFiles None old new = new ≡ old
-MayLeaveFiles (Some action) old new = (new ≡ old) ⊎ (new ≡ (meaning action).files old)
+MayLeaveFiles (Some action) old new = LeavesFiles (meaning action).files_left old ((meaning action).files old) new

@@ -3,7 +3,7 @@ use Rattle.std.specs.Prelude.{◌≡◌, Bool, IsTrue, Option, Some, None}
 use Rattle.line_words.specs.declared.interruption.Interruption.{Interruption}
 use Rattle.line_words.specs.declared.interruption.Interruption.TheVariants.{Failed, PowerLost as Lost}
 use Rattle.reply_text.specs.Answer.{Answer}
-use Rattle.reply_text.specs.Answer.Answer.{Done, DoneBad, Bytes, Ranges, Files, Yes, No, Scarred, PoisonBlock, PoisonVolume, DeviceFailed, PowerLost, Stopped, Refused, RefusedMeta}
+use Rattle.reply_text.specs.Answer.Answer.{Done, DoneBad, Bytes, Ranges, Files, Yes, No, Scarred, PoisonBlock, PoisonVolume, PoisonFile, DeviceFailed, PowerLost, Stopped, Refused, RefusedMeta}
 use Rattle.machine_host.specs.declared.mode.Mode.{Mode}
 use Rattle.machine_host.specs.declared.mode.Mode.TheVariants as modes
 use Rattle.machine_host.specs.Machine.{Machine}
@@ -29,6 +29,7 @@ stop_in No = None
 stop_in (Scarred block) = None
 stop_in (PoisonBlock block line) = None
 stop_in (PoisonVolume offset) = None
+stop_in (PoisonFile name offset) = None
 stop_in DeviceFailed = Some Failed
 stop_in PowerLost = Some Lost
 stop_in (Stopped line) = None

@@ -43,6 +43,12 @@ pub data VolumeLeft : Type 0 where
   AllOrNone : VolumeLeft
   PageByPage : VolumeLeft
 
+-- and of the files: all as they were, all old or all new, or a part of what is stored in one
+pub data FilesLeft : Type 0 where
+  Unchanged : FilesLeft
+  OldOrNew : FilesLeft
+  StoredInPart : List ℕ → ℕ → List ℕ → FilesLeft
+
 -- what want of memory leaves: all as it was; lines that were written back; a restart that was refused, or done with no mount;
 -- or a recovery that mounted nothing
 pub data Starved : Type 0 where
@@ -52,8 +58,8 @@ pub data Starved : Type 0 where
   Unrecovered : Starved
 
 -- A command: the mode that it needs, the places that the host looks at before anything else does, all that refuses it, what
--- comes of it where nothing does, what it makes of blocks, volume and files, what an interruption may leave of the first two (of
--- files it leaves all old or all new) and want of memory of all, what it may spend, and the room of its reply.
+-- comes of it where nothing does, what it makes of blocks, volume and files, what an interruption may leave of them and want of
+-- memory of all, what it may spend, and the room of its reply.
 pub record Meaning : Type 0 where
   pub needs : Needs
   pub checked : Geometry → Option Why
@@ -64,6 +70,7 @@ pub record Meaning : Type 0 where
   pub files : List File → List File
   pub blocks_left : BlocksLeft
   pub volume_left : Geometry → VolumeLeft
+  pub files_left : FilesLeft
   pub starved : Starved
   pub spends : Machine → Spending
   pub room : ℕ
@@ -84,9 +91,10 @@ quiet needs checked comes = record {
   files = λ files. files;
   blocks_left = Same;
   volume_left = λ geo. Kept;
+  files_left = Unchanged;
   starved = Untouched;
   spends = λ h. no_spending;
-  room = 64;
+  room = 72;
 }
 
 -- no place is wrong

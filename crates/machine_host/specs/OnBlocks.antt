@@ -74,7 +74,7 @@ bread block count =
         unreadable = option_map (λ obstacle. refusal_answer (Unreadable obstacle)) (first_obstacle h.blocks block count);
       };
       spends = λ h. record { calls = 8 * count; persists = 0 };
-      room = 64 + 3 * (512 * count);
+      room = 72 + 3 * (512 * count);
     }
 
 abbrev pub bexists : ℕ → Meaning

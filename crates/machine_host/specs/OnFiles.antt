@@ -12,6 +12,7 @@ use Rattle.reply_text.specs.Answer.{Answer}
 use Rattle.reply_text.specs.Answer.Answer.{Done, Files, Refused, RefusedMeta}
 use Rattle.machine_host.specs.Machine.Fate.{Gives, Works}
 use Rattle.machine_host.specs.Meaning.{Meaning, Reasons, anywhere, no_reasons, quiet}
+use Rattle.machine_host.specs.Meaning.FilesLeft.{OldOrNew}
 use Rattle.machine_host.specs.declared.needs.Needs.TheVariants.{Usable}
 
 -- how a refusal by the journal is answered
@@ -42,6 +43,7 @@ abbrev pub changing_files : (List File → Reasons) → (List File → List File
 changing_files reasons to words = record (quiet Usable anywhere (λ h. Works Done (record h { files = to h.files }))) {
   reasons = λ h. record (reasons h.files) { changes_metadata = true };
   files = to;
+  files_left = OldOrNew;
   spends = λ h. record { calls = commit_calls words; persists = commit_persists words };
 }
 

@@ -31,7 +31,7 @@ vload offset len =
     record (quiet Usable past (λ h. Works (Bytes (look h.volume offset len)) h)) {
       reasons = λ h. record (placed past h) { unreadable = option_map volume_answer (poisoned_at (first_bad_line h.volume offset len)) };
       spends = λ h. record { calls = lines_touched offset len; persists = 0 };
-      room = 64 + 3 * len;
+      room = 72 + 3 * len;
     }
 
 -- a change of the volume, as the sizes have it

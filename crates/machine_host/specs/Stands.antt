@@ -17,18 +17,18 @@ use Rattle.machine_host.specs.Telling.{Tells}
 use Rattle.machine_host.specs.Lines.{HasLayout, MetadataStands, bad_metadata}
 use Rattle.file_journal.specs.Object.{JournalServes, JournalState}
 use Rattle.file_journal.specs.Standing.{EachReadsFiles, FilesStand}
-use Rattle.file_journal.specs.Tables.{AreTables}
+use Rattle.file_journal.specs.Tables.{AreTables, known_units}
+use Rattle.file_pages.specs.Object.{PagesState}
 use Rattle.pm_volume.specs.Images.{EachReadsPages}
 use Rattle.pm_volume.specs.Object.{VolumeState, VolumeHolds, VolumeServes}
 
--- what callers see of a host: the sizes of its medium, its mode, and the blocks, the volume and the journal of files that it
--- mounted last
+-- what callers see of a host: the sizes of its medium, its mode, and the blocks, the volume and the files that it mounted last
 pub record HostState : Type 0 where
   pub geometry : Geometry
   pub mode : Mode
   pub blocks : BlocksState
   pub volume : VolumeState
-  pub journal : JournalState
+  pub files : PagesState
 
 -- whether the power is on in a mode
 abbrev pub is_powered : Mode → Bool
@@ -37,18 +37,24 @@ is_powered modes.Off = false
 is_powered modes.Unsettled = true
 is_powered modes.Stopped = true
 
--- the mounted blocks, volume and journal are those of the device, ready for the next call
-pub record AreMounted (geo : Geometry) (b : BlocksState) (v : VolumeState) (j : JournalState) (m : Medium) : Type 0 where
+-- files as they were just mounted
+abbrev pub just_mounted : JournalState → PagesState
+just_mounted j = record { journal = j; settled = true }
+
+-- the mounted blocks, volume and files are those of the device, ready for the next call
+pub record AreMounted (geo : Geometry) (b : BlocksState) (v : VolumeState) (p : PagesState) (m : Medium) : Type 0 where
   pub geometry : b.geo ≡ geo
   pub settled : IsTrue b.settled
   pub serves : BlocksServe b m
   pub volume_geometry : v.geo ≡ geo
   pub volume_settled : IsTrue v.settled
   pub volume_serves : VolumeServes v m
-  pub journal_geometry : j.geo ≡ geo
-  pub journal_settled : IsTrue j.settled
-  pub journal_serves : JournalServes j m
-  pub journal_right : AreTables geo.fpages j.tables
+  pub journal_geometry : p.journal.geo ≡ geo
+  pub journal_settled : IsTrue p.journal.settled
+  pub journal_serves : JournalServes p.journal m
+  pub journal_right : AreTables geo.fpages p.journal.tables
+  pub journal_held : known_units p.journal.tables.pages p.journal.free ≡ geo.fpages
+  pub pages_settled : IsTrue p.settled
 
 -- The host may command the device: it has the lines of the host's sizes, and blocks can be read in each image, where no line of
 -- metadata is bad. Its power is off exactly in mode Off, in mode On all storage is mounted, and in mode Stopped a line of
@@ -57,7 +63,7 @@ pub record HostServes (host : HostState) (d : Device) : Type 0 where
   pub layout : HasLayout host.geometry d.medium
   pub readable : bad_metadata host.geometry d.medium.is_bad ≡ [] → AreReadable host.geometry d.medium
   pub power : d.panel.power ≡ is_powered host.mode
-  pub mounted : host.mode ≡ modes.On → AreMounted host.geometry host.blocks host.volume host.journal d.medium
+  pub mounted : host.mode ≡ modes.On → AreMounted host.geometry host.blocks host.volume host.files d.medium
   pub stopped : host.mode ≡ modes.Stopped → bad_metadata host.geometry d.medium.is_bad ≢ []
 
 -- each word of the device has one value, as where the power just came back
@@ -83,7 +89,7 @@ pub record Stands (host : HostState) (d : Device) (h : Machine) : Type 0 where
   pub mode : host.mode ≡ h.mode
   pub blocks : host.mode ≡ modes.On → blocks_of host.blocks d.medium ≡ h.blocks
   pub volume : host.mode ≡ modes.On → VolumeHolds host.volume d.medium h.volume
-  pub files : host.mode ≡ modes.On → FilesStand host.journal.geo d.medium host.journal.tables h.files
+  pub files : host.mode ≡ modes.On → FilesStand host.files.journal.geo d.medium host.files.journal.tables h.files
   pub device : DeviceStands d h
 
 -- The command came to this in h: the device tells what was said, and stands for the state after.

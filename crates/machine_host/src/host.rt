@@ -13,7 +13,7 @@ mod volume;
 use crate::Mode;
 use block_device::Blocks;
 use commands::longest_reply;
-use file_journal::Journal;
+use file_pages::FilePages;
 use line_device::LineDevice;
 use nvm_base::Bytes;
 use pm_volume::Volume;
@@ -32,7 +32,7 @@ pub struct Host {
     mode: Mode,
     blocks: Blocks,
     volume: Volume,
-    journal: Journal,
+    files: FilePages,
 }
 
 impl Model for Host {
@@ -40,7 +40,7 @@ impl Model for Host {
 
     ghost Value = { HostState };
 
-    ghost view = { λ h. record { geometry = h.geometry; mode = h.mode; blocks = h.blocks; volume = h.volume; journal = h.journal } };
+    ghost view = { λ h. record { geometry = h.geometry; mode = h.mode; blocks = h.blocks; volume = h.volume; files = h.files } };
 }
 
 impl Host {
@@ -80,7 +80,7 @@ impl Host {
             ≡ blocks_read (geometry_told (D.state device.old).medium) (D.state device.old).medium.is_bad
             (last_image (D.state device.old).medium))
             × (host.volume.present ≡ presence_read (geometry_told (D.state device.old).medium) (last_image (D.state device.old).medium))
-            × (host.journal.tables ≡ tables_read (geometry_told (D.state device.old).medium) (last_image (D.state device.old).medium))) }
+            × (host.files.journal.tables ≡ tables_read (geometry_told (D.state device.old).medium) (last_image (D.state device.old).medium))) }
         ensures finds { Finds (first_finding (D.state device.old).medium) result }
         ensures lines { WritesBackOutside (IsOfLogs (geometry_told (D.state device.old).medium))
             (D.state device.old).medium (D.state device.new).medium }
@@ -108,7 +108,7 @@ impl Host {
             mode: Mode::On,
             blocks: mounted.blocks,
             volume: mounted.volume,
-            journal: mounted.journal,
+            files: FilePages::from(mounted.journal),
         })
     }
 

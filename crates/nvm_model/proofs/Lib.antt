@@ -19,5 +19,6 @@ pub mod ListedLemmas
 pub mod AlikeLemmas
 pub mod AlikeChangeLemmas
 pub mod SumLemmas
+pub mod FileLeftLemmas
 pub mod OneFileLemmas
 pub mod TouchedPageLemmas

@@ -1,11 +1,16 @@
 -- The text of files.
-use Rattle.std.proofs.Common.{All, ◌≡◌, ℕ, ◌+◌, ◌*◌, ◌<◌, ◌≤◌, List, [], ◌∷◌, ◌++◌, length, get_or, drop, arith, decimal, ap, sym, ◌∙◌, length-append}
+use Rattle.std.proofs.Common.{All, true, rules, tests, ◌≡◌, ℕ, ◌+◌, ◌*◌, ◌<◌, ◌≤◌, List, [], ◌∷◌, ◌++◌, length, get_or, drop, arith, decimal, ap, sym, ◌∙◌, length-append}
 use Rattle.std.proofs.lemmas.Fmt.{length-decimal-le}
 use Rattle.std.proofs.lemmas.List.{at_drop_more}
 use Rattle.std.proofs.lemmas.List.Elements.{All-head, All-tail}
+use Rattle.nvm_base.specs.Names.{is_name}
 use Rattle.nvm_base.specs.declared.files.FileEntry.{FileEntry}
 use Rattle.reply_text.specs.Answer.{file_text, files_text}
 use Rattle.reply_text.specs.Room.{IsShort}
+
+-- a name has at most 32 bytes
+pub name-short : (name : List ℕ) → is_name name ≡ true → length name ≤ 32
+name-short name is = search (rules, tests)
 
 length-two : (a b : List ℕ) → length a ≤ 32 → length b ≤ 20 → length (32 ∷ a ++ 58 ∷ b) ≤ 54
 length-two a b p q = omega (arith, length-append a (58 ∷ b), p, q)

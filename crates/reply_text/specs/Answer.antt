@@ -19,6 +19,7 @@ pub data Answer : Type 0 where
   Scarred : ℕ → Answer
   PoisonBlock : ℕ → ℕ → Answer
   PoisonVolume : ℕ → Answer
+  PoisonFile : List ℕ → ℕ → Answer
   DeviceFailed : Answer
   PowerLost : Answer
   Stopped : ℕ → Answer
@@ -37,6 +38,7 @@ answer_of reply.No = No
 answer_of (reply.Scarred block) = Scarred block
 answer_of (reply.PoisonBlock block line) = PoisonBlock block line
 answer_of (reply.PoisonVolume offset) = PoisonVolume offset
+answer_of (reply.PoisonFile name offset) = PoisonFile name offset
 answer_of reply.DeviceFailed = DeviceFailed
 answer_of reply.PowerLost = PowerLost
 answer_of (reply.Stopped line) = Stopped line
@@ -91,6 +93,7 @@ answer_text No = codes "no"
 answer_text (Scarred block) = codes "scarred " ++ decimal block
 answer_text (PoisonBlock block line) = codes "poison block " ++ decimal block ++ 32 ∷ decimal line
 answer_text (PoisonVolume offset) = codes "poison volume " ++ decimal offset ++ codes " 64"
+answer_text (PoisonFile name offset) = codes "poison file " ++ (name ++ (32 ∷ decimal offset ++ codes " 64"))
 answer_text DeviceFailed = codes "refused device"
 answer_text PowerLost = codes "power lost"
 answer_text (Stopped line) = codes "stopped meta " ++ decimal line
@@ -118,6 +121,7 @@ IsPrintable No = Unit {0}
 IsPrintable (Scarred block) = Unit {0}
 IsPrintable (PoisonBlock block line) = Unit {0}
 IsPrintable (PoisonVolume offset) = Unit {0}
+IsPrintable (PoisonFile name offset) = Unit {0}
 IsPrintable DeviceFailed = Unit {0}
 IsPrintable PowerLost = Unit {0}
 IsPrintable (Stopped line) = Unit {0}

@@ -3,25 +3,27 @@ use Rattle.std.specs.Prelude.{ℕ, ◌+◌, ◌*◌, ◌^◌, ◌<◌, ◌≤◌
 use Rattle.nvm_base.specs.declared.units.Span.{Span}
 use Rattle.nvm_base.specs.declared.files.FileEntry.{FileEntry}
 use Rattle.reply_text.specs.Answer.{Answer}
-use Rattle.reply_text.specs.Answer.Answer.{Done, DoneBad, Bytes, Ranges, Files, Yes, No, Scarred, PoisonBlock, PoisonVolume, DeviceFailed, PowerLost, Stopped, Refused, RefusedMeta}
+use Rattle.reply_text.specs.Answer.Answer.{Done, DoneBad, Bytes, Ranges, Files, Yes, No, Scarred, PoisonBlock, PoisonVolume, PoisonFile, DeviceFailed, PowerLost, Stopped, Refused, RefusedMeta}
 
--- the most bytes of an answer's line: the most of its DATA, of its ranges or of its files, or of an answer that has none
+-- the most bytes of an answer's line: the most of its DATA, of its ranges or of its files, or of an answer that has none of
+-- them, a name and its line among these
 abbrev pub most_of : Answer → ℕ
-most_of Done = 64
-most_of (DoneBad n) = 64
+most_of Done = 72
+most_of (DoneBad n) = 72
 most_of (Bytes bytes) = 6 + 3 * length bytes
 most_of (Ranges ranges) = 7 + 63 * length ranges
 most_of (Files files) = 64 + 54 * length files
-most_of Yes = 64
-most_of No = 64
-most_of (Scarred block) = 64
-most_of (PoisonBlock block line) = 64
-most_of (PoisonVolume offset) = 64
-most_of DeviceFailed = 64
-most_of PowerLost = 64
-most_of (Stopped line) = 64
-most_of (Refused why) = 64
-most_of (RefusedMeta line) = 64
+most_of Yes = 72
+most_of No = 72
+most_of (Scarred block) = 72
+most_of (PoisonBlock block line) = 72
+most_of (PoisonVolume offset) = 72
+most_of (PoisonFile name offset) = 72
+most_of DeviceFailed = 72
+most_of PowerLost = 72
+most_of (Stopped line) = 72
+most_of (Refused why) = 72
+most_of (RefusedMeta line) = 72
 
 -- it begins where 64 bits reach
 abbrev pub HasStart : Span → Type 0

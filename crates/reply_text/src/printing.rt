@@ -2,12 +2,12 @@
 ghost use Rattle.std.specs.Prelude.{◌≡◌, ◌+◌, ◌*◌, ◌^◌, ◌<◌, ◌≤◌, ◌++◌, IsOk, OnErr, OnOk, codes, decimal, length, sum_by, All};
 ghost use Rattle.nvm_base.specs.Stock.{Appends};
 ghost use Rattle.reply_text.specs.Answer.{IsPrintable, answer_line, answer_of, answer_text, range_text, ranges_text, why_text};
-ghost use Rattle.reply_text.specs.Answer.Answer.{PoisonBlock, PoisonVolume, Ranges};
+ghost use Rattle.reply_text.specs.Answer.Answer.{PoisonBlock, PoisonFile, PoisonVolume, Ranges};
 ghost use Rattle.reply_text.specs.Room.{HasStart, most_of};
 
 use crate::files::print_files;
 use crate::{Reply, Why};
-use nvm_base::{Bytes, Span, print_bytes, print_number};
+use nvm_base::{Bytes, Name, Span, print_bytes, print_number};
 use std::alloc::AllocError;
 
 /// Appends the reply's line, all of it or nothing.
@@ -55,6 +55,7 @@ fn print_text(reply: &Reply, out: &mut Bytes) -> Result<(), AllocError>
         Reply::Scarred(block) => print_counted(b"scarred ", *block, out),
         Reply::PoisonBlock(block, line) => print_block_line(*block, *line, out),
         Reply::PoisonVolume(offset) => print_volume_line(*offset, out),
+        Reply::PoisonFile(name, offset) => print_file_line(name, *offset, out),
         Reply::DeviceFailed => out.extend(b"refused device"),
         Reply::PowerLost => out.extend(b"power lost"),
         Reply::Stopped(line) => print_counted(b"stopped meta ", *line, out),
@@ -88,6 +89,17 @@ fn print_volume_line(offset: u64, out: &mut Bytes) -> Result<(), AllocError>
     ensures short { length (decimal offset) ≤ 20 }
 {
     print_counted(b"poison volume ", offset, out)?;
+    out.extend(b" 64")
+}
+
+fn print_file_line(name: &Name, offset: u64, out: &mut Bytes) -> Result<(), AllocError>
+    ensures text { Appends (answer_text (PoisonFile name.now offset)) result out.old out.new }
+    ensures short { length name.now + length (decimal offset) ≤ 52 }
+{
+    let text = name.bytes();
+    out.extend(b"poison file ")?;
+    out.extend(text)?;
+    print_counted(b" ", offset, out)?;
     out.extend(b" 64")
 }
 

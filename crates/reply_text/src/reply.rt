@@ -1,4 +1,4 @@
-use nvm_base::{Bytes, FileList, Spans};
+use nvm_base::{Bytes, FileList, Name, Spans};
 
 /// Why a command is not done.
 #[derive(Clone, Copy, Debug, PartialEq, Eq)]
@@ -44,6 +44,8 @@ pub enum Reply {
     PoisonBlock(u64, u64),
     /// The line of the volume at that offset is bad.
     PoisonVolume(u64),
+    /// The line of this file at that offset is bad.
+    PoisonFile(Name, u64),
     /// A call of the device failed.
     DeviceFailed,
     PowerLost,

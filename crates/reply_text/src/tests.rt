@@ -68,6 +68,19 @@ fn files_are_listed_with_their_pages(rt: HostRuntime) -> Result<(), AllocError> 
 }
 
 #[test]
+fn a_bad_line_of_a_file_has_its_name(rt: HostRuntime) -> Result<(), AllocError> {
+    let mut out = Bytes::new(rt.alloc());
+    if let Some(name) = Name::read(b"abcdefghijklmnopqrstuvwxyz-_.012") {
+        print(&Reply::PoisonFile(name, 1048512), &mut out)?;
+    }
+    assert_eq!(rt;
+        out.as_slice(),
+        b"poison file abcdefghijklmnopqrstuvwxyz-_.012 1048512 64\n".as_slice()
+    );
+    Ok(())
+}
+
+#[test]
 fn each_refusal_has_its_word(rt: HostRuntime) -> Result<(), AllocError> {
     for (why, line) in [
         (Why::Syntax, "refused syntax\n"),

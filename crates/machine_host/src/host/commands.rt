@@ -21,8 +21,8 @@ pub fn longest_reply(command: &Command) -> u64
     ensures { result ≡ longest (action_of command.now) }
 {
     match command {
-        Command::BRead { count, .. } => 64 + 3 * (BLOCK * *count),
-        Command::VLoad { len, .. } => 64 + 3 * *len,
+        Command::BRead { count, .. } => 72 + 3 * (BLOCK * *count),
+        Command::VLoad { len, .. } => 72 + 3 * *len,
         Command::VRanges => 133,
         Command::List => 64 + 54 * INODES,
         Command::BWrite { .. }
@@ -51,7 +51,7 @@ pub fn longest_reply(command: &Command) -> u64
         | Command::CutIn { .. }
         | Command::FailIn { .. }
         | Command::Restart { .. }
-        | Command::Recover => 64,
+        | Command::Recover => 72,
     }
 }
 

@@ -25,7 +25,7 @@ impl Host {
         ensures { Answered (Create name.now pages) (answer_of result) self.old self.new (D.state device.old) (D.state device.new) }
     {
         let _is_name = name.bytes();
-        let call = self.journal.create(device, name, pages);
+        let call = self.files.journal_mut().create(device, name, pages);
         self.journal_answer(call)
     }
 
@@ -34,7 +34,7 @@ impl Host {
         requires on { self.old.mode ≡ On }
         ensures { Answered (Delete name.now) (answer_of result) self.old self.new (D.state device.old) (D.state device.new) }
     {
-        let call = self.journal.delete(device, name);
+        let call = self.files.journal_mut().delete(device, name);
         self.journal_answer(call)
     }
 
@@ -44,7 +44,7 @@ impl Host {
         ensures { Answered (Rename name.now to.now) (answer_of result) self.old self.new (D.state device.old) (D.state device.new) }
     {
         let _is_name = to.bytes();
-        let call = self.journal.rename(device, name, to);
+        let call = self.files.journal_mut().rename(device, name, to);
         self.journal_answer(call)
     }
 
@@ -53,7 +53,7 @@ impl Host {
         requires on { self.old.mode ≡ On }
         ensures { Answered (Resize name.now pages) (answer_of result) self.old self.new (D.state device.old) (D.state device.new) }
     {
-        let call = self.journal.resize(device, name, pages);
+        let call = self.files.journal_mut().resize(device, name, pages);
         self.journal_answer(call)
     }
 
@@ -62,7 +62,7 @@ impl Host {
         requires on { self.old.mode ≡ On }
         ensures { Responds ListFiles result self.old self.new (D.state device.now) (D.state device.now) }
     {
-        let files = self.journal.list(self.alloc)?;
+        let files = self.files.journal().list(self.alloc)?;
         Ok(Reply::Files(files))
     }
 

@@ -7,13 +7,14 @@ ghost use Rattle.block_device.specs.Object.{BlocksServe};
 ghost use Rattle.file_journal.specs.Object.{JournalServes};
 ghost use Rattle.pm_volume.specs.Object.{VolumeServes};
 ghost use Rattle.recovery.specs.declared.fault.MountFault.TheVariants.{Memory};
-ghost use Rattle.machine_host.specs.Stands.{HostServes};
+ghost use Rattle.machine_host.specs.Stands.{HostServes, just_mounted};
 ghost use Rattle.machine_host.specs.Faults.{CountsBad, unmounted_answer, unmounted_mode};
 ghost use Rattle.machine_host.specs.Interrupted.{interrupted_answer, interrupted_mode};
 ghost use Rattle.machine_host.specs.Responding.{Answered, Responds};
 
 use super::Host;
 use crate::Mode;
+use file_pages::FilePages;
 use line_device::{Choice, LineDevice};
 use line_words::Interruption;
 use recovery::{MountFault, Mounted};
@@ -83,7 +84,7 @@ impl Host {
         requires blocks { BlocksServe mounted.blocks (D.state device.now).medium }
         requires volume { VolumeServes mounted.volume (D.state device.now).medium }
         requires journal { JournalServes mounted.journal (D.state device.now).medium }
-        ensures state { self.new ≡ record self.old { mode = On; blocks = mounted.blocks; volume = mounted.volume; journal = mounted.journal } }
+        ensures state { self.new ≡ record self.old { mode = On; blocks = mounted.blocks; volume = mounted.volume; files = just_mounted mounted.journal } }
         ensures answer { CountsBad mounted.blocks mounted.volume mounted.journal (D.state device.now).medium (answer_of result) }
     {
         let bad = bad_count(device, &mounted.blocks, &mounted.volume, &mounted.journal);
@@ -93,11 +94,11 @@ impl Host {
 
     // The host takes over what was mounted.
     pub(super) fn take(&mut self, mounted: Mounted)
-        ensures { self.new ≡ record self.old { mode = On; blocks = mounted.blocks; volume = mounted.volume; journal = mounted.journal } }
+        ensures { self.new ≡ record self.old { mode = On; blocks = mounted.blocks; volume = mounted.volume; files = just_mounted mounted.journal } }
     {
         self.blocks = mounted.blocks;
         self.volume = mounted.volume;
-        self.journal = mounted.journal;
+        self.files = FilePages::from(mounted.journal);
         self.mode = Mode::On;
     }
 

@@ -13,7 +13,7 @@ returns-in-Ok g c =
     let size = buffer_size c.args.count _ _ _ c.new-bytes.ensures c.in_ok-repeat.ensures.ok c.as_mut_slice.ensures.value in
     let blocks = blocks_of c.self.inside.blocks (g.D.Lines.state c.args.device.now).medium in
     let same = read_bytes c.args.count c.args.block _ _ _ _ (ap length c.as_mut_slice.ensures.value) size said.ok in
-    read_answered _ _ _ _ (Ok tt) c.args.block c.args.count _ _ (Unit {0}) _ _ c.self.view_is (ap (λ m. record { geometry = c.self.inside.geometry; mode = m; blocks = c.read_into.new.self; volume = c.self.inside.volume; journal = c.self.inside.journal }) on)
+    read_answered _ _ _ _ (Ok tt) c.args.block c.args.count _ _ (Unit {0}) _ _ c.self.view_is (ap (λ m. record { geometry = c.self.inside.geometry; mode = m; blocks = c.read_into.new.self; volume = c.self.inside.volume; files = c.self.inside.files }) on)
     c.requires.on c.requires.serves (omega (arith, size)) size tt said.lines said.serves said.object said.runs _ c.requires.some c.requires.few c.requires.within said.refused
     (λ h stays. ap (λ bytes. Bytes bytes) (same ∙ ap (λ bs. look_blocks bs c.args.block c.args.count) stays))
     (omega (arith, ap length same ∙ length-look blocks c.args.block c.args.count)) tt
@@ -23,7 +23,7 @@ returns-in-Err g c =
     let said = c.in-Err.ensures in
     let on = ap (λ k. k.mode) c.self.view_is ∙ c.requires.on in
     let size = buffer_size c.args.count _ _ _ c.new-bytes.ensures c.in_ok-repeat.ensures.ok c.as_mut_slice.ensures.value in
-    read_answered _ _ _ _ (Err c.in-Err.fault) c.args.block c.args.count _ _ _ _ _ c.self.view_is (c.fault.ensures.state ∙ ap (λ m. record { geometry = c.self.inside.geometry; mode = fault_mode m c.in-Err.fault; blocks = c.read_into.new.self; volume = c.self.inside.volume; journal = c.self.inside.journal }) on)
+    read_answered _ _ _ _ (Err c.in-Err.fault) c.args.block c.args.count _ _ _ _ _ c.self.view_is (c.fault.ensures.state ∙ ap (λ m. record { geometry = c.self.inside.geometry; mode = fault_mode m c.in-Err.fault; blocks = c.read_into.new.self; volume = c.self.inside.volume; files = c.self.inside.files }) on)
     c.requires.on c.requires.serves (omega (arith, size)) size
     (λ told. let same = said.untouched told in (same.0, ap (λ d. g.D.Lines.state d) same.1)) said.lines said.serves said.object said.runs _ c.requires.some c.requires.few c.requires.within said.refused
     (λ _ _. c.fault.ensures.answer) (room_of_fault c.in-Err.fault _ c.args.count c.fault.ensures.answer) (printable_fault c.in-Err.fault _ c.fault.ensures.answer)

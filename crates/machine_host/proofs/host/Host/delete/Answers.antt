@@ -1,4 +1,5 @@
-use Rattle.std.proofs.Common.{refl}
+use Rattle.std.proofs.Common.{refl, ◌≡◌, ap, ◌∙◌}
+use Rattle.file_journal.specs.Object.{JournalState}
 use Rattle.nvm_model.specs.Listing.{file_name, without_file}
 use Rattle.machine_host.specs.Meaning.{no_reasons}
 use Rattle.machine_host.specs.OnFiles.{if_missing}
@@ -12,11 +13,12 @@ pub returns : goal.returns
 returns g c =
     let said = c.delete-call.ensures in
     let now = c.args.self.now in
-    let host : HostState = record { geometry = c.self.inside.geometry; mode = c.self.inside.mode; blocks = c.self.inside.blocks; volume = c.self.inside.volume; journal = c.self.inside.journal } in
+    let host : HostState = record { geometry = c.self.inside.geometry; mode = c.self.inside.mode; blocks = c.self.inside.blocks; volume = c.self.inside.volume; files = record { journal = c.journal_mut.result.now; settled = c.self.inside.files.settled } } in
+    let inside : host ≡ now = ap (λ (j : JournalState). let k : HostState = record { geometry = c.self.inside.geometry; mode = c.self.inside.mode; blocks = c.self.inside.blocks; volume = c.self.inside.volume; files = record { journal = j; settled = c.self.inside.files.settled } } in k) c.journal_mut.ensures.value ∙ c.self.view_is in
     let old = g.D.Lines.state c.args.device.now in
-    change_answered now host _ _ c.delete-call.result _ _ 261 (without_file file_name c.args.name.now) old _ c.self.view_is c.journal_answer.ensures.state c.requires.on c.requires.serves
-    (files_called g.D.Lines.state host _ c.delete-call.result _ _ 261 _ _ said.refused said.untouched said.ok said.images said.outside said.serves said.object said.runs)
-    (λ are none. delete_becomes host.journal old.medium are c.args.name.now)
+    change_answered now host _ _ c.delete-call.result _ _ 261 (without_file file_name c.args.name.now) old _ inside c.journal_answer.ensures.state c.requires.on c.requires.serves
+    (files_called g.D.Lines.state host _ c.delete-call.result _ _ 261 _ _ said.refused said.untouched said.ok said.images said.outside said.serves said.object said.units said.runs)
+    (λ are none. delete_becomes host.files.journal old.medium are c.args.name.now)
     (Delete c.args.name.now) (λ files. record no_reasons { named = if_missing c.args.name.now files }) refl _
-    (λ h stands. fate_delete h host.journal old.medium (sees_files now host old h c.self.view_is c.requires.on c.requires.serves stands) c.args.name.now)
+    (λ h stands. fate_delete h host.files.journal old.medium (sees_files now host old h inside c.requires.on c.requires.serves stands) c.args.name.now)
     c.journal_answer.ensures.answer

@@ -1,4 +1,5 @@
-use Rattle.std.proofs.Common.{subst}
+use Rattle.std.proofs.Common.{subst, ap, ◌∙◌}
+use Rattle.word_tables.specs.declared.geometry.Geometry.{Geometry}
 use Rattle.line_device.specs.Panel.{Runs}
 use Rattle.machine_host.specs.Costs.{mount_calls, mount_persists}
 use Rattle.machine_host.proofs.MountLemmas.{line_zero, mount_within}
@@ -33,6 +34,7 @@ returns-in-Ok g c =
       tables = x.ok.6;
       journal_settled = x.settled.2;
       journal_serves = x.journal;
+      journal_held = x.held ∙ ap (λ (g : Geometry). g.fpages) x.ok.0;
     } in
     settled_taken c.args.self.now old new c.requires.serves c.requires.unsettled c.requires.quiet (g.met.D.Lines.sound c.args.device.now)
     (record { outside = x.outside; refused = x.refused; reads = x.reads; presence = x.presence; files = x.files }) (mount_within old.medium _ old.panel new.panel x.runs)

@@ -1,4 +1,5 @@
-use Rattle.std.proofs.Common.{subst, sym}
+use Rattle.std.proofs.Common.{subst, sym, ap, ◌∙◌}
+use Rattle.word_tables.specs.declared.geometry.Geometry.{Geometry}
 use Rattle.reply_text.specs.Answer.{answer_of}
 use Rattle.script_text.specs.Action.Action.{Recover}
 use Rattle.machine_host.specs.Responding.{Answered}
@@ -37,6 +38,7 @@ returns-in-Ok g c =
       tables = x.ok.6;
       journal_settled = x.settled.2;
       journal_serves = x.journal;
+      journal_held = x.held ∙ ap (λ (g : Geometry). g.fpages) x.ok.0;
     } in
     subst (λ k. Answered Recover (answer_of c.mounted.result) now k old new) (sym c.mounted.ensures.state)
     (recover_answered now old new c.requires.unsettled _ (answer_of c.mounted.result)

@@ -1,4 +1,5 @@
-use Rattle.std.proofs.Common.{inl, inr, refl}
+use Rattle.std.proofs.Common.{inl, inr, refl, ap, ◌∙◌}
+use Rattle.word_tables.specs.declared.geometry.Geometry.{Geometry}
 use Rattle.std.proofs.lemmas.Result.{err_from_is_err_and}
 use Rattle.reply_text.specs.Answer.{answer_of}
 use Rattle.script_text.specs.Action.Action.{Restart}
@@ -48,6 +49,7 @@ returns-in-Ok g c =
       tables = x.ok.6;
       journal_settled = x.settled.2;
       journal_serves = x.journal;
+      journal_held = x.held ∙ ap (λ (g : Geometry). g.fpages) x.ok.0;
     } in
     subst (λ k. Answered (Restart c.args.choice) (answer_of c.mounted.result) now k old new) (sym c.mounted.ensures.state)
     (restart_answered now c.args.choice old mid new left.0 c.requires.serves c.requires.off left.1 sound_old sound _ (answer_of c.mounted.result)

@@ -16,7 +16,7 @@ use Rattle.machine_host.proofs.host.Host.weaken_volume.Goals as goal
 
 pub returns-in-Ok : goal.returns-in-Ok
 returns-in-Ok g c =
-    let host : HostState = record { geometry = c.self.inside.geometry; mode = c.self.inside.mode; blocks = c.self.inside.blocks; volume = c.self.inside.volume; journal = c.self.inside.journal } in
+    let host : HostState = record { geometry = c.self.inside.geometry; mode = c.self.inside.mode; blocks = c.self.inside.blocks; volume = c.self.inside.volume; files = c.self.inside.files } in
     let old = g.D.Lines.state c.args.device.now in
     let new = g.D.Lines.state c.weaken_volume.new.dev in
     let said = c.in-Ok.ensures in
@@ -28,7 +28,7 @@ returns-in-Ok g c =
 
 pub returns-in-Err-Range : goal.returns-in-Err-Range
 returns-in-Err-Range g c =
-    let host : HostState = record { geometry = c.self.inside.geometry; mode = c.self.inside.mode; blocks = c.self.inside.blocks; volume = c.self.inside.volume; journal = c.self.inside.journal } in
+    let host : HostState = record { geometry = c.self.inside.geometry; mode = c.self.inside.mode; blocks = c.self.inside.blocks; volume = c.self.inside.volume; files = c.self.inside.files } in
     let old = g.D.Lines.state c.args.device.now in
     let new = g.D.Lines.state c.weaken_volume.new.dev in
     let said = c.in-Err-Range.ensures in
@@ -41,7 +41,7 @@ returns-in-Err-Range g c =
 
 pub returns-in-Err-Nothing : goal.returns-in-Err-Nothing
 returns-in-Err-Nothing g c =
-    let host : HostState = record { geometry = c.self.inside.geometry; mode = c.self.inside.mode; blocks = c.self.inside.blocks; volume = c.self.inside.volume; journal = c.self.inside.journal } in
+    let host : HostState = record { geometry = c.self.inside.geometry; mode = c.self.inside.mode; blocks = c.self.inside.blocks; volume = c.self.inside.volume; files = c.self.inside.files } in
     let old = g.D.Lines.state c.args.device.now in
     let new = g.D.Lines.state c.weaken_volume.new.dev in
     let said = c.in-Err-Nothing.ensures in
