@@ -4,3 +4,8 @@ mod HoleLemmas
 mod ListedLemmas
 mod PassLemmas
 mod WorkLemmas
+mod FreshLemmas
+mod SwitchedLemmas
+mod FilledLemmas
+mod FillLemmas
+mod StoreLemmas

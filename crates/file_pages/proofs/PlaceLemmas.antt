@@ -1,8 +1,8 @@
 -- Where the lines of pages lie that are on units.
 use Rattle.std.proofs.Common.{◌≡◌, ℕ, ◌+◌, ◌*◌, ◌/◌, ◌%◌, ◌<◌, ◌≤◌, true, is_some, List, map, Option, Some, None, option_map, length, slice_get, slice_index_or, refl, sym, ap, subst, ◌∙◌, inl, inr, arith}
 use Rattle.std.proofs.lemmas.Bool.{cases_lt}
-use Rattle.std.proofs.lemmas.List.{get_or_past}
-use Rattle.std.proofs.lemmas.Option.{get_or_from_slice_get, none-some, same_Some, slice_get-get_or, slice_get-map}
+use Rattle.std.proofs.lemmas.List.{get_or_past, length-map}
+use Rattle.std.proofs.lemmas.Option.{get_or_from_slice_get, none-some, same_Some, slice_get-get_or, slice_get-map, slice_get_within}
 use Rattle.line_device.specs.Medium.{Medium}
 use Rattle.word_tables.specs.declared.geometry.Geometry.{Geometry}
 use Rattle.word_tables.specs.Layout.{file_line, file_pages, total_lines, HasLine}
@@ -17,6 +17,7 @@ use Rattle.file_journal.specs.Tables.{AreTables, Tables, unit_at}
 use Rattle.file_journal.proofs.FileLineLemmas.{page_line_within}
 use Rattle.file_journal.proofs.ReplaceLemmas.{pages_at_most}
 use Rattle.file_journal.proofs.StandingLemmas.{unit_line_in}
+use Rattle.file_pages.specs.Fresh.{AreOwn, switch_units}
 use Rattle.file_pages.specs.Object.{unit_place, units_of}
 
 -- at which line a line lies whose page is there
@@ -65,11 +66,6 @@ located geo units = record { here = here; nowhere = nowhere }
         by_unit None is = ap (option_map (λ unit. file_line geo unit + n % 64)) is
         by_unit (Some u) is = absurd (out (slice_get-map is_some units (n / 64) ∙ ap (option_map is_some) (unit_get units (n / 64) u is)))
 
--- units are the device's, and each is one page's
-pub record AreOwn (size : ℕ) (units : List (Option ℕ)) : Type 0 where
-  pub below : (k u : ℕ) → slice_index_or units k None ≡ Some u → u < size
-  pub once : (k j u : ℕ) → slice_index_or units k None ≡ Some u → slice_index_or units j None ≡ Some u → k ≡ j
-
 module _ (geo : Geometry) (units : List (Option ℕ)) (own : AreOwn geo.fpages units) where
   -- so their lines are lines of pages, and apart
   pub place_in : (n line : ℕ) → unit_place geo units n ≡ Some line → HasLine geo file_pages line
@@ -87,6 +83,13 @@ module _ (geo : Geometry) (units : List (Option ℕ)) (own : AreOwn geo.fpages u
         let page = own.once (n / 64) (other / 64) a.0 a.1 (b.1 ∙ ap (λ (u : ℕ). Some u) same) in
         omega (arith, page, a.2, b.2, same);
   }
+
+-- a line of units is one of as many pages
+pub place_below : (geo : Geometry) (switches : List (ℕ × Option ℕ)) (n line : ℕ) → unit_place geo (switch_units switches) n ≡ Some line → n < 64 * length switches
+place_below geo switches n line is =
+    let at = place_is geo (switch_units switches) n line is in
+    let below = slice_get_within (switch_units switches) (n / 64) (Some at.0) (unit_get (switch_units switches) (n / 64) at.0 at.1) in
+    omega (arith, below, length-map switches (λ (c : ℕ × Option ℕ). c.1))
 
 -- the units of an inode's pages
 pub length-units : (t : Tables) (inode : ℕ) → length (units_of t inode) ≡ pages_at t.files inode

@@ -1,7 +1,9 @@
 -- Work on lines of files' pages: the journal goes on serving, and each image reads as the files that are left.
-use Rattle.std.proofs.Common.{◌≡◌, inr, ℕ, ◌/◌, ◌<◌, Some, Result, OnErr, OnOk, List, refl, sym, subst, ◌∙◌, arith}
+use Rattle.std.proofs.Common.{Ok, Err, IsErrAnd, ap, ◌≡◌, inr, ℕ, ◌/◌, ◌<◌, Some, Result, OnErr, OnOk, List, refl, sym, subst, ◌∙◌, arith}
 use Rattle.line_device.specs.Medium.{Medium}
 use Rattle.line_device.proofs.HistoryLemmas.{is_in-word_write_back}
+use Rattle.line_words.specs.declared.interruption.Interruption.{Interruption}
+use Rattle.line_words.specs.Ending.{ended, stop_outcome}
 use Rattle.word_tables.specs.declared.geometry.Geometry.{Geometry}
 use Rattle.word_tables.specs.Bounds.{IsValid}
 use Rattle.word_tables.specs.Layout.{file_pages, HasLine}
@@ -28,6 +30,11 @@ use Rattle.file_journal.proofs.ServesLemmas.{journal-kept, served_files}
 use Rattle.file_pages.specs.Object.{IsFileAt, KeepsMarks, file_place, pages_there, units_of}
 use Rattle.file_pages.proofs.ListedLemmas.{files-changed, files-left}
 use Rattle.file_pages.proofs.PlaceLemmas.{PagesOn, line_at, located, place_in, units_own}
+
+-- an interruption that is handed on
+pub ended_as : {T : Type 0} (r : Result T Interruption) (stop : Interruption) → IsErrAnd r (λ e. e ≡ stop) → ended r ≡ stop_outcome stop
+ended_as (Ok x) stop is = absurd is
+ended_as (Err e) stop is = ap stop_outcome is
 
 -- work on lines of pages
 module _ (geo : Geometry) (old new : Medium) (lines : ℕ → Type 0) (are : (n : ℕ) → lines n → HasLine geo file_pages n) (x : WritesBackOthers lines old new) where

@@ -7,11 +7,15 @@
 
 mod checks;
 mod fault;
+mod filling;
+mod fresh;
 mod lines;
 mod loading;
 mod mounting;
 mod queries;
+mod storing;
 mod syncing;
+mod units;
 
 pub use fault::PageFault;
 use file_journal::Journal;

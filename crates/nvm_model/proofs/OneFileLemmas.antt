@@ -1,14 +1,14 @@
 -- Files of which that of one name changes: it with its units, what is left of it, and one change after another.
-use Rattle.std.proofs.Common.{◌≡◌, ℕ, Bool, true, false, cond, List, [], ◌∷◌, refl, ap, ap₂, ◌∙◌}
+use Rattle.std.proofs.Common.{◌≡◌, ℕ, Bool, true, false, cond, Option, Some, option_map, List, [], ◌∷◌, refl, ap, ap₂, ◌∙◌}
 use Rattle.std.proofs.lemmas.Bool.{both_ways}
 use Rattle.std.proofs.lemmas.Slice.Eq.{bytes_eq-Decides}
 use Rattle.std.specs.Bool.{Decides}
 use Rattle.std.specs.List.{Contains}
 use Rattle.nvm_model.specs.Files.{FileLeft, OneFileLeft, on_pages}
-use Rattle.nvm_model.specs.Listing.{AreAlike, change_file, file_name, is_named}
+use Rattle.nvm_model.specs.Listing.{AreAlike, change_file, file_name, file_of, is_named}
 use Rattle.nvm_model.specs.Page.{Page}
 use Rattle.nvm_model.specs.Storage.{File}
-use Rattle.nvm_model.proofs.AlikeLemmas.{alike-among}
+use Rattle.nvm_model.proofs.AlikeLemmas.{alike-among, alike-then}
 use Rattle.nvm_model.proofs.AlikeChangeLemmas.{alike-change}
 use Rattle.nvm_model.proofs.ListedLemmas.{contains-here, contains-later}
 
@@ -93,3 +93,21 @@ change-idle name f (x ∷ xs) idle =
     by_test : (b : Bool) → Decides b (x.name ≡ name) → cond b (on_pages f x) x ≡ x
     by_test true tells = ap (λ p. let same : File = record { name = x.name; pages = p } in same) (idle x (contains-here x xs x refl) (tells.0 refl))
     by_test false tells = refl
+
+-- the file of the name is found after a change as it is then
+pub found-change : (name : List ℕ) (h : List Page → List Page) (xs : List File) (x : File) → file_of file_name name xs ≡ Some x
+    → file_of file_name name (change_file file_name name (on_pages h) xs) ≡ Some (on_pages h x)
+found-change name h [] x is = cc
+found-change name h (y ∷ ys) x is = by_test (is_named file_name name y) refl is (λ later. found-change name h ys x later)
+  where
+    by_test : (b : Bool) → is_named file_name name y ≡ b → cond b (Some y) (file_of file_name name ys) ≡ Some x
+        → (file_of file_name name ys ≡ Some x → file_of file_name name (change_file file_name name (on_pages h) ys) ≡ Some (on_pages h x))
+        → cond (is_named file_name name (cond b (on_pages h y) y)) (Some (cond b (on_pages h y) y)) (file_of file_name name (change_file file_name name (on_pages h) ys)) ≡ Some (on_pages h x)
+    by_test true named is later =
+        ap (λ b. cond b (Some (on_pages h y)) (file_of file_name name (change_file file_name name (on_pages h) ys))) named ∙ ap (λ (o : Option File). option_map (on_pages h) o) is
+    by_test false named is later = ap (λ b. cond b (Some y) (file_of file_name name (change_file file_name name (on_pages h) ys))) named ∙ later is
+
+-- what is left of files, where Q leaves all that R does
+pub left-then : (name : List ℕ) (R Q : List Page → List Page → Type 0) → ((p q : List Page) → R p q → Q p q) → (xs ys : List File) → OneFileLeft name R xs ys → OneFileLeft name Q xs ys
+left-then name R Q so xs ys left =
+    alike-then file_name file_name (FileLeft name R) (FileLeft name Q) xs ys (λ x y same l. record { here = λ is. so x.pages y.pages (l.here is); beside = l.beside }) left

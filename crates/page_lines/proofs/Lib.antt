@@ -13,3 +13,4 @@ pub mod StandingLemmas
 pub mod SearchLemmas
 pub mod CountLemmas
 pub mod ResultLemmas
+pub mod StoreLemmas

@@ -1,0 +1,161 @@
+use Rattle.std.proofs.Common.{◌≡◌, ◌⊎◌, ◌+◌, ◌*◌, ℕ, List, Option, length, sym, ap, subst, ◌∙◌, arith}
+use Rattle.std.proofs.lemmas.Bool.{eqb-true}
+use Rattle.line_device.specs.Panel.{Runs}
+use Rattle.line_words.specs.Ending.{ended}
+use Rattle.word_log.specs.Changes.{commit_calls, commit_persists}
+use Rattle.page_table.specs.Pages.{used_pages}
+use Rattle.nvm_model.specs.Page.{absent_among}
+use Rattle.nvm_model.specs.Files.{OneFileLeft, on_pages}
+use Rattle.nvm_model.specs.Lines.{AreGood}
+use Rattle.nvm_model.specs.Listing.{change_file, file_name}
+use Rattle.nvm_model.specs.Page.{fill}
+use Rattle.page_lines.proofs.OthersLemmas.{others-refl}
+use Rattle.page_lines.proofs.ResultLemmas.{on_ok-then}
+use Rattle.word_tables.specs.declared.geometry.Geometry.{Geometry}
+use Rattle.word_tables.specs.Layout.{meta_lines}
+use Rattle.file_journal.specs.Object.{JournalState}
+use Rattle.file_journal.specs.Standing.{EachReadsFiles, FilesStand}
+use Rattle.file_journal.proofs.ServesLemmas.{journal-same}
+use Rattle.file_pages.specs.Fresh.{AreFresh}
+use Rattle.file_pages.specs.Object.{pages_there}
+use Rattle.file_pages.proofs.FillLemmas.{covered_same, file_same, fill_runs, holes_touched_are, no_holes, not_empty, some_holes, there_same, unfilled-files, unfilled-images}
+use Rattle.file_pages.proofs.filling.fill.Goals as goal
+
+pub returns-then-is_empty-clause-ok : goal.returns-then-is_empty-clause-ok
+returns-then-is_empty-clause-ok g c = λ files file at.
+    let s = c.args.journal.now in
+    let j = c.take_units-fresh.new.journal in
+    let e = c.take_units-fresh.ensures.journal in
+    let old = (g.L.Lines.state c.args.dev.now).medium in
+    let pages = c.pages_of-pages.result in
+    let there = pages_there s c.args.inode in
+    let n = length c.take_units-fresh.result.items in
+    let holes = holes_touched_are there c.args.span pages n c.pages_of-pages.ensures.value (c.take_units-fresh.ensures.fresh.number ∙ ap (λ bs. absent_among bs pages.start pages.len) (there_same s j j.free e old c.args.inode)) in
+    let none = no_holes there c.args.span n c.requires.storable.some holes (eqb-true n 0 (sym c.is_empty.ensures ∙ c.if-is_empty.true)) in
+    subst (λ (t : JournalState). FilesStand s.geo old t.tables (change_file file_name file.name (on_pages (λ p. fill c.args.span.start c.args.span.len p)) files)) (sym e)
+    (unfilled-files s old c.args.inode c.requires.tables c.args.span none files file at)
+
+pub returns-then-is_empty-clause-images : goal.returns-then-is_empty-clause-images
+returns-then-is_empty-clause-images g c = λ files file at.
+    let s = c.args.journal.now in
+    let j = c.take_units-fresh.new.journal in
+    let e = c.take_units-fresh.ensures.journal in
+    let old = (g.L.Lines.state c.args.dev.now).medium in
+    let pages = c.pages_of-pages.result in
+    let there = pages_there s c.args.inode in
+    let n = length c.take_units-fresh.result.items in
+    let holes = holes_touched_are there c.args.span pages n c.pages_of-pages.ensures.value (c.take_units-fresh.ensures.fresh.number ∙ ap (λ bs. absent_among bs pages.start pages.len) (there_same s j j.free e old c.args.inode)) in
+    let none = no_holes there c.args.span n c.requires.storable.some holes (eqb-true n 0 (sym c.is_empty.ensures ∙ c.if-is_empty.true)) in
+    unfilled-images s old c.args.inode c.requires.tables c.args.span none files file at c.requires.serves
+
+pub returns-then-is_empty-clause-outside : goal.returns-then-is_empty-clause-outside
+returns-then-is_empty-clause-outside g c = others-refl _ _
+
+pub fill_with-requires-clause-serves : goal.fill_with-requires-clause-serves
+fill_with-requires-clause-serves g c =
+    let e = c.take_units-fresh.ensures.journal in
+    journal-same c.args.journal.now c.take_units-fresh.new.journal (g.L.Lines.state c.args.dev.now).medium (ap (λ (t : JournalState). t.geo) e) (ap (λ (t : JournalState). t.tables) e) c.requires.serves
+
+pub fill_with-requires-clause-room : goal.fill_with-requires-clause-room
+fill_with-requires-clause-room g c =
+    let s = c.args.journal.now in
+    let j = c.take_units-fresh.new.journal in
+    let e = c.take_units-fresh.ensures.journal in
+    let old = (g.L.Lines.state c.args.dev.now).medium in
+    let pages = c.pages_of-pages.result in
+    let there = pages_there s c.args.inode in
+    let n = length c.take_units-fresh.result.items in
+    let holes = holes_touched_are there c.args.span pages n c.pages_of-pages.ensures.value (c.take_units-fresh.ensures.fresh.number ∙ ap (λ bs. absent_among bs pages.start pages.len) (there_same s j j.free e old c.args.inode)) in
+    omega (arith, c.requires.storable.room, holes, ap (λ (t : JournalState). used_pages t.tables.pages) e, ap (λ (t : JournalState). t.geo.fpages) e, ap length c.as_slice.ensures.value)
+
+pub fill_with-requires-clause-good : goal.fill_with-requires-clause-good
+fill_with-requires-clause-good g c =
+    let s = c.args.journal.now in
+    let j = c.take_units-fresh.new.journal in
+    let e = c.take_units-fresh.ensures.journal in
+    let old = (g.L.Lines.state c.args.dev.now).medium in
+    let pages = c.pages_of-pages.result in
+    let there = pages_there s c.args.inode in
+    let n = length c.take_units-fresh.result.items in
+    let holes = holes_touched_are there c.args.span pages n c.pages_of-pages.ensures.value (c.take_units-fresh.ensures.fresh.number ∙ ap (λ bs. absent_among bs pages.start pages.len) (there_same s j j.free e old c.args.inode)) in
+    let some = some_holes there c.args.span n c.requires.storable.some holes (not_empty n (sym c.is_empty.ensures ∙ c.if-is_empty.false)) in
+    subst (λ (t : JournalState). AreGood old (meta_lines t.geo)) (sym e) (c.requires.storable.good some)
+
+pub fill_with-requires-clause-covered : goal.fill_with-requires-clause-covered
+fill_with-requires-clause-covered g c =
+    covered_same c.args.journal.now c.take_units-fresh.new.journal c.take_units-fresh.new.journal.free c.take_units-fresh.ensures.journal (g.L.Lines.state c.args.dev.now).medium c.args.inode c.args.span c.requires.storable.covered
+
+pub fill_with-requires-clause-fresh : goal.fill_with-requires-clause-fresh
+fill_with-requires-clause-fresh g c =
+    let j = c.take_units-fresh.new.journal in
+    subst (λ (fs : List (ℕ × Option ℕ)). AreFresh j c.args.inode c.pages_of-pages.result.start c.pages_of-pages.result.len fs j.free) (sym c.as_slice.ensures.value) c.take_units-fresh.ensures.fresh
+
+pub returns-clause-ok : goal.returns-clause-ok
+returns-clause-ok g c =
+    let s = c.args.journal.now in
+    let j = c.take_units-fresh.new.journal in
+    let e = c.take_units-fresh.ensures.journal in
+    let old = (g.L.Lines.state c.args.dev.now).medium in
+    let pages = c.pages_of-pages.result in
+    let there = pages_there s c.args.inode in
+    let n = length c.take_units-fresh.result.items in
+    let holes = holes_touched_are there c.args.span pages n c.pages_of-pages.ensures.value (c.take_units-fresh.ensures.fresh.number ∙ ap (λ bs. absent_among bs pages.start pages.len) (there_same s j j.free e old c.args.inode)) in
+    let new = (g.L.Lines.state c.fill_with.new.dev).medium in
+    on_ok-then c.fill_with.result
+    (λ done files file at.
+    subst (λ (t : JournalState). FilesStand t.geo new c.fill_with.new.journal.tables (change_file file_name file.name (on_pages (λ p. fill c.args.span.start c.args.span.len p)) files)) e
+    (done files file (file_same s j j.free e old c.args.inode files file at)))
+    c.fill_with.ensures.ok
+
+pub returns-clause-images : goal.returns-clause-images
+returns-clause-images g c = λ files file at.
+    let s = c.args.journal.now in
+    let j = c.take_units-fresh.new.journal in
+    let e = c.take_units-fresh.ensures.journal in
+    let old = (g.L.Lines.state c.args.dev.now).medium in
+    let pages = c.pages_of-pages.result in
+    let there = pages_there s c.args.inode in
+    let n = length c.take_units-fresh.result.items in
+    let holes = holes_touched_are there c.args.span pages n c.pages_of-pages.ensures.value (c.take_units-fresh.ensures.fresh.number ∙ ap (λ bs. absent_among bs pages.start pages.len) (there_same s j j.free e old c.args.inode)) in
+    let new = (g.L.Lines.state c.fill_with.new.dev).medium in
+    subst (λ (t : JournalState). EachReadsFiles t.geo new (OneFileLeft file.name (λ was left. (left ≡ was) ⊎ (left ≡ fill c.args.span.start c.args.span.len was)) files)) e
+    (c.fill_with.ensures.images files file (file_same s j j.free e old c.args.inode files file at))
+
+pub returns-clause-held : goal.returns-clause-held
+returns-clause-held g c =
+    let s = c.args.journal.now in
+    let j = c.take_units-fresh.new.journal in
+    let e = c.take_units-fresh.ensures.journal in
+    let old = (g.L.Lines.state c.args.dev.now).medium in
+    let pages = c.pages_of-pages.result in
+    let there = pages_there s c.args.inode in
+    let n = length c.take_units-fresh.result.items in
+    let holes = holes_touched_are there c.args.span pages n c.pages_of-pages.ensures.value (c.take_units-fresh.ensures.fresh.number ∙ ap (λ bs. absent_among bs pages.start pages.len) (there_same s j j.free e old c.args.inode)) in
+    on_ok-then c.fill_with.result
+    (λ known. omega (
+      arith,
+      known,
+      c.take_units-fresh.ensures.left,
+      c.requires.held,
+      ap (λ (t : JournalState). used_pages t.tables.pages) e,
+      ap (λ (t : JournalState). t.geo.fpages) e,
+      ap length c.as_slice.ensures.value,
+      ap (λ (geo : Geometry). geo.fpages) c.fill_with.ensures.object.0,
+    ))
+    c.fill_with.ensures.known
+
+pub returns-clause-runs : goal.returns-clause-runs
+returns-clause-runs g c =
+    let s = c.args.journal.now in
+    let j = c.take_units-fresh.new.journal in
+    let e = c.take_units-fresh.ensures.journal in
+    let old = (g.L.Lines.state c.args.dev.now).medium in
+    let pages = c.pages_of-pages.result in
+    let there = pages_there s c.args.inode in
+    let n = length c.take_units-fresh.result.items in
+    let holes = holes_touched_are there c.args.span pages n c.pages_of-pages.ensures.value (c.take_units-fresh.ensures.fresh.number ∙ ap (λ bs. absent_among bs pages.start pages.len) (there_same s j j.free e old c.args.inode)) in
+    let some = some_holes there c.args.span n c.requires.storable.some holes (not_empty n (sym c.is_empty.ensures ∙ c.if-is_empty.false)) in
+    let p = (g.L.Lines.state c.args.dev.now).panel in
+    let q = (g.L.Lines.state c.fill_with.new.dev).panel in
+    fill_runs s c.args.inode c.args.span n _ p q holes some
+    (subst (λ (k : ℕ). Runs (64 * k + commit_calls (5 + k)) (commit_persists (5 + k)) (ended c.fill_with.result) p q) (ap length c.as_slice.ensures.value) c.fill_with.ensures.runs)
