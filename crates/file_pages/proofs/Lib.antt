@@ -1,6 +1,6 @@
-mod PlaceLemmas
+pub mod PlaceLemmas
 mod LineLemmas
 mod HoleLemmas
-mod ListedLemmas
-mod PassLemmas
+pub mod ListedLemmas
+pub mod PassLemmas
 mod WorkLemmas
