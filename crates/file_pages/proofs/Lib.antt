@@ -1,8 +1,8 @@
-mod PlaceLemmas
+pub mod PlaceLemmas
 mod LineLemmas
 mod HoleLemmas
-mod ListedLemmas
-mod PassLemmas
+pub mod ListedLemmas
+pub mod PassLemmas
 mod WorkLemmas
 mod FreshLemmas
 mod SwitchedLemmas

@@ -2,3 +2,5 @@ pub mod HandleLemmas
 pub mod ListedLemmas
 pub mod KeptLemmas
 pub mod CopyLemmas
+pub mod FileLemmas
+pub mod FoundLemmas

@@ -1,5 +1,5 @@
 -- What callers see of mappings.
-use Rattle.std.specs.Prelude.{◌≡◌, ◌+◌, ◌^◌, ◌≤◌, ℕ, List, [], ◌∷◌, length, All, if◌then◌else◌}
+use Rattle.std.specs.Prelude.{◌≡◌, ◌+◌, ◌^◌, ◌≤◌, ℕ, List, [], ◌∷◌, ◌++◌, length, All, if◌then◌else◌}
 use Rattle.nvm_base.specs.declared.units.Span.{Span}
 use Rattle.nvm_model.specs.Mappings.{is_shared, span_of}
 use Rattle.nvm_model.specs.Storage.{Mapping}
@@ -35,3 +35,7 @@ pub record AreMappings (s : MappingsState) : Type 0 where
   pub rise : HandlesRise 0 s.mappings s.next
   pub next : s.next ≤ 2 ^ 32
   pub each : All IsMapping s.mappings
+
+-- one mapping more, under the next handle
+abbrev pub with_mapping : Mapping → MappingsState → MappingsState
+with_mapping m s = record { mappings = s.mappings ++ m ∷ []; next = s.next + 1 }

@@ -7,7 +7,6 @@ ghost use Rattle.mappings.specs.Lends.{lends_copy};
 ghost use Rattle.mappings.specs.Object.{AreMappings, IsMapping};
 ghost use Rattle.mappings.specs.Table.{mapping_under};
 
-use crate::mapping::Mapping;
 use crate::{MapFault, Mappings};
 use indexmap::IndexMap;
 use std::alloc::Global;
@@ -35,27 +34,5 @@ impl Mappings {
             return Err(MapFault::Handle);
         };
         Ok(())
-    }
-
-    // Keeps a mapping under the next handle.
-    fn add(&mut self, mapping: Mapping) -> Result<u64, MapFault>
-        requires room { is_full self.old.mappings self.old.next ≡ false }
-        requires mapping { IsMapping (mapping_under self.old.next mapping) }
-        ensures ok { OnOk result (self.new ≡ record {
-          mappings = self.old.mappings ++ mapping_under self.old.next mapping ∷ [];
-          next = self.old.next + 1;
-        }) }
-        ensures handle { IfOk result (λ handle. handle ≡ self.old.next) }
-        ensures fault { IfErr result (λ fault. fault ≡ MapFault.Memory) }
-        ensures err { OnErr result (self.new ≡ self.old) }
-    {
-        let handle = self.next;
-        match self.maps.insert(handle, mapping) {
-            Ok(_) => {
-                self.next += 1;
-                Ok(handle)
-            }
-            Err(_) => Err(MapFault::Memory),
-        }
     }
 }

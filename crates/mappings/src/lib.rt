@@ -5,6 +5,7 @@ mod changing;
 mod fault;
 mod info;
 mod lending;
+mod making;
 mod mapping;
 mod queries;
 
