@@ -1,5 +1,6 @@
 -- What a host and its device stand for, after a call on the blocks.
 use Rattle.std.proofs.Common.{◌≡◌, ◌≢◌, ◌<◌, ◌≤◌, ℕ, IsTrue, true, position, Option, Some, None, option_map, inl, Result, Ok, Err, OnOk, List, [], refl, sym, ap, ap₂, subst, ◌∙◌, arith}
+use Rattle.nvm_base.proofs.FirstLemmas.{not_mapped}
 use Rattle.line_device.specs.Medium.{Medium}
 use Rattle.line_device.specs.Panel.{Runs}
 use Rattle.line_device.specs.Device.{Device}
@@ -229,10 +230,6 @@ last_none (Some x) b none = cc none
 
 pub unrefused : (geo : Geometry) (m : Medium) (places : Option Refusal) → first_there places (blocks.meta_refusal geo m) ≡ None → HasGoodMetadata geo m
 unrefused geo m places none n below = fails_below m.is_bad (meta_lines geo) n (not_mapped Meta (position m.is_bad (range_with_len 0 (meta_lines geo))) (last_none places (blocks.meta_refusal geo m) none)) below
-  where
-    not_mapped : {A B : Type 0} (f : A → B) (o : Option A) → option_map f o ≡ None → o ≡ None
-    not_mapped f None none = refl
-    not_mapped f (Some x) none = cc none
 
 pub marks_kept : (Q : Type 0) (geo : Geometry) (old new : Device) (lines : ℕ → Type 0) (r : Result (Unit {0}) BlockFault) (places : Option Refusal) → Answers (first_there places (blocks.meta_refusal geo old.medium)) r → OnRefused r (Q × (new ≡ old))
     → WritesBackBeside lines old.medium new.medium → (n : ℕ) → n < meta_lines geo → new.medium.is_bad n ≡ old.medium.is_bad n

@@ -3,6 +3,7 @@ use Rattle.std.proofs.Common.{◌≡◌, ℕ, ◌/◌, ◌<◌, ◌≤◌, Optio
 use Rattle.std.specs.Prelude.{IfErr}
 use Rattle.std.proofs.Math.Nat.{min-le_right}
 use Rattle.std.proofs.lemmas.Bool.{cases_Bool}
+use Rattle.nvm_base.proofs.FirstLemmas.{neither_there, not_mapped}
 use Rattle.line_device.specs.History.{newest, IsIn}
 use Rattle.line_device.specs.Medium.{Medium, IsSound, Survivors, last_image}
 use Rattle.line_device.specs.Panel.{Panel, Outcome, Runs}
@@ -46,7 +47,7 @@ use Rattle.file_journal.proofs.FileLineLemmas.{area_of_files, files_within}
 use Rattle.file_journal.proofs.TableReadLemmas.{length-words_read, no_wrong_file, right_tables}
 use Rattle.recovery.specs.declared.fault.MountFault.{MountFault}
 use Rattle.recovery.specs.declared.fault.MountFault.TheVariants as fault
-use Rattle.recovery.proofs.FindingLemmas.{all_right, early_none as both_none, first_none, is_superblock, nothing_early, nothing_found}
+use Rattle.recovery.proofs.FindingLemmas.{all_right, early_none as both_none, is_superblock, nothing_early, nothing_found}
 use Rattle.recovery.proofs.SuperblockLemmas.{early_none, some_lines, some_meta, superblock_told, superblock-outside}
 use Rattle.machine_host.specs.Lines.{HasLayout, MetadataStands}
 use Rattle.machine_host.specs.Stands.{IsFlushed}
@@ -75,10 +76,6 @@ fresh_flushed geo m is p there =
     let one = is.words p there in
     λ v at. is_in-one v (fresh_word geo p) (subst (IsIn v) one at) ∙ sym (ap newest one)
 
-not_mapped : {A B : Type 0} (f : A → B) (o : Option A) → option_map f o ≡ None → o ≡ None
-not_mapped f None none = refl
-not_mapped f (Some x) none = cc none
-
 -- where nothing is found, the map is one
 pub found_map : (m : Medium) → first_finding m ≡ None → IsMap (states_read (geometry_told m) (last_image m))
 found_map m none = by_log (first_wrong (block_area geo) (last_image m)) right
@@ -101,7 +98,7 @@ found_tables m none =
     let geo = geometry_told m in
     let words = words_read geo (last_image m) in
     let is = is_superblock m (both_none m (nothing_early m none)).0 in
-    right_tables geo words is.valid (length-words_read geo (last_image m)) (first_none (first_wrong (file_area geo) (last_image m)) (wrong_table geo words) (nothing_found m none).3).1
+    right_tables geo words is.valid (length-words_read geo (last_image m)) (neither_there (first_wrong (file_area geo) (last_image m)) (wrong_table geo words) (nothing_found m none).3).1
 
 -- so what the map names is on the device, and durable with all words
 pub durable_flushed : (m : Medium) → IsFlushed m → HasDurableBlocks m

@@ -1,5 +1,6 @@
 -- What host and device stand for once the device is mounted.
 use Rattle.std.proofs.Common.{◌≡◌, None, List, [], arith, refl, sym, ap, subst, ◌∙◌}
+use Rattle.nvm_base.proofs.FirstLemmas.{neither_there}
 use Rattle.line_device.specs.Medium.{Medium, IsSound, last_image}
 use Rattle.line_device.specs.Panel.{Image}
 use Rattle.line_device.specs.Device.{Device, Depicts}
@@ -29,7 +30,7 @@ use Rattle.file_journal.specs.Tables.{AreTables}
 use Rattle.file_journal.proofs.ServesLemmas.{served_files}
 use Rattle.recovery.specs.Findings.{geometry_told, first_finding}
 use Rattle.recovery.specs.Mounting.{IsOfLogs}
-use Rattle.recovery.proofs.FindingLemmas.{early_none as both_none, first_none, good_metadata as good_found, strong_metadata as strong_found, is_superblock, nothing_early, nothing_found}
+use Rattle.recovery.proofs.FindingLemmas.{early_none as both_none, good_metadata as good_found, strong_metadata as strong_found, is_superblock, nothing_early, nothing_found}
 use Rattle.machine_host.specs.declared.mode.Mode.TheVariants as modes
 use Rattle.machine_host.specs.Lines.{MetadataStands}
 use Rattle.machine_host.specs.Restarting.{holding, reading}
@@ -87,7 +88,7 @@ blocks_found : (m : Medium) → IsFlushed m → first_finding m ≡ None → Rea
 blocks_found m flushed none =
     let geo = geometry_told m in
     record {
-      log = (first_none (log.first_wrong (block_area geo) (last_image m)) (wrong_map geo (last_image m)) (nothing_found m none).1).0;
+      log = (neither_there (log.first_wrong (block_area geo) (last_image m)) (wrong_map geo (last_image m)) (nothing_found m none).1).0;
       map = found_map m none;
       durable = durable_flushed m flushed none;
       blocks = tt;
@@ -95,12 +96,12 @@ blocks_found m flushed none =
 
 volume_found : (m : Medium) → first_finding m ≡ None → log.first_wrong (volume_area (geometry_told m)) (last_image m) ≡ None
 volume_found m none =
-    let geo = geometry_told m in (first_none (log.first_wrong (volume_area geo) (last_image m)) (wrong_presence geo (last_image m)) (nothing_found m none).2).0
+    let geo = geometry_told m in (neither_there (log.first_wrong (volume_area geo) (last_image m)) (wrong_presence geo (last_image m)) (nothing_found m none).2).0
 
 files_found : (m : Medium) → first_finding m ≡ None → log.first_wrong (file_area (geometry_told m)) (last_image m) ≡ None
 files_found m none =
     let geo = geometry_told m in
-    (first_none (log.first_wrong (file_area geo) (last_image m)) (wrong_table geo (words_read geo (last_image m))) (nothing_found m none).3).0
+    (neither_there (log.first_wrong (file_area geo) (last_image m)) (wrong_table geo (words_read geo (last_image m))) (nothing_found m none).3).0
 
 -- A host that mounted a device stands for what is read there, where each word had one value.
 -- and its blocks can be read in each image
