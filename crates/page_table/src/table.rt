@@ -7,7 +7,7 @@ ghost use Rattle.page_table.specs.Wrong.{first_wrong_entry};
 
 use crate::{TableFault, judging, word};
 use free_pool::Pool;
-use std::alloc::{AllocError, Global};
+use std::alloc::Global;
 use std::marker::Model;
 use word_tables::Geometry;
 
@@ -73,8 +73,9 @@ impl PageTable {
         ensures err { IfErr result (IsCause geo.fpages counts.now words.now) }
     {
         let free = judging::check(alloc, geo.fpages, counts, words)?;
+        let kept = Vec::from_slice(alloc, words)?;
         let table = PageTable {
-            words: copied(alloc, words)?,
+            words: kept,
             units: geo.fpages,
             used: geo.fpages - free.free(),
         };
@@ -126,19 +127,6 @@ pub fn tables_are_right()
     ensures { (table : TableState) (counts : List ℕ) → IsTable table → IsWithinCounts counts table.pages
         → used_pages table.pages + 16 ≤ table.units → first_wrong_entry table.units counts (map word_of table.pages) ≡ None }
 {}
-
-// The words, an inode's at a time.
-fn copied(alloc: Global, words: &[u64]) -> Result<Vec<u64>, AllocError>
-    requires { length words.now ≡ 16384 }
-    ensures { IfOk result (λ copy. copy.items ≡ words.now) }
-{
-    let size = INODE_PAGES as usize;
-    let mut copy = Vec::with_capacity(alloc, words.len())?;
-    for inode in 0..INODES as usize {
-        copy.extend_from_slice(&words[size * inode..size * inode + size])?;
-    }
-    Ok(copy)
-}
 
 fn entry_of(inode: u64, page: u64) -> usize
     requires inode { inode < 64 }

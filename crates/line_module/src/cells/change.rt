@@ -17,6 +17,7 @@ use std::mem;
 
 impl Cells {
     /// The line's last values are durable.
+    #[inline(never)]
     pub fn write_back(&mut self, line: LineNo)
         requires within { line.0 < (cells_medium self.old).count }
         requires good { (cells_medium self.old).is_bad line.0 ≡ false }
@@ -49,6 +50,7 @@ impl Cells {
         self.renew(line, Some([0; 64]), Next::Clean);
     }
 
+    #[inline(never)]
     pub fn poison(&mut self, line: LineNo)
         requires within { line.0 < (cells_medium self.old).count }
         ensures { memory_in self.new ≡ memory_after_poison (memory_in self.old) line.0 }

@@ -88,6 +88,7 @@ impl Lines for Module {
         Ok(())
     }
 
+    #[inline]
     fn persist(&mut self, line: LineNo) -> Result<(), DeviceFault>
         requires within { line.0 < (module_medium self.old).count }
         requires on { IsTrue (module_device self.old).panel.power }

@@ -26,7 +26,7 @@ module _ (units : ℕ) (counts words : List ℕ) (few : units ≤ 1024) (some : 
 
 pub invariant_of-table : goal.invariant_of-table
 invariant_of-table c =
-    let items = c.in_ok-copied.ensures in
+    let items = c.in_ok-kept.ensures.items in
     let v = c.requires.valid in (
       (reads c.args.geo.fpages c.args.counts.now c.args.words.now v.most_fpages v.least_fpages c.requires.words c.in_ok-free.ensures.ok _ items).is_table,
       rw items (omega (arith, c.free-2.ensures, c.in_ok-free.ensures.free.count)),
@@ -35,9 +35,9 @@ invariant_of-table c =
 pub returns-clause-ok : goal.returns-clause-ok
 returns-clause-ok c =
     let v = c.requires.valid in
-    reads c.args.geo.fpages c.args.counts.now c.args.words.now v.most_fpages v.least_fpages c.requires.words c.in_ok-free.ensures.ok _ c.in_ok-copied.ensures
+    reads c.args.geo.fpages c.args.counts.now c.args.words.now v.most_fpages v.least_fpages c.requires.words c.in_ok-free.ensures.ok _ c.in_ok-kept.ensures.items
 
 pub returns-clause-free : goal.returns-clause-free
 returns-clause-free c =
     subst (λ (words : List ℕ). HasFree (record { units = c.args.geo.fpages; pages = map unit_of words }) c.in_ok-free.free)
-    (sym c.in_ok-copied.ensures) c.in_ok-free.ensures.free
+    (sym c.in_ok-kept.ensures.items) c.in_ok-free.ensures.free
