@@ -1,5 +1,5 @@
 -- What a mount of the blocks' log and a look at their map give.
-use Rattle.std.proofs.Common.{◌≡◌, ℕ, zero, suc, ◌+◌, ◌-◌, ◌*◌, ◌/◌, ◌%◌, ◌<◌, List, [], ◌∷◌, length, get_or, map, Some, None, Result, Ok, Err, IfOk, refl, sym, ◌∙◌, ap, ap₂, subst, arith}
+use Rattle.std.proofs.Common.{◌≡◌, ℕ, zero, suc, ◌+◌, ◌-◌, ◌*◌, ◌/◌, ◌%◌, ◌<◌, List, [], ◌∷◌, length, get_or, map, None, Result, Ok, Err, IfOk, refl, sym, ◌∙◌, ap, ap₂, subst, arith}
 use Rattle.line_device.specs.Medium.{Medium, last_image}
 use Rattle.nvm_base.proofs.FirstLemmas.{not_mapped}
 use Rattle.word_tables.specs.declared.geometry.Geometry.{Geometry}
@@ -25,7 +25,7 @@ use Rattle.block_device.specs.Mounting.{FindsMap, wrong_map_word}
 use Rattle.block_device.specs.declared.fault.MountFault.{MountFault}
 use Rattle.line_device.specs.Panel.{Outcome, Panel, Runs}
 use Rattle.line_device.proofs.PanelLemmas.{runs_within}
-use Rattle.block_device.proofs.ReadLemmas.{IsNamed, list_from-cong, map_read-outside, durable-outside}
+use Rattle.block_device.proofs.ReadLemmas.{IsNamed, map_read-outside, durable-outside}
 use Rattle.block_device.proofs.PlaceLemmas.{data_behind_metadata, named_is_data}
 use Rattle.block_device.proofs.PositionLemmas.{get_or-list_from}
 use Rattle.block_device.proofs.ImageLemmas.{state_of-word_of, map_words-at}

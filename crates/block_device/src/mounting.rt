@@ -1,21 +1,16 @@
 // Mounting, in two parts: the device's replays the log and reads the map's words, and the other judges them without the
 // device.
-ghost use Rattle.std.specs.Prelude.{◌≡◌, ◌+◌, ◌*◌, ◌/◌, ◌<◌, ◌≤◌, None, true, IfOk, IfErr, IsTrue, OnOk, length, map};
+ghost use Rattle.std.specs.Prelude.{◌≡◌, ◌+◌, ◌/◌, ◌<◌, ◌≤◌, true, IfOk, IsTrue, length, map};
 ghost use Rattle.line_device.specs.Medium.{WritesBack, last_image};
 ghost use Rattle.line_device.specs.Panel.{Runs};
 ghost use Rattle.line_device.specs.Panel.Outcome.{went};
 ghost use Rattle.word_tables.specs.Bounds.{IsValid};
 ghost use Rattle.word_tables.specs.Layout.{total_lines};
-ghost use Rattle.word_tables.specs.Words.{place, of_block};
 ghost use Rattle.line_words.specs.Words.{WritesBackOutside};
-ghost use Rattle.line_words.specs.Told.{IsStop, outcome_by};
+ghost use Rattle.line_words.specs.Told.{outcome_by};
 ghost use Rattle.word_log.specs.Area.{IsOf, IsWhole, gate_place};
-ghost use Rattle.word_log.specs.Mount.{IsFound};
-ghost use Rattle.word_log.specs.Replay as log;
-ghost use Rattle.word_log.specs.Rest.{EachImage, IsAtRest, IsReached};
+ghost use Rattle.word_log.specs.Rest.{EachImage, IsReached};
 ghost use Rattle.block_map.specs.States.{word_of};
-ghost use Rattle.block_map.specs.Wrong.{first_wrong_entry};
-ghost use Rattle.nvm_model.specs.Numbered.{list_from};
 ghost use Rattle.block_device.specs.Area.{block_area};
 ghost use Rattle.block_device.specs.Reading.{states_read, blocks_read};
 ghost use Rattle.block_device.specs.Object.{BlocksServe, IsInStep, AreDurable, HasStrongMetadata, blocks_of};

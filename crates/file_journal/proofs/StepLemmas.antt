@@ -6,7 +6,7 @@ use Rattle.std.proofs.lemmas.List.Sums.{count_by_more_yes, count_by_more_no}
 use Rattle.std.proofs.lemmas.Option.{get_or_from_slice_get, same_Some, slice_get-get_or, slice_get_within}
 use Rattle.free_pool.specs.Units.{IsTaken}
 use Rattle.free_pool.proofs.BesideLemmas.{given_known, given_taken, still_taken, switched_known, switched_taken}
-use Rattle.page_table.specs.Pages.{IsOn, IsTable, MayTake, TableState, used_by, used_pages}
+use Rattle.page_table.specs.Pages.{IsOn, IsTable, MayTake, TableState, used_by}
 use Rattle.nvm_model.proofs.NumberedLemmas.{length-map_from}
 use Rattle.file_journal.specs.Changes.{named_units, switched_page, switched_pages, unit_for}
 use Rattle.file_journal.specs.Switches.{AreHeld, AreSwitches, IsSwitch}

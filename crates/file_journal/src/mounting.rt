@@ -1,6 +1,6 @@
 // Mounting, in two parts: the device's replays the log and reads the words of the tables, and the other judges them without the
 // device.
-ghost use Rattle.std.specs.Prelude.{◌≡◌, ◌+◌, ◌<◌, ◌≤◌, IfErr, IfOk, IsTrue, None, OnOk, drop, length, map, true};
+ghost use Rattle.std.specs.Prelude.{◌≡◌, ◌+◌, ◌<◌, ◌≤◌, IfOk, IsTrue, length, map, true};
 ghost use Rattle.line_device.specs.Medium.{WritesBack, last_image};
 ghost use Rattle.line_device.specs.Panel.{Runs};
 ghost use Rattle.line_device.specs.Panel.Outcome.{went};
@@ -15,7 +15,6 @@ ghost use Rattle.word_tables.specs.Layout.{meta_lines, total_lines};
 ghost use Rattle.inode_table.specs.Slots.{pages_of};
 ghost use Rattle.inode_table.specs.Slots as names;
 ghost use Rattle.inode_table.specs.Words.{slots_of};
-ghost use Rattle.inode_table.specs.Wrong.{first_wrong_word};
 ghost use Rattle.page_table.specs.Reading.{HasFree, Reads};
 ghost use Rattle.file_journal.specs.Area.{file_area};
 ghost use Rattle.file_journal.specs.Mounting.{FindsJournal, FindsTables, journal_mount_says};

@@ -1,5 +1,5 @@
 // Mounting.
-ghost use Rattle.std.specs.Prelude.{◌≡◌, ◌+◌, ◌/◌, ◌≤◌, ◌*◌, ◌<◌, ◌==◌, IfOk, IfSome, IsTrue, None, length, map, true};
+ghost use Rattle.std.specs.Prelude.{◌≡◌, ◌+◌, ◌/◌, ◌≤◌, ◌*◌, ◌<◌, ◌==◌, IfOk, IfSome, IsTrue, length, map, true};
 ghost use Rattle.line_device.specs.Medium.{WritesBack, last_image};
 ghost use Rattle.line_device.specs.Panel.{Runs};
 ghost use Rattle.line_device.specs.Panel.Outcome.{went};

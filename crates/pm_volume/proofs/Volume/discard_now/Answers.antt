@@ -1,4 +1,4 @@
-use Rattle.std.proofs.Common.{◌⊎◌, false, inl, inr, refl, ◌∙◌, ap, subst}
+use Rattle.std.proofs.Common.{false, inl, inr, refl, ◌∙◌, ap, subst}
 use Rattle.line_words.proofs.ToldLemmas.{on_worked}
 use Rattle.line_words.specs.Words.{WritesBackOutside}
 use Rattle.page_lines.proofs.OthersLemmas.{others-refl}
