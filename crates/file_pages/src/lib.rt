@@ -13,6 +13,7 @@ mod lines;
 mod loading;
 mod mounting;
 mod queries;
+mod renewing;
 mod storing;
 mod syncing;
 mod units;
