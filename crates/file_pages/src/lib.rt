@@ -16,6 +16,8 @@ mod queries;
 mod renewing;
 mod storing;
 mod syncing;
+#[cfg(test)]
+mod tests;
 mod units;
 
 pub use fault::PageFault;
