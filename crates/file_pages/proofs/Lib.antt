@@ -9,3 +9,4 @@ mod SwitchedLemmas
 mod FilledLemmas
 mod FillLemmas
 mod StoreLemmas
+mod RenewLemmas

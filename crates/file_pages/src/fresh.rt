@@ -73,8 +73,8 @@ fn unit_for(journal: &mut Journal, inode: u64, page: u64) -> Option<u64>
     Some(take(journal))
 }
 
-// A unit that is free.
-fn take(journal: &mut Journal) -> u64
+/// A unit that is free.
+pub(crate) fn take(journal: &mut Journal) -> u64
     requires free { 1 ≤ free_count journal.old.free }
     ensures takes { Takes journal.old journal.new result }
 {

@@ -13,8 +13,11 @@ mod lines;
 mod loading;
 mod mounting;
 mod queries;
+mod renewing;
 mod storing;
 mod syncing;
+#[cfg(test)]
+mod tests;
 mod units;
 
 pub use fault::PageFault;

@@ -61,7 +61,8 @@ impl FilePages {
         ensures serves { IsTrue (is_settled self.new) → PagesServe self.new (L.state dev.new).medium }
         ensures files { OnOk result (self.new.journal.tables.files ≡ self.old.journal.tables.files) }
         ensures object { (self.new.journal.geo ≡ self.old.journal.geo) × (is_settled self.new ≡ is_done (outcome_by page_says result)) }
-        ensures held { OnOk result (known_units self.new.journal.tables.pages self.new.journal.free ≡ self.new.journal.geo.fpages) }
+        ensures held { IsTrue (is_settled self.new)
+            → known_units self.new.journal.tables.pages self.new.journal.free ≡ self.new.journal.geo.fpages }
         ensures runs { Runs (store_calls self.old.journal inode offset (length bytes.now))
             (fill_persists self.old.journal inode offset (length bytes.now))
             (outcome_by page_says result) (L.state dev.old).panel (L.state dev.new).panel }

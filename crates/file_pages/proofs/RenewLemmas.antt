@@ -1,0 +1,61 @@
+-- A unit that no page has, with lines written anew.
+use Rattle.std.proofs.Common.{◌≡◌, ℕ, ◌+◌, ◌*◌, ◌/◌, ◌%◌, ◌<◌, ◌≤◌, List, Option, Some, None, slice_index_or, refl, sym, subst, arith}
+use Rattle.std.specs.List.{Contains}
+use Rattle.line_device.specs.Medium.{Medium}
+use Rattle.line_words.specs.Words.{WritesBackBeside}
+use Rattle.word_tables.specs.declared.geometry.Geometry.{Geometry}
+use Rattle.word_tables.specs.Bounds.{IsValid}
+use Rattle.word_tables.specs.Layout.{file_line, file_pages, HasLine}
+use Rattle.page_table.specs.Pages.{IsOn}
+use Rattle.nvm_model.specs.Storage.{File}
+use Rattle.page_lines.specs.Turns.{WritesBackOthers}
+use Rattle.page_lines.proofs.OthersLemmas.{others-beside, others-wider}
+use Rattle.file_journal.specs.Area.{IsOfFiles}
+use Rattle.file_journal.specs.Files.{UnitFile, files_of}
+use Rattle.file_journal.specs.Object.{JournalServes, JournalState}
+use Rattle.file_journal.specs.Standing.{EachReadsFiles, FilesStand}
+use Rattle.file_journal.specs.Tables.{AreTables, IsVacant}
+use Rattle.file_journal.proofs.StandingLemmas.{entry_of_unit, unit_line_in}
+use Rattle.file_pages.specs.Object.{KeepsMarks}
+use Rattle.file_pages.proofs.ListedLemmas.{files-beside}
+use Rattle.file_pages.proofs.PlaceLemmas.{unit_get}
+use Rattle.file_pages.proofs.WorkLemmas.{lines-marks, lines-outside, lines-serve, reads-left}
+
+-- a line among 64
+abbrev pub IsOfUnit : ℕ → ℕ → Type 0
+IsOfUnit first n = (first ≤ n) × (n < first + 64)
+
+module _ (s : JournalState) (old new : Medium) (valid : IsValid s.geo) (are : AreTables s.geo.fpages s.tables) (serves : JournalServes s old) (unit : ℕ) (below : unit < s.geo.fpages) (vacant : IsVacant s.tables.pages unit)
+    (x : WritesBackOthers (IsOfUnit (file_line s.geo unit)) old new) where
+  in_pages : (n : ℕ) → IsOfUnit (file_line s.geo unit) n → HasLine s.geo file_pages n
+  in_pages n is =
+      let first = unit_line_in s.geo unit 0 below in
+      let last = unit_line_in s.geo unit 63 below in
+      (omega (arith, is, first), omega (arith, is, last))
+
+  apart : (y : UnitFile) → Contains (files_of s.tables) y → (k u n : ℕ) → slice_index_or y.units k None ≡ Some u → IsOfUnit (file_line s.geo unit) (file_line s.geo u + n % 64) → ⊥
+  apart y has k u n is at =
+      let same : unit ≡ u = omega (arith, at) in
+      let entry = entry_of_unit s.geo.fpages s.tables y are has k u (unit_get y.units k u is) in
+      vacant entry.0 (subst (λ v. IsOn s.tables.pages entry.0 v) (sym same) entry.1)
+
+  pub renewed-outside : WritesBackOthers (IsOfFiles s.geo) old new
+  renewed-outside = lines-outside s.geo old new (IsOfUnit (file_line s.geo unit)) in_pages x
+
+  pub renewed-marks : KeepsMarks s.geo old new
+  renewed-marks = lines-marks s.geo old new (IsOfUnit (file_line s.geo unit)) in_pages x
+
+  pub renewed-serves : JournalServes s new
+  renewed-serves = lines-serve s old new (IsOfUnit (file_line s.geo unit)) valid in_pages x serves
+
+  pub renewed-files : (files : List File) → FilesStand s.geo old s.tables files → FilesStand s.geo new s.tables files
+  renewed-files files stand = files-beside s.geo s.tables old new (IsOfUnit (file_line s.geo unit)) x apart files stand
+
+  pub renewed-images : (files : List File) → FilesStand s.geo old s.tables files → EachReadsFiles s.geo new (λ left. left ≡ files)
+  renewed-images files stand = reads-left s new files (λ left. left ≡ files) are renewed-serves (renewed-files files stand) refl
+
+-- the lines that were written anew are the unit's
+pub of_unit : (geo : Geometry) (unit first len : ℕ) (old new : Medium) → first ≡ file_line geo unit → len ≡ 4096 → WritesBackBeside (λ n. (first ≤ n) × (n < first + len / 64)) old new
+    → WritesBackOthers (IsOfUnit (file_line geo unit)) old new
+of_unit geo unit first len old new same size x =
+    others-wider (λ n. (first ≤ n) × (n < first + len / 64)) (IsOfUnit (file_line geo unit)) old new (λ n is. (omega (arith, is, same), omega (arith, is, same, size))) (others-beside (λ n. (first ≤ n) × (n < first + len / 64)) old new x)
