@@ -5,7 +5,7 @@ use Rattle.std.proofs.lemmas.List.{length-map}
 use Rattle.std.proofs.lemmas.Slice.Eq.{bytes_eq-Decides}
 use Rattle.std.specs.Bool.{Decides}
 use Rattle.nvm_base.specs.declared.files.FileEntry.{FileEntry}
-use Rattle.nvm_model.specs.Files.{FileLeft, OneFileLeft, entry_of_file}
+use Rattle.nvm_model.specs.Files.{OneFileLeft, entry_of_file}
 use Rattle.nvm_model.specs.Interrupted.{MayStore}
 use Rattle.nvm_model.specs.Listing.{file_name, is_named}
 use Rattle.nvm_model.specs.Page.{Page, is_present}

@@ -1,3 +1,4 @@
+pub mod RangeLemmas
 pub mod NumberedLemmas
 pub mod PageLemmas
 pub mod PutLemmas
@@ -13,6 +14,7 @@ pub mod MediaLemmas
 pub mod LostLemmas
 pub mod OrderLemmas
 pub mod FileLemmas
+pub mod OtherFileLemmas
 pub mod SlotLemmas
 pub mod RiseLemmas
 pub mod ListedLemmas
@@ -22,3 +24,5 @@ pub mod SumLemmas
 pub mod FileLeftLemmas
 pub mod OneFileLemmas
 pub mod TouchedPageLemmas
+pub mod SeveralLemmas
+pub mod NextLemmas

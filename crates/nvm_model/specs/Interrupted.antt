@@ -1,10 +1,12 @@
 -- What an interrupted action may leave of pages.
 use Rattle.std.specs.Prelude.{◌≡◌, ◌⊎◌, ◌*◌, ℕ, Bool, true, false, List, [], ◌∷◌, length, replicate, Option, Some, None}
+use Rattle.nvm_base.specs.declared.units.Span.{Span}
 use Rattle.line_device.specs.Medium.{word_stored}
 use Rattle.nvm_model.specs.Numbered.{map_from, AreMixed}
 use Rattle.nvm_model.specs.Cell.{Cell, covers, persist_cell}
 use Rattle.nvm_model.specs.Cell.Cell.{Bad, Kept}
 use Rattle.nvm_model.specs.Page.{Page, cell_of, fill, presence_of}
+use Rattle.nvm_model.specs.Touched.{persist_touched}
 
 -- a line of these words, some of which have what was put there
 abbrev pub HasSome : ℕ → List ℕ → ℕ → Bool → List (List ℕ) → Cell → Type 0
@@ -39,3 +41,10 @@ MayStore at bytes old new = (new ≡ old) ⊎ LineByLine (MayPut at bytes) (fill
 -- what an interrupted sync may leave
 abbrev pub MaySync : ℕ → ℕ → List Page → List Page → Type 0
 MaySync start len = LineByLine (MayPersist start len)
+
+-- and of one over several spans
+abbrev pub MayPersistTouched : List Span → ℕ → Cell → Cell → Type 0
+MayPersistTouched spans n old new = (new ≡ old) ⊎ (new ≡ persist_touched spans n old)
+
+abbrev pub MaySyncAll : List Span → List Page → List Page → Type 0
+MaySyncAll spans = LineByLine (MayPersistTouched spans)

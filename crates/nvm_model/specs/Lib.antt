@@ -1,6 +1,7 @@
 pub mod Numbered
 pub mod Cell
 pub mod Page
+pub mod Touched
 pub mod Lines
 pub mod Interrupted
 pub mod Storage
@@ -8,4 +9,5 @@ pub mod Blocks
 pub mod Mappings
 pub mod Listing
 pub mod Files
+pub mod Events
 pub mod Device

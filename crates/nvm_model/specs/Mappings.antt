@@ -1,5 +1,5 @@
 -- Mappings of files, in order of handle.
-use Rattle.std.specs.Prelude.{◌==◌, ◌&&◌, ◌||◌, ℕ, Bool, true, false, not, List, [], length, map, Option, Some, None, option_and_then, if◌then◌else◌}
+use Rattle.std.specs.Prelude.{◌+◌, ◌==◌, ◌&&◌, ◌||◌, ◌++◌, ℕ, Bool, true, false, not, List, [], length, map, take, drop, Option, Some, None, option_and_then, if◌then◌else◌}
 use Rattle.std.specs.List.{filter, find, list_any}
 use Rattle.std.specs.Str.{bytes_eq}
 use Rattle.nvm_base.specs.Units.{overlap}
@@ -56,6 +56,10 @@ recopied handle f m = record m { copy = if has_handle handle m then f m.copy els
 -- the mappings with the copy of that one changed
 abbrev pub change_copy : ℕ → (List ℕ → List ℕ) → List Mapping → List Mapping
 change_copy handle f mappings = map (recopied handle f) mappings
+
+-- bytes with others put at an offset
+abbrev pub overwritten : ℕ → List ℕ → List ℕ → List ℕ
+overwritten offset bytes old = take offset old ++ (bytes ++ drop (offset + length bytes) old)
 
 -- no more mappings can be made: there are 256, or the handles are used up
 abbrev pub is_full : List Mapping → ℕ → Bool

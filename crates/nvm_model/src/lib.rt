@@ -4,6 +4,7 @@
 mod laws;
 mod listing_laws;
 mod media_laws;
+mod touched_laws;
 
 pub use laws::{
     a_restart_keeps_what_one_left, actions_go_line_by_line, lines_and_pages_keep_step,
@@ -15,3 +16,4 @@ pub use listing_laws::{
     the_files_in_slots_are_listed,
 };
 pub use media_laws::{a_block_loses_one_line, media_errors_keep_step, one_line_changes_alone};
+pub use touched_laws::{bad_lines_are_found_one_by_one, spans_are_made_durable_one_by_one};

@@ -1,5 +1,5 @@
 -- What follows from what a call's answer says.
-use Rattle.std.proofs.Common.{◌≡◌, Option, Some, None, Result, Ok, Err, OnErr, OnOk, ap, ◌∙◌}
+use Rattle.std.proofs.Common.{◌≡◌, Option, Some, None, Result, Ok, Err, IsErrAnd, OnErr, OnOk, ap, ◌∙◌}
 use Rattle.line_words.specs.Told.{Checks, Told, refusal_of}
 use Rattle.nvm_model.specs.Blocks.{first_there}
 
@@ -20,6 +20,11 @@ by_answer (Err e) ok err done stopped = err stopped
 pub checks_first : {E R : Type 0} (says : E → Told R) (S T : Type 0) (a b : Option R) (f g : E) → g ≡ f → Checks {T = S} says a (Err f) → Checks {T = T} says (first_there a b) (Err g)
 checks_first says S T None b f g is h = absurd h
 checks_first says S T (Some why) b f g is h = ap (λ e. refusal_of (says e)) is ∙ h
+
+-- the same of an error that is handed on
+pub checks_found : {E R : Type 0} (says : E → Told R) (S T : Type 0) (a b : Option R) (f : E) (r : Result T E) → IsErrAnd r (λ g. g ≡ f) → Checks {T = S} says a (Err f) → Checks {T = T} says (first_there a b) r
+checks_found says S T a b f (Ok x) is h = absurd is
+checks_found says S T a b f (Err g) is h = checks_first says S T a b f g is h
 
 pub checks_second : {E R S T : Type 0} (says : E → Told R) (a b : Option R) (x : S) (r : Result T E) → Checks says a (Ok x) → Checks says b r → Checks says (first_there a b) r
 checks_second says None b x r h k = k

@@ -2,9 +2,9 @@
 use Rattle.std.proofs.Common.{◌≡◌, ℕ, ◌+◌, ◌*◌, ◌/◌, ◌<◌, ◌==◌, Bool, true, false, Option, Some, Result, Ok, Err, MatchResult, OnOk, List, [], if◌then◌else◌, refl, sym, ap, subst, ◌∙◌, inl, inr, arith}
 use Rattle.std.proofs.lemmas.Bool.{cases_Bool, ne_eqb, eqb-true, false≢true}
 use Rattle.std.proofs.lemmas.Option.{slice_get_within}
-use Rattle.line_device.specs.History.{WordWritesBack}
-use Rattle.line_device.specs.Medium.{Medium, WritesBack, with_at, renewed, persisted}
-use Rattle.line_device.proofs.HistoryLemmas.{word_write_back-trans}
+use Rattle.line_device.specs.History.{WordWritesBack, latest}
+use Rattle.line_device.specs.Medium.{IsSound, Medium, WritesBack, on_line, with_at, renewed, persisted}
+use Rattle.line_device.proofs.HistoryLemmas.{word_write_back-refl, word_write_back-trans}
 use Rattle.line_device.proofs.WriteBackLemmas.{on_line-out, persisted-strong, persisted-weak}
 use Rattle.line_words.proofs.BesideLemmas.{beside-flushed}
 use Rattle.nvm_model.specs.Cell.{Cell, CellStands, flush_cell}
@@ -84,3 +84,22 @@ pub others-persist : {A F : Type 0} (r : Result A F) (there : Option ℕ) (line 
     → MatchResult r (λ _. WritesBack (persisted m line) new) (λ _. WritesBack m new) → WritesBackOthers (λ at. there ≡ Some at) m new
 others-persist (Ok x) there line m new is h = others-wider (λ n. n ≡ line) (λ at. there ≡ Some at) m new (λ n same. is ∙ ap (λ i. Some i) (sym same)) (others-persisted m new line h)
 others-persist (Err e) there line m new is h = others-write_back (λ at. there ≡ Some at) m new h
+
+-- a persist leaves a bad line as it is
+pub bad-persisted : (m : Medium) (line : ℕ) → IsSound m → m.is_bad line ≡ true → WritesBack (persisted m line) m
+bad-persisted m line sound bad =
+    subst (λ (after : Medium). WritesBack after m) (sym (persisted-strong m line (sound.unmarked line bad)))
+    (record {
+      count = refl;
+      bad = λ n. refl;
+      weak = λ n. refl;
+      word_write_back = λ p. subst (λ h. WordWritesBack (m.is_weak (p / 8)) h (m.history p)) (sym (same p)) (word_write_back-refl (m.is_weak (p / 8)) (m.history p));
+    })
+  where
+    same : (p : ℕ) → on_line line (λ _ old. latest old) m.history p ≡ m.history p
+    same p = elim (cases_Bool (p / 8 == line)) as (λ _. on_line line (λ _ old. latest old) m.history p ≡ m.history p) [
+      | inl on ↦
+          let lost = sound.lost p (ap m.is_bad (eqb-true (p / 8) line on) ∙ bad) in
+          ap (λ b. if b then latest (m.history p) else m.history p) on ∙ ap latest lost ∙ sym lost
+      | inr out ↦ ap (λ b. if b then latest (m.history p) else m.history p) out
+    ]

@@ -14,6 +14,8 @@ pub enum BadLines {
     All,
     /// Those of which the span touches some bytes, and not all.
     NotCovered,
+    /// Those from this line on.
+    From(u64),
 }
 
 impl BadLines {
@@ -28,6 +30,7 @@ impl BadLines {
             BadLines::NotCovered => {
                 !(span.start <= LINE * n && LINE * n + LINE <= span.start + span.len)
             }
+            BadLines::From(first) => first <= n,
         }
     }
 }

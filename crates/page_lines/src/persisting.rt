@@ -1,9 +1,9 @@
 // Lines made durable, which a weak line does not survive.
-ghost use Rattle.std.specs.Prelude.{◌≡◌, ◌+◌, ◌<◌, ◌≤◌, ◌^◌, ℕ, true, false, Some, IsTrue, MatchResult, OnErr, OnOk};
-ghost use Rattle.line_device.specs.Medium.{WritesBack, IsHealthy, persisted};
+ghost use Rattle.std.specs.Prelude.{◌≡◌, ◌+◌, ◌<◌, ◌≤◌, ◌^◌, ℕ, Some, IsTrue, MatchResult, OnErr, OnOk};
+ghost use Rattle.line_device.specs.Medium.{WritesBack, persisted};
 ghost use Rattle.line_device.specs.Panel.{Runs};
 ghost use Rattle.line_words.specs.Ending.{ended};
-ghost use Rattle.nvm_model.specs.Cell.{flush_cell, persist_cell, touches};
+ghost use Rattle.nvm_model.specs.Cell.{flush_cell, persist_cell};
 ghost use Rattle.nvm_model.specs.Interrupted.{MayPersist};
 ghost use Rattle.page_lines.specs.Placed.{AreApart, IsPlaced, one_there, there_in};
 ghost use Rattle.page_lines.specs.Turns.{Turns, MayTurn, WritesBackOthers};
@@ -13,7 +13,8 @@ use line_device::Lines;
 use line_words::{Interruption, stop_of};
 use nvm_base::{LineNo, Span, lines_of};
 
-/// Makes each line durable that the span touches and that is there, by one call each. A weak one becomes bad.
+/// Makes each line durable that the span touches and that is there, by one call each. A weak one becomes bad, and a bad one is
+/// passed over.
 pub fn persist_lines<L: Lines, P: Places>(
     dev: &mut L,
     places: &P,
@@ -22,8 +23,6 @@ pub fn persist_lines<L: Lines, P: Places>(
     requires some { 1 ≤ span.len }
     requires within { span.start + span.len ≤ 2 ^ 40 }
     requires apart { AreApart (P.place places.now) (L.state dev.old).medium.count }
-    requires good { (n line : ℕ) → touches span.start span.len n ≡ true → P.place places.now n ≡ Some line
-        → (L.state dev.old).medium.is_bad line ≡ false }
     requires on { IsTrue (L.state dev.old).panel.power }
     ensures ok { OnOk result ((n line : ℕ) → P.place places.now n ≡ Some line
         → Turns (persist_cell span.start span.len n) line (L.state dev.old).medium (L.state dev.new).medium) }
@@ -44,7 +43,6 @@ pub fn persist_lines<L: Lines, P: Places>(
 // Makes line n durable, where it is there.
 fn persist_at<L: Lines, P: Places>(dev: &mut L, places: &P, n: u64) -> Result<(), Interruption>
     requires apart { AreApart (P.place places.now) (L.state dev.old).medium.count }
-    requires good { (line : ℕ) → P.place places.now n ≡ Some line → (L.state dev.old).medium.is_bad line ≡ false }
     requires on { IsTrue (L.state dev.old).panel.power }
     ensures ok { OnOk result ((line : ℕ) → P.place places.now n ≡ Some line
         → Turns flush_cell line (L.state dev.old).medium (L.state dev.new).medium) }
@@ -60,15 +58,18 @@ fn persist_at<L: Lines, P: Places>(dev: &mut L, places: &P, n: u64) -> Result<()
     }
 }
 
-// Makes a line of the device durable.
+// Makes a line of the device durable, unless it is bad.
 fn persist_one<L: Lines>(dev: &mut L, line: u64) -> Result<(), Interruption>
-    requires healthy { IsHealthy (L.state dev.old).medium line }
+    requires within { line < (L.state dev.old).medium.count }
     requires on { IsTrue (L.state dev.old).panel.power }
     ensures lines { MatchResult result
         (λ _. WritesBack (persisted (L.state dev.old).medium line) (L.state dev.new).medium)
         (λ _. WritesBack (L.state dev.old).medium (L.state dev.new).medium) }
     ensures runs { Runs 1 1 (ended result) (L.state dev.old).panel (L.state dev.new).panel }
 {
+    if dev.is_bad(LineNo(line)) {
+        return Ok(());
+    }
     match dev.persist(LineNo(line)) {
         Ok(()) => Ok(()),
         Err(fault) => Err(stop_of(fault, line)),

@@ -6,20 +6,12 @@ use Rattle.line_words.specs.Ending.{ended}
 use Rattle.nvm_model.specs.Cell.{persist_cell}
 use Rattle.nvm_model.specs.Interrupted.{MayPersist}
 use Rattle.page_lines.specs.Placed.{there_in}
-use Rattle.page_lines.proofs.LoopLemmas.{Reached, reached-none, reached-next, reached-interrupted, not_reached, others-next, turns-touched, turns-untouched, may_persist-left}
+use Rattle.page_lines.proofs.LoopLemmas.{Reached, reached-none, reached-next, reached-interrupted, others-next, turns-touched, turns-untouched, may_persist-left}
 use Rattle.page_lines.proofs.SpanLemmas.{on_err, touches-among, all_turned, others_placed, there_among-next, there_in-next}
 use Rattle.page_lines.proofs.persisting.persist_lines.Goals as goal
 
 pub loop-k-init : goal.loop-k-init
 loop-k-init g c = record { reached = reached-none _ _ _ _; runs = runs-refl _ }
-
-pub persist_at-requires-clause-good : goal.persist_at-requires-clause-good
-persist_at-requires-clause-good g c = λ line at.
-    let t = c.lines_of-touched.result in
-    let n = t.start + c.loop-k.k in
-    let out = not_reached (g.P.Places.place c.args.places.now) t.start n _ n line c.requires.apart at (λ _ less. omega (arith, less)) in
-    c.loop-k.invariant.reached.others.bad line out
-    ∙ c.requires.good n line (touches-among c.args.span t n c.lines_of-touched.ensures.value c.requires.some (omega arith) (omega arith)) at
 
 pub returns-in_err-persist_at-clause-err : goal.returns-in_err-persist_at-clause-err
 returns-in_err-persist_at-clause-err g c =
