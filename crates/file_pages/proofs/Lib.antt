@@ -3,10 +3,12 @@ mod LineLemmas
 mod HoleLemmas
 pub mod ListedLemmas
 pub mod PassLemmas
-mod WorkLemmas
+pub mod FoundLemmas
+pub mod WorkLemmas
 mod FreshLemmas
 mod SwitchedLemmas
 mod FilledLemmas
 mod FillLemmas
 mod StoreLemmas
 mod RenewLemmas
+mod LentLemmas

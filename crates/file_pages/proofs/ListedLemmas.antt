@@ -11,6 +11,7 @@ use Rattle.word_tables.specs.declared.geometry.Geometry.{Geometry}
 use Rattle.word_tables.specs.Layout.{file_line}
 use Rattle.inode_table.specs.Slots as names
 use Rattle.inode_table.specs.Slots.{IsNamed, pages_at, pages_of}
+use Rattle.nvm_model.specs.Cell.{Cell, CellStands}
 use Rattle.nvm_model.specs.Files.{FileLeft, OneFileLeft, on_pages}
 use Rattle.nvm_model.specs.Listing as list
 use Rattle.nvm_model.specs.Listing.{change_file, file_name, file_of}
@@ -112,7 +113,7 @@ module _ (geo : Geometry) (t : Tables) (are : AreTables geo.fpages t) (inode : �
       subst (λ (y : File). PagesOn geo (units_of t inode) m y.pages) same
       (that_stands m (unit_file t inode here.file) pair.0 (ap (list_from (unit_at t inode) 0) (sym pages_is)) pair.3)
 
-  module _ (old new : Medium) (lines : ℕ → Type 0) (x : WritesBackOthers lines old new)
+  module _ (old new : Medium) (lines : ℕ → Type 0) (keeps : (line : ℕ) (cell : Cell) → (lines line → ⊥) → CellStands old line cell → CellStands new line cell)
       (of : (line : ℕ) → lines line → (n : ℕ) × (unit_place geo (units_of t inode) n ≡ Some line)) where
     beside : (a : UnitFile) (y : File) → Contains (files_of t) a → (a.name ≡ name → ⊥) → FileStands geo old a y → FileStands geo new a y
     beside a y has out stands = record {
@@ -128,14 +129,14 @@ module _ (geo : Geometry) (t : Tables) (are : AreTables geo.fpages t) (inode : �
             let p = place_is geo (units_of t inode) placed.0 (file_line geo unit.0 + n % 64) placed.1 in
             let same : p.0 ≡ unit.0 = omega (arith, p.2) in
             other_apart a has out (n / 64) unit.0 at (placed.0 / 64) (p.1 ∙ ap (λ (u : ℕ). Some u) same) in
-            stands-others lines old new (line_of_file geo a n) cell x (subst (λ (o : Option ℕ). lines (line_on geo o n) → ⊥) (sym at) away) (stands.stand.lines n cell is);
+            keeps (line_of_file geo a n) cell (subst (λ (o : Option ℕ). lines (line_on geo o n) → ⊥) (sym at) away) (stands.stand.lines n cell is);
       };
     }
 
     -- its pages change alike in both
-    pub files-changed : (g : List Page → List Page) → ((pages : List Page) → PagesOn geo (units_of t inode) old pages → PagesOn geo (units_of t inode) new (g pages))
+    pub files-turned : (g : List Page → List Page) → ((pages : List Page) → PagesOn geo (units_of t inode) old pages → PagesOn geo (units_of t inode) new (g pages))
         → (files : List File) → FilesStand geo old t files → FilesStand geo new t (change_file file_name name (on_pages g) files)
-    files-changed g changes files stand =
+    files-turned g changes files stand =
         subst (λ xs. list.AreAlike unit_file_name file_name (FileStands geo new) xs (change_file file_name name (on_pages g) files)) (change-same unit_file_name name (files_of t))
         (alike-change_among unit_file_name file_name (FileStands geo old) (FileStands geo new) name (λ a. a) (on_pages g) (files_of t) files
         (λ a y has is is_file stands.
@@ -143,6 +144,16 @@ module _ (geo : Geometry) (t : Tables) (are : AreTables geo.fpages t) (inode : �
         (is ∙ sym is_file, stands_that new a (on_pages g y) units (changes y.pages (that_stands old a y units stands))))
         (λ a y has out same stands. beside a y has out stands)
         stand)
+
+  -- the same where the other lines are only written back
+  module _ (old new : Medium) (lines : ℕ → Type 0) (x : WritesBackOthers lines old new)
+      (of : (line : ℕ) → lines line → (n : ℕ) × (unit_place geo (units_of t inode) n ≡ Some line)) where
+    keeps : (line : ℕ) (cell : Cell) → (lines line → ⊥) → CellStands old line cell → CellStands new line cell
+    keeps line cell out stands = stands-others lines old new line cell x out stands
+
+    pub files-changed : (g : List Page → List Page) → ((pages : List Page) → PagesOn geo (units_of t inode) old pages → PagesOn geo (units_of t inode) new (g pages))
+        → (files : List File) → FilesStand geo old t files → FilesStand geo new t (change_file file_name name (on_pages g) files)
+    files-changed g changes files stand = files-turned old new lines keeps of g changes files stand
 
     -- or its pages are left as R leaves them
     pub files-left : (R : List Page → List Page → Type 0) → ((pages : List Page) → PagesOn geo (units_of t inode) old pages → (left : List Page) × R pages left × PagesOn geo (units_of t inode) new left)
@@ -161,5 +172,5 @@ module _ (geo : Geometry) (t : Tables) (are : AreTables geo.fpages t) (inode : �
                     record { here = λ _. left.1; beside = λ out. absurd (out (sym same ∙ is)) },
                     stands_that new a (record { name = y.name; pages = left.0 }) units left.2,
                   )
-              | inr out ↦ (y, refl, record { here = λ is. absurd (out (same ∙ is)); beside = λ _. refl }, beside a y has out stands)
+              | inr out ↦ (y, refl, record { here = λ is. absurd (out (same ∙ is)); beside = λ _. refl }, beside old new lines keeps of a y has out stands)
             ]

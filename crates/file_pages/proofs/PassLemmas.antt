@@ -1,5 +1,6 @@
 -- What tests of a file's lines say of its pages.
-use Rattle.std.proofs.Common.{◌≡◌, ◌+◌, ◌*◌, ◌≤◌, ℕ, Bool, true, Option, Some, None, Result, Ok, Err, IsErrAnd, OnOk, List, length, is_some, refl, ap, sym, subst, ◌∙◌}
+use Rattle.std.proofs.Common.{◌≡◌, ◌+◌, ◌*◌, ◌^◌, ◌<◌, ◌≤◌, ◌&&◌, ℕ, Bool, true, nat_lt, Option, Some, None, IfSome, Result, Ok, Err, IsErrAnd, OnOk, List, [], ◌∷◌, length, is_some, refl, ap, ap₂, sym, subst, ◌∙◌, arith}
+use Rattle.std.proofs.lemmas.Bool.{and_parts, ltb-true}
 use Rattle.std.proofs.lemmas.List.{length-map}
 use Rattle.nvm_base.specs.declared.units.Span.{Span}
 use Rattle.nvm_base.specs.Units as base
@@ -9,14 +10,18 @@ use Rattle.word_tables.specs.Layout.{meta_lines}
 use Rattle.inode_table.specs.Slots.{pages_at}
 use Rattle.page_table.specs.Pages.{used_pages}
 use Rattle.nvm_model.specs.Blocks.{first_there}
+use Rattle.nvm_model.specs.Cell.{touches}
 use Rattle.nvm_model.specs.Lines.{AreGood}
-use Rattle.nvm_model.specs.Page.{Page, absent_among, absent_touched, first_uncovered_line, is_present, presence_of, touches_absent}
+use Rattle.nvm_model.specs.Page.{Page, absent_among, absent_touched, cell_of, first_uncovered_line, is_bad_cell, is_present, presence_of, touches_absent}
 use Rattle.nvm_model.specs.Storage.{File}
-use Rattle.page_lines.specs.declared.finding.BadLines.TheVariants.{All, NotCovered}
-use Rattle.page_lines.specs.Sought.{lowest_bad_in}
+use Rattle.nvm_model.specs.Touched.{is_bad_touched, next_bad_touched}
+use Rattle.nvm_model.proofs.NextLemmas.{lowest-alike, lowest-next}
+use Rattle.nvm_model.proofs.SeveralLemmas.{touches-one}
+use Rattle.page_lines.specs.declared.finding.BadLines.TheVariants.{All, From, NotCovered}
+use Rattle.page_lines.specs.Sought.{is_bad_at, lowest_bad_in}
 use Rattle.page_lines.proofs.ResultLemmas.{checks_second}
-use Rattle.page_lines.proofs.SearchLemmas.{all_covered, all_good}
-use Rattle.page_lines.proofs.StandingLemmas.{finds_bad, finds_uncovered}
+use Rattle.page_lines.proofs.SearchLemmas.{all_covered, all_good, lowest-touched}
+use Rattle.page_lines.proofs.StandingLemmas.{bad_at, finds_bad, finds_uncovered}
 use Rattle.file_journal.specs.Object.{JournalState}
 use Rattle.file_journal.specs.Tables.{AreTables}
 use Rattle.file_pages.specs.declared.fault.PageFault.{PageFault}
@@ -30,13 +35,7 @@ passed : {T : Type 0} (o : Option ℕ) (x : T) → Checks page_says (poisoned_at
 passed None x h = refl
 passed (Some n) x h = absurd h
 
--- what a first test finds
-pub first_found : (S T : Type 0) (a b : Option PageRefusal) (f : PageFault) (r : Result T PageFault) → IsErrAnd r (λ g. g ≡ f) → Checks {T = S} page_says a (Err f) → Checks {T = T} page_says (first_there a b) r
-first_found S T None b f r is h = absurd h
-first_found S T (Some why) b f (Ok x) is h = absurd is
-first_found S T (Some why) b f (Err g) is h = ap (λ e. refusal_of (page_says e)) is ∙ h
-
--- and what a later one does
+-- what a later test finds
 pub later_found : (S T : Type 0) (b : Option PageRefusal) (f : PageFault) (r : Result T PageFault) → IsErrAnd r (λ g. g ≡ f) → Checks {T = S} page_says b (Err f) → Checks {T = T} page_says b r
 later_found S T None f r is h = absurd h
 later_found S T (Some why) f (Ok x) is h = absurd is
@@ -101,3 +100,24 @@ module _ (s : JournalState) (m : Medium) (inode : ℕ) (are : AreTables s.geo.fp
         subst (λ n. Checks page_says (first_there (bytes_refusal n span.start span.len) (first_there (full_refusal s (absent_touched span.start span.len (presence_of file.pages))) (first_there (metadata_refusal_if (touches_absent span.start span.len (presence_of file.pages)) s.geo m) poison))) r) size
         (subst (λ bs. Checks page_says (first_there (bytes_refusal (pages_at s.tables.files inode) span.start span.len) (first_there (full_refusal s (absent_touched span.start span.len bs)) (first_there (metadata_refusal_if (touches_absent span.start span.len bs) s.geo m) poison))) r) (sym stands.there)
         (subst (λ o. Checks page_says (first_there (bytes_refusal (pages_at s.tables.files inode) span.start span.len) (first_there (full_refusal s (absent_touched span.start span.len (pages_there s inode))) (first_there (metadata_refusal_if (touches_absent span.start span.len (pages_there s inode)) s.geo m) (poisoned_at o)))) r) found told))
+
+-- the lowest bad line from one on, of a span of a file
+pub next_found : (s : JournalState) (m : Medium) (inode : ℕ) → AreTables s.geo.fpages s.tables → (span : Span) (from : ℕ) (lowest : Option ℕ) → 1 ≤ span.len → lowest ≡ lowest_bad_in (From from) (file_place s inode) m span
+    → (files : List File) (file : File) → IsFileAt s m inode files file → lowest ≡ next_bad_touched (span ∷ []) file.pages from
+next_found s m inode are span from lowest some is files file at =
+    let stands = pages_on s m inode files file are at in
+    let bad : (n : ℕ) → is_bad_at m (file_place s inode n) ≡ is_bad_cell (cell_of file.pages n) =
+    bad_at (file_place s inode) (line_at s.geo (units_of s.tables inode)) (pages_there s inode) (located s.geo (units_of s.tables inode)) m file.pages stands.there stands.stand in
+    lowest-next (span ∷ []) file.pages from lowest
+    (lowest-alike from (λ n. touches span.start span.len n && is_bad_at m (file_place s inode n)) (is_bad_touched (span ∷ []) file.pages)
+    (λ n. ap₂ (λ a b. a && b) (sym (touches-one span n)) (bad n)) lowest
+    (lowest-touched (λ n. is_bad_at m (file_place s inode n)) from span.start span.len lowest some is))
+
+pub next_small : (s : JournalState) (m : Medium) (inode : ℕ) (span : Span) (from : ℕ) (lowest : Option ℕ) → 1 ≤ span.len → span.start + span.len ≤ 2 ^ 20 → lowest ≡ lowest_bad_in (From from) (file_place s inode) m span
+    → IfSome lowest (λ n. n < 2 ^ 14)
+next_small s m inode span from None some within is = tt
+next_small s m inode span from (Some n) some within is =
+    let least = lowest-touched (λ k. is_bad_at m (file_place s inode k)) from span.start span.len (Some n) some is in
+    let touched = and_parts (touches span.start span.len n) (is_bad_at m (file_place s inode n)) least.1 in
+    let begins = ltb-true (64 * n) (span.start + span.len) (and_parts (nat_lt span.start (64 * n + 64)) (nat_lt (64 * n) (span.start + span.len)) touched.0).1 in
+    omega (arith, begins, within)

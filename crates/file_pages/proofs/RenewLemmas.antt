@@ -1,5 +1,5 @@
 -- A unit that no page has, with lines written anew.
-use Rattle.std.proofs.Common.{◌≡◌, ℕ, ◌+◌, ◌*◌, ◌/◌, ◌%◌, ◌<◌, ◌≤◌, List, Option, Some, None, slice_index_or, refl, sym, subst, arith}
+use Rattle.std.proofs.Common.{◌≡◌, ℕ, ◌+◌, ◌/◌, ◌%◌, ◌<◌, ◌≤◌, List, Some, None, slice_index_or, refl, sym, subst, arith}
 use Rattle.std.specs.List.{Contains}
 use Rattle.line_device.specs.Medium.{Medium}
 use Rattle.line_words.specs.Words.{WritesBackBeside}

@@ -1,5 +1,5 @@
 // When calls are refused. None of this makes a counted call.
-ghost use Rattle.std.specs.Prelude.{◌≡◌, ◌+◌, ◌*◌, ◌<◌, ◌≤◌, ◌-◌, ◌^◌, ◌≢◌, IsTrue, List, None, OnOk, false, not, slice_index_or, true};
+ghost use Rattle.std.specs.Prelude.{◌≡◌, ◌+◌, ◌*◌, ◌<◌, ◌≤◌, ◌-◌, ◌^◌, ◌≢◌, IsTrue, List, None, OnOk, false, nat_lt, not, slice_index_or, true};
 ghost use Rattle.nvm_base.specs.declared.units.Span.{Span};
 ghost use Rattle.word_tables.specs.Bounds.{IsValid};
 ghost use Rattle.word_tables.specs.Layout.{meta_lines, total_lines};
@@ -83,14 +83,20 @@ fn check_bytes(journal: &Journal, inode: u64, span: Span) -> Result<(), PageFaul
     ensures small { pages_at journal.now.tables.files inode ≤ 256 }
 {
     let _sizes = journal.geometry();
-    let size = PAGE * journal.pages(inode);
-    if span.start > size || span.len > size - span.start {
+    if ends_past(PAGE * journal.pages(inode), span) {
         return Err(PageFault::Range);
     }
     if span.len == 0 {
         return Err(PageFault::Length);
     }
     Ok(())
+}
+
+/// Whether a span ends past so many bytes.
+pub fn ends_past(size: u64, span: Span) -> bool
+    ensures { result ≡ nat_lt size (span.start + span.len) }
+{
+    span.start > size || span.len > size - span.start
 }
 
 // How many of these pages are holes.

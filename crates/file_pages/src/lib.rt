@@ -9,6 +9,7 @@ mod checks;
 mod fault;
 mod filling;
 mod fresh;
+mod lending;
 mod lines;
 mod loading;
 mod mounting;
@@ -20,8 +21,10 @@ mod syncing;
 mod tests;
 mod units;
 
+pub use checks::ends_past;
 pub use fault::PageFault;
 use file_journal::Journal;
+pub use lending::borrow_line;
 use std::marker::Model;
 
 /// The files of a mounted device, with their bytes.

@@ -1,16 +1,19 @@
-// What is known of files without the device.
-ghost use Rattle.std.specs.Prelude.{◌≡◌, ◌↔◌, ◌*◌, ◌/◌, ◌<◌, IsNone, None, option_map};
+// What is known of files without a counted call.
+ghost use Rattle.std.specs.Prelude.{◌≡◌, ◌↔◌, ◌+◌, ◌*◌, ◌/◌, ◌<◌, ◌≤◌, ◌^◌, ◌∷◌, [], IfSome, IsNone, List, None, option_map};
 ghost use Rattle.std.specs.Borrow.{sem};
 ghost use Rattle.inode_table.specs.Slots.{pages_at};
+ghost use Rattle.nvm_model.specs.Storage.{File};
+ghost use Rattle.nvm_model.specs.Touched.{next_bad_touched};
 ghost use Rattle.file_journal.specs.Tables.{unit_at};
-ghost use Rattle.file_pages.specs.Object.{file_place, is_settled};
+ghost use Rattle.file_pages.specs.Object.{IsFileAt, PagesServe, file_place, is_settled};
 ghost use Rattle.file_pages.specs.Lends.{lends_journal};
 
 use crate::FilePages;
 use crate::lines::FileLines;
 use file_journal::Journal;
-use nvm_base::{LINE, LineNo};
-use page_lines::Places;
+use line_device::Lines;
+use nvm_base::{LINE, LineNo, Span};
+use page_lines::{BadLines, Places, lowest_bad};
 
 impl FilePages {
     /// Whether nothing stopped the last call. Files that are not settled have to be mounted again.
@@ -46,5 +49,20 @@ impl FilePages {
             Some(line) => Some(LineNo(line)),
             None => None,
         }
+    }
+
+    /// The lowest bad line of a file, of those from one on that the span touches.
+    pub fn next_bad<L: Lines>(&self, dev: &L, inode: u64, span: Span, from: u64) -> Option<u64>
+        requires serves { PagesServe self.now (L.state dev.now).medium }
+        requires inode { inode < 64 }
+        requires some { 1 ≤ span.len }
+        requires within { span.start + span.len ≤ 4096 * pages_at self.now.journal.tables.files inode }
+        ensures next { (files : List File) (file : File) → IsFileAt self.now.journal (L.state dev.now).medium inode files file
+            → result ≡ next_bad_touched (span ∷ []) file.pages from }
+        ensures below { IfSome result (λ n. n < 2 ^ 14) }
+    {
+        let _size = self.journal.pages(inode);
+        let lines = FileLines::of(&self.journal, inode);
+        lowest_bad(dev, &lines, span, BadLines::From(from))
     }
 }

@@ -59,6 +59,7 @@ impl FilePages {
         ensures outside { WritesBackOthers (IsOfFiles self.old.journal.geo) (L.state dev.old).medium (L.state dev.new).medium }
         ensures metadata { KeepsMarks self.old.journal.geo (L.state dev.old).medium (L.state dev.new).medium }
         ensures serves { IsTrue (is_settled self.new) → PagesServe self.new (L.state dev.new).medium }
+        ensures tables { OnOk result (AreTables self.new.journal.geo.fpages self.new.journal.tables) }
         ensures files { OnOk result (self.new.journal.tables.files ≡ self.old.journal.tables.files) }
         ensures object { (self.new.journal.geo ≡ self.old.journal.geo) × (is_settled self.new ≡ is_done (outcome_by page_says result)) }
         ensures held { IsTrue (is_settled self.new)

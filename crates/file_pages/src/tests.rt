@@ -6,7 +6,7 @@ ghost use Rattle.file_journal.specs.Object.{JournalServes};
 ghost use Rattle.file_journal.specs.Tables.{known_units};
 ghost use Rattle.file_pages.specs.Object.{PagesServe, is_settled};
 
-use crate::{FilePages, PageFault};
+use crate::{FilePages, PageFault, borrow_line};
 use file_journal::{Journal, MountFault};
 use line_device::{Choice, LineDevice, Lines, Plain, ResetFault};
 use nvm_base::{LineNo, Name, Span};
@@ -136,6 +136,21 @@ fn persist<L: Lines>(
     files.persist(dev, inode, Span { start, len })
 }
 
+// The first byte of a line, where it is no hole's.
+fn first_byte<L: Lines>(files: &FilePages, dev: &mut L, line: u64) -> Result<Option<u8>, PageFault>
+    requires { IsTrue (is_settled files.now) → PagesServe files.now (L.state dev.old).medium }
+{
+    let inode = file(files);
+    if !files.settled() || !dev.power() || 64 <= inode {
+        return Err(PageFault::Device);
+    }
+    match borrow_line(dev, files, inode, line) {
+        Ok(Some(bytes)) => Ok(bytes.first().copied()),
+        Ok(None) => Ok(None),
+        Err(fault) => Err(fault),
+    }
+}
+
 // A media error takes the line of a byte, if it has one.
 fn spoil<L: Lines>(files: &FilePages, dev: &mut L, offset: u64) {
     let inode = file(files);
@@ -196,6 +211,15 @@ fn a_bad_line_is_named_until_it_is_stored_over(rt: HostRuntime) -> Result<(), Fa
     assert_eq!(rt; store(&mut files, &mut device, 64, &[8; 128]), Ok(()));
     assert_eq!(rt; load(&mut files, &mut device, 188, &mut out), Ok(()));
     assert_eq!(rt; out, [8, 8, 8, 8, 7, 7, 7, 7]);
+    for (line, byte) in [
+        (0, Ok(Some(7))),
+        (2, Ok(Some(8))),
+        (64, Ok(None)),
+        (192, Err(PageFault::Range)),
+    ] {
+        let files = open(rt.alloc(), &mut device, Choice::Lasts)?;
+        assert_eq!(rt; first_byte(&files, &mut device, line), byte);
+    }
     Ok(())
 }
 

@@ -3,4 +3,5 @@ pub mod ListedLemmas
 pub mod KeptLemmas
 pub mod CopyLemmas
 pub mod FileLemmas
-pub mod FoundLemmas
+pub mod RefusedLemmas
+pub mod OverwriteLemmas

@@ -1,8 +1,8 @@
 // The bytes of private mappings, for writing.
-ghost use Rattle.std.specs.Prelude.{◌≡◌, ◌↔◌, IsNone, IsSome, None, Some};
+ghost use Rattle.std.specs.Prelude.{◌≡◌, ◌↔◌, ◌+◌, ◌≤◌, IfSome, IsNone, IsSome, None, Some, length};
 ghost use Rattle.std.specs.Borrow.{sem};
 ghost use Rattle.std.specs.Option.{option_copied_mut};
-ghost use Rattle.nvm_model.specs.Mappings.{copy_of};
+ghost use Rattle.nvm_model.specs.Mappings.{change_copy, copy_of, overwritten};
 ghost use Rattle.mappings.specs.Lends.{lends_copy};
 
 use crate::Mappings;
@@ -16,6 +16,17 @@ impl Mappings {
             Some(_) => Some(self.bytes_mut(handle)),
             None => None,
         }
+    }
+
+    /// Puts bytes at an offset of a private mapping.
+    pub fn overwrite(&mut self, handle: u64, offset: u64, bytes: &[u8])
+        requires own { IsSome (copy_of handle self.old.mappings) }
+        requires within { IfSome (copy_of handle self.old.mappings) (λ copy. offset + length bytes.now ≤ length copy) }
+        ensures { self.new ≡ record self.old { mappings = change_copy handle (overwritten offset bytes.now) self.old.mappings } }
+    {
+        let _maps = self.get(handle);
+        let start = offset as usize;
+        self.bytes_mut(handle)[start..start + bytes.len()].copy_from_slice(bytes);
     }
 
     /// The bytes of a private mapping, for writing.

@@ -1,5 +1,5 @@
 // Mappings made.
-ghost use Rattle.std.specs.Prelude.{◌≡◌, ◌+◌, ◌*◌, ◌<◌, ◌≤◌, ◌++◌, ◌∷◌, [], ◌≢◌, Err, IfErr, IfOk, IsTrue, List, None, OnErr, OnOk, Some, false, if◌then◌else◌, length};
+ghost use Rattle.std.specs.Prelude.{◌≡◌, ◌+◌, ◌*◌, ◌<◌, ◌≤◌, ◌++◌, ◌∷◌, [], ◌≢◌, Err, IfErr, IfOk, IsOk, IsTrue, List, None, OnErr, OnOk, Some, false, if◌then◌else◌, length, true};
 ghost use Rattle.line_device.specs.Medium.{WritesBack};
 ghost use Rattle.line_device.specs.Panel.{Runs};
 ghost use Rattle.line_device.specs.Panel.Outcome.{went};
@@ -21,7 +21,7 @@ ghost use Rattle.mappings.specs.Table.{listed, mapping_under};
 
 use crate::mapping::Mapping;
 use crate::{MapFault, MapInfo, Mappings};
-use file_pages::FilePages;
+use file_pages::{FilePages, ends_past};
 use indexmap::IndexMap;
 use line_device::Lines;
 use nvm_base::{Bytes, Kind, Name, PAGE, Span};
@@ -62,6 +62,7 @@ impl Mappings {
         ensures serves { PagesServe files.new (L.state dev.new).medium }
         ensures object { (files.new.journal ≡ files.old.journal) × (files.new.settled ≡ is_done (outcome_by map_says result)) }
         ensures runs { Runs (map_calls kind span) 0 (outcome_by map_says result) (L.state dev.old).panel (L.state dev.new).panel }
+        ensures shown { is_shared kind ≡ true → outcome_by map_says result ≡ went }
     {
         let inode = find(files, name)?;
         self.check(files, inode, span)?;
@@ -112,7 +113,7 @@ fn check_span(size: u64, span: Span) -> Result<(), MapFault>
     ensures some { OnOk result (1 ≤ span.len) }
     ensures within { OnOk result (span.start + span.len ≤ size) }
 {
-    if span.start > size || span.len > size - span.start {
+    if ends_past(size, span) {
         return Err(MapFault::Range);
     }
     if span.len == 0 {
@@ -148,6 +149,7 @@ fn copied<L: Lines>(
     ensures serves { PagesServe files.new (L.state dev.new).medium }
     ensures object { (files.new.journal ≡ files.old.journal) × (files.new.settled ≡ is_done (outcome_by map_says result)) }
     ensures runs { Runs (map_calls kind span) 0 (outcome_by map_says result) (L.state dev.old).panel (L.state dev.new).panel }
+    ensures shown { is_shared kind ≡ true → IsOk result }
 {
     match kind {
         Kind::Shared => Ok(Bytes::new(alloc)),

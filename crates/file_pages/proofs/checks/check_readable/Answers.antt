@@ -1,12 +1,14 @@
 use Rattle.std.proofs.Common.{Err}
-use Rattle.file_pages.proofs.PassLemmas.{bytes_checked, first_found, readable, reads_checked}
+use Rattle.page_lines.proofs.ResultLemmas.{checks_found}
+use Rattle.file_pages.specs.Refusals.{page_says}
+use Rattle.file_pages.proofs.PassLemmas.{bytes_checked, readable, reads_checked}
 use Rattle.file_pages.proofs.checks.check_readable.Goals as goal
 
 pub returns-in_err-check_bytes-clause-refused : goal.returns-in_err-check_bytes-clause-refused
 returns-in_err-check_bytes-clause-refused g c = λ files file at.
     let m = (g.L.Lines.state c.args.dev.now).medium in
     let s = c.args.journal.now in
-    first_found _ _ _ _ c.in_err-check_bytes.field-0.0 c.from_residual.result c.from_residual.ensures.1
+    checks_found page_says _ _ _ _ c.in_err-check_bytes.field-0.0 c.from_residual.result c.from_residual.ensures.1
     (bytes_checked s m c.args.inode c.in_err-check_bytes.ensures.tables c.args.span c.check_bytes.result files file at (Err c.in_err-check_bytes.field-0.0) c.in_err-check_bytes.ensures.refused)
 
 pub returns-clause-refused : goal.returns-clause-refused

@@ -1,5 +1,4 @@
-use Rattle.std.proofs.Common.{◌≡◌, ◌+◌, ◌*◌, ◌/◌, ◌%◌, ◌<◌, ℕ, OnOk, drop, length, take, ap, subst, ◌∙◌, arith}
-use Rattle.line_device.specs.Medium.{Medium}
+use Rattle.std.proofs.Common.{◌+◌, ◌*◌, ◌%◌, drop, length, take, ap, subst, ◌∙◌, arith}
 use Rattle.line_words.specs.Words.{HoldsLine}
 use Rattle.word_tables.specs.declared.geometry.Geometry.{Geometry}
 use Rattle.word_tables.specs.Layout.{file_line}

@@ -4,11 +4,12 @@ use Rattle.line_device.proofs.WriteBackLemmas.{write_back-refl}
 use Rattle.nvm_base.specs.Stock.{Stock}
 use Rattle.nvm_model.specs.Mappings.{is_full}
 use Rattle.file_journal.proofs.ReplaceLemmas.{pages_at_most}
+use Rattle.file_pages.proofs.FoundLemmas.{found-at}
 use Rattle.mappings.specs.Object.{MappingsState}
 use Rattle.mappings.specs.Refusals.{copy_refusal}
 use Rattle.mappings.specs.Table.{mapping_under}
-use Rattle.mappings.proofs.FoundLemmas.{answers-err, answers-ok, early-answers, fed-inner, found-at, late-answers, missing-answers}
 use Rattle.mappings.proofs.KeptLemmas.{mappings-more}
+use Rattle.mappings.proofs.RefusedLemmas.{answers-err, answers-ok, early-answers, fed-inner, late-answers, missing-answers}
 use Rattle.mappings.proofs.Mappings.map.Goals as goal
 
 pub returns-in_err-inode-clause-refused : goal.returns-in_err-inode-clause-refused
@@ -58,6 +59,6 @@ returns-clause-refused g c = λ files stand fed.
 
 pub returns-clause-ok : goal.returns-clause-ok
 returns-clause-ok g c = λ files file stand found.
-    let at = found-at c.args.self.now c.args.files.now.journal (g.L.Lines.state c.args.dev.now).medium c.in_ok-check.ensures.tables c.args.name.now c.args.span c.args.kind files stand
+    let at = found-at c.args.files.now.journal (g.L.Lines.state c.args.dev.now).medium c.in_ok-check.ensures.tables c.args.name.now files stand
     c.in_ok-inode.inode c.in_ok-inode.ensures.found file found in
     rw (← c.self.view_is, c.put.ensures, c.in_ok-reserve.ensures.entries, c.in_ok-copy.ensures.ok files file at) refl
