@@ -1,0 +1,20 @@
+-- Spans of a file.
+use Rattle.std.specs.Prelude.{◌+◌, ◌*◌, ◌≤◌, ℕ, List, Option, Some, None, min, sum_by}
+use Rattle.nvm_base.specs.declared.units.Span.{Span}
+use Rattle.file_journal.specs.Object.{JournalState}
+use Rattle.file_pages.specs.Costs.{lines_there}
+
+-- a span of so many pages, with a byte or more
+pub record IsWithin (pages : ℕ) (span : Span) : Type 0 where
+  pub some : 1 ≤ span.len
+  pub within : span.start + span.len ≤ 4096 * pages
+
+-- how many lines of a file are there that each span touches, summed over the spans
+abbrev pub lines_in : JournalState → ℕ → List Span → ℕ
+lines_in s inode spans = sum_by (λ (span : Span). lines_there s inode span.start span.len) spans
+
+-- the lower of two numbers, where there are any
+abbrev pub lower_of : Option ℕ → Option ℕ → Option ℕ
+lower_of None b = b
+lower_of (Some x) None = Some x
+lower_of (Some x) (Some y) = Some (min x y)
