@@ -1,18 +1,23 @@
--- Bad lines, counted.
-use Rattle.std.proofs.Common.{◌≡◌, ℕ, zero, suc, ◌+◌, ◌*◌, ◌/◌, ◌%◌, ◌<◌, Bool, true, false, cond, count_by, sum_by, Option, Some, None, option_map, option_and_then, List, [], ◌∷◌, length, slice_get, refl, sym, ap, subst, ◌∙◌, arith}
+-- Marked lines, counted.
+use Rattle.std.proofs.Common.{◌≡◌, ℕ, zero, suc, ◌+◌, ◌*◌, ◌/◌, ◌%◌, ◌<◌, ◌&&◌, Bool, true, false, not, cond, count_by, sum_by, Option, Some, None, option_map, option_and_then, List, [], ◌∷◌, length, slice_get, refl, sym, ap, ap₂, subst, ◌∙◌, arith}
 use Rattle.std.specs.List.{range_with_len}
 use Rattle.std.proofs.lemmas.List.Sums.{sum_by-cons}
 use Rattle.std.proofs.lemmas.Option.{get_or_from_slice_get, none-some, slice_get_within}
 use Rattle.line_device.specs.Medium.{Medium}
 use Rattle.nvm_model.specs.Cell.{Cell, CellStands}
 use Rattle.nvm_model.specs.Cell.Cell.{Bad, Kept}
+use Rattle.nvm_model.specs.Events.{count_in_files, count_in_page, count_in_pages}
+use Rattle.nvm_model.specs.Files.{bad_file_lines, bad_lines_of}
+use Rattle.nvm_model.specs.Storage.{File}
 use Rattle.nvm_model.specs.Page.{Page, PagesStand, bad_cells, bad_lines, cell_in, cell_of, is_present}
 use Rattle.nvm_model.specs.Page.Page.{Absent, Present}
 use Rattle.word_tables.specs.Layout.{volume_line}
 use Rattle.pm_volume.specs.Object.{VolumeHolds, VolumeState, volume_place}
 use Rattle.pm_volume.proofs.BadLemmas.{page_there}
 use Rattle.pm_volume.proofs.PlaceLemmas.{placed}
-use Rattle.scrub.specs.Counting.{bad_in_page, nth_page}
+use Rattle.scrub.specs.declared.mark.Mark.{Mark}
+use Rattle.scrub.specs.declared.mark.Mark.TheVariants as mark
+use Rattle.scrub.specs.Counting.{bad_in_page, cell_has, has_mark, nth_page}
 
 add_on : (c x y w : ℕ) → x ≡ y + w → c + x ≡ c + y + w
 add_on c x y w is = omega arith
@@ -35,6 +40,12 @@ count-suc p a (suc n) =
     (subst (λ x. count_by p (range_with_len (a + 1) (suc n)) ≡ count_by p (range_with_len (a + 1) n) + cond (p x) 1 0) e (count-suc p (a + 1) n))
     ∙ ap (λ k. k + cond (p (a + suc n)) 1 0) (sym (count-cons p a (range_with_len (a + 1) n)))
 
+one_more : (x y : ℕ) → x ≡ y → suc x ≡ 1 + y
+one_more x y is = omega arith
+
+no_more : (x y : ℕ) → x ≡ y → x ≡ 0 + y
+no_more x y is = omega arith
+
 -- one line more
 pub count-next : (p : ℕ → Bool) (a n : ℕ) (b : Bool) → p (a + n) ≡ b → count_by p (range_with_len a (n + 1)) ≡ count_by p (range_with_len a n) + cond b 1 0
 count-next p a n b is =
@@ -42,18 +53,27 @@ count-next p a n b is =
     subst (λ k. count_by p (range_with_len a k) ≡ count_by p (range_with_len a n) + cond b 1 0) e
     (count-suc p a n ∙ ap (λ t. count_by p (range_with_len a n) + cond t 1 0) is)
 
-one_more : (x y : ℕ) → x ≡ y → suc x ≡ 1 + y
-one_more x y is = omega arith
+-- bad cells are those that have the mark
+pub bad_cells-count : (cells : List Cell) → bad_cells cells ≡ count_by (cell_has mark.Bad) cells
+bad_cells-count [] = refl
+bad_cells-count (Bad ∷ cells) = one_more _ _ (bad_cells-count cells) ∙ sym (count-cons (cell_has mark.Bad) Bad cells)
+bad_cells-count (Kept weak words ∷ cells) = no_more _ _ (bad_cells-count cells) ∙ sym (count-cons (cell_has mark.Bad) (Kept weak words) cells)
 
-no_more : (x y : ℕ) → x ≡ y → x ≡ 0 + y
-no_more x y is = omega arith
+-- a line has the mark that its cell has
+cell-marked : (kind : Mark) (m : Medium) (line : ℕ) (cell : Cell) → CellStands m line cell → cell_has kind cell ≡ has_mark kind m line
+cell-marked mark.Bad m line Bad stands = sym stands
+cell-marked mark.Bad m line (Kept weak words) stands = sym stands.0
+cell-marked mark.Weak m line Bad stands = sym (ap (λ b. not b && m.is_weak line) stands)
+cell-marked mark.Weak m line (Kept weak words) stands = sym (ap (λ b. not b && m.is_weak line) stands.0 ∙ stands.1)
 
 -- lines that stand for cells
-pub cells_bad : (m : Medium) (first : ℕ) (cells : List Cell) → ((k : ℕ) (cell : Cell) → slice_get cells k ≡ Some cell → CellStands m (first + k) cell)
-    → bad_cells cells ≡ count_by m.is_bad (range_with_len first (length cells))
-cells_bad m first [] stands = refl
-cells_bad m first (x ∷ cells) stands =
-    by_cell x (stands 0 x refl) (cells_bad m (first + 1) cells next) ∙ sym (count-cons m.is_bad first (range_with_len (first + 1) (length cells)))
+cells_marked : (kind : Mark) (m : Medium) (first : ℕ) (cells : List Cell) → ((k : ℕ) (cell : Cell) → slice_get cells k ≡ Some cell → CellStands m (first + k) cell)
+    → count_by (cell_has kind) cells ≡ count_by (has_mark kind m) (range_with_len first (length cells))
+cells_marked kind m first [] stands = refl
+cells_marked kind m first (x ∷ cells) stands =
+    count-cons (cell_has kind) x cells
+    ∙ ap₂ (λ b k. cond b 1 0 + k) (cell-marked kind m (first + 0) x (stands 0 x refl) ∙ ap (has_mark kind m) e) (cells_marked kind m (first + 1) cells next)
+    ∙ sym (count-cons (has_mark kind m) first (range_with_len (first + 1) (length cells)))
   where
     e : first + 0 ≡ first
     e = omega arith
@@ -61,21 +81,12 @@ cells_bad m first (x ∷ cells) stands =
     next : (k : ℕ) (cell : Cell) → slice_get cells k ≡ Some cell → CellStands m (first + 1 + k) cell
     next k cell is = let more : first + suc k ≡ first + 1 + k = omega arith in subst (λ n. CellStands m n cell) more (stands (suc k) cell is)
 
-    by_cell : (x : Cell) → CellStands m (first + 0) x → bad_cells cells ≡ count_by m.is_bad (range_with_len (first + 1) (length cells))
-        → bad_cells (x ∷ cells) ≡ cond (m.is_bad first) 1 0 + count_by m.is_bad (range_with_len (first + 1) (length cells))
-    by_cell Bad bad rest =
-        subst (λ b. suc (bad_cells cells) ≡ cond b 1 0 + count_by m.is_bad (range_with_len (first + 1) (length cells))) (sym bad ∙ ap m.is_bad e)
-        (one_more _ _ rest)
-    by_cell (Kept weak words) kept rest =
-        subst (λ b. bad_cells cells ≡ cond b 1 0 + count_by m.is_bad (range_with_len (first + 1) (length cells))) (sym kept.0 ∙ ap m.is_bad e)
-        (no_more _ _ rest)
-
 -- a page that is there, whose lines lie from a line on
-pub lines_bad : (place : ℕ → ℕ) (m : Medium) (pages : List Page) (page line : ℕ) (cells : List Cell) → PagesStand place m pages
+pub lines_marked : (kind : Mark) (place : ℕ → ℕ) (m : Medium) (pages : List Page) (page line : ℕ) (cells : List Cell) → PagesStand place m pages
     → slice_get pages page ≡ Some (Present cells) → ((k : ℕ) → k < 64 → place (64 * page + k) ≡ line + k)
-    → bad_cells cells ≡ count_by m.is_bad (range_with_len line 64)
-lines_bad place m pages page line cells stand was places =
-    cells_bad m line cells each ∙ ap (λ n. count_by m.is_bad (range_with_len line n)) (stand.whole page cells was)
+    → count_by (cell_has kind) cells ≡ count_by (has_mark kind m) (range_with_len line 64)
+lines_marked kind place m pages page line cells stand was places =
+    cells_marked kind m line cells each ∙ ap (λ n. count_by (has_mark kind m) (range_with_len line n)) (stand.whole page cells was)
   where
     each : (k : ℕ) (cell : Cell) → slice_get cells k ≡ Some cell → CellStands m (line + k) cell
     each k cell found =
@@ -90,7 +101,7 @@ lines_bad place m pages page line cells stand was places =
 
 pub page_bad : (s : VolumeState) (m : Medium) (pages : List Page) (page line : ℕ) → VolumeHolds s m pages
     → ((k : ℕ) → k < 64 → volume_place s.geo s.present true (64 * page + k) ≡ Some (line + k))
-    → bad_in_page (nth_page pages page) ≡ count_by m.is_bad (range_with_len line 64)
+    → bad_in_page (nth_page pages page) ≡ count_by (has_mark mark.Bad m) (range_with_len line 64)
 page_bad s m pages page line holds places = by_page (slice_get pages page) refl
   where
     here : (64 * page + 0) / 64 ≡ page
@@ -99,12 +110,13 @@ page_bad s m pages page line holds places = by_page (slice_get pages page) refl
     present : option_map is_present (slice_get pages page) ≡ Some true
     present = sym (page_there s m pages holds page) ∙ ap (slice_get s.present) (sym here) ∙ (placed s.geo s.present true (64 * page + 0) (line + 0) (places 0 (omega arith))).0
 
-    by_page : (o : Option Page) → slice_get pages page ≡ o → bad_in_page (nth_page pages page) ≡ count_by m.is_bad (range_with_len line 64)
+    by_page : (o : Option Page) → slice_get pages page ≡ o → bad_in_page (nth_page pages page) ≡ count_by (has_mark mark.Bad m) (range_with_len line 64)
     by_page None was = absurd (none-some true (sym (ap (option_map is_present) was) ∙ present))
     by_page (Some Absent) was = let wrong : Some false ≡ Some true = sym (ap (option_map is_present) was) ∙ present in cc
     by_page (Some (Present cells)) was =
         ap bad_in_page (get_or_from_slice_get pages page (Present cells) Absent was)
-        ∙ lines_bad (volume_line s.geo) m pages page line cells holds.stand was
+        ∙ bad_cells-count cells
+        ∙ lines_marked mark.Bad (volume_line s.geo) m pages page line cells holds.stand was
         (λ k small. (placed s.geo s.present true (64 * page + k) (line + k) (places k small)).1)
 
 pub page_bad-none : (s : VolumeState) (m : Medium) (pages : List Page) (page : ℕ) → VolumeHolds s m pages → slice_get s.present page ≡ Some false
@@ -124,3 +136,14 @@ pub bad_lines-sum : (pages : List Page) → bad_lines pages ≡ sum_by bad_in_pa
 bad_lines-sum [] = refl
 bad_lines-sum (Absent ∷ pages) = no_more _ _ (bad_lines-sum pages) ∙ sym (sum_by-cons bad_in_page Absent pages)
 bad_lines-sum (Present cells ∷ pages) = ap (λ n. bad_cells cells + n) (bad_lines-sum pages) ∙ sym (sum_by-cons bad_in_page (Present cells) pages)
+
+bad_page-count : (page : Page) → bad_in_page page ≡ count_in_page (cell_has mark.Bad) page
+bad_page-count Absent = refl
+bad_page-count (Present cells) = bad_cells-count cells
+
+-- and all files
+pub bad_files-count : (files : List File) → bad_file_lines files ≡ count_in_files (cell_has mark.Bad) files
+bad_files-count files = ap (λ f. sum_by f files) (λ i file. of_file file i)
+  where
+    of_file : (file : File) → bad_lines_of file ≡ count_in_pages (cell_has mark.Bad) file.pages
+    of_file file = bad_lines-sum file.pages ∙ ap (λ f. sum_by f file.pages) (λ i page. bad_page-count page i)

@@ -1,8 +1,13 @@
 pub mod OthersLemmas
 pub mod CountLemmas
+pub mod LineLemmas
+pub mod HealLemmas
 pub mod PlacedLemmas
 pub mod ChangedLemmas
-pub mod HealLemmas
+pub mod FoundLemmas
+pub mod EventLemmas
+pub mod FilePlaceLemmas
+pub mod FileChangedLemmas
 pub mod UnitLemmas
 pub mod LostLemmas
 pub mod FileCountLemmas

@@ -9,6 +9,7 @@ use Rattle.word_tables.specs.Layout.{meta_lines, IsVolumeLine}
 use Rattle.word_log.specs.Area.{IsOf}
 use Rattle.nvm_model.specs.Lines.{AreStrong}
 use Rattle.block_device.proofs.ReadLemmas.{Stays}
+use Rattle.page_lines.specs.Turns.{WritesBackOthers}
 use Rattle.pm_volume.specs.Area.{volume_area}
 use Rattle.pm_volume.specs.Object.{VolumeServes, VolumeState}
 use Rattle.pm_volume.proofs.AreaLemmas.{area_in_metadata}
@@ -29,6 +30,10 @@ but-wider some more old new wider x = record {
   weak = λ n out. x.weak n (λ h. out (wider n h));
   word_write_back = λ p out. x.word_write_back p (λ h. out (wider (p / 8) h));
 }
+
+-- a clear does no more
+pub but-others : (lines : ℕ → Type 0) (old new : Medium) → WritesBackOthers lines old new → WritesBackBut lines old new
+but-others lines old new x = record { count = x.count; bad = x.bad; weak = x.weak; word_write_back = x.word_write_back }
 
 with_at-out : (f : ℕ → Bool) (line : ℕ) (v : Bool) (n : ℕ) → (n ≡ line → ⊥) → with_at f line v n ≡ f n
 with_at-out f line v n out = ap (λ t. cond t v (f n)) (ne_eqb n line out)

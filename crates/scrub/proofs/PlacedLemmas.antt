@@ -1,26 +1,56 @@
--- The line of a byte of the volume: whether it is there, and whether it is bad.
-use Rattle.std.proofs.Common.{◌≡◌, ℕ, ◌+◌, ◌*◌, ◌/◌, ◌%◌, ◌<◌, Bool, true, false, if◌then◌else◌, nat_le, Option, Some, None, Ok, Err, List, length, refl, sym, ap, subst, ◌∙◌, arith}
+-- What is said of the line of a byte: whether it is there, and whether it is bad.
+use Rattle.std.proofs.Common.{◌≡◌, ℕ, ◌+◌, ◌*◌, ◌/◌, ◌%◌, ◌<◌, Bool, true, false, if◌then◌else◌, nat_le, Option, Some, None, Result, Ok, Err, List, length, slice_get, refl, sym, ap, subst, ◌∙◌, arith}
 use Rattle.std.proofs.lemmas.Bool.{lt-leb}
-use Rattle.std.proofs.lemmas.Option.{none-some}
+use Rattle.std.specs.Result.{IsErrAnd}
 use Rattle.nvm_base.specs.declared.units.LineNo.{LineNo}
 use Rattle.line_device.specs.Medium.{Medium}
-use Rattle.line_words.specs.Told.{Checks, refusal_of}
+use Rattle.line_words.specs.Told.{Answers, Checks, Told, refusal_of}
+use Rattle.line_words.specs.Told.Told.{Starves}
+use Rattle.word_tables.specs.declared.geometry.Geometry.{Geometry}
 use Rattle.word_tables.specs.Bounds.{IsValid}
 use Rattle.word_tables.specs.Layout.{total_lines, volume_line}
 use Rattle.nvm_model.specs.Cell.{Cell, CellStands}
 use Rattle.nvm_model.specs.Cell.Cell.{Bad, Kept}
-use Rattle.nvm_model.specs.Page.{Page, cell_of}
-use Rattle.pm_volume.specs.Object.{VolumeHolds, VolumeServes, VolumeState, volume_place}
-use Rattle.pm_volume.proofs.BadLemmas.{cell_at, cell_there}
-use Rattle.pm_volume.proofs.PlaceLemmas.{in_volume, place_of, placed, placed_line, volume_behind_metadata}
+use Rattle.nvm_model.specs.Page.{Page, PagesStand, cell_of, presence_of}
+use Rattle.page_lines.proofs.StandingLemmas.{Located}
+use Rattle.pm_volume.specs.Object.{VolumeServes, VolumeState, is_wanted, volume_place}
+use Rattle.pm_volume.proofs.PlaceLemmas.{place_of, placed_line, unplaced, volume_behind_metadata}
 use Rattle.scrub.specs.declared.fault.PlaceFault.{PlaceFault}
-use Rattle.scrub.specs.declared.fault.PlaceFault.TheVariants as place
+use Rattle.scrub.specs.declared.fault.PlaceFault.TheVariants as place_fault
 use Rattle.scrub.specs.declared.fault.ScrubFault.{ScrubFault}
-use Rattle.scrub.specs.declared.fault.ScrubFault.TheVariants as fault
-use Rattle.scrub.specs.Refusals.{ScrubRefusal, cell_refusal, clear_refusal, line_refusal, place_refusal, place_says, scrub_says}
+use Rattle.scrub.specs.Refusals.{ScrubRefusal, byte_refusal, cell_refusal, healing_refusal, line_refusal, mark_refusal, place_says, scrub_says}
 use Rattle.scrub.specs.Refusals.ScrubRefusal.{Range, Nothing, NotPoisoned}
+use Rattle.scrub.proofs.LineLemmas.{cell_here, no_cell}
 
--- the line of a byte, by the first line of its page
+-- a call that looks for its place first is refused as that search is
+pub told-ok : {T U E R : Type 0} (says : E → Told R) (why : Option R) (x : T) (y : U) → Checks says why (Ok x) → Answers says why (Ok y)
+told-ok says None x y told = tt
+told-ok says (Some w) x y told = absurd told
+
+pub told-err : (T : Type 0) {U E R : Type 0} (says : E → Told R) (why : Option R) (fault : E) (r : Result U E) → Checks {T = T} says why (Err fault) → IsErrAnd r (λ f. f ≡ fault) → Answers says why r
+told-err T says why fault (Ok x) told same = absurd same
+told-err T says None fault (Err f) told same = absurd told
+told-err T says (Some w) fault (Err f) told same = ap (λ e. refusal_of (says e)) same ∙ told
+
+-- and one that then wants memory isn't refused
+pub told-starved : {T U E R : Type 0} (says : E → Told R) (why : Option R) (x : T) (r : Result U E) → Checks says why (Ok x) → IsErrAnd r (λ f. says f ≡ Starves) → Answers says why r
+told-starved says why x (Ok y) told starves = absurd starves
+told-starved says None x (Err f) told starves = ap refusal_of starves
+told-starved says (Some w) x (Err f) told starves = absurd told
+
+-- the lines of the volume's pages have places, and no others have
+pub volume_located : (geo : Geometry) (there : List Bool) → Located (volume_place geo there true) (volume_line geo) there
+volume_located geo there = record {
+  here = λ n is. place_of geo there true n is;
+  nowhere = λ n out. unplaced geo there true n (lacking (slice_get there (n / 64)) out);
+}
+  where
+    lacking : (o : Option Bool) → (o ≡ Some true → ⊥) → is_wanted true o ≡ false
+    lacking None out = refl
+    lacking (Some false) out = refl
+    lacking (Some true) out = absurd (out refl)
+
+-- the line of a byte of the volume, by the first line of its page
 pub at_offset : (s : VolumeState) (offset first : ℕ) → ((k : ℕ) → k < 64 → volume_place s.geo s.present true (64 * (offset / 4096) + k) ≡ Some (first + k))
     → volume_place s.geo s.present true (offset / 64) ≡ Some (first + offset % 4096 / 64)
 at_offset s offset first lines =
@@ -42,75 +72,48 @@ pub on_device : (s : VolumeState) (m : Medium) (n line : ℕ) → VolumeServes s
 on_device s m n line serves at =
     omega (arith, (volume_behind_metadata s.geo serves.valid line (placed_line s.geo serves.valid s.present true n line serves.all at)).1, serves.count)
 
-module _ (s : VolumeState) (m : Medium) (pages : List Page) (holds : VolumeHolds s m pages) (n : ℕ) where
-  no_cell : volume_place s.geo s.present true n ≡ None → cell_of pages n ≡ None
-  no_cell none = by_cell (cell_of pages n) refl
-    where
-      by_cell : (o : Option Cell) → cell_of pages n ≡ o → o ≡ None
-      by_cell None is = refl
-      by_cell (Some cell) is =
-          absurd (none-some (volume_line s.geo n) (sym none ∙ place_of s.geo s.present true n (cell_there s m pages holds n cell is)))
+marked : (m : Medium) (line : ℕ) (cell : Cell) → CellStands m line cell → line_refusal (Some cell) ≡ mark_refusal (m.is_bad line)
+marked m line Bad stands = ap mark_refusal (sym stands)
+marked m line (Kept weak words) stands = ap mark_refusal (sym stands.0)
 
-  a_cell : (line : ℕ) → volume_place s.geo s.present true n ≡ Some line → (cell : Cell) × (cell_of pages n ≡ Some cell) × CellStands m line cell
-  a_cell line at =
-      let where_ = placed s.geo s.present true n line at in
-      let cell = cell_at s m pages holds n where_.0 in
-      (cell.0, cell.1, subst (λ l. CellStands m l cell.0) where_.1 (holds.stand.lines n cell.0 cell.1))
-
-marked : (m : Medium) (line : ℕ) (cell : Cell) → CellStands m line cell → line_refusal (Some cell) ≡ (if m.is_bad line then None else Some NotPoisoned)
-marked m line Bad stands = ap (λ b. if b then None else Some NotPoisoned) (sym stands)
-marked m line (Kept weak words) stands = ap (λ b. if b then None else Some NotPoisoned) (sym stands.0)
-
--- what a byte that is there refuses, by its line
-module _ (s : VolumeState) (m : Medium) (offset : ℕ) (pages : List Page) (holds : VolumeHolds s m pages) where
-  pub is_nothing : offset < 4096 * s.geo.vpages → volume_place s.geo s.present true (offset / 64) ≡ None → place_refusal s.geo pages offset ≡ Some Nothing
-  is_nothing below none =
-      ap (λ b. if b then Some Range else cell_refusal (cell_of pages (offset / 64))) (lt-leb (4096 * s.geo.vpages) offset below)
-      ∙ ap cell_refusal (no_cell s m pages holds (offset / 64) none)
-
-  pub is_there : (line : ℕ) → offset < 4096 * s.geo.vpages → volume_place s.geo s.present true (offset / 64) ≡ Some line → place_refusal s.geo pages offset ≡ None
-  is_there line below at =
-      ap (λ b. if b then Some Range else cell_refusal (cell_of pages (offset / 64))) (lt-leb (4096 * s.geo.vpages) offset below)
-      ∙ ap cell_refusal (a_cell s m pages holds (offset / 64) line at).1
-
--- so a search for the line tells
-module _ (s : VolumeState) (m : Medium) (offset : ℕ) (pages : List Page) (holds : VolumeHolds s m pages) where
-  pub told_nothing : offset < 4096 * s.geo.vpages → volume_place s.geo s.present true (offset / 64) ≡ None
-      → Checks {T = LineNo} place_says (place_refusal s.geo pages offset) (Err place.Nothing)
+-- a byte of pages that lie at given places
+module _ (place : ℕ → Option ℕ) (at : ℕ → ℕ) (there : List Bool) (located : Located place at there) (m : Medium) (pages : List Page) (is_there : presence_of pages ≡ there) (stand : PagesStand at m pages)
+    (size offset : ℕ) where
+  -- what is told where its line is looked for
+  pub told_nothing : offset < 4096 * size → place (offset / 64) ≡ None → Checks {T = LineNo} place_says (byte_refusal size pages offset) (Err place_fault.Nothing)
   told_nothing below none =
-      subst (λ (o : Option ScrubRefusal). Checks {T = LineNo} place_says o (Err place.Nothing)) (sym (is_nothing s m offset pages holds below none)) refl
+      subst (λ (o : Option ScrubRefusal). Checks {T = LineNo} place_says o (Err place_fault.Nothing))
+      (sym (ap (λ b. if b then Some Range else cell_refusal (cell_of pages (offset / 64))) (lt-leb (4096 * size) offset below)
+      ∙ ap cell_refusal (no_cell place at there located m pages is_there stand (offset / 64) none)))
+      refl
 
-  pub told_there : (line : ℕ) (found : LineNo) → offset < 4096 * s.geo.vpages → volume_place s.geo s.present true (offset / 64) ≡ Some line
-      → Checks place_says (place_refusal s.geo pages offset) (Ok found)
-  told_there line found below at = subst (λ (o : Option ScrubRefusal). Checks place_says o (Ok found)) (sym (is_there s m offset pages holds line below at)) tt
+  pub told_there : (line : ℕ) (found : LineNo) → offset < 4096 * size → place (offset / 64) ≡ Some line → Checks place_says (byte_refusal size pages offset) (Ok found)
+  told_there line found below here =
+      subst (λ (o : Option ScrubRefusal). Checks place_says o (Ok found))
+      (sym (ap (λ b. if b then Some Range else cell_refusal (cell_of pages (offset / 64))) (lt-leb (4096 * size) offset below)
+      ∙ ap cell_refusal (cell_here place at there located (offset / 64) line here m pages is_there stand).1))
+      tt
 
--- a clear is refused where there is no line
-pub clear_nowhere : (s : VolumeState) (pages : List Page) (offset : ℕ) (why : PlaceFault) (fault : ScrubFault) → Checks {T = LineNo} place_says (place_refusal s.geo pages offset) (Err why)
-    → scrub_says fault ≡ place_says why → Checks {T = LineNo} scrub_says (clear_refusal s.geo pages offset) (Err fault)
-clear_nowhere s pages offset why fault told same = by_cases (nat_le (4096 * s.geo.vpages) offset) (cell_of pages (offset / 64)) told
+  -- a clear goes by the mark of the line that was found
+  pub clear_there : (found : LineNo) {T : Type 0} (r : Result T ScrubFault) → Checks place_says (byte_refusal size pages offset) (Ok found) → place (offset / 64) ≡ Some found.0
+      → Answers scrub_says (mark_refusal (m.is_bad found.0)) r → Answers scrub_says (healing_refusal size pages offset) r
+  clear_there found {T} r passes here told =
+      let cell = cell_here place at there located (offset / 64) found.0 here m pages is_there stand in
+      subst (λ (o : Option ScrubRefusal). Answers scrub_says o r) (sym (by_test (nat_le (4096 * size) offset) passes ∙ ap line_refusal cell.1 ∙ marked m found.0 cell.0 cell.2)) told
+    where
+      by_test : (b : Bool) → Checks place_says (if b then Some Range else cell_refusal (cell_of pages (offset / 64))) (Ok found)
+          → (if b then Some Range else line_refusal (cell_of pages (offset / 64))) ≡ line_refusal (cell_of pages (offset / 64))
+      by_test true passes = absurd passes
+      by_test false passes = refl
+
+-- and is refused where there is none
+pub clear_nowhere : (size : ℕ) (pages : List Page) (offset : ℕ) (why : PlaceFault) {T : Type 0} (r : Result T ScrubFault) → Checks {T = LineNo} place_says (byte_refusal size pages offset) (Err why)
+    → IsErrAnd r (λ fault. scrub_says fault ≡ place_says why) → Answers scrub_says (healing_refusal size pages offset) r
+clear_nowhere size pages offset why {T} (Ok x) told same = absurd same
+clear_nowhere size pages offset why {T} (Err fault) told same = by_cases (nat_le (4096 * size) offset) (cell_of pages (offset / 64)) told
   where
     by_cases : (b : Bool) (o : Option Cell) → Checks {T = LineNo} place_says (if b then Some Range else cell_refusal o) (Err why)
-        → Checks {T = LineNo} scrub_says (if b then Some Range else line_refusal o) (Err fault)
+        → Answers {T = T} scrub_says (if b then Some Range else line_refusal o) (Err fault)
     by_cases true o told = ap refusal_of same ∙ told
     by_cases false None told = ap refusal_of same ∙ told
     by_cases false (Some cell) told = absurd told
-
--- where there is one it goes by its mark
-module _ (s : VolumeState) (m : Medium) (offset line : ℕ) (pages : List Page) (serves : VolumeServes s m) (holds : VolumeHolds s m pages) (at : volume_place s.geo s.present true (offset / 64) ≡ Some line) where
-  by_mark : clear_refusal s.geo pages offset ≡ (if m.is_bad line then None else Some NotPoisoned)
-  by_mark =
-      let there = (placed s.geo s.present true (offset / 64) line at).0 in
-      let below = in_volume s.geo serves.valid s.present (offset / 64) true serves.all there in
-      let cell = a_cell s m pages holds (offset / 64) line at in
-      ap (λ b. if b then Some Range else line_refusal (cell_of pages (offset / 64))) (lt-leb (4096 * s.geo.vpages) offset (omega (arith, below)))
-      ∙ ap line_refusal cell.1
-      ∙ marked m line cell.0 cell.2
-
-  pub told_healthy : m.is_bad line ≡ false → Checks {T = LineNo} scrub_says (clear_refusal s.geo pages offset) (Err fault.NotPoisoned)
-  told_healthy good =
-      subst (λ (o : Option ScrubRefusal). Checks {T = LineNo} scrub_says o (Err fault.NotPoisoned))
-      (sym (by_mark ∙ ap (λ b. if b then None else Some NotPoisoned) good)) refl
-
-  pub told_bad : (found : LineNo) → m.is_bad line ≡ true → Checks scrub_says (clear_refusal s.geo pages offset) (Ok found)
-  told_bad found bad =
-      subst (λ (o : Option ScrubRefusal). Checks scrub_says o (Ok found)) (sym (by_mark ∙ ap (λ b. if b then None else Some NotPoisoned) bad)) tt

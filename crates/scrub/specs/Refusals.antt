@@ -1,5 +1,5 @@
 -- When calls are refused, and why.
-use Rattle.std.specs.Prelude.{◌*◌, ◌/◌, ◌||◌, ℕ, List, nat_le, nat_lt, Option, Some, None, if◌then◌else◌}
+use Rattle.std.specs.Prelude.{◌*◌, ◌/◌, ◌||◌, ℕ, Bool, List, length, nat_le, nat_lt, Option, Some, None, if◌then◌else◌}
 use Rattle.line_words.specs.declared.interruption.Interruption.TheVariants as stop
 use Rattle.line_words.specs.Told.{Told}
 use Rattle.line_words.specs.Told.Told.{Refuses, Starves, Stops}
@@ -50,9 +50,16 @@ unit_refusal Absent = Some Nothing
 unit_refusal Scarred = Some Nothing
 unit_refusal (Data lines) = None
 
--- the place of a byte of the volume
+-- the place of a byte of so many pages
+abbrev pub byte_refusal : ℕ → List Page → ℕ → Option ScrubRefusal
+byte_refusal size pages offset = if nat_le (4096 * size) offset then Some Range else cell_refusal (cell_of pages (offset / 64))
+
+-- of the volume, and of a file
 abbrev pub place_refusal : Geometry → List Page → ℕ → Option ScrubRefusal
-place_refusal geo pages offset = if nat_le (4096 * geo.vpages) offset then Some Range else cell_refusal (cell_of pages (offset / 64))
+place_refusal geo pages offset = byte_refusal geo.vpages pages offset
+
+abbrev pub file_refusal : List Page → ℕ → Option ScrubRefusal
+file_refusal pages offset = byte_refusal (length pages) pages offset
 
 -- the place of a line, 0 to 7, of one of so many blocks
 abbrev pub block_refusal : ℕ → List Block → ℕ → ℕ → Option ScrubRefusal
@@ -64,6 +71,17 @@ line_refusal None = Some Nothing
 line_refusal (Some Bad) = None
 line_refusal (Some (Kept weak words)) = Some NotPoisoned
 
--- the line of a byte of the volume
+-- the line of a byte of so many pages
+abbrev pub healing_refusal : ℕ → List Page → ℕ → Option ScrubRefusal
+healing_refusal size pages offset = if nat_le (4096 * size) offset then Some Range else line_refusal (cell_of pages (offset / 64))
+
+-- of the volume, and of a file
 abbrev pub clear_refusal : Geometry → List Page → ℕ → Option ScrubRefusal
-clear_refusal geo pages offset = if nat_le (4096 * geo.vpages) offset then Some Range else line_refusal (cell_of pages (offset / 64))
+clear_refusal geo pages offset = healing_refusal geo.vpages pages offset
+
+abbrev pub file_clear_refusal : List Page → ℕ → Option ScrubRefusal
+file_clear_refusal pages offset = healing_refusal (length pages) pages offset
+
+-- a line of the device that is there is cleared where it is bad
+abbrev pub mark_refusal : Bool → Option ScrubRefusal
+mark_refusal is_bad = if is_bad then None else Some NotPoisoned

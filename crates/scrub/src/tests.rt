@@ -15,6 +15,7 @@ use word_tables::Geometry;
 
 mod blocks;
 mod clears;
+mod file_lines;
 mod files;
 mod made;
 

@@ -3,6 +3,7 @@ ghost use Rattle.std.specs.Prelude.{◌≡◌, IfOk, IsTrue};
 ghost use Rattle.line_device.specs.Plain.{device_of};
 ghost use Rattle.block_device.specs.Object.{BlocksServe};
 ghost use Rattle.file_journal.specs.Object.{JournalServes};
+ghost use Rattle.file_pages.specs.Object.{PagesServe};
 ghost use Rattle.pm_volume.specs.Object.{VolumeServes};
 
 use super::blocks::{fill, start, start_both};
@@ -10,18 +11,19 @@ use super::{SMALL, fresh, is_ready, open, spoil, store, switch_off};
 use crate::{bad_count, bad_in_files, poison_block};
 use block_device::Blocks;
 use file_journal::{Journal, MountFault};
+use file_pages::FilePages;
 use line_device::{Choice, LineDevice, Lines, Plain};
 use nvm_base::LineNo;
 use pm_volume::Volume;
 use std::alloc::Global;
 use std::test::Fail;
 
-// The words of two files: `a` has three pages, the second of them a hole, and `b` has one.
+// The words of two files: `b` has three pages, the second of them a hole, and `a`, the later inode, has one.
 static WORDS: [(u64, u64); 7] = [
     (1232, 4),
-    (1233, 0x61),
+    (1233, 0x62),
     (1240, 2),
-    (1241, 0x62),
+    (1241, 0x61),
     (1744, 1),
     (1746, 3),
     (2000, 32),
@@ -48,15 +50,29 @@ fn store_word<L: Lines>(dev: &mut L, place: u64, value: u64) -> bool {
         .is_ok()
 }
 
+// A device with these files.
+pub(super) fn with_files(alloc: Global) -> Result<Plain, Fail> {
+    let mut device = fresh(alloc)?;
+    for &(place, value) in &WORDS {
+        if !store_word(&mut device, place, value) {
+            return Err(Fail::from("no such word"));
+        }
+    }
+    Ok(device)
+}
+
 // Takes a device through a cut, and mounts its files.
-fn start_files<D: LineDevice>(alloc: Global, dev: &mut D) -> Result<Journal, MountFault>
-    ensures { IfOk result (λ journal. JournalServes journal (D.state dev.new).medium) }
+pub(super) fn start_files<D: LineDevice>(
+    alloc: Global,
+    dev: &mut D,
+) -> Result<FilePages, MountFault>
+    ensures { IfOk result (λ files. PagesServe files (D.state dev.new).medium) }
 {
     switch_off(dev);
     if dev.restart(Choice::Lasts).is_err() || !is_ready(dev) {
         return Err(MountFault::Device);
     }
-    Journal::mount(alloc, dev, SMALL)
+    FilePages::mount(alloc, dev, SMALL)
 }
 
 // The same, and its blocks and its volume.
@@ -75,24 +91,18 @@ fn start_all(alloc: Global, dev: &mut Plain) -> Result<(Blocks, Volume, Journal)
 
 #[test]
 fn bad_lines_of_files_are_counted(rt: HostRuntime) -> Result<(), Fail> {
-    let mut device = fresh(rt.alloc())?;
-    for &(place, value) in &WORDS {
-        assert!(rt; store_word(&mut device, place, value));
-    }
+    let mut device = with_files(rt.alloc())?;
     for &(line, bad, told) in &ERRORS {
         spoil(&mut device, line);
-        let journal = start_files(rt.alloc(), &mut device)?;
-        assert_eq!(rt; bad_in_files(&device, &journal), bad, "{told}");
+        let files = start_files(rt.alloc(), &mut device)?;
+        assert_eq!(rt; bad_in_files(&device, files.journal()), bad, "{told}");
     }
     Ok(())
 }
 
 #[test]
 fn all_bad_lines_are_counted(rt: HostRuntime) -> Result<(), Fail> {
-    let mut device = fresh(rt.alloc())?;
-    for &(place, value) in &WORDS {
-        assert!(rt; store_word(&mut device, place, value));
-    }
+    let mut device = with_files(rt.alloc())?;
     let mut volume = open(rt.alloc(), &mut device, Choice::Lasts)?;
     store(&mut volume, &mut device, 0, &[5])?;
     let mut blocks = start(rt.alloc(), &mut device)?;

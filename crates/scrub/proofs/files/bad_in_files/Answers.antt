@@ -1,37 +1,6 @@
-use Rattle.std.proofs.Common.{◌*◌, ◌<◌, ◌≤◌, None, length, sum_by, sym, ap, ◌∙◌, arith}
-use Rattle.std.proofs.lemmas.List.{take_all}
-use Rattle.std.proofs.lemmas.List.Sums.{sum_by_more}
-use Rattle.nvm_model.proofs.SumLemmas.{of_slot}
-use Rattle.file_journal.specs.Files.{unit_slots}
-use Rattle.scrub.proofs.FileCountLemmas.{bad_on_units, files_bad, inode_bad, length-unit_slots, used-few}
+use Rattle.std.proofs.Common.{sym, ◌∙◌}
+use Rattle.scrub.proofs.CountLemmas.{bad_files-count}
 use Rattle.scrub.proofs.files.bad_in_files.Goals as goal
 
-pub loop-inode-preserved : goal.loop-inode-preserved
-loop-inode-preserved g c =
-    let s = c.args.journal.now in
-    let m = (g.L.Lines.state c.args.dev.now).medium in
-    let inode = c.loop-inode.inode in
-    let tables = c.count_in_inode-bad.ensures.tables in
-    let size = length-unit_slots s.tables in
-    let known : inode < length s.tables.files = omega (arith, tables.names.all) in
-    let within : inode < length (unit_slots s.tables) = omega (arith, size, known) in
-    record {
-      count = omega (arith, sum_by_more (of_slot (bad_on_units s.geo m)) (unit_slots s.tables) inode None within, inode_bad s.geo m s.tables inode known, c.loop-inode.invariant.count, c.count_in_inode-bad.ensures.count);
-      few = omega (arith, c.loop-inode.invariant.few, c.count_in_inode-bad.ensures.few);
-      tables = λ _. tables;
-    }
-
 pub returns-clause-count : goal.returns-clause-count
-returns-clause-count g c files stand =
-    let s = c.args.journal.now in
-    let m = (g.L.Lines.state c.args.dev.now).medium in
-    let tables = c.loop-inode.invariant.tables (omega arith) in
-    let all : length (unit_slots s.tables) ≤ c.loop-inode.inode = omega (arith, length-unit_slots s.tables, tables.names.all) in
-    c.loop-inode.invariant.count ∙ ap (sum_by (of_slot (bad_on_units s.geo m))) (take_all c.loop-inode.inode (unit_slots s.tables) all)
-    ∙ sym (files_bad s.geo m s.tables files stand)
-
-pub returns-clause-few : goal.returns-clause-few
-returns-clause-few g c =
-    let s = c.args.journal.now in
-    let tables = c.loop-inode.invariant.tables (omega arith) in
-    omega (arith, c.loop-inode.invariant.few, used-few s.tables.pages (256 * c.loop-inode.inode), tables.room, tables.table.few)
+returns-clause-count g c files stand = c.count_marked.ensures.count files stand ∙ sym (bad_files-count files)

@@ -3,7 +3,7 @@ use Rattle.page_table.specs.Pages.{used_pages}
 use Rattle.nvm_model.proofs.SumLemmas.{sum-next}
 use Rattle.file_journal.specs.Tables.{unit_at}
 use Rattle.file_journal.proofs.ReplaceLemmas.{pages_at_most}
-use Rattle.scrub.specs.Counting.{bad_on_unit}
+use Rattle.scrub.specs.Counting.{marked_on_unit}
 use Rattle.scrub.proofs.FileCountLemmas.{used-fewer, used-next}
 use Rattle.scrub.proofs.files.count_in_inode.Goals as goal
 
@@ -19,8 +19,8 @@ loop-page-preserved g c =
     let at : 0 + page ≡ page = omega arith in
     let next : first + page + 1 ≡ first + (page + 1) = omega arith in
     record {
-      count = omega (arith, sum-next (bad_on_unit s.geo m) (unit_at t c.args.inode) 0 page, ap (λ k. bad_on_unit s.geo m (unit_at t c.args.inode k)) at, c.loop-page.invariant.count, c.count_on_unit-bad.ensures.count);
-      few = omega (arith, used-next t.pages (first + page) within, ap (λ k. used_pages (take k t.pages)) next, c.loop-page.invariant.few, c.count_on_unit-bad.ensures.few);
+      count = omega (arith, sum-next (marked_on_unit c.args.mark s.geo m) (unit_at t c.args.inode) 0 page, ap (λ k. marked_on_unit c.args.mark s.geo m (unit_at t c.args.inode k)) at, c.loop-page.invariant.count, c.count_on_unit-marked.ensures.count);
+      few = omega (arith, used-next t.pages (first + page) within, ap (λ k. used_pages (take k t.pages)) next, c.loop-page.invariant.few, c.count_on_unit-marked.ensures.few);
     }
 
 pub returns-clause-few : goal.returns-clause-few

@@ -2,11 +2,11 @@ use Rattle.std.proofs.Common.{◌≡◌, ◌+◌, ◌*◌, ◌≤◌, sum_by, ta
 use Rattle.nvm_model.specs.Numbered.{list_from}
 use Rattle.page_table.specs.Pages.{used_pages}
 use Rattle.file_journal.specs.Tables.{unit_at}
-use Rattle.scrub.specs.Counting.{bad_on_unit}
+use Rattle.scrub.specs.Counting.{marked_on_unit}
 use Rattle.scrub.proofs.files.count_in_inode.Given as goal
 
 abbrev pub invariant-loop-page : goal.invariant-loop-page
 invariant-loop-page g l = record {
-  count : l.bad ≡ sum_by (bad_on_unit l.journal.geo (g.L.Lines.state l.dev).medium) (list_from (unit_at l.journal.tables l.inode) 0 l.page);
-  few : l.bad + 64 * used_pages (take (256 * l.inode) l.journal.tables.pages) ≤ 64 * used_pages (take (256 * l.inode + l.page) l.journal.tables.pages);
+  count : l.marked ≡ sum_by (marked_on_unit l.mark l.journal.geo (g.L.Lines.state l.dev).medium) (list_from (unit_at l.journal.tables l.inode) 0 l.page);
+  few : l.marked + 64 * used_pages (take (256 * l.inode) l.journal.tables.pages) ≤ 64 * used_pages (take (256 * l.inode + l.page) l.journal.tables.pages);
 }

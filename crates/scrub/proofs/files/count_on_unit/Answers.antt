@@ -1,6 +1,6 @@
 use Rattle.std.proofs.Common.{count_by, sym, ap, ◌∙◌, arith}
 use Rattle.std.specs.List.{range_with_len}
-use Rattle.scrub.specs.Counting.{bad_on_unit}
+use Rattle.scrub.specs.Counting.{has_mark, marked_on_unit}
 use Rattle.scrub.proofs.FileCountLemmas.{unit_on_device, unit_within}
 use Rattle.scrub.proofs.files.count_on_unit.Goals as goal
 
@@ -15,4 +15,5 @@ pub returns-clause-count : goal.returns-clause-count
 returns-clause-count g c =
     let m = (g.L.Lines.state c.args.dev.now).medium in
     let on = c.in-Some.ensures.line in
-    c.count_among.ensures.count ∙ ap (λ n. count_by m.is_bad (range_with_len n 64)) on.2 ∙ sym (ap (bad_on_unit c.args.journal.now.geo m) on.1)
+    c.count_among.ensures.count ∙ ap (λ n. count_by (has_mark c.args.mark m) (range_with_len n 64)) on.2
+    ∙ sym (ap (marked_on_unit c.args.mark c.args.journal.now.geo m) on.1)

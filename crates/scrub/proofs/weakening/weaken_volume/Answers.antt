@@ -1,6 +1,8 @@
-use Rattle.std.proofs.Common.{◌/◌}
-use Rattle.scrub.proofs.ChangedLemmas.{holds-weakened, weaken-outside, weaken-serves, written-serves}
-use Rattle.scrub.proofs.OthersLemmas.{but-refl, but-write_back}
+use Rattle.std.proofs.Common.{◌≡◌, ◌/◌}
+use Rattle.nvm_model.specs.Cell.{weaken_cell}
+use Rattle.scrub.proofs.ChangedLemmas.{holds-changed, volume-outside, volume-serves}
+use Rattle.scrub.proofs.LineLemmas.{changes-weakened}
+use Rattle.scrub.proofs.OthersLemmas.{but-refl, but-weakens, but-write_back}
 use Rattle.scrub.proofs.PlacedLemmas.{on_device}
 use Rattle.scrub.proofs.weakening.weaken_volume.Goals as goal
 
@@ -11,16 +13,28 @@ pub weaken-requires : goal.weaken-requires
 weaken-requires g c = on_device c.args.volume.now (g.L.Lines.state c.args.dev.now).medium (c.args.offset / 64) c.in_ok-line.line.0 c.requires.serves c.in_ok-line.ensures.place
 
 pub returns-in_err-weaken-clause-serves : goal.returns-in_err-weaken-clause-serves
-returns-in_err-weaken-clause-serves g c = written-serves c.args.volume.now (g.L.Lines.state c.args.dev.now).medium (g.L.Lines.state c.weaken.new.self).medium (c.args.offset / 64) c.in_ok-line.line.0 c.requires.serves c.in_ok-line.ensures.place c.in_err-weaken.ensures.lines
+returns-in_err-weaken-clause-serves g c =
+    let old = (g.L.Lines.state c.args.dev.now).medium in
+    let new = (g.L.Lines.state c.weaken.new.self).medium in
+    volume-serves c.args.volume.now old new (c.args.offset / 64) c.in_ok-line.line.0 c.requires.serves c.in_ok-line.ensures.place (but-write_back (λ l. l ≡ c.in_ok-line.line.0) old new c.in_err-weaken.ensures.lines)
 
 pub returns-in_err-weaken-clause-outside : goal.returns-in_err-weaken-clause-outside
 returns-in_err-weaken-clause-outside g c = but-write_back _ _ _ c.in_err-weaken.ensures.lines
 
 pub returns-clause-ok : goal.returns-clause-ok
-returns-clause-ok g c pages holds = holds-weakened c.args.volume.now (g.L.Lines.state c.args.dev.now).medium (g.L.Lines.state c.weaken.new.self).medium (c.args.offset / 64) c.in_ok-line.line.0 c.requires.serves c.in_ok-line.ensures.place c.in_ok-weaken.ensures.lines pages holds
+returns-clause-ok g c pages holds =
+    let old = (g.L.Lines.state c.args.dev.now).medium in
+    let new = (g.L.Lines.state c.weaken.new.self).medium in
+    holds-changed c.args.volume.now old new (c.args.offset / 64) c.in_ok-line.line.0 c.requires.serves c.in_ok-line.ensures.place weaken_cell (changes-weakened old new c.in_ok-line.line.0 c.in_ok-weaken.ensures.lines) pages holds
 
 pub returns-clause-outside : goal.returns-clause-outside
-returns-clause-outside g c = weaken-outside c.args.volume.now (g.L.Lines.state c.args.dev.now).medium (g.L.Lines.state c.weaken.new.self).medium (c.args.offset / 64) c.in_ok-line.line.0 c.requires.serves c.in_ok-line.ensures.place c.in_ok-weaken.ensures.lines
+returns-clause-outside g c =
+    let old = (g.L.Lines.state c.args.dev.now).medium in
+    let new = (g.L.Lines.state c.weaken.new.self).medium in
+    volume-outside c.args.volume.now old new (c.args.offset / 64) c.in_ok-line.line.0 c.requires.serves c.in_ok-line.ensures.place (but-weakens old new c.in_ok-line.line.0 c.in_ok-weaken.ensures.lines)
 
 pub returns-clause-serves : goal.returns-clause-serves
-returns-clause-serves g c = weaken-serves c.args.volume.now (g.L.Lines.state c.args.dev.now).medium (g.L.Lines.state c.weaken.new.self).medium (c.args.offset / 64) c.in_ok-line.line.0 c.requires.serves c.in_ok-line.ensures.place c.in_ok-weaken.ensures.lines
+returns-clause-serves g c =
+    let old = (g.L.Lines.state c.args.dev.now).medium in
+    let new = (g.L.Lines.state c.weaken.new.self).medium in
+    volume-serves c.args.volume.now old new (c.args.offset / 64) c.in_ok-line.line.0 c.requires.serves c.in_ok-line.ensures.place (but-weakens old new c.in_ok-line.line.0 c.in_ok-weaken.ensures.lines)
