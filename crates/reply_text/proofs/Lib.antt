@@ -1,2 +1,3 @@
+mod EventTextLemmas
 mod FileTextLemmas
 mod RangeTextLemmas

@@ -1,10 +1,12 @@
 -- What the machine answers, and its line.
-use Rattle.std.specs.Prelude.{ℕ, ◌+◌, ◌^◌, ◌<◌, List, [], ◌∷◌, ◌++◌, codes, decimal, sum_by}
+use Rattle.std.specs.Prelude.{ℕ, Bool, true, false, ◌+◌, ◌^◌, ◌<◌, List, [], ◌∷◌, ◌++◌, length, codes, decimal, sum_by}
 use Rattle.nvm_base.specs.Data.{data_text}
 use Rattle.nvm_base.specs.declared.units.Span.{Span}
 use Rattle.nvm_base.specs.declared.files.FileEntry.{FileEntry}
+use Rattle.nvm_model.specs.Storage.{Event}
+use Rattle.error_events.specs.Events.{event_of}
 use Rattle.reply_text.specs.declared.reply.Why.{Why}
-use Rattle.reply_text.specs.declared.reply.Why.TheVariants.{Syntax, Off, On, Recover, Missing, Exists, Range, Length, Limit, Overlap, Address, Slots, Full, Nothing, NotPoisoned}
+use Rattle.reply_text.specs.declared.reply.Why.TheVariants as why
 use Rattle.reply_text.specs.declared.reply.Reply.{Reply}
 use Rattle.reply_text.specs.declared.reply.Reply.TheVariants as reply
 
@@ -16,10 +18,15 @@ pub data Answer : Type 0 where
   Files : List FileEntry → Answer
   Yes : Answer
   No : Answer
+  Handle : ℕ → Answer
+  Happened : Event → Answer
+  NoEvent : Answer
+  BadLines : List ℕ → Answer
   Scarred : ℕ → Answer
   PoisonBlock : ℕ → ℕ → Answer
   PoisonVolume : ℕ → Answer
   PoisonFile : List ℕ → ℕ → Answer
+  VerifyFile : List ℕ → ℕ → Answer
   DeviceFailed : Answer
   PowerLost : Answer
   Stopped : ℕ → Answer
@@ -35,10 +42,15 @@ answer_of (reply.Ranges ranges) = Ranges ranges.items
 answer_of (reply.Files files) = Files files.items
 answer_of reply.Yes = Yes
 answer_of reply.No = No
+answer_of (reply.Handle handle) = Handle handle
+answer_of (reply.Happened event) = Happened (event_of event)
+answer_of reply.NoEvent = NoEvent
+answer_of (reply.BadLines offsets) = BadLines offsets.items
 answer_of (reply.Scarred block) = Scarred block
 answer_of (reply.PoisonBlock block line) = PoisonBlock block line
 answer_of (reply.PoisonVolume offset) = PoisonVolume offset
 answer_of (reply.PoisonFile name offset) = PoisonFile name offset
+answer_of (reply.VerifyFile name offset) = VerifyFile name offset
 answer_of reply.DeviceFailed = DeviceFailed
 answer_of reply.PowerLost = PowerLost
 answer_of (reply.Stopped line) = Stopped line
@@ -47,21 +59,23 @@ answer_of (reply.RefusedMeta line) = RefusedMeta line
 
 -- a refusal's word
 abbrev pub why_text : Why → List ℕ
-why_text Syntax = codes "syntax"
-why_text Off = codes "off"
-why_text On = codes "on"
-why_text Recover = codes "recover"
-why_text Missing = codes "missing"
-why_text Exists = codes "exists"
-why_text Range = codes "range"
-why_text Length = codes "length"
-why_text Limit = codes "limit"
-why_text Overlap = codes "overlap"
-why_text Address = codes "address"
-why_text Slots = codes "slots"
-why_text Full = codes "full"
-why_text Nothing = codes "nothing"
-why_text NotPoisoned = codes "notpoisoned"
+why_text why.Syntax = codes "syntax"
+why_text why.Off = codes "off"
+why_text why.On = codes "on"
+why_text why.Recover = codes "recover"
+why_text why.Missing = codes "missing"
+why_text why.Exists = codes "exists"
+why_text why.Handle = codes "handle"
+why_text why.Mapped = codes "mapped"
+why_text why.Range = codes "range"
+why_text why.Length = codes "length"
+why_text why.Limit = codes "limit"
+why_text why.Overlap = codes "overlap"
+why_text why.Address = codes "address"
+why_text why.Slots = codes "slots"
+why_text why.Full = codes "full"
+why_text why.Nothing = codes "nothing"
+why_text why.NotPoisoned = codes "notpoisoned"
 
 -- a range behind its offset: where it begins, and its length
 abbrev pub range_text : ℕ → Span → List ℕ
@@ -81,6 +95,30 @@ abbrev pub files_text : List FileEntry → List ℕ
 files_text [] = []
 files_text (file ∷ files) = file_text file ++ files_text files
 
+-- a line of a file: the file, where it begins, and its length
+abbrev pub file_line_text : List ℕ → ℕ → List ℕ
+file_line_text name offset = name ++ (32 ∷ decimal offset ++ codes " 64")
+
+-- whether a shared mapping showed the place
+abbrev pub mapped_text : Bool → List ℕ
+mapped_text true = codes " mapped"
+mapped_text false = codes " unmapped"
+
+-- whether it came since the last restart
+abbrev pub live_text : Bool → List ℕ
+live_text true = codes " live"
+live_text false = codes " restart"
+
+-- an event: its file and its bytes, and these two
+abbrev pub event_text : Event → List ℕ
+event_text event =
+    event.file ++ ((32 ∷ decimal event.offset ++ (32 ∷ decimal event.len)) ++ (mapped_text event.mapped ++ live_text event.live))
+
+-- offsets one behind the other
+abbrev pub offsets_text : List ℕ → List ℕ
+offsets_text [] = []
+offsets_text (offset ∷ offsets) = (32 ∷ decimal offset) ++ offsets_text offsets
+
 -- an answer as printed
 abbrev pub answer_text : Answer → List ℕ
 answer_text Done = codes "ok"
@@ -90,10 +128,15 @@ answer_text (Ranges ranges) = codes "ranges" ++ ranges_text 0 ranges
 answer_text (Files files) = codes "files" ++ files_text files
 answer_text Yes = codes "yes"
 answer_text No = codes "no"
+answer_text (Handle handle) = codes "handle " ++ decimal handle
+answer_text (Happened event) = codes "event " ++ event_text event
+answer_text NoEvent = codes "none"
+answer_text (BadLines offsets) = codes "bad " ++ (decimal (length offsets) ++ offsets_text offsets)
 answer_text (Scarred block) = codes "scarred " ++ decimal block
 answer_text (PoisonBlock block line) = codes "poison block " ++ decimal block ++ 32 ∷ decimal line
 answer_text (PoisonVolume offset) = codes "poison volume " ++ decimal offset ++ codes " 64"
-answer_text (PoisonFile name offset) = codes "poison file " ++ (name ++ (32 ∷ decimal offset ++ codes " 64"))
+answer_text (PoisonFile name offset) = codes "poison file " ++ file_line_text name offset
+answer_text (VerifyFile name offset) = codes "verify file " ++ file_line_text name offset
 answer_text DeviceFailed = codes "refused device"
 answer_text PowerLost = codes "power lost"
 answer_text (Stopped line) = codes "stopped meta " ++ decimal line
@@ -118,10 +161,15 @@ IsPrintable (Ranges ranges) = sum_by (λ (r : Span). r.len) ranges < 2 ^ 64
 IsPrintable (Files files) = Unit {0}
 IsPrintable Yes = Unit {0}
 IsPrintable No = Unit {0}
+IsPrintable (Handle handle) = Unit {0}
+IsPrintable (Happened event) = Unit {0}
+IsPrintable NoEvent = Unit {0}
+IsPrintable (BadLines offsets) = Unit {0}
 IsPrintable (Scarred block) = Unit {0}
 IsPrintable (PoisonBlock block line) = Unit {0}
 IsPrintable (PoisonVolume offset) = Unit {0}
 IsPrintable (PoisonFile name offset) = Unit {0}
+IsPrintable (VerifyFile name offset) = Unit {0}
 IsPrintable DeviceFailed = Unit {0}
 IsPrintable PowerLost = Unit {0}
 IsPrintable (Stopped line) = Unit {0}

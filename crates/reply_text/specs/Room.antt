@@ -3,10 +3,10 @@ use Rattle.std.specs.Prelude.{ℕ, ◌+◌, ◌*◌, ◌^◌, ◌<◌, ◌≤◌
 use Rattle.nvm_base.specs.declared.units.Span.{Span}
 use Rattle.nvm_base.specs.declared.files.FileEntry.{FileEntry}
 use Rattle.reply_text.specs.Answer.{Answer}
-use Rattle.reply_text.specs.Answer.Answer.{Done, DoneBad, Bytes, Ranges, Files, Yes, No, Scarred, PoisonBlock, PoisonVolume, PoisonFile, DeviceFailed, PowerLost, Stopped, Refused, RefusedMeta}
+use Rattle.reply_text.specs.Answer.Answer.{Done, DoneBad, Bytes, Ranges, Files, Yes, No, Handle, Happened, NoEvent, BadLines, Scarred, PoisonBlock, PoisonVolume, PoisonFile, VerifyFile, DeviceFailed, PowerLost, Stopped, Refused, RefusedMeta}
 
--- the most bytes of an answer's line: the most of its DATA, of its ranges or of its files, or of an answer that has none of
--- them, a name and its line among these
+-- the most bytes of an answer's line: the most of its DATA, of its ranges, files or offsets, of an event, or of an answer
+-- that has none of them, a name and its line among these
 abbrev pub most_of : Answer → ℕ
 most_of Done = 72
 most_of (DoneBad n) = 72
@@ -15,10 +15,15 @@ most_of (Ranges ranges) = 7 + 63 * length ranges
 most_of (Files files) = 64 + 54 * length files
 most_of Yes = 72
 most_of No = 72
+most_of (Handle handle) = 72
+most_of (Happened event) = 128
+most_of NoEvent = 72
+most_of (BadLines offsets) = 28 + 21 * length offsets
 most_of (Scarred block) = 72
 most_of (PoisonBlock block line) = 72
 most_of (PoisonVolume offset) = 72
 most_of (PoisonFile name offset) = 72
+most_of (VerifyFile name offset) = 72
 most_of DeviceFailed = 72
 most_of PowerLost = 72
 most_of (Stopped line) = 72

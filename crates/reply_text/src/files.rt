@@ -1,12 +1,12 @@
-// The text of a list of files.
-ghost use Rattle.std.specs.Prelude.{◌*◌, ◌^◌, ◌<◌, ◌≤◌, All, length};
+// The text of files: a list of them, and a line of one.
+ghost use Rattle.std.specs.Prelude.{◌+◌, ◌*◌, ◌^◌, ◌<◌, ◌≤◌, ◌++◌, All, decimal, length};
 ghost use Rattle.nvm_base.specs.Stock.{Appends};
-ghost use Rattle.reply_text.specs.Answer.{answer_text, file_text, files_text};
+ghost use Rattle.reply_text.specs.Answer.{answer_text, file_line_text, file_text, files_text};
 ghost use Rattle.reply_text.specs.Answer.Answer.{Files};
 ghost use Rattle.reply_text.specs.Room.{IsShort};
 
 use crate::printing::print_counted;
-use nvm_base::{Bytes, FileEntry};
+use nvm_base::{Bytes, FileEntry, Name};
 use std::alloc::AllocError;
 
 pub(crate) fn print_files(files: &[FileEntry], out: &mut Bytes) -> Result<(), AllocError>
@@ -44,4 +44,21 @@ fn know_file(file: &FileEntry)
 {
     let _name = file.name.bytes();
     let _pages = file.pages;
+}
+
+// Words, the name, and a line's offset and length.
+pub(crate) fn print_file_line(
+    words: &[u8],
+    name: &Name,
+    offset: u64,
+    out: &mut Bytes,
+) -> Result<(), AllocError>
+    ensures text { Appends (words.now ++ file_line_text name.now offset) result out.old out.new }
+    ensures short { length name.now + length (decimal offset) ≤ 52 }
+{
+    let text = name.bytes();
+    out.extend(words)?;
+    out.extend(text)?;
+    print_counted(b" ", offset, out)?;
+    out.extend(b" 64")
 }

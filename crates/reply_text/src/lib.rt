@@ -1,8 +1,10 @@
 //! What commands are answered, and the line of each answer.
 #![tactic(auto)]
 
+mod events;
 mod files;
 mod printing;
+mod ranges;
 mod reply;
 #[cfg(test)]
 mod tests;

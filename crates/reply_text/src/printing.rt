@@ -1,13 +1,15 @@
 // The text of answers.
-ghost use Rattle.std.specs.Prelude.{◌≡◌, ◌+◌, ◌*◌, ◌^◌, ◌<◌, ◌≤◌, ◌++◌, IsOk, OnErr, OnOk, codes, decimal, length, sum_by, All};
+ghost use Rattle.std.specs.Prelude.{◌≡◌, ◌+◌, ◌<◌, ◌≤◌, ◌∷◌, ◌++◌, IsOk, OnErr, OnOk, codes, decimal, length};
 ghost use Rattle.nvm_base.specs.Stock.{Appends};
-ghost use Rattle.reply_text.specs.Answer.{IsPrintable, answer_line, answer_of, answer_text, range_text, ranges_text, why_text};
-ghost use Rattle.reply_text.specs.Answer.Answer.{PoisonBlock, PoisonFile, PoisonVolume, Ranges};
-ghost use Rattle.reply_text.specs.Room.{HasStart, most_of};
+ghost use Rattle.reply_text.specs.Answer.{IsPrintable, answer_line, answer_of, answer_text, why_text};
+ghost use Rattle.reply_text.specs.Answer.Answer.{PoisonVolume};
+ghost use Rattle.reply_text.specs.Room.{most_of};
 
-use crate::files::print_files;
+use crate::events::{print_bad_lines, print_event};
+use crate::files::{print_file_line, print_files};
+use crate::ranges::print_ranges;
 use crate::{Reply, Why};
-use nvm_base::{Bytes, Name, Span, print_bytes, print_number};
+use nvm_base::{Bytes, print_bytes, print_number};
 use std::alloc::AllocError;
 
 /// Appends the reply's line, all of it or nothing.
@@ -52,10 +54,15 @@ fn print_text(reply: &Reply, out: &mut Bytes) -> Result<(), AllocError>
         Reply::Files(files) => print_files(files.as_slice(), out),
         Reply::Yes => out.extend(b"yes"),
         Reply::No => out.extend(b"no"),
+        Reply::Handle(handle) => print_counted(b"handle ", *handle, out),
+        Reply::Happened(event) => print_event(event, out),
+        Reply::NoEvent => out.extend(b"none"),
+        Reply::BadLines(offsets) => print_bad_lines(offsets.as_slice(), out),
         Reply::Scarred(block) => print_counted(b"scarred ", *block, out),
-        Reply::PoisonBlock(block, line) => print_block_line(*block, *line, out),
+        Reply::PoisonBlock(block, line) => print_two(b"poison block ", *block, *line, out),
         Reply::PoisonVolume(offset) => print_volume_line(*offset, out),
-        Reply::PoisonFile(name, offset) => print_file_line(name, *offset, out),
+        Reply::PoisonFile(name, offset) => print_file_line(b"poison file ", name, *offset, out),
+        Reply::VerifyFile(name, offset) => print_file_line(b"verify file ", name, *offset, out),
         Reply::DeviceFailed => out.extend(b"refused device"),
         Reply::PowerLost => out.extend(b"power lost"),
         Reply::Stopped(line) => print_counted(b"stopped meta ", *line, out),
@@ -76,12 +83,18 @@ pub(crate) fn print_counted(words: &[u8], n: u64, out: &mut Bytes) -> Result<(),
     print_number(n, out)
 }
 
-fn print_block_line(block: u64, line: u64, out: &mut Bytes) -> Result<(), AllocError>
-    ensures text { Appends (answer_text (PoisonBlock block line)) result out.old out.new }
-    ensures short { length (decimal block) + length (decimal line) ≤ 40 }
+// Words and two numbers.
+pub(crate) fn print_two(
+    words: &[u8],
+    first: u64,
+    second: u64,
+    out: &mut Bytes,
+) -> Result<(), AllocError>
+    ensures text { Appends (words.now ++ (decimal first ++ (32 ∷ decimal second))) result out.old out.new }
+    ensures short { length (decimal first) + length (decimal second) ≤ 40 }
 {
-    print_counted(b"poison block ", block, out)?;
-    print_counted(b" ", line, out)
+    print_counted(words, first, out)?;
+    print_counted(b" ", second, out)
 }
 
 fn print_volume_line(offset: u64, out: &mut Bytes) -> Result<(), AllocError>
@@ -90,54 +103,6 @@ fn print_volume_line(offset: u64, out: &mut Bytes) -> Result<(), AllocError>
 {
     print_counted(b"poison volume ", offset, out)?;
     out.extend(b" 64")
-}
-
-fn print_file_line(name: &Name, offset: u64, out: &mut Bytes) -> Result<(), AllocError>
-    ensures text { Appends (answer_text (PoisonFile name.now offset)) result out.old out.new }
-    ensures short { length name.now + length (decimal offset) ≤ 52 }
-{
-    let text = name.bytes();
-    out.extend(b"poison file ")?;
-    out.extend(text)?;
-    print_counted(b" ", offset, out)?;
-    out.extend(b" 64")
-}
-
-// Each range with its offset.
-fn print_ranges(ranges: &[Span], out: &mut Bytes) -> Result<(), AllocError>
-    requires { sum_by (λ (r : Span). r.len) ranges.now < 2 ^ 64 }
-    ensures text { Appends (answer_text (Ranges ranges.now)) result out.old out.new }
-    ensures short { length (ranges_text 0 ranges.now) ≤ 63 * length ranges.now }
-{
-    know_starts(ranges);
-    out.extend(b"ranges")?;
-    let mut offset = 0;
-    for range in ranges {
-        print_range(offset, *range, out)?;
-        offset += range.len;
-    }
-    Ok(())
-}
-
-// What their type says of ranges.
-fn know_starts(ranges: &[Span])
-    ensures { All HasStart ranges.now }
-{
-    for range in ranges {
-        know_number(range.start);
-    }
-}
-
-fn know_number(n: u64)
-    ensures { n < 2 ^ 64 }
-{}
-
-fn print_range(offset: u64, range: Span, out: &mut Bytes) -> Result<(), AllocError>
-    ensures { Appends (range_text offset range) result out.old out.new }
-{
-    print_counted(b" ", offset, out)?;
-    print_counted(b" ", range.start, out)?;
-    print_counted(b" ", range.len, out)
 }
 
 fn word_of(why: Why) -> &'static [u8]
@@ -150,6 +115,8 @@ fn word_of(why: Why) -> &'static [u8]
         Why::Recover => b"recover",
         Why::Missing => b"missing",
         Why::Exists => b"exists",
+        Why::Handle => b"handle",
+        Why::Mapped => b"mapped",
         Why::Range => b"range",
         Why::Length => b"length",
         Why::Limit => b"limit",

@@ -1,4 +1,5 @@
-use nvm_base::{Bytes, FileList, Name, Spans};
+use error_events::Event;
+use nvm_base::{Bytes, FileList, Name, Spans, Words};
 
 /// Why a command is not done.
 #[derive(Clone, Copy, Debug, PartialEq, Eq)]
@@ -11,6 +12,10 @@ pub enum Why {
     Missing,
     /// A file has the new name.
     Exists,
+    /// No mapping has the handle.
+    Handle,
+    /// A mapping shows the file.
+    Mapped,
     Range,
     Length,
     Limit,
@@ -38,6 +43,14 @@ pub enum Reply {
     Files(FileList),
     Yes,
     No,
+    /// The handle of a new mapping.
+    Handle(u64),
+    /// The oldest event that was not told yet.
+    Happened(Event),
+    /// All events were told.
+    NoEvent,
+    /// Offsets of a file's bad lines.
+    BadLines(Words),
     /// This block was made unreadable.
     Scarred(u64),
     /// In this block that line is bad.
@@ -46,6 +59,8 @@ pub enum Reply {
     PoisonVolume(u64),
     /// The line of this file at that offset is bad.
     PoisonFile(Name, u64),
+    /// The line of this file at that offset went bad when it was made durable.
+    VerifyFile(Name, u64),
     /// A call of the device failed.
     DeviceFailed,
     PowerLost,

@@ -9,7 +9,7 @@ use Rattle.nvm_base.specs.declared.reading.TextFault.{TextFault}
 use Rattle.nvm_base.specs.declared.reading.TextFault.TheVariants.{TooLong}
 use Rattle.nvm_base.specs.Data.{ByteRun, byte_count, spelled, run, followed, pair_of, pairs_of, repeated, item_of, items_of, runs_of, data_of, within, data_within}
 use Rattle.nvm_base.proofs.ReadingLemmas.{byte_count-append}
-use Rattle.script_text.specs.Script.{fitting, with_range}
+use Rattle.script_text.specs.Operands.{fitting, with_range}
 
 followed-some : (first : List ByteRun) (o : Option (List ByteRun)) (runs : List ByteRun) → 0 < byte_count first → followed (Some first) o ≡ Some runs → 0 < byte_count runs
 followed-some first None runs some e = absurd (cc)

@@ -3,4 +3,5 @@ pub mod WordLemmas
 pub mod DataLemmas
 pub mod RangeLemmas
 pub mod OperandLemmas
+pub mod PairLemmas
 pub mod BoundLemmas

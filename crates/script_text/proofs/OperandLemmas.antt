@@ -1,20 +1,29 @@
 -- How large the words after a command's name can be.
-use Rattle.std.proofs.Common.{All, ◌≡◌, ◌&&◌, ℕ, ◌+◌, ◌^◌, ◌<◌, ◌≤◌, Bool, true, false, nat_lt, nat_le, List, [], ◌∷◌, ◌++◌, length, Option, Some, None, Result, Ok, Err, option_map, option_and_then, if◌then◌else◌, refl, sym, ◌∙◌, subst, ap, arith, rules, tests, sum_by, length-append}
+use Rattle.std.proofs.Common.{◌≡◌, ◌&&◌, ℕ, ◌^◌, ◌<◌, ◌≤◌, Bool, true, false, nat_lt, nat_le, List, [], ◌∷◌, length, Option, Some, None, Result, Ok, Err, option_map, option_and_then, if◌then◌else◌, refl, sym, ◌∙◌, subst, ap, rules, tests}
 use Rattle.nvm_base.specs.Numbers.{digits_after, number_of}
 use Rattle.nvm_base.specs.Names.{is_name, name_of}
-use Rattle.nvm_base.specs.declared.units.Span.{Span}
+use Rattle.nvm_base.specs.declared.files.Kind.{Kind}
 use Rattle.nvm_base.specs.declared.reading.TextFault.{TextFault}
-use Rattle.std.proofs.lemmas.List.Sums.{sum_by-cons}
-use Rattle.std.proofs.lemmas.List.Elements.{All-nil, All-cons}
-use Rattle.nvm_base.specs.Data.{data_of, data_within}
+use Rattle.nvm_base.specs.Data.{data_within}
 use Rattle.script_text.proofs.DataLemmas.{data_of-some, data_within-ok}
 use Rattle.script_text.specs.Action.{Action}
-use Rattle.script_text.specs.Action.Action.{BScar, BMulti}
-use Rattle.script_text.specs.Script.{of_both, of_data, bare_action, number_action, span_action, name_action, names_action, sized_action, data_action, with_span, spans_of, spans_action, with_range, ranges_of, fitting, ranges_action}
-use Rattle.script_text.specs.Parsing.{InBounds, IsSmall, IsSmallRange}
+use Rattle.script_text.specs.Operands.{of_both, of_data, bare_action, number_action, span_action, name_action, names_action, sized_action, data_action, named_action, numbered_action, kind_of, kind_action, in_volume_action}
+use Rattle.script_text.specs.Parsing.{InBounds}
+
+-- what is asked for is in bounds
+abbrev pub Keeps : Option Action → Type 0
+Keeps asks = (action : Action) → asks ≡ Some action → InBounds action
+
+pub Keeps-none : Keeps None
+Keeps-none action e = absurd (cc)
+
+-- one or the other
+pub Keeps-cond : (b : Bool) (o p : Option Action) → Keeps o → Keeps p → Keeps (if b then o else p)
+Keeps-cond true o p left right = left
+Keeps-cond false o p left right = right
 
 -- a number is below 2 ^ 32
-number_of-below : (text : List ℕ) (n : ℕ) → number_of text ≡ Some n → n < 2 ^ 32
+pub number_of-below : (text : List ℕ) (n : ℕ) → number_of text ≡ Some n → n < 2 ^ 32
 unfolding number_of
 number_of-below text n e = go (nat_le 1 (length text) && nat_le (length text) 10) (digits_after 0 text) e
   where
@@ -113,92 +122,42 @@ number_action-bounds make small (x ∷ []) action e = go (number_of x) refl e
     go (Some a) is e = let same : make a ≡ action = cc in subst InBounds same (small a (number_of-below x a is))
 number_action-bounds make small (x ∷ y ∷ more) action e = absurd (cc)
 
--- pairs of numbers, as many as there are words for
-spans_of-small : (words : List (List ℕ)) (spans : List Span) → spans_of words ≡ Some spans → All IsSmall spans
-spans_of-small [] spans e = let same : [] ≡ spans = cc in subst (All IsSmall) same (All-nil IsSmall)
-spans_of-small (x ∷ []) spans e = absurd (cc)
-spans_of-small (x ∷ y ∷ words) spans e = go (number_of x) (number_of y) (spans_of words) refl refl (spans_of-small words) refl e
+-- a name, and what the words after it ask for
+pub named_action-bounds : (more : List ℕ → List (List ℕ) → Option Action) → ((name : List ℕ) (words : List (List ℕ)) → IsName name → Keeps (more name words)) → (words : List (List ℕ)) → Keeps (named_action more words)
+named_action-bounds more small [] action e = absurd (cc)
+named_action-bounds more small (x ∷ words) action e = go (name_of x) (name_of-name x) e
   where
-    go : (m n : Option ℕ) (o : Option (List Span)) → number_of x ≡ m → number_of y ≡ n → ((more : List Span) → spans_of words ≡ Some more → All IsSmall more)
-        → spans_of words ≡ o → with_span m n o ≡ Some spans → All IsSmall spans
-    go None n o is also small rest e = absurd (cc)
-    go (Some a) None o is also small rest e = absurd (cc)
-    go (Some a) (Some b) None is also small rest e = absurd (cc)
-    go (Some a) (Some b) (Some more) is also small rest e =
-        let same : record { start = a; len = b } ∷ more ≡ spans = cc in
-        subst (All IsSmall) same (All-cons IsSmall _ more (number_of-below x a is, number_of-below y b also) (small more rest))
-
-spans_of-some : (x : List ℕ) (words : List (List ℕ)) (spans : List Span) → spans_of (x ∷ words) ≡ Some spans → 0 < length spans
-spans_of-some x [] spans e = absurd (cc)
-spans_of-some x (y ∷ words) spans e = go (number_of x) (number_of y) (spans_of words) e
-  where
-    go : (m n : Option ℕ) (o : Option (List Span)) → with_span m n o ≡ Some spans → 0 < length spans
-    go None n o e = absurd (cc)
-    go (Some a) None o e = absurd (cc)
-    go (Some a) (Some b) None e = absurd (cc)
-    go (Some a) (Some b) (Some more) e = let same : record { start = a; len = b } ∷ more ≡ spans = cc in subst (λ ss. 0 < length ss) same (omega arith)
-
-pub scar_action-bounds : (words : List (List ℕ)) (action : Action) → spans_action BScar words ≡ Some action → InBounds action
-scar_action-bounds [] action e = absurd (cc)
-scar_action-bounds (x ∷ words) action e = go (spans_of (x ∷ words)) refl e
-  where
-    go : (o : Option (List Span)) → spans_of (x ∷ words) ≡ o → option_map BScar o ≡ Some action → InBounds action
+    go : (m : Option (List ℕ)) → ((a : List ℕ) → m ≡ Some a → IsName a) → option_and_then (λ name. more name words) m ≡ Some action → InBounds action
     go None is e = absurd (cc)
-    go (Some spans) is e = let same : BScar spans ≡ action = cc in subst InBounds same (spans_of-some x words spans is, spans_of-small (x ∷ words) spans is)
+    go (Some a) is e = small a words (is a refl) action e
 
--- ranges and their bytes
-abbrev AreSmall : List Span × List ℕ → Type 0
-AreSmall p = All IsSmallRange p.0 × (length p.1 ≡ sum_by (λ (r : Span). r.len) p.0)
-
-with_range-small : (start : ℕ) (bytes : List ℕ) (p : List Span × List ℕ) → start < 2 ^ 32 → 0 < length bytes → length (bytes ++ p.1) ≤ 65536 → (length p.1 ≤ 65536 → AreSmall p) → AreSmall (record { start = start; len = length bytes } ∷ p.0, bytes ++ p.1)
-with_range-small start bytes p below some most small =
-    let both = length-append bytes p.1 in
-    let rest = small (omega arith) in
-    let total = sum_by-cons (λ (r : Span). r.len) (record { start = start; len = length bytes }) p.0 in
-    let few : length bytes ≤ 65536 = omega arith in
-    (All-cons IsSmallRange _ p.0 (below, some, few) rest.0, both ∙ ap (λ n. length bytes + n) rest.1 ∙ sym total)
-
-ranges_of-small : (words : List (List ℕ)) (p : List Span × List ℕ) → ranges_of words ≡ Some p → length p.1 ≤ 65536 → AreSmall p
-ranges_of-small [] p e most = let same : ([], []) ≡ p = cc in subst AreSmall same (All-nil IsSmallRange, refl)
-ranges_of-small (x ∷ []) p e most = absurd (cc)
-ranges_of-small (x ∷ text ∷ words) p e most = go (number_of x) (data_of text) (ranges_of words) refl refl (ranges_of-small words) refl e
+-- a number, and what the words after it ask for
+pub numbered_action-bounds : (more : ℕ → List (List ℕ) → Option Action) → ((n : ℕ) (words : List (List ℕ)) → n < 2 ^ 32 → Keeps (more n words)) → (words : List (List ℕ)) → Keeps (numbered_action more words)
+numbered_action-bounds more small [] action e = absurd (cc)
+numbered_action-bounds more small (x ∷ words) action e = go (number_of x) (number_of-below x) e
   where
-    go : (m : Option ℕ) (d : Option (List ℕ)) (o : Option (List Span × List ℕ)) → number_of x ≡ m → data_of text ≡ d
-        → ((q : List Span × List ℕ) → ranges_of words ≡ Some q → length q.1 ≤ 65536 → AreSmall q)
-        → ranges_of words ≡ o → with_range m d o ≡ Some p → AreSmall p
-    go None d o is also small rest e = absurd (cc)
-    go (Some a) None o is also small rest e = absurd (cc)
-    go (Some a) (Some b) None is also small rest e = absurd (cc)
-    go (Some a) (Some b) (Some q) is also small rest e =
-        let same : (record { start = a; len = length b } ∷ q.0, b ++ q.1) ≡ p = cc in
-        let fits : length (b ++ q.1) ≤ 65536 = omega (arith, ap (λ r. length r.1) same) in
-        subst AreSmall same (with_range-small a b q (number_of-below x a is) (data_of-some text b also) fits (small q rest))
-
-ranges_of-some : (x : List ℕ) (words : List (List ℕ)) (p : List Span × List ℕ) → ranges_of (x ∷ words) ≡ Some p → 0 < length p.0
-ranges_of-some x [] p e = absurd (cc)
-ranges_of-some x (text ∷ words) p e = go (number_of x) (data_of text) (ranges_of words) e
-  where
-    go : (m : Option ℕ) (d : Option (List ℕ)) (o : Option (List Span × List ℕ)) → with_range m d o ≡ Some p → 0 < length p.0
-    go None d o e = absurd (cc)
-    go (Some a) None o e = absurd (cc)
-    go (Some a) (Some b) None e = absurd (cc)
-    go (Some a) (Some b) (Some q) e =
-        let same : (record { start = a; len = length b } ∷ q.0, b ++ q.1) ≡ p = cc in
-        subst (λ r. 0 < length r.0) same (omega arith)
-
-pub multi_action-bounds : (words : List (List ℕ)) (action : Action) → ranges_action BMulti words ≡ Some action → InBounds action
-multi_action-bounds [] action e = absurd (cc)
-multi_action-bounds (x ∷ words) action e = go (ranges_of (x ∷ words)) refl e
-  where
-    sized : (p : List Span × List ℕ) (b : Bool) → nat_le (length p.1) 65536 ≡ b → ranges_of (x ∷ words) ≡ Some p
-        → option_map (λ p. BMulti p.0 p.1) (if b then Some p else None) ≡ Some action → InBounds action
-    sized p true t is e =
-        let same : BMulti p.0 p.1 ≡ action = cc in
-        let most : length p.1 ≤ 65536 = search (rules, tests) in
-        let small = ranges_of-small (x ∷ words) p is most in
-        subst InBounds same (ranges_of-some x words p is, small.0, small.1, most)
-    sized p false t is e = absurd (cc)
-
-    go : (o : Option (List Span × List ℕ)) → ranges_of (x ∷ words) ≡ o → option_map (λ p. BMulti p.0 p.1) (fitting 65536 o) ≡ Some action → InBounds action
+    go : (m : Option ℕ) → ((a : ℕ) → m ≡ Some a → a < 2 ^ 32) → option_and_then (λ n. more n words) m ≡ Some action → InBounds action
     go None is e = absurd (cc)
-    go (Some p) is e = sized p (nat_le (length p.1) 65536) refl is e
+    go (Some a) is e = small a words (is a refl) action e
+
+-- a mapping's kind
+pub kind_action-bounds : (make : Kind → Action) → ((kind : Kind) → InBounds (make kind)) → (words : List (List ℕ)) → Keeps (kind_action make words)
+kind_action-bounds make small [] action e = absurd (cc)
+kind_action-bounds make small (x ∷ []) action e = go (kind_of x) e
+  where
+    go : (m : Option Kind) → option_map make m ≡ Some action → InBounds action
+    go None e = absurd (cc)
+    go (Some kind) e = let same : make kind ≡ action = cc in subst InBounds same (small kind)
+kind_action-bounds make small (x ∷ y ∷ more) action e = absurd (cc)
+
+-- a byte of the volume
+pub in_volume_action-bounds : (make : ℕ → Action) → ((a : ℕ) → a < 2 ^ 32 → InBounds (make a)) → (words : List (List ℕ)) → Keeps (in_volume_action make words)
+in_volume_action-bounds make small [] = Keeps-none
+in_volume_action-bounds make small (x ∷ words) = Keeps-cond _ _ _ (number_action-bounds make small words) Keeps-none
+
+-- the first word is this name, or this number
+pub named_action-first : (more : List ℕ → List (List ℕ) → Option Action) (words : List (List ℕ)) (x : List ℕ) (rest : List (List ℕ)) (name : List ℕ) → words ≡ x ∷ rest → Some name ≡ name_of x → named_action more words ≡ more name rest
+named_action-first more words x rest name first is = ap (named_action more) first ∙ ap (option_and_then (λ a. more a rest)) (sym is)
+
+pub numbered_action-first : (more : ℕ → List (List ℕ) → Option Action) (words : List (List ℕ)) (x : List ℕ) (rest : List (List ℕ)) (n : ℕ) → words ≡ x ∷ rest → Some n ≡ number_of x → numbered_action more words ≡ more n rest
+numbered_action-first more words x rest n first is = ap (numbered_action more) first ∙ ap (option_and_then (λ a. more a rest)) (sym is)

@@ -1,7 +1,7 @@
 -- Ranges that are read one after another, and their bytes.
 use Rattle.std.proofs.Common.{◌≡◌, ℕ, ◌-◌, ◌<◌, ◌≤◌, Bool, true, false, nat_le, List, [], ◌∷◌, ◌++◌, length, Option, Some, None, option_map, if◌then◌else◌, refl, arith, rules, tests, append-nil, append_assoc, length-append}
 use Rattle.nvm_base.specs.declared.units.Span.{Span}
-use Rattle.script_text.specs.Script.{fitting, with_range}
+use Rattle.script_text.specs.Operands.{fitting, with_range}
 
 -- ranges and bytes before others
 abbrev pub before : List Span → List ℕ → Option (List Span × List ℕ) → Option (List Span × List ℕ)

@@ -1,6 +1,7 @@
 -- What a script may ask for, apart from how a command is kept.
 use Rattle.std.specs.Prelude.{ℕ, List}
 use Rattle.nvm_base.specs.declared.units.Span.{Span}
+use Rattle.nvm_base.specs.declared.files.Kind.{Kind}
 use Rattle.line_device.specs.declared.line.Choice.{Choice}
 use Rattle.script_text.specs.declared.command.Command.{Command}
 use Rattle.script_text.specs.declared.command.Command.TheVariants as command
@@ -27,6 +28,12 @@ pub data Action : Type 0 where
   Rename : List ℕ → List ℕ → Action
   Resize : List ℕ → ℕ → Action
   ListFiles : Action
+  FRead : List ℕ → ℕ → ℕ → Action
+  FWrite : List ℕ → ℕ → List ℕ → Action
+  Map : List ℕ → Span → Kind → Action
+  Unmap : ℕ → Action
+  Load : ℕ → ℕ → ℕ → Action
+  Store : ℕ → ℕ → List ℕ → Action
   PoisonBlock : ℕ → ℕ → Action
   PoisonVolume : ℕ → Action
   PoisonMeta : ℕ → Action
@@ -61,6 +68,12 @@ action_of (command.Delete name) = Delete name
 action_of (command.Rename name to) = Rename name to
 action_of (command.Resize name pages) = Resize name pages
 action_of command.List = ListFiles
+action_of (command.FRead name offset len) = FRead name offset len
+action_of (command.FWrite name offset bytes) = FWrite name offset bytes.items
+action_of (command.Map name span kind) = Map name span kind
+action_of (command.Unmap handle) = Unmap handle
+action_of (command.Load handle offset len) = Load handle offset len
+action_of (command.Store handle offset bytes) = Store handle offset bytes.items
 action_of (command.PoisonBlock block line) = PoisonBlock block line
 action_of (command.PoisonVolume offset) = PoisonVolume offset
 action_of (command.PoisonMeta line) = PoisonMeta line

@@ -1,4 +1,6 @@
 pub mod Action
+pub mod Operands
 pub mod Script
 pub mod Parsing
 pub mod Rows
+pub mod MappedRows

@@ -9,9 +9,10 @@ use Rattle.script_text.specs.declared.command.Command.{Command}
 use Rattle.script_text.specs.declared.parsing.LineFault.{LineFault}
 use Rattle.script_text.specs.declared.parsing.LineFault.TheVariants.{Syntax, Memory}
 use Rattle.script_text.specs.Action.{Action, action_of}
-use Rattle.script_text.specs.Action.Action.{BRead, BWrite, BDiscard, BDiscardIf, BExists, BScar, BAtomic, BMulti, VLoad, VStore, VSync, VRanges, VPSync, VDiscard, VDiscardIf, VExists, Create, Delete, Rename, Resize, ListFiles, PoisonBlock, PoisonVolume, PoisonMeta, WeakenVolume, ClearVolume, Cut, CutIn, FailIn, Restart, Recover}
+use Rattle.script_text.specs.Action.Action.{BRead, BWrite, BDiscard, BDiscardIf, BExists, BScar, BAtomic, BMulti, VLoad, VStore, VSync, VRanges, VPSync, VDiscard, VDiscardIf, VExists, Create, Delete, Rename, Resize, ListFiles, FRead, FWrite, Map, Unmap, Load, Store, PoisonBlock, PoisonVolume, PoisonMeta, WeakenVolume, ClearVolume, Cut, CutIn, FailIn, Restart, Recover}
 use Rattle.std.specs.Borrow.{Bor}
-use Rattle.script_text.specs.Script.{Input, fitting, ranges_of, spans_of, with_range, words_of}
+use Rattle.script_text.specs.Operands.{fitting, ranges_of, spans_of, with_range}
+use Rattle.script_text.specs.Script.{Input, words_of}
 use Rattle.script_text.specs.Script.Input.{Skipped, Malformed, Asked}
 
 -- what came of words that ask for this
@@ -41,7 +42,8 @@ Parses input (Err Memory) = Unit {0}
 
 -- the name of a command that brings a list
 abbrev pub IsLong : List ℕ → Type 0
-IsLong name = (name ≡ codes "bwrite") ⊎ (name ≡ codes "vstore") ⊎ (name ≡ codes "bscar") ⊎ (name ≡ codes "batomic") ⊎ (name ≡ codes "bmulti")
+IsLong name = (name ≡ codes "bwrite") ⊎ (name ≡ codes "vstore") ⊎ (name ≡ codes "bscar") ⊎ (name ≡ codes "batomic") ⊎ (name ≡ codes "bmulti") ⊎ (name ≡ codes "fwrite")
+    ⊎ (name ≡ codes "store")
 
 -- the words are of such a command
 abbrev pub BringsMore : List (List ℕ) → Type 0
@@ -86,6 +88,12 @@ InBounds (Delete name) = is_name name ≡ true
 InBounds (Rename name to) = (is_name name ≡ true) × (is_name to ≡ true)
 InBounds (Resize name pages) = (is_name name ≡ true) × (pages < 2 ^ 32)
 InBounds ListFiles = Unit {0}
+InBounds (FRead name offset len) = (is_name name ≡ true) × (offset < 2 ^ 32) × (len < 2 ^ 32)
+InBounds (FWrite name offset bytes) = (is_name name ≡ true) × (offset < 2 ^ 32) × (0 < length bytes) × (length bytes ≤ 65536)
+InBounds (Map name span kind) = (is_name name ≡ true) × IsSmall span
+InBounds (Unmap handle) = handle < 2 ^ 32
+InBounds (Load handle offset len) = (handle < 2 ^ 32) × (offset < 2 ^ 32) × (len < 2 ^ 32)
+InBounds (Store handle offset bytes) = (handle < 2 ^ 32) × (offset < 2 ^ 32) × (0 < length bytes) × (length bytes ≤ 65536)
 InBounds (PoisonBlock block line) = (block < 2 ^ 32) × (line < 2 ^ 32)
 InBounds (PoisonVolume offset) = offset < 2 ^ 32
 InBounds (PoisonMeta line) = line < 2 ^ 32

@@ -1,7 +1,7 @@
 -- Worked lines: what they ask for.
 use Rattle.std.specs.Prelude.{◌≡◌, ℕ, [], ◌∷◌, ◌++◌, replicate, codes}
 use Rattle.nvm_base.specs.declared.units.Span.{Span}
-use Rattle.script_text.specs.Action.Action.{BAtomic, BMulti, VRanges, VPSync, VDiscard, VDiscardIf, VExists, Create, Delete, Rename, Resize, ListFiles, PoisonBlock, PoisonVolume, PoisonMeta, WeakenVolume, ClearVolume, Cut, CutIn, FailIn, Restart, Recover}
+use Rattle.script_text.specs.Action.Action.{BAtomic, BMulti, VRanges, VPSync, VDiscard, VDiscardIf, VExists, Create, Delete, Rename, Resize, ListFiles, FRead, FWrite, PoisonBlock, PoisonVolume, PoisonMeta, WeakenVolume, ClearVolume, Cut, CutIn, FailIn, Restart, Recover}
 use Rattle.line_device.specs.declared.line.Choice.TheVariants.{Firsts, Seed}
 use Rattle.script_text.specs.Script.{line_input}
 use Rattle.script_text.specs.Script.Input.{Malformed, Asked}
@@ -48,6 +48,16 @@ pub record LineRows : Type 0 where
   pub two_files_deleted : line_input (codes "delete log head") ≡ Malformed
   pub two_new_names : line_input (codes "rename log head tail") ≡ Malformed
   pub list_of_a_file : line_input (codes "list log") ≡ Malformed
+  pub file_read : line_input (codes "fread log 64 128") ≡ Asked (FRead (codes "log") 64 128)
+  pub file_written : line_input (codes "fwrite log 4088 0102,ff*3") ≡ Asked (FWrite (codes "log") 4088 (1 ∷ 2 ∷ 255 ∷ 255 ∷ 255 ∷ []))
+  pub file_written_whole : line_input (codes "fwrite log 0 aa*65536") ≡ Asked (FWrite (codes "log") 0 (replicate 65536 170))
+  pub file_read_without_a_length : line_input (codes "fread log 64") ≡ Malformed
+  pub file_read_by_three_numbers : line_input (codes "fread log 64 128 1") ≡ Malformed
+  pub offset_before_the_name : line_input (codes "fread 64 log 128") ≡ Malformed
+  pub file_written_without_bytes : line_input (codes "fwrite log 0") ≡ Malformed
+  pub file_written_twice : line_input (codes "fwrite log 0 11 22") ≡ Malformed
+  pub write_of_no_file : line_input (codes "fwrite 0 11") ≡ Malformed
+  pub too_many_bytes_of_a_file : line_input (codes "fwrite log 0 aa*65537") ≡ Malformed
   pub line_of_a_block_poisoned : line_input (codes "poison block 3 7") ≡ Asked (PoisonBlock 3 7)
   pub line_of_the_volume_poisoned : line_input (codes "poison volume 4032") ≡ Asked (PoisonVolume 4032)
   pub line_of_the_metadata_poisoned : line_input (codes "poison meta 2303") ≡ Asked (PoisonMeta 2303)

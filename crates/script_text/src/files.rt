@@ -1,13 +1,11 @@
 // Commands on files.
-ghost use Rattle.std.specs.Prelude.{◌≡◌, ℕ, List, option_map};
-ghost use Rattle.script_text.specs.Action.{Action, action_of};
-ghost use Rattle.script_text.specs.Script.{files_action, name_action, names_action, sized_action, words_of};
+ghost use Rattle.std.specs.Prelude.{◌≡◌, option_map};
+ghost use Rattle.script_text.specs.Action.{action_of};
+ghost use Rattle.script_text.specs.Script.{files_action, words_of};
 
 use crate::Command;
-use crate::media::read_media;
-use crate::operands::read_bare;
-use crate::words::{only_word, two_words};
-use nvm_base::{Name, read_number};
+use crate::mapped::read_mapped;
+use crate::operands::{read_bare, read_name, read_names, read_part, read_sized};
 
 // One of these, or one further.
 pub(crate) fn read_files(name: &[u8], words: &[u8]) -> Option<Command>
@@ -23,32 +21,9 @@ pub(crate) fn read_files(name: &[u8], words: &[u8]) -> Option<Command>
         read_sized(words).map(|(name, pages)| Command::Resize { name, pages })
     } else if name == b"list".as_slice() {
         read_bare(Command::List, words)
+    } else if name == b"fread".as_slice() {
+        read_part(words).map(|(name, offset, len)| Command::FRead { name, offset, len })
     } else {
-        read_media(name, words)
+        read_mapped(name, words)
     }
-}
-
-// A name and a number.
-fn read_sized(words: &[u8]) -> Option<(Name, u64)>
-    ensures { (make : List ℕ → ℕ → Action)
-        → option_map (λ p. make p.0 p.1) result ≡ sized_action make (words_of words.now) }
-{
-    let (name, pages) = two_words(words)?;
-    Some((Name::read(name)?, read_number(pages)?))
-}
-
-// The name, where it stands alone.
-fn read_name(words: &[u8]) -> Option<Name>
-    ensures { (make : List ℕ → Action) → option_map make result ≡ name_action make (words_of words.now) }
-{
-    Name::read(only_word(words)?)
-}
-
-// Two names.
-fn read_names(words: &[u8]) -> Option<(Name, Name)>
-    ensures { (make : List ℕ → List ℕ → Action)
-        → option_map (λ p. make p.0 p.1) result ≡ names_action make (words_of words.now) }
-{
-    let (name, to) = two_words(words)?;
-    Some((Name::read(name)?, Name::read(to)?))
 }

@@ -4,9 +4,12 @@
 mod command;
 mod files;
 mod lines;
+mod lists;
+mod mapped;
 mod media;
 mod operands;
 mod parsing;
+mod plain;
 mod power;
 mod ranges;
 mod rows;
@@ -18,4 +21,4 @@ mod words;
 pub use command::Command;
 pub use lines::split_line;
 pub use parsing::{LineFault, parse};
-pub use rows::worked_lines;
+pub use rows::{worked_lines, worked_mapped_lines};

@@ -1,7 +1,8 @@
 // Commands on bad and weak lines.
 ghost use Rattle.std.specs.Prelude.{◌≡◌, ℕ, option_map};
 ghost use Rattle.script_text.specs.Action.{Action, action_of};
-ghost use Rattle.script_text.specs.Script.{in_volume_action, media_action, poison_action, words_of};
+ghost use Rattle.script_text.specs.Operands.{in_volume_action};
+ghost use Rattle.script_text.specs.Script.{media_action, poison_action, words_of};
 
 use crate::Command;
 use crate::operands::{read_only, read_span};

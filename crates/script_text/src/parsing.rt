@@ -6,7 +6,7 @@ ghost use Rattle.script_text.specs.Parsing.{BringsMore, InBounds, Parses};
 ghost use Rattle.script_text.specs.Script.{line_input, words_input, words_of};
 
 use crate::Command;
-use crate::command::read_command;
+use crate::lists::read_command;
 use crate::words::next_word;
 use nvm_base::MOST;
 use std::alloc::Global;

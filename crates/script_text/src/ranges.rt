@@ -3,7 +3,8 @@ ghost use Rattle.std.specs.Prelude.{ℕ, ◌≤◌, List};
 ghost use Rattle.nvm_base.specs.declared.units.Span.{Span as Stretch};
 ghost use Rattle.script_text.specs.Action.{Action};
 ghost use Rattle.script_text.specs.Parsing.{FindsRange, ParsesAs, ReadsRanges};
-ghost use Rattle.script_text.specs.Script.{fitting, ranges_action, ranges_of, words_of};
+ghost use Rattle.script_text.specs.Operands.{fitting, ranges_action, ranges_of};
+ghost use Rattle.script_text.specs.Script.{words_of};
 
 use crate::LineFault;
 use crate::words::next_word;

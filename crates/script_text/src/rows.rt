@@ -1,6 +1,12 @@
+ghost use Rattle.script_text.specs.MappedRows.{MappedRows};
 ghost use Rattle.script_text.specs.Rows.{LineRows};
 
 /// What the worked lines ask for.
 pub fn worked_lines()
     ensures { LineRows }
+{}
+
+/// What the worked lines on mapped files ask for.
+pub fn worked_mapped_lines()
+    ensures { MappedRows }
 {}

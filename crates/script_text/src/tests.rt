@@ -1,9 +1,10 @@
 use crate::{Command, LineFault, parse, split_line};
 use line_device::Choice;
-use nvm_base::Name;
+use nvm_base::{Kind, Name, Span};
 use std::alloc::{AllocError, Global};
 
 mod files;
+mod mappings;
 
 // What a line gave. Of bytes and of spans it tells how many there are.
 #[derive(Clone, Copy, Debug, PartialEq, Eq)]
@@ -31,6 +32,12 @@ enum Gave {
     Rename(Name, Name),
     Resize(Name, u64),
     List,
+    FRead(Name, u64, u64),
+    FWrite(Name, u64, u64),
+    Map(Name, Span, Kind),
+    Unmap(u64),
+    LoadMapped(u64, u64, u64),
+    StoreMapped(u64, u64, u64),
     PoisonBlock(u64, u64),
     PoisonVolume(u64),
     PoisonMeta(u64),
@@ -76,6 +83,24 @@ fn given(command: &Command) -> Gave {
         Command::Rename { name, to } => Gave::Rename(*name, *to),
         Command::Resize { name, pages } => Gave::Resize(*name, *pages),
         Command::List => Gave::List,
+        Command::FRead { name, offset, len } => Gave::FRead(*name, *offset, *len),
+        Command::FWrite {
+            name,
+            offset,
+            bytes,
+        } => Gave::FWrite(*name, *offset, bytes.len()),
+        Command::Map { name, span, kind } => Gave::Map(*name, *span, *kind),
+        Command::Unmap { handle } => Gave::Unmap(*handle),
+        Command::Load {
+            handle,
+            offset,
+            len,
+        } => Gave::LoadMapped(*handle, *offset, *len),
+        Command::Store {
+            handle,
+            offset,
+            bytes,
+        } => Gave::StoreMapped(*handle, *offset, bytes.len()),
         Command::PoisonBlock { block, line } => Gave::PoisonBlock(*block, *line),
         Command::PoisonVolume { offset } => Gave::PoisonVolume(*offset),
         Command::PoisonMeta { line } => Gave::PoisonMeta(*line),
@@ -120,7 +145,7 @@ fn each_command_is_read(rt: HostRuntime) {
         ("restart all", Gave::Restart(Choice::Lasts)),
         ("restart seed 5", Gave::Restart(Choice::Seed(5))),
         ("recover", Gave::Recover),
-        ("fread a 0 1", SYNTAX),
+        ("freads a 0 1", SYNTAX),
         ("Vload 0 1", SYNTAX),
         ("vloads 0 1", SYNTAX),
     ] {

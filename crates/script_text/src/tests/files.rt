@@ -2,7 +2,7 @@
 use super::{Gave, SYNTAX, parsed};
 use nvm_base::Name;
 
-fn named(text: &str) -> Result<Name, &'static str> {
+pub(super) fn named(text: &str) -> Result<Name, &'static str> {
     Name::read(text.as_bytes()).ok_or("no name")
 }
 
@@ -22,13 +22,23 @@ fn files_are_named(rt: HostRuntime) -> Result<(), &'static str> {
             "create abcdefghijklmnopqrstuvwxyz-_.012 4294967295",
             Gave::Create(most, 4294967295),
         ),
+        ("fread log 64 1", Gave::FRead(log, 64, 1)),
+        ("fwrite log 4088 00*8", Gave::FWrite(log, 4088, 8)),
+        (
+            "fread abcdefghijklmnopqrstuvwxyz-_.012 4294967295 4294967295",
+            Gave::FRead(most, 4294967295, 4294967295),
+        ),
+        (
+            "fwrite\tabcdefghijklmnopqrstuvwxyz-_.012 0004294967  00*65535,01\r",
+            Gave::FWrite(most, 4294967, 65536),
+        ),
     ] {
         assert_eq!(rt; parsed(rt.alloc(), line.as_bytes()), wanted, "{line}");
     }
     Ok(())
 }
 
-static WRONG: [&str; 24] = [
+static WRONG: [&str; 38] = [
     "create",
     "create log",
     "create log x",
@@ -52,6 +62,20 @@ static WRONG: [&str; 24] = [
     "resize log 4 4",
     "list log",
     "lists",
+    "fread",
+    "fread log",
+    "fread log 0",
+    "fread log 0 1 2",
+    "fread 0 log 1",
+    "fread Log 0 1",
+    "fread log 4294967296 1",
+    "fwrite",
+    "fwrite log",
+    "fwrite log 0",
+    "fwrite log 0 00 00",
+    "fwrite abcdefghijklmnopqrstuvwxyz-_.0123 0 00",
+    "fwrite log -1 00",
+    "fwrite log 0 00*65537",
     "Create log 4",
 ];
 

@@ -11,5 +11,11 @@ returns-in-DeviceFailed-clause-text c =
 pub returns-in-RefusedMeta-clause-text : goal.returns-in-RefusedMeta-clause-text
 returns-in-RefusedMeta-clause-text c = rw c.in-RefusedMeta.is c.print_counted-in-RefusedMeta.ensures.text
 
+pub returns-in-PoisonBlock-clause-text : goal.returns-in-PoisonBlock-clause-text
+returns-in-PoisonBlock-clause-text c = rw c.in-PoisonBlock.is c.print_two.ensures.text
+
+pub returns-in-PoisonFile-clause-text : goal.returns-in-PoisonFile-clause-text
+returns-in-PoisonFile-clause-text c = rw c.in-PoisonFile.is c.print_file_line.ensures.text
+
 pub returns-in_err-extend-in-Bytes-clause-short : goal.returns-in_err-extend-in-Bytes-clause-short
 returns-in_err-extend-in-Bytes-clause-short c = rw c.in-Bytes.is (omega (arith, length-data_text c.in-Bytes.bytes.items))

@@ -1,5 +1,6 @@
 use Rattle.std.proofs.Common.{◌≡◌, ◌-◌, ◌≤◌, ◌++◌, ◌∷◌, [], Some, length, ap, rules, arith, ◌∙◌, length-append}
-use Rattle.script_text.specs.Script.{ranges_of, with_range, words_of}
+use Rattle.script_text.specs.Operands.{ranges_of, with_range}
+use Rattle.script_text.specs.Script.{words_of}
 use Rattle.script_text.proofs.RangeLemmas.{before, before-more, before-over}
 use Rattle.script_text.proofs.ranges.read_all_ranges.Goals as goal
 

@@ -1,5 +1,6 @@
 use Rattle.std.proofs.Common.{◌≡◌, ◌≤◌, length}
-use Rattle.script_text.specs.Script.{ranges_of, words_of}
+use Rattle.script_text.specs.Operands.{ranges_of}
+use Rattle.script_text.specs.Script.{words_of}
 use Rattle.script_text.proofs.RangeLemmas.{before}
 use Rattle.script_text.proofs.ranges.read_all_ranges.Given as goal
 

@@ -1,5 +1,6 @@
 use Rattle.std.proofs.Common.{◌≡◌, ◌++◌, length, option_map}
-use Rattle.script_text.specs.Script.{spans_of, words_of}
+use Rattle.script_text.specs.Operands.{spans_of}
+use Rattle.script_text.specs.Script.{words_of}
 use Rattle.script_text.proofs.spans.read_all_spans.Given as goal
 
 abbrev pub invariant-loop-spans : goal.invariant-loop-spans

@@ -2,7 +2,7 @@ use Rattle.std.proofs.Common.{arith}
 use Rattle.std.proofs.lemmas.Result.{err_from_is_err_and}
 use Rattle.nvm_base.proofs.AppendLemmas.{Appended-as, Appends-stopped}
 use Rattle.reply_text.proofs.RangeTextLemmas.{length-ranges_text, ranges_text-more}
-use Rattle.reply_text.proofs.printing.print_ranges.Goals as goal
+use Rattle.reply_text.proofs.ranges.print_ranges.Goals as goal
 
 pub returns-in_err-print_range-clause-text : goal.returns-in_err-print_range-clause-text
 returns-in_err-print_range-clause-text c =

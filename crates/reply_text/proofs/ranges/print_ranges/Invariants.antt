@@ -3,7 +3,7 @@ use Rattle.nvm_base.specs.declared.units.Span.{Span}
 use Rattle.nvm_base.proofs.AppendLemmas.{Appended}
 use Rattle.reply_text.specs.Answer.{answer_text, ranges_text}
 use Rattle.reply_text.specs.Answer.Answer.{Ranges}
-use Rattle.reply_text.proofs.printing.print_ranges.Given as goal
+use Rattle.reply_text.proofs.ranges.print_ranges.Given as goal
 
 abbrev pub invariant-loop-range : goal.invariant-loop-range
 invariant-loop-range l = record {

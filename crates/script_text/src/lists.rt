@@ -1,0 +1,104 @@
+// Commands that bring a list.
+ghost use Rattle.std.specs.Prelude.{◌≡◌, IfErr};
+ghost use Rattle.script_text.specs.Action.{action_of};
+ghost use Rattle.script_text.specs.Action.Action.{BAtomic, BMulti, BScar, BWrite, FWrite, VStore};
+ghost use Rattle.script_text.specs.Operands.{data_action, named_action, ranges_action, spans_action};
+ghost use Rattle.script_text.specs.Parsing.{IsLong, ParsesAs};
+ghost use Rattle.script_text.specs.Script.{command_action, words_of};
+
+use crate::mapped::read_storing;
+use crate::operands::read_data;
+use crate::ranges::read_ranges;
+use crate::spans::read_spans;
+use crate::words::next_word;
+use crate::{Command, LineFault};
+use nvm_base::Name;
+use std::alloc::Global;
+
+// The command of that name with those words after it.
+#[tactic(auto, unfolding(crate::specs::Script::command_action))]
+pub(crate) fn read_command(alloc: Global, name: &[u8], words: &[u8]) -> Result<Command, LineFault>
+    ensures command { ParsesAs action_of (command_action name.now (words_of words.now)) result }
+    ensures memory { IfErr result (λ e. e ≡ LineFault.Memory → IsLong name.now) }
+{
+    if name == b"bwrite".as_slice() {
+        read_write(alloc, words)
+    } else if name == b"vstore".as_slice() {
+        read_store(alloc, words)
+    } else if name == b"bscar".as_slice() {
+        read_scar(alloc, words)
+    } else if name == b"batomic".as_slice() {
+        read_atomic(alloc, words)
+    } else if name == b"bmulti".as_slice() {
+        read_multi(alloc, words)
+    } else if name == b"fwrite".as_slice() {
+        read_file_write(alloc, words)
+    } else {
+        read_storing(alloc, name, words)
+    }
+}
+
+fn read_write(alloc: Global, words: &[u8]) -> Result<Command, LineFault>
+    ensures { ParsesAs action_of (data_action BWrite (words_of words.now)) result }
+{
+    match read_data(alloc, words) {
+        Ok((block, bytes)) => Ok(Command::BWrite { block, bytes }),
+        Err(fault) => Err(fault),
+    }
+}
+
+fn read_store(alloc: Global, words: &[u8]) -> Result<Command, LineFault>
+    ensures { ParsesAs action_of (data_action VStore (words_of words.now)) result }
+{
+    match read_data(alloc, words) {
+        Ok((offset, bytes)) => Ok(Command::VStore { offset, bytes }),
+        Err(fault) => Err(fault),
+    }
+}
+
+fn read_scar(alloc: Global, words: &[u8]) -> Result<Command, LineFault>
+    ensures { ParsesAs action_of (spans_action BScar (words_of words.now)) result }
+{
+    match read_spans(alloc, words) {
+        Ok(ranges) => Ok(Command::BScar { ranges }),
+        Err(fault) => Err(fault),
+    }
+}
+
+fn read_atomic(alloc: Global, words: &[u8]) -> Result<Command, LineFault>
+    ensures { ParsesAs action_of (data_action BAtomic (words_of words.now)) result }
+{
+    match read_data(alloc, words) {
+        Ok((block, bytes)) => Ok(Command::BAtomic { block, bytes }),
+        Err(fault) => Err(fault),
+    }
+}
+
+fn read_multi(alloc: Global, words: &[u8]) -> Result<Command, LineFault>
+    ensures { ParsesAs action_of (ranges_action BMulti (words_of words.now)) result }
+{
+    match read_ranges(alloc, words) {
+        Ok((ranges, bytes)) => Ok(Command::BMulti { ranges, bytes }),
+        Err(fault) => Err(fault),
+    }
+}
+
+// A name, a number and DATA.
+fn read_file_write(alloc: Global, words: &[u8]) -> Result<Command, LineFault>
+    ensures { ParsesAs action_of (named_action (λ file. data_action (FWrite file)) (words_of words.now)) result }
+{
+    let Some((name, rest)) = next_word(words) else {
+        return Err(LineFault::Syntax);
+    };
+    let Some(name) = Name::read(name) else {
+        return Err(LineFault::Syntax);
+    };
+    match read_data(alloc, rest) {
+        Ok((offset, bytes)) => Ok(Command::FWrite {
+            name,
+            offset,
+            bytes,
+        }),
+        Err(fault) => Err(fault),
+    }
+}
