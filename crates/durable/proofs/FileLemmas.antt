@@ -1,5 +1,5 @@
 -- Which files there are: by induction over a run.
-use Rattle.std.proofs.Common.{◌≡◌, ◌⊎◌, inl, inr, ℕ, true, false, Option, Some, None, List, [], ◌∷◌, ◌++◌, length, map, refl, sym, ap, ap₂, subst, ◌∙◌}
+use Rattle.std.proofs.Common.{◌≡◌, ◌⊎◌, inl, inr, ℕ, ◌+◌, Bool, true, false, Option, Some, None, List, [], ◌∷◌, ◌++◌, length, map, refl, sym, ap, ap₂, subst, ◌∙◌, if◌then◌else◌}
 use Rattle.std.proofs.lemmas.Bool.{both_ways}
 use Rattle.std.proofs.lemmas.List.{length-map}
 use Rattle.line_device.specs.Panel.{Image}
@@ -8,11 +8,12 @@ use Rattle.word_tables.specs.declared.geometry.Geometry.{Geometry}
 use Rattle.nvm_base.specs.declared.files.FileEntry.{FileEntry}
 use Rattle.nvm_model.specs.Files.{entry_of_file}
 use Rattle.nvm_model.specs.Listing.{AreAlike, file_name}
-use Rattle.nvm_model.specs.Page.{is_present}
-use Rattle.nvm_model.specs.Storage.{File}
+use Rattle.nvm_model.specs.Page.{fill, is_present, put}
+use Rattle.nvm_model.specs.Storage.{File, Mapping}
 use Rattle.nvm_model.specs.Interrupted.{MayStore}
 use Rattle.nvm_model.proofs.FileLeftLemmas.{may_store-length, one_left-entries}
-use Rattle.nvm_model.proofs.PageLemmas.{length-read_pages}
+use Rattle.nvm_model.proofs.OneFileLemmas.{left-change}
+use Rattle.nvm_model.proofs.PageLemmas.{length-put_fill, length-read_pages}
 use Rattle.file_journal.specs.Files.{UnitFile, files_of, unit_file_name}
 use Rattle.file_journal.specs.Reading.{tables_read}
 use Rattle.file_journal.specs.Standing.{KeepsFile, KeepsFiles, file_read, files_read, line_of_file, pages_there}
@@ -20,7 +21,7 @@ use Rattle.reply_text.specs.Answer.{Answer}
 use Rattle.reply_text.specs.Answer.Answer.{Done}
 use Rattle.reply_text.specs.Answer.Answer.{Files as FilesAre}
 use Rattle.script_text.specs.Action.{Action}
-use Rattle.script_text.specs.Action.Action.{Create, Delete, Rename, Resize, ListFiles}
+use Rattle.script_text.specs.Action.Action.{Create, Delete, Rename, Resize, ListFiles, FWrite, Load, Store}
 use Rattle.script_text.specs.Script.{Input}
 use Rattle.script_text.specs.Script.Input.{Skipped, Malformed, Asked}
 use Rattle.machine_host.specs.declared.mode.Mode.TheVariants.{On}
@@ -28,6 +29,9 @@ use Rattle.machine_host.specs.Machine.{Machine}
 use Rattle.machine_host.specs.Commands.{MayLeaveFiles, meaning, refusal, unless_refused, LeavesFiles as LeftFiles}
 use Rattle.machine_host.specs.Meaning.{FilesLeft}
 use Rattle.machine_host.specs.Meaning.FilesLeft.{Unchanged, OldOrNew, StoredInPart}
+use Rattle.machine_host.specs.OnMappings.{load_through, read_copy, store_through, write_copy}
+use Rattle.machine_host.specs.OnPages.{fread, fwrite, stored_in}
+use Rattle.nvm_model.specs.Mappings.{is_shared, mapping_of}
 use Rattle.machine_host.specs.Run.{Hears, Run, Takes, Transcript}
 use Rattle.durable.specs.Touching.{is_begun}
 use Rattle.durable.specs.Durable.{Does, HasNothing, IsComplete, NoneBegun}
@@ -59,48 +63,79 @@ entries_read : (choice : Choice) (geo : Geometry) (image : Image) (files : List 
 unfolding files_read
 entries_read choice geo image files keeps = entries_kept choice geo image (files_of (tables_read geo image.word)) files keeps
 
--- a command that changes no files
-files_same : (action : Action) (files : List File) → changes_files action ≡ false → (meaning action).files files ≡ files
-files_same (Create name pages) files none = cc none
-files_same (Delete name) files none = cc none
-files_same (Rename name to) files none = cc none
-files_same (Resize name pages) files none = cc none
-files_same action files none = refl
+-- bytes stored in a file
+stored_entries : (name : List ℕ) (offset : ℕ) (bytes : List ℕ) (files : List File) → map entry_of_file (stored_in name offset bytes files) ≡ map entry_of_file files
+stored_entries name offset bytes files =
+    one_left-entries name (λ old new. length new ≡ length old) (λ old new same. same) files (stored_in name offset bytes files)
+    (left-change name (λ pages. put offset bytes (fill offset (length bytes) pages)) (λ old new. length new ≡ length old)
+    (λ pages. length-put_fill offset (length bytes) bytes pages) files)
+
+-- a command that changes no list of files
+entries_same : (action : Action) (mappings : List Mapping) (files : List File) → changes_files action ≡ false → map entry_of_file ((meaning action).files mappings files) ≡ map entry_of_file files
+entries_same (Create name pages) mappings files none = cc none
+entries_same (Delete name) mappings files none = cc none
+entries_same (Rename name to) mappings files none = cc none
+entries_same (Resize name pages) mappings files none = cc none
+entries_same (FWrite name offset bytes) mappings files none = stored_entries name offset bytes files
+entries_same (Load handle offset len) mappings files none = by_mapping (mapping_of handle mappings)
+  where
+    by_kind : (m : Mapping) (shared : Bool) → map entry_of_file ((if shared then fread m.name (m.start + offset) len else read_copy m offset len).files mappings files) ≡ map entry_of_file files
+    by_kind m true = refl
+    by_kind m false = refl
+
+    by_mapping : (o : Option Mapping) → map entry_of_file (elim o [ None ↦ files | Some m ↦ (load_through offset len m).files mappings files ]) ≡ map entry_of_file files
+    by_mapping None = refl
+    by_mapping (Some m) = by_kind m (is_shared m.kind)
+entries_same (Store handle offset bytes) mappings files none = by_mapping (mapping_of handle mappings)
+  where
+    by_kind : (m : Mapping) (shared : Bool) → map entry_of_file ((if shared then fwrite m.name (m.start + offset) bytes else write_copy handle offset bytes).files mappings files) ≡ map entry_of_file files
+    by_kind m true = stored_entries m.name (m.start + offset) bytes files
+    by_kind m false = refl
+
+    by_mapping : (o : Option Mapping) → map entry_of_file (elim o [ None ↦ files | Some m ↦ (store_through handle offset bytes m).files mappings files ]) ≡ map entry_of_file files
+    by_mapping None = refl
+    by_mapping (Some m) = by_kind m (is_shared m.kind)
+entries_same action mappings files none = refl
 
 module _ (P : List FileEntry → Type 0) where
-  -- so they are listed, and so are those that a mount may find
+  -- So they are listed, and so are those that a mount may find. In mode On no change of them is interrupted.
   record Lists (h : Machine) : Type 0 where
     now : P (files_listed h)
-    left : (files : List File) → MayLeaveFiles h.interrupted h.files files → P (map entry_of_file files)
+    left : (files : List File) → MayLeaveFiles h.mappings h.interrupted h.files files → P (map entry_of_file files)
+    settled : h.mode ≡ On → LeavesFiles h.interrupted
 
-  lists_left : (o : Option Action) (old files : List File) → LeavesFiles o → P (map entry_of_file old) → MayLeaveFiles o old files → P (map entry_of_file files)
-  lists_left None old files free now is = subst (λ fs. P (map entry_of_file fs)) {x = old} (sym is) now
-  lists_left (Some action) old files none now may = by_how (meaning action).files_left may
+  lists_left : (mappings : List Mapping) (o : Option Action) (old files : List File) → LeavesFiles o → P (map entry_of_file old) → MayLeaveFiles mappings o old files → P (map entry_of_file files)
+  lists_left mappings None old files free now is = subst (λ fs. P (map entry_of_file fs)) {x = old} (sym is) now
+  lists_left mappings (Some action) old files none now may = by_how ((meaning action).files_left mappings) may
     where
-      by_how : (how : FilesLeft) → LeftFiles how old ((meaning action).files old) files → P (map entry_of_file files)
+      by_how : (how : FilesLeft) → LeftFiles how old ((meaning action).files mappings old) files → P (map entry_of_file files)
       by_how Unchanged is = subst (λ fs. P (map entry_of_file fs)) {x = old} (sym is) now
       by_how OldOrNew (inl is) = subst (λ fs. P (map entry_of_file fs)) {x = old} (sym is) now
-      by_how OldOrNew (inr is) = subst (λ fs. P (map entry_of_file fs)) {x = old} (sym (is ∙ files_same action old none)) now
+      by_how OldOrNew (inr is) = subst P (sym (ap (map entry_of_file) is ∙ entries_same action mappings old none)) now
       by_how (StoredInPart name offset bytes) left = subst P (sym (one_left-entries name (MayStore offset bytes) (may_store-length offset bytes) old files left)) now
 
   lists_free : (h : Machine) → LeavesFiles h.interrupted → P (files_listed h) → Lists h
-  lists_free h free now = record { now = now; left = λ files may. lists_left h.interrupted h.files files free now may }
+  lists_free h free now = record { now = now; left = λ files may. lists_left h.mappings h.interrupted h.files files free now may; settled = λ on. free }
 
   -- a step that leaves files
-  lists_same : (h next : Machine) → next.files ≡ h.files → next.interrupted ≡ h.interrupted → Lists h → Lists next
-  lists_same h next files interrupted lists = record {
+  lists_same : (h next : Machine) → next.files ≡ h.files → next.mappings ≡ h.mappings → next.interrupted ≡ h.interrupted → (next.mode ≡ On → h.mode ≡ On) → Lists h → Lists next
+  lists_same h next files mappings interrupted mode lists = record {
     now = subst (λ fs. P (map entry_of_file fs)) {x = h.files} (sym files) lists.now;
-    left = λ fs may. lists.left fs (subst (λ o. MayLeaveFiles o h.files fs) interrupted (subst (λ old. MayLeaveFiles next.interrupted old fs) files may));
+    left = λ fs may.
+        lists.left fs (subst (λ o. MayLeaveFiles h.mappings o h.files fs) interrupted
+        (subst (λ ms. MayLeaveFiles ms next.interrupted h.files fs) mappings (subst (λ old. MayLeaveFiles next.mappings next.interrupted old fs) files may)));
+    settled = λ on. subst LeavesFiles (sym interrupted) (lists.settled (mode on));
   }
 
   -- and any that begins no change of them
   lists_step : (h : Machine) (action : Action) (answer : Answer) (next : Machine) → (is_begun answer ≡ true → changes_files action ≡ false) → Lists h
       → Step h action answer next → Lists next ⊎ HasNothing next
-  lists_step h action answer next spares lists (idles why to) = inl (lists_same h next to.files to.interrupted lists)
+  lists_step h action answer next spares lists (idles why to) = inl (lists_same h next to.files to.mappings to.interrupted to.mode lists)
   lists_step h action answer next spares lists (alters begun none to) =
       let leaves : changes_files action ≡ false =
       elim begun as (λ _. changes_files action ≡ false) [ inl done ↦ spares (ap is_begun done) | inr touches ↦ touches.files ] in
-      inl (lists_same h next (to.files ∙ files_same action h.files leaves) to.interrupted lists)
+      inl (lists_free next (subst LeavesFiles (sym to.interrupted) (lists.settled (is_on h action to.needs none)))
+      (subst P (sym (ap (map entry_of_file) to.files ∙ entries_same action h.mappings h.files leaves)) lists.now))
   lists_step h action answer next spares lists (stops by is to) =
       inl (lists_free next (subst LeavesFiles {x = Some action} (sym to.interrupted) (spares (ap is_begun is ∙ stop_begun by)))
       (subst (λ fs. P (map entry_of_file fs)) {x = h.files} (sym to.files) lists.now))
@@ -179,17 +214,18 @@ lists_stopped : (h : Machine) (action : Action) (next : Machine) → Stops h act
     → Lists (λ es. (es ≡ files_listed h) ⊎ (es ≡ files_after h action)) next
 lists_stopped h action next to = record {
   now = inl (ap (map entry_of_file) to.files);
-  left = λ files may. by_may files (subst (λ o. MayLeaveFiles o h.files files) to.interrupted (subst (λ old. MayLeaveFiles next.interrupted old files) to.files may));
+  left = λ files may. by_may files (subst (λ o. MayLeaveFiles h.mappings o h.files files) to.interrupted (subst (λ ms. MayLeaveFiles ms next.interrupted h.files files) to.mappings (subst (λ old. MayLeaveFiles next.mappings next.interrupted old files) to.files may)));
+  settled = λ on. absurd (to.mode on);
 }
   where
-    by_how : (files : List File) (how : FilesLeft) → LeftFiles how h.files ((meaning action).files h.files) files → (map entry_of_file files ≡ files_listed h) ⊎ (map entry_of_file files ≡ files_after h action)
+    by_how : (files : List File) (how : FilesLeft) → LeftFiles how h.files ((meaning action).files h.mappings h.files) files → (map entry_of_file files ≡ files_listed h) ⊎ (map entry_of_file files ≡ files_after h action)
     by_how files Unchanged is = inl (ap (map entry_of_file) is)
     by_how files OldOrNew (inl is) = inl (ap (map entry_of_file) is)
     by_how files OldOrNew (inr is) = inr (ap (map entry_of_file) is)
     by_how files (StoredInPart name offset bytes) left = inl (one_left-entries name (MayStore offset bytes) (may_store-length offset bytes) h.files files left)
 
-    by_may : (files : List File) → MayLeaveFiles (Some action) h.files files → (map entry_of_file files ≡ files_listed h) ⊎ (map entry_of_file files ≡ files_after h action)
-    by_may files may = by_how files (meaning action).files_left may
+    by_may : (files : List File) → MayLeaveFiles h.mappings (Some action) h.files files → (map entry_of_file files ≡ files_listed h) ⊎ (map entry_of_file files ≡ files_after h action)
+    by_may files may = by_how files ((meaning action).files_left h.mappings) may
 
 pub files_settle : (h next : Machine) (action : Action) → BreaksOff h action next → changes_files action ≡ true → FilesSettle next (files_listed h) (files_after h action)
 files_settle h next action breaks change inputs said later run none =

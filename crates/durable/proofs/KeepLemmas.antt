@@ -2,6 +2,7 @@
 use Rattle.std.proofs.Common.{◌≡◌, ◌⊎◌, inl, inr, ℕ, ◌/◌, ◌%◌, true, false, Option, Some, None, List, refl, sym, ap, subst, ◌∙◌, arith}
 use Rattle.std.proofs.lemmas.Bool.{both_ways, eq-eqb, eqb-false}
 use Rattle.std.proofs.lemmas.Bool.Decides.{nat_tests}
+use Rattle.std.proofs.lemmas.Option.{same_Some}
 use Rattle.line_words.specs.declared.interruption.Interruption.{Interruption}
 use Rattle.line_words.specs.declared.interruption.Interruption.TheVariants.{Failed, PowerLost as Lost}
 use Rattle.machine_host.specs.Interrupted.{interrupted_answer}
@@ -16,6 +17,7 @@ use Rattle.script_text.specs.Action.Action.{VStore, VSync, VPSync, VDiscard, VDi
 use Rattle.machine_host.specs.declared.mode.Mode.TheVariants.{On, Off}
 use Rattle.machine_host.specs.Machine.{Machine}
 use Rattle.machine_host.specs.Commands.{LeavesVolume, MayLeaveBlocks, MayLeaveVolume, meaning}
+use Rattle.machine_host.specs.OnPages.{pages_named}
 use Rattle.machine_host.specs.OnVolume.{part_synced_at, persist_at}
 use Rattle.word_tables.specs.declared.geometry.Geometry.{Geometry}
 use Rattle.word_tables.specs.Layout.{volume_line}
@@ -23,7 +25,7 @@ use Rattle.block_device.specs.Reading.{blocks_read}
 use Rattle.pm_volume.specs.Presence.{presence_read}
 use Rattle.pm_volume.specs.Refusals.{physical_offset}
 use Rattle.durable.specs.Place.{Place, block_has, byte_at_place}
-use Rattle.durable.specs.Place.Place.{of_volume, of_blocks}
+use Rattle.durable.specs.Place.Place.{of_volume, of_blocks, of_file}
 use Rattle.durable.specs.Touching.{changes, holds, is_begun, made_durable, poisons, touched_lines_at, weakens}
 use Rattle.durable.specs.Durable.{BringsBytes, HasNothing}
 use Rattle.durable.proofs.StepKinds.{Alters, Remounts, Returns, Step, TouchesNothing, blocks_after, volume_after}
@@ -31,6 +33,7 @@ use Rattle.durable.proofs.StepKinds.Step.{idles, alters, stops, returns, remount
 use Rattle.durable.proofs.LineLemmas.{HasOrLost, MayBe}
 use Rattle.durable.proofs.VolumeLemmas.{VolumeKeeps, byte-kept, keeps-clear, keeps-lose, keeps-weaken, keeps-persist, keeps-stored, keeps-may_store, keeps-may_sync, keeps-discard, keeps-may_discard, keeps-read}
 use Rattle.durable.proofs.BlockLemmas.{has-lost, nth-spared, nth-left}
+use Rattle.durable.proofs.FileKeepLemmas.{FileKeeps, file_altered, file_left, file_read}
 
 -- An action that spares the place: it doesn't change it, stores bytes, and makes its line weak or lost only where it may be.
 pub record SparesPlace (since : MayBe) (geo : Geometry) (action : Action) (x : Place) : Type 0 where
@@ -55,6 +58,7 @@ module _ (since : MayBe) where
   abbrev pub PlaceKeeps : Machine → Place → Option ℕ → Type 0
   PlaceKeeps h (of_volume i) v = VolumeKeeps since h.volume i v
   PlaceKeeps h (of_blocks i) v = HasOrLost since.lost (block_has (nth h.blocks (i / 512)) (i % 512)) v
+  PlaceKeeps h (of_file name i) v = FileKeeps since h.files name i v
 
   pub record Keeps (h : Machine) (x : Place) (v : Option ℕ) : Type 0 where
     pub place : PlaceKeeps h x v
@@ -64,6 +68,7 @@ module _ (since : MayBe) where
   pub keeps_byte : (h : Machine) (x : Place) (v : Option ℕ) → Keeps h x v → HasOrLost since.lost (byte_at_place h x) v
   keeps_byte h (of_volume i) v keeps = byte-kept since h.volume i v keeps.place
   keeps_byte h (of_blocks i) v keeps = keeps.place
+  keeps_byte h (of_file name i) v keeps = byte-kept since (pages_named name h.files) i v keeps.place
 
   -- an action that spares a byte of the volume
   persisted_at : (o : Option ℕ) (len i : ℕ) (v : Option ℕ) (pages : List Page) → ((touched_lines_at o len).volume i ≡ true → since.weak ≡ true → since.lost ≡ true)
@@ -125,9 +130,10 @@ module _ (since : MayBe) where
       nth-left (meaning action).blocks_left (i / 512) old ((meaning action).blocks old) new (nth-spared action i old spared.change) may
 
   -- the place after a step that leaves it
-  same_place : (h next : Machine) (x : Place) (v : Option ℕ) → next.blocks ≡ h.blocks → next.volume ≡ h.volume → PlaceKeeps h x v → PlaceKeeps next x v
-  same_place h next (of_volume i) v blocks volume keeps = subst (λ p. VolumeKeeps since p i v) {x = h.volume} (sym volume) keeps
-  same_place h next (of_blocks i) v blocks volume keeps = subst (λ bs. HasOrLost since.lost (block_has (nth bs (i / 512)) (i % 512)) v) {x = h.blocks} (sym blocks) keeps
+  same_place : (h next : Machine) (x : Place) (v : Option ℕ) → next.blocks ≡ h.blocks → next.volume ≡ h.volume → next.files ≡ h.files → PlaceKeeps h x v → PlaceKeeps next x v
+  same_place h next (of_volume i) v blocks volume files keeps = subst (λ p. VolumeKeeps since p i v) {x = h.volume} (sym volume) keeps
+  same_place h next (of_blocks i) v blocks volume files keeps = subst (λ bs. HasOrLost since.lost (block_has (nth bs (i / 512)) (i % 512)) v) {x = h.blocks} (sym blocks) keeps
+  same_place h next (of_file name i) v blocks volume files keeps = subst (λ fs. FileKeeps since fs name i v) {x = h.files} (sym files) keeps
 
   altered_place : (h : Machine) (action : Action) (next : Machine) (x : Place) (v : Option ℕ) → Alters h action next → SparesPlace since h.geometry action x
       → PlaceKeeps h x v → PlaceKeeps next x v
@@ -136,6 +142,15 @@ module _ (since : MayBe) where
   altered_place h action next (of_blocks i) v to spared keeps =
       subst (λ bs. HasOrLost since.lost (block_has (nth bs (i / 512)) (i % 512)) v) {x = blocks_after action h.blocks} (sym to.blocks)
       (altered_blocks h.geometry action i v h.blocks spared keeps)
+  altered_place h action next (of_file name i) v to spared keeps =
+      subst (λ fs. FileKeeps since fs name i v) {x = (meaning action).files h.mappings h.files} (sym to.files) (file_altered since action name i v h.mappings h.files spared.change spared.brings keeps)
+
+  -- the interrupted action spares a byte of a file
+  spares_file : (geo : Geometry) (o : Option Action) (name : List ℕ) (i : ℕ) → SparedBy since geo o (of_file name i) → (action : Action) → o ≡ Some action
+      → (changes action (of_file name i) ≡ false) × BringsBytes action
+  spares_file geo None name i spared action is = cc is
+  spares_file geo (Some one) name i spared action is =
+      subst (λ a. (changes a (of_file name i) ≡ false) × BringsBytes a) (same_Some one action is) (spared.change, spared.brings)
 
   returned_place : (h next : Machine) (x : Place) (v : Option ℕ) → since.cut ≡ true → Returns h next → SparedBy since h.geometry h.interrupted x → PlaceKeeps h x v → PlaceKeeps next x v
   returned_place h next (of_volume i) v cuts back spared keeps =
@@ -145,11 +160,17 @@ module _ (since : MayBe) where
   returned_place h next (of_blocks i) v cuts back spared keeps =
       subst (λ bs. HasOrLost since.lost (block_has (nth bs (i / 512)) (i % 512)) v) {x = blocks_read h.geometry back.image.is_bad back.image.word} (sym back.blocks)
       (subst (λ b. HasOrLost since.lost (block_has b (i % 512)) v) (sym (blocks_left h.geometry h.interrupted i h.blocks _ spared back.may.blocks)) keeps)
+  returned_place h next (of_file name i) v cuts back spared keeps =
+      subst (λ fs. FileKeeps since fs name i v) (sym back.files)
+      (file_read since back.choice h.geometry back.image name i v back.may.files_left cuts back.may.files
+      (file_left since h.mappings h.interrupted name i v h.files back.may.files_left (spares_file h.geometry h.interrupted name i spared) back.may.may_files keeps))
 
   remounted_place : (h next : Machine) (x : Place) (v : Option ℕ) → Remounts h next → SparedBy since h.geometry h.interrupted x → PlaceKeeps h x v → PlaceKeeps next x v
   remounted_place h next (of_volume i) v back spared keeps = volume_left h.geometry h.interrupted i v h.volume next.volume spared keeps back.volume
   remounted_place h next (of_blocks i) v back spared keeps =
       subst (λ b. HasOrLost since.lost (block_has b (i % 512)) v) (sym (blocks_left h.geometry h.interrupted i h.blocks next.blocks spared back.blocks)) keeps
+  remounted_place h next (of_file name i) v back spared keeps =
+      file_left since h.mappings h.interrupted name i v h.files next.files (spares_file h.geometry h.interrupted name i spared) back.files keeps
 
   -- an action that does nothing to any place, or was begun
   spared_when : (geo : Geometry) (action : Action) (x : Place) (answer : Answer) → BringsBytes action → (is_begun answer ≡ true → SparesPlace since geo action x)
@@ -174,7 +195,7 @@ module _ (since : MayBe) where
       → (is_begun answer ≡ true → SparesPlace since h.geometry action x) → (h.mode ≡ Off → since.cut ≡ true) → Keeps h x v
       → Step h action answer next → Keeps next x v ⊎ HasNothing next
   keeps-step h action answer next x v small spares off keeps (idles why to) = inl (record {
-    place = same_place h next x v to.blocks to.volume keeps.place;
+    place = same_place h next x v to.blocks to.volume to.files keeps.place;
     spared = spared_as h next x to.geometry to.interrupted keeps.spared;
     settled = λ on. to.interrupted ∙ keeps.settled (to.mode on);
   })
@@ -184,7 +205,7 @@ module _ (since : MayBe) where
     settled = λ on. to.interrupted ∙ keeps.settled (sym to.mode ∙ on);
   })
   keeps-step h action answer next x v small spares off keeps (stops by is to) = inl (record {
-    place = same_place h next x v to.blocks to.volume keeps.place;
+    place = same_place h next x v to.blocks to.volume to.files keeps.place;
     spared = subst (λ g. SparedBy since g next.interrupted x) (sym to.geometry)
         (subst (λ o. SparedBy since h.geometry o x) {x = Some action} (sym to.interrupted) (spares (ap is_begun is ∙ stop_begun by)));
     settled = λ on. absurd (to.mode on);

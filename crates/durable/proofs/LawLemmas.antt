@@ -25,10 +25,12 @@ use Rattle.pm_volume.specs.Refusals.{physical_offset}
 use Rattle.machine_host.specs.Run.{Hears, Run, Transcript, followed_by}
 use Rattle.machine_host.specs.declared.mode.Mode.TheVariants.{On, Off}
 use Rattle.std.specs.Prelude.{◌≢◌}
+use Rattle.machine_host.specs.OnPages.{pages_named}
+use Rattle.durable.proofs.FileThereLemmas.{lines-named}
 use Rattle.durable.proofs.PowerLemmas.{powered_first, powered_heard, powered_rest}
 use Rattle.durable.specs.Place.{Place, byte_at_place, line_has}
 use Rattle.durable.specs.Place.{is_line_present, is_weak_at}
-use Rattle.durable.specs.Place.Place.{of_volume, of_blocks}
+use Rattle.durable.specs.Place.Place.{of_volume, of_blocks, of_file}
 use Rattle.durable.specs.Touching.{changes, holds, is_begun, is_made_durable, made_durable, poisons, touched_lines_at, weakens}
 use Rattle.durable.specs.Durable.{BringBytes, BringsBytes, Does, HasNothing, HaveLines, IsComplete, IsDurable, IsLineThere, Lasts, LastsPowered, NoneBegun, Remains, Spares, StaysPowered}
 use Rattle.durable.proofs.StepKinds.{Alters, CoversNothing, Step}
@@ -50,16 +52,22 @@ none-asked does action inputs first answer answers is none = subst (λ s. NoneBe
 covers_usable : (h : Machine) (action : Action) (x : Place) → is_made_durable h action x ≡ true → (meaning action).needs ≡ Usable
 covers_usable h Cut (of_volume i) covered = cc covered
 covers_usable h Cut (of_blocks i) covered = cc covered
+covers_usable h Cut (of_file name i) covered = cc covered
 covers_usable h (CutIn calls) (of_volume i) covered = cc covered
 covers_usable h (CutIn calls) (of_blocks i) covered = cc covered
+covers_usable h (CutIn calls) (of_file name i) covered = cc covered
 covers_usable h (FailIn calls) (of_volume i) covered = cc covered
 covers_usable h (FailIn calls) (of_blocks i) covered = cc covered
+covers_usable h (FailIn calls) (of_file name i) covered = cc covered
 covers_usable h (Restart choice) (of_volume i) covered = cc covered
 covers_usable h (Restart choice) (of_blocks i) covered = cc covered
+covers_usable h (Restart choice) (of_file name i) covered = cc covered
 covers_usable h Recover (of_volume i) covered = cc covered
 covers_usable h Recover (of_blocks i) covered = cc covered
+covers_usable h Recover (of_file name i) covered = cc covered
 covers_usable h (PoisonMeta line) (of_volume i) covered = cc covered
 covers_usable h (PoisonMeta line) (of_blocks i) covered = cc covered
+covers_usable h (PoisonMeta line) (of_file name i) covered = cc covered
 covers_usable h action x covered = refl
 
 pub stop_done : (by : Interruption) → Done ≡ interrupted_answer by → ⊥
@@ -228,6 +236,10 @@ module _ (since : MayBe) where
       ap (cell_of (change_line clear_cell n pages)) same ∙ cell_of-changed clear_cell n pages ∙ ap (option_map clear_cell) bad in
       inr (subst (λ o. LineKeeps since o (i % 64) (line_has o (i % 64))) (sym zeros) (line_keeps-flushed since zero_cell (i % 64) (omega arith) refl))
 
+  no_file : (o : Option ℕ) (len : ℕ) (name : List ℕ) (i : ℕ) → (touched_lines_at o len).files name i ≡ true → ⊥
+  no_file None len name i covered = cc covered
+  no_file (Some start) len name i covered = cc covered
+
   -- A command that covers the place was done: each value of its word has the byte.
   covered_place : (h : Machine) (action : Action) (next : Machine) (x : Place) → IsComplete h → is_made_durable h action x ≡ true → refusal h action ≡ None → Alters h action next
       → PlaceKeeps since next x (byte_at_place next x)
@@ -241,6 +253,8 @@ module _ (since : MayBe) where
       subst (λ p. VolumeKeeps since p i (line_has (cell_of p (i / 64)) (i % 64))) (sym to.volume)
       (cleared_line (offset / 64) i h.volume (eqb-true (i / 64) (offset / 64) covered) (was_bad h offset none))
   covered_place h action next (of_volume i) whole covered none to = cc covered
+  covered_place h (VPSync address len) next (of_file name i) whole covered none to = absurd (no_file (physical_offset h.geometry address len) len name i covered)
+  covered_place h action next (of_file name i) whole covered none to = cc covered
 
   made : (h next : Machine) (action : Action) (x : Place) → Does h action next → is_made_durable h action x ≡ true → Keeps since next x (byte_at_place next x)
   made h next action x does covered =
@@ -298,6 +312,8 @@ there : (h : Machine) (x : Place) (weak lost : Bool) → IsComplete h → is_wea
 there h (of_volume i) weak lost whole strong =
     there-kept (record { weak = weak; lost = lost; cut = false }) h.volume i refl (λ is. absurd (both_ways _ strong is)) whole.lines
 there h (of_blocks i) weak lost whole strong = inl refl
+there h (of_file name i) weak lost whole strong =
+    there-kept (record { weak = weak; lost = lost; cut = false }) (pages_named name h.files) i refl (λ is. absurd (both_ways _ strong is)) (lines-named name h.files whole.file_lines)
 
 pub lasts_powered : (h : Machine) (x : Place) → IsComplete h → h.mode ≡ On → is_weak_at h x ≡ false → LastsPowered h x (byte_at_place h x)
 lasts_powered h x whole on strong inputs said later bytes run powered =

@@ -1,4 +1,5 @@
 pub mod StepKinds
+pub mod SuitLemmas
 pub mod StepLemmas
 pub mod WordLemmas
 pub mod PresenceLemmas
@@ -6,9 +7,13 @@ pub mod LineLemmas
 pub mod VolumeLemmas
 pub mod BlockLemmas
 pub mod EightLemmas
+pub mod NamedPageLemmas
+pub mod FileKeepLemmas
 pub mod KeepLemmas
+pub mod HandleLemmas
 pub mod RefusalLemmas
 pub mod ThereLemmas
+pub mod FileThereLemmas
 pub mod WholeLemmas
 pub mod NamingLemmas
 pub mod ReadLemmas
@@ -17,6 +22,7 @@ pub mod LawLemmas
 pub mod LostLemmas
 pub mod ScriptLemmas
 pub mod WrittenLemmas
+pub mod FileWrittenLemmas
 pub mod UnsyncedLemmas
 pub mod PassLemmas
 pub mod MetadataLemmas

@@ -21,11 +21,12 @@ use Rattle.machine_host.specs.declared.mode.Mode.TheVariants.{On}
 use Rattle.machine_host.specs.Machine.{Machine}
 use Rattle.machine_host.specs.Machine.Fate.{Gives}
 use Rattle.machine_host.specs.Commands.{meaning, refusal, unless_refused}
+use Rattle.machine_host.specs.OnPages.{pages_named}
 use Rattle.machine_host.specs.OnVolume.{persist_at}
 use Rattle.machine_host.specs.Run.{Takes}
 use Rattle.pm_volume.specs.Refusals.{physical_offset}
 use Rattle.durable.specs.Place.{Place, block_has, byte_at_place, is_weak_line, line_has}
-use Rattle.durable.specs.Place.Place.{of_volume, of_blocks}
+use Rattle.durable.specs.Place.Place.{of_volume, of_blocks, of_file}
 use Rattle.durable.specs.Touching.{is_made_durable, touched_lines_at}
 use Rattle.durable.specs.Durable.{Does, IsComplete, Lasts}
 use Rattle.durable.proofs.StepKinds.{volume_after}
@@ -45,6 +46,7 @@ stays_lost h x whole on lost = lasts h x None whole (λ since. record {
     by_place : (since : MayBe) (x : Place) → byte_at_place h x ≡ None → PlaceKeeps since h x None
     by_place since (of_volume i) none = inr (lost-kept since (cell_of h.volume (i / 64)) (i % 64) none)
     by_place since (of_blocks i) none = inl none
+    by_place since (of_file name i) none = inr (lost-kept since (cell_of (pages_named name h.files) (i / 64)) (i % 64) none)
 
 -- a command that needs no call of the device, and was done
 gives_done : (h : Machine) (action : Action) (to next : Machine) → (meaning action).comes h ≡ Gives Done to → Does h action next → (refusal h action ≡ None) × (next ≡ to)

@@ -13,7 +13,7 @@ use Rattle.machine_host.specs.Interrupted.{interrupted_answer}
 use Rattle.machine_host.specs.OnVolume.{yes_or_no}
 use Rattle.machine_host.specs.declared.mode.Mode.TheVariants.{Stopped}
 use Rattle.script_text.specs.Action.{Action}
-use Rattle.script_text.specs.Action.Action.{BExists, VRanges, VExists, ListFiles, PoisonBlock, PoisonVolume, PoisonMeta, WeakenVolume, Cut, CutIn, FailIn, Restart, Recover}
+use Rattle.script_text.specs.Action.Action.{BExists, VRanges, VExists, ListFiles, Load, Map, PoisonBlock, PoisonVolume, PoisonMeta, WeakenVolume, Cut, CutIn, FailIn, Restart, Recover, Store, Unmap}
 use Rattle.script_text.specs.Script.{Input}
 use Rattle.script_text.specs.Script.Input.{Skipped, Malformed, Asked}
 use Rattle.machine_host.specs.Machine.{Machine, Fate}
@@ -25,9 +25,10 @@ use Rattle.machine_host.specs.Restarting.{mounted_answer, read_with, reading, re
 use Rattle.machine_host.specs.Recovering.{RecoversTo}
 use Rattle.machine_host.specs.Run.{Hears, Run, Takes, Transcript}
 use Rattle.durable.specs.Place.{Place}
-use Rattle.durable.specs.Place.Place.{of_volume, of_blocks}
+use Rattle.durable.specs.Place.Place.{of_volume, of_blocks, of_file}
 use Rattle.durable.specs.Touching.{is_begun, unmounts}
 use Rattle.durable.specs.Durable.{HasNothing, Spares}
+use Rattle.durable.proofs.HandleLemmas.{of_load, of_map, of_store}
 use Rattle.durable.proofs.RefusalLemmas.{is_refused, refused_told}
 
 -- a command that made a line of metadata bad
@@ -55,6 +56,10 @@ marks h (BExists block) = inl refl
 marks h VRanges = inl refl
 marks h (VExists page) = inl refl
 marks h ListFiles = inl refl
+marks h (Map name span kind) = of_map (MarksAt h (Map name span kind)) h name span kind (inl refl) refl
+marks h (Unmap handle) = inl refl
+marks h (Load handle offset len) = of_load (MarksAt h (Load handle offset len)) h handle offset len (inl refl) (λ name place. refl) (λ m. inl refl)
+marks h (Store handle offset bytes) = of_store (MarksAt h (Store handle offset bytes)) h handle offset bytes (inl refl) (λ name place. refl) (inl refl)
 marks h (PoisonBlock block line) = inl refl
 marks h (PoisonVolume offset) = inl refl
 marks h (PoisonMeta line) = inr (record { line = line; is = refl; done = refl; metadata = refl })
@@ -124,6 +129,7 @@ marked h action said next = by_refusal (refusal h action)
 poisoned_all : (line : ℕ) (x : Place) → unmounts (PoisonMeta line) x ≡ true
 poisoned_all line (of_volume i) = refl
 poisoned_all line (of_blocks i) = refl
+poisoned_all line (of_file name i) = refl
 
 same_heard : (h next : Machine) (input : Input) (inputs : List Input) (said : Transcript) (answers : List Answer) (x : Place) → Hears h input said next
     → Spares unmounts x (input ∷ inputs) (said.answers ++ answers) → (next.bad_meta ≡ h.bad_meta) × Spares unmounts x inputs answers
@@ -208,6 +214,9 @@ no_stop h (CutIn calls) = tt
 no_stop h (FailIn calls) = tt
 no_stop h (Restart choice) = tt
 no_stop h Recover = tt
+no_stop h (Map name span kind) = of_map NoStop h name span kind (λ line is. cc is) (λ line is. cc is)
+no_stop h (Load handle offset len) = of_load NoStop h handle offset len (λ line is. cc is) (λ name place line is. cc is) (λ m line is. cc is)
+no_stop h (Store handle offset bytes) = of_store NoStop h handle offset bytes (λ line is. cc is) (λ name place line is. cc is) (λ line is. cc is)
 no_stop h action = λ line is. cc is
 
 stop-interrupted : (by : Interruption) (line : ℕ) → interrupted_answer by ≢ StoppedMeta line

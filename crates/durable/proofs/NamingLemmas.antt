@@ -19,26 +19,28 @@ use Rattle.page_lines.proofs.LoopLemmas.{touches-within, within-touches}
 use Rattle.pm_volume.proofs.BadLemmas.{none_touched}
 use Rattle.block_device.specs.Refusals.Refusal.{Unreadable}
 use Rattle.pm_volume.specs.Refusals.{poisoned_at}
+use Rattle.file_pages.specs.Refusals.{poisoned_at as poisoned_in_file}
 use Rattle.reply_text.specs.declared.reply.Why.{Why}
 use Rattle.reply_text.specs.Answer.{Answer}
-use Rattle.reply_text.specs.Answer.Answer.{PoisonVolume, Refused, RefusedMeta}
+use Rattle.reply_text.specs.Answer.Answer.{PoisonFile, PoisonVolume, Refused, RefusedMeta}
 use Rattle.machine_host.specs.declared.mode.Mode.{Mode}
 use Rattle.machine_host.specs.declared.mode.Mode.TheVariants.{Stopped}
 use Rattle.machine_host.specs.declared.needs.Needs.{Needs}
 use Rattle.machine_host.specs.declared.needs.Needs.TheVariants.{Usable}
 use Rattle.machine_host.specs.Lines.{lowest}
 use Rattle.script_text.specs.Action.{Action}
-use Rattle.script_text.specs.Action.Action.{BRead, VLoad}
+use Rattle.script_text.specs.Action.Action.{BRead, FRead, VLoad}
 use Rattle.script_text.specs.Script.Input.{Asked}
 use Rattle.machine_host.specs.Machine.{Machine}
 use Rattle.machine_host.specs.Commands.{early_refusal, meaning, refusal, unless_refused}
 use Rattle.machine_host.specs.Meaning.{Reasons, first_reason, mode_refusal}
 use Rattle.machine_host.specs.OnBlocks.{refusal_answer}
+use Rattle.machine_host.specs.OnPages.{page_answer, pages_named}
 use Rattle.machine_host.specs.OnVolume.{volume_answer}
 use Rattle.machine_host.specs.Run.{Hears, Takes, Transcript}
 use Rattle.durable.specs.Place.{block_has, byte_at_place, line_has}
-use Rattle.durable.specs.Place.Place.{of_volume, of_blocks}
-use Rattle.durable.specs.Naming.{IsLowestBad, IsLowestObstacle, Names, NamesLine, NamesObstacle}
+use Rattle.durable.specs.Place.Place.{of_volume, of_blocks, of_file}
+use Rattle.durable.specs.Naming.{IsLowestBad, IsLowestObstacle, Names, NamesLine, NamesLineOf, NamesObstacle, refused_before}
 use Rattle.durable.specs.Durable.{HasEightLines, IsComplete}
 
 -- a read is refused by its mode, its span, or what can't be read
@@ -49,6 +51,15 @@ refused_by None None bad_meta unreadable = refl
 refused_by None (Some why) bad_meta unreadable = refl
 refused_by (Some answer) past bad_meta unreadable = refl
 
+-- of a file its name refuses it as well
+refused_of_file : (mode named places : Option Answer) (bad_meta : List ℕ) (unreadable : Option Answer)
+    → first_reason mode bad_meta (record { named = named; places = places; full = None; changes_metadata = false; unreadable = unreadable })
+    ≡ first_there (first_there mode (first_there named places)) unreadable
+refused_of_file None None None bad_meta unreadable = refl
+refused_of_file None None (Some answer) bad_meta unreadable = refl
+refused_of_file None (Some answer) places bad_meta unreadable = refl
+refused_of_file (Some answer) named places bad_meta unreadable = refl
+
 -- what a refused command is answered
 told : (h : Machine) (action : Action) (answer : Answer) (said : Transcript) (next : Machine) → refusal h action ≡ Some answer → Hears h (Asked action) said next
     → said.answers ≡ answer ∷ []
@@ -56,10 +67,9 @@ told h action answer said next some heard =
     let t = subst (λ o. Takes h action (unless_refused h o ((meaning action).comes h)) said next) some heard in ap (λ s. s.answers) t.0
 
 -- so where something can't be read it is refused
-named : (h : Machine) (action : Action) (this : Answer → Type 0) (answer : Answer) (said : Transcript) (next : Machine)
-    → refusal h action ≡ first_there (early_refusal h.mode h.bad_meta h.geometry action) (Some answer) → this answer → Hears h (Asked action) said next
-    → Names (early_refusal h.mode h.bad_meta h.geometry action) this said.answers
-named h action this answer said next is names heard = by_early (early_refusal h.mode h.bad_meta h.geometry action) is
+named : (h : Machine) (action : Action) (early : Option Answer) (this : Answer → Type 0) (answer : Answer) (said : Transcript) (next : Machine)
+    → refusal h action ≡ first_there early (Some answer) → this answer → Hears h (Asked action) said next → Names early this said.answers
+named h action early this answer said next is names heard = by_early early is
   where
     by_early : (o : Option Answer) → refusal h action ≡ first_there o (Some answer) → Names o this said.answers
     by_early None some = (answer, told h action answer said next some heard, names)
@@ -120,10 +130,23 @@ pub names_line : (h next : Machine) (offset len i : ℕ) (said : Transcript) →
 unfolding refusal early_refusal
 names_line h next offset len i said lost among heard =
     let bad = lowest_bad h.volume offset len i among (lost_line (cell_of h.volume (i / 64)) (i % 64) lost) in
-    named h (VLoad offset len) (NamesLine h.volume offset len) (PoisonVolume (64 * bad.0)) said next
+    named h (VLoad offset len) (early_refusal h.mode h.bad_meta h.geometry (VLoad offset len)) (NamesLine h.volume offset len) (PoisonVolume (64 * bad.0)) said next
     (refused_by (mode_refusal h.mode h.bad_meta (meaning (VLoad offset len)).needs) ((meaning (VLoad offset len)).checked h.geometry) h.bad_meta
     (option_map volume_answer (poisoned_at (first_bad_line h.volume offset len)))
     ∙ ap (λ o. first_there (early_refusal h.mode h.bad_meta h.geometry (VLoad offset len)) (option_map volume_answer (poisoned_at o))) bad.2)
+    (bad.0, bad.1, refl) heard
+
+pub names_line_of_file : (h next : Machine) (name : List ℕ) (offset len i : ℕ) (said : Transcript) → byte_at_place h (of_file name i) ≡ None → is_among offset len i ≡ true
+    → Hears h (Asked (FRead name offset len)) said next
+    → Names (refused_before h (FRead name offset len)) (NamesLineOf name (pages_named name h.files) offset len) said.answers
+unfolding refusal
+names_line_of_file h next name offset len i said lost among heard =
+    let pages = pages_named name h.files in
+    let bad = lowest_bad pages offset len i among (lost_line (cell_of pages (i / 64)) (i % 64) lost) in
+    let r = (meaning (FRead name offset len)).reasons h in
+    named h (FRead name offset len) (refused_before h (FRead name offset len)) (NamesLineOf name pages offset len) (PoisonFile name (64 * bad.0)) said next
+    (refused_of_file (mode_refusal h.mode h.bad_meta (meaning (FRead name offset len)).needs) r.named r.places h.bad_meta r.unreadable
+    ∙ ap (λ o. first_there (refused_before h (FRead name offset len)) (option_map (page_answer name) (poisoned_in_file o))) bad.2)
     (bad.0, bad.1, refl) heard
 
 -- the lowest of some blocks that can't be read
@@ -202,7 +225,7 @@ pub names_obstacle : (h next : Machine) (block count i : ℕ) (said : Transcript
 unfolding refusal early_refusal
 names_obstacle h next block count i said whole lost among heard =
     let found = lowest_obstacle h.blocks block count (i / 512) among (lost_block (i / 512) (i % 512) (nth h.blocks (i / 512)) (omega arith) (whole.eight (i / 512)) lost) in
-    named h (BRead block count) (NamesObstacle h.blocks block count) (refusal_answer (Unreadable found.1)) said next
+    named h (BRead block count) (early_refusal h.mode h.bad_meta h.geometry (BRead block count)) (NamesObstacle h.blocks block count) (refusal_answer (Unreadable found.1)) said next
     (refused_by (mode_refusal h.mode h.bad_meta (meaning (BRead block count)).needs) ((meaning (BRead block count)).checked h.geometry) h.bad_meta
     (option_map (λ obstacle. refusal_answer (Unreadable obstacle)) (first_obstacle h.blocks block count))
     ∙ ap (λ o. first_there (early_refusal h.mode h.bad_meta h.geometry (BRead block count)) (option_map (λ obstacle. refusal_answer (Unreadable obstacle)) o)) found.3)

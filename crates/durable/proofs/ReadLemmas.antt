@@ -11,7 +11,7 @@ use Rattle.nvm_model.specs.Blocks.Obstacle.{scar, bad_line}
 use Rattle.nvm_model.specs.Cell.{Cell, cell_byte}
 use Rattle.nvm_model.specs.Cell.Cell.{Bad, Kept}
 use Rattle.nvm_model.specs.Numbered.{is_among, list_from}
-use Rattle.nvm_model.specs.Page.{byte_in, cell_of, look}
+use Rattle.nvm_model.specs.Page.{Page, byte_in, cell_of, look}
 use Rattle.nvm_model.specs.Storage.{Block}
 use Rattle.nvm_model.specs.Storage.Block.{Absent, Scarred, Data}
 use Rattle.nvm_model.proofs.NumberedLemmas.{slice_get-list_from}
@@ -19,22 +19,23 @@ use Rattle.block_device.specs.Refusals.Refusal.{Unreadable}
 use Rattle.reply_text.specs.Answer.{Answer}
 use Rattle.reply_text.specs.Answer.Answer.{Bytes}
 use Rattle.script_text.specs.Action.{Action}
-use Rattle.script_text.specs.Action.Action.{BRead, VLoad}
+use Rattle.script_text.specs.Action.Action.{BRead, FRead, VLoad}
 use Rattle.machine_host.specs.Machine.{Machine}
 use Rattle.machine_host.specs.Machine.Fate.{Works}
 use Rattle.machine_host.specs.Commands.{early_refusal, fate, meaning, refusal, unless_refused}
 use Rattle.machine_host.specs.Interrupted.{interrupted_answer}
 use Rattle.machine_host.specs.OnBlocks.{refusal_answer}
+use Rattle.machine_host.specs.OnPages.{pages_named}
 use Rattle.machine_host.specs.Run.{Takes, Transcript}
 use Rattle.durable.specs.Place.{Place, block_has, byte_at_place, line_has}
-use Rattle.durable.specs.Place.Place.{of_volume, of_blocks}
-use Rattle.durable.specs.Naming.{Names, NamesLine, NamesObstacle}
+use Rattle.durable.specs.Place.Place.{of_volume, of_blocks, of_file}
+use Rattle.durable.specs.Naming.{Names, NamesLine, NamesLineOf, NamesObstacle, refused_before}
 use Rattle.durable.specs.Durable.{Has, HasNothing, IsComplete, Reads}
 use Rattle.machine_host.specs.declared.mode.Mode.TheVariants.{On}
 use Rattle.machine_host.specs.declared.needs.Needs.TheVariants.{Usable}
 use Rattle.durable.proofs.LineLemmas.{HasOrLost}
-use Rattle.durable.proofs.RefusalLemmas.{Refuses, is_on, is_refused, refused_told, refuses_early}
-use Rattle.durable.proofs.NamingLemmas.{names_line, names_obstacle}
+use Rattle.durable.proofs.RefusalLemmas.{Refuses, is_on, is_refused, refused_told, refuses_before, refuses_early}
+use Rattle.durable.proofs.NamingLemmas.{names_line, names_line_of_file, names_obstacle}
 
 -- what a read shows
 line_shown : (o : Option Cell) (i byte : ℕ) → line_has o i ≡ Some byte → elim o [ None ↦ 0 | Some cell ↦ cell_byte cell i ] ≡ byte
@@ -75,17 +76,26 @@ read_bytes h action shown bytes said next reads takes told = by_refusal (refusal
         let same : t.0 ≡ Bytes bytes = cc (ap (λ s. s.answers) t.1, told) in
         elim t.2 as (λ _. bytes ≡ shown) [ inl end ↦ cc (same, end.0) | inr end ↦ absurd (stop_bytes end.0 bytes (sym same ∙ end.1)) ]
 
-reads_volume : (h : Machine) (i byte : ℕ) → byte_at_place h (of_volume i) ≡ Some byte → Reads h (of_volume i) byte
+byte_looked : (pages : List Page) (offset len i byte : ℕ) → line_has (cell_of pages (i / 64)) (i % 64) ≡ Some byte → is_among offset len i ≡ true
+    → slice_index (look pages offset len) (i - offset) ≡ byte
 unfolding look
+byte_looked pages offset len i byte is among = at_index (byte_in pages) offset len i byte from to (line_shown (cell_of pages (i / 64)) (i % 64) byte is)
+  where
+    from : offset ≤ i
+    from = grind (arith, nat_tests)
+
+    to : i < offset + len
+    to = grind (arith, nat_tests)
+
+reads_volume : (h : Machine) (i byte : ℕ) → byte_at_place h (of_volume i) ≡ Some byte → Reads h (of_volume i) byte
 reads_volume h i byte is = λ offset len bytes said next heard told among.
     ap (λ xs. slice_index xs (i - offset)) (read_bytes h (VLoad offset len) (look h.volume offset len) bytes said next refl heard told)
-    ∙ at_index (byte_in h.volume) offset len i byte (from offset len among) (to offset len among) (line_shown (cell_of h.volume (i / 64)) (i % 64) byte is)
-  where
-    from : (offset len : ℕ) → is_among offset len i ≡ true → offset ≤ i
-    from offset len among = grind (arith, nat_tests)
+    ∙ byte_looked h.volume offset len i byte is among
 
-    to : (offset len : ℕ) → is_among offset len i ≡ true → i < offset + len
-    to offset len among = grind (arith, nat_tests)
+reads_file : (h : Machine) (name : List ℕ) (i byte : ℕ) → byte_at_place h (of_file name i) ≡ Some byte → Reads h (of_file name i) byte
+reads_file h name i byte is = λ offset len bytes said next heard told among.
+    ap (λ xs. slice_index xs (i - offset)) (read_bytes h (FRead name offset len) (look (pages_named name h.files) offset len) bytes said next refl heard told)
+    ∙ byte_looked (pages_named name h.files) offset len i byte is among
 
 reads_blocks : (h : Machine) (i byte : ℕ) → byte_at_place h (of_blocks i) ≡ Some byte → Reads h (of_blocks i) byte
 unfolding look_blocks
@@ -103,6 +113,7 @@ reads_blocks h i byte is = λ block count bytes said next heard told among.
 reads : (h : Machine) (x : Place) (byte : ℕ) → byte_at_place h x ≡ Some byte → Reads h x byte
 reads h (of_volume i) byte is = reads_volume h i byte is
 reads h (of_blocks i) byte is = reads_blocks h i byte is
+reads h (of_file name i) byte is = reads_file h name i byte is
 
 -- what names something gives no data
 no_data : (early : Option Answer) (this : Answer → Type 0) (answers : List Answer) (bytes : List ℕ) → Refuses early → ((answer : Answer) → this answer → answer ≡ Bytes bytes → ⊥)
@@ -122,6 +133,9 @@ reads_lost h (of_volume i) byte whole lost = λ offset len bytes said next heard
 reads_lost h (of_blocks i) byte whole lost = λ block count bytes said next heard told among.
     absurd (no_data (early_refusal h.mode h.bad_meta h.geometry (BRead block count)) (NamesObstacle h.blocks block count) said.answers bytes
     (refuses_early h.mode h.bad_meta h.geometry (BRead block count)) (λ answer names is. obstacle_told names.1 bytes (sym names.3 ∙ is)) (names_obstacle h next block count i said whole lost among heard) told)
+reads_lost h (of_file name i) byte whole lost = λ offset len bytes said next heard told among.
+    absurd (no_data (refused_before h (FRead name offset len)) (NamesLineOf name (pages_named name h.files) offset len) said.answers bytes
+    (refuses_before h (FRead name offset len)) (λ answer names is. cc (names.2, is)) (names_line_of_file h next name offset len i said lost among heard) told)
 
 -- a command on the storage that was refused, since the machine is not on, gives no data
 no_data_off : (h : Machine) (action : Action) (bytes : List ℕ) (said : Transcript) (next : Machine) → (meaning action).needs ≡ Usable → h.mode ≢ On
@@ -139,6 +153,8 @@ reads_nothing h (of_volume i) byte nothing = λ offset len bytes said next heard
     absurd (no_data_off h (VLoad offset len) bytes said next refl nothing.mode heard told)
 reads_nothing h (of_blocks i) byte nothing = λ block count bytes said next heard told among.
     absurd (no_data_off h (BRead block count) bytes said next refl nothing.mode heard told)
+reads_nothing h (of_file name i) byte nothing = λ offset len bytes said next heard told among.
+    absurd (no_data_off h (FRead name offset len) bytes said next refl nothing.mode heard told)
 
 -- a byte that is there or lost, or nothing is there
 pub has : (harmed : Bool) (h : Machine) (x : Place) (v : Option ℕ) → IsComplete h → HasOrLost harmed (byte_at_place h x) v ⊎ HasNothing h → Has h x v

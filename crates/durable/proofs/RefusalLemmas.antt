@@ -1,5 +1,5 @@
 -- What a refusal is answered, and what is known where there is none.
-use Rattle.std.proofs.Common.{◌≡◌, ℕ, length, Bool, true, false, cond, Option, Some, None, option_map, option_and_then, List, [], ◌∷◌, refl, ◌∙◌, sym, ap}
+use Rattle.std.proofs.Common.{◌≡◌, ◌+◌, ◌*◌, ℕ, length, Bool, true, false, cond, Option, Some, None, option_map, option_and_then, List, [], ◌∷◌, refl, ◌∙◌, sym, ap, if◌then◌else◌}
 use Rattle.nvm_model.specs.Blocks.{Obstacle, first_there, first_obstacle}
 use Rattle.nvm_model.specs.Blocks.Obstacle.{scar, bad_line}
 use Rattle.block_device.specs.Refusals.{Refusal}
@@ -10,14 +10,14 @@ use Rattle.nvm_model.specs.Page.{first_bad_line, first_uncovered_line}
 use Rattle.word_tables.specs.declared.geometry.Geometry.{Geometry}
 use Rattle.reply_text.specs.declared.reply.Why.{Why}
 use Rattle.reply_text.specs.Answer.{Answer}
-use Rattle.reply_text.specs.Answer.Answer.{Done, DoneBad, Bytes, Ranges, Files, Yes, No, Scarred, PoisonBlock as PoisonedBlock, PoisonVolume as PoisonedVolume, PoisonFile as PoisonedFile, DeviceFailed, PowerLost, Stopped as MountStopped, Refused, RefusedMeta}
+use Rattle.reply_text.specs.Answer.Answer.{Done, DoneBad, Bytes, Ranges, Files, Handle, Happened, NoEvent, BadLines, VerifyFile, Yes, No, Scarred, PoisonBlock as PoisonedBlock, PoisonVolume as PoisonedVolume, PoisonFile as PoisonedFile, DeviceFailed, PowerLost, Stopped as MountStopped, Refused, RefusedMeta}
 use Rattle.reply_text.specs.declared.reply.Why.TheVariants as because
 use Rattle.script_text.specs.Action.{Action}
-use Rattle.script_text.specs.Action.Action.{BRead, BWrite, BAtomic, BMulti, BDiscard, BDiscardIf, BExists, BScar, VLoad, VStore, VSync, VRanges, VPSync, VDiscard, VDiscardIf, VExists, Create, Delete, Rename, Resize, ListFiles, PoisonBlock, PoisonVolume, PoisonMeta, WeakenVolume, ClearVolume, Cut, CutIn, FailIn, Restart, Recover}
+use Rattle.script_text.specs.Action.Action.{BRead, BWrite, BAtomic, BMulti, BDiscard, BDiscardIf, BExists, BScar, VLoad, VStore, VSync, VRanges, VPSync, VDiscard, VDiscardIf, VExists, Create, Delete, Rename, Resize, ListFiles, FRead, FWrite, Map, Unmap, Load, Store, PoisonBlock, PoisonVolume, PoisonMeta, WeakenVolume, ClearVolume, Cut, CutIn, FailIn, Restart, Recover}
 use Rattle.machine_host.specs.declared.mode.Mode.{Mode}
 use Rattle.machine_host.specs.declared.mode.Mode.TheVariants.{On, Off, Unsettled, Stopped}
 use Rattle.machine_host.specs.Machine.{Machine}
-use Rattle.machine_host.specs.Meaning.{Reasons, first_reason, metadata_refusal, mode_refusal}
+use Rattle.machine_host.specs.Meaning.{Reasons, first_reason, metadata_refusal, mode_refusal, most_refusal, no_reasons, span_refusal}
 use Rattle.machine_host.specs.declared.needs.Needs.{Needs}
 use Rattle.machine_host.specs.declared.needs.Needs.TheVariants.{Usable, Anytime, Powered, Unpowered, Failed}
 use Rattle.scrub.specs.Refusals.{ScrubRefusal}
@@ -25,8 +25,16 @@ use Rattle.scrub.specs.Refusals.ScrubRefusal.{Range as Beyond, Nothing, NotPoiso
 use Rattle.machine_host.specs.OnMedia.{line_answer}
 use Rattle.machine_host.specs.OnBlocks.{refusal_answer}
 use Rattle.machine_host.specs.OnVolume.{volume_answer}
-use Rattle.machine_host.specs.OnFiles.{if_exists, if_missing}
+use Rattle.machine_host.specs.OnFiles.{if_exists, if_mapped, if_missing}
+use Rattle.machine_host.specs.OnMappings.{if_full_of_mappings, load_through, read_copy, store_through, within_mapping, write_copy}
+use Rattle.machine_host.specs.OnPages.{fread, fwrite, page_answer, pages_named}
+use Rattle.nvm_model.specs.Mappings.{is_full, is_mapped, is_shared, mapping_of}
+use Rattle.nvm_model.specs.Listing.{file_name, has_file}
+use Rattle.nvm_model.specs.Storage.{Mapping}
+use Rattle.file_pages.specs.Refusals.{PageRefusal}
+use Rattle.file_pages.specs.Refusals.PageRefusal.{Range as NoBytes, Length as NoLength, Full as NoRoom, Meta as NoMeta, Poison as PoisonedLine}
 use Rattle.machine_host.specs.Commands.{early_refusal, meaning, refusal}
+use Rattle.durable.specs.Naming.{refused_before}
 
 -- the answers of refusals
 abbrev pub is_refused : Answer → Bool
@@ -35,12 +43,17 @@ is_refused (DoneBad n) = false
 is_refused (Bytes bytes) = false
 is_refused (Ranges ranges) = false
 is_refused (Files files) = false
+is_refused (Handle n) = false
+is_refused (Happened event) = false
+is_refused NoEvent = false
+is_refused (BadLines lines) = false
 is_refused Yes = false
 is_refused No = false
 is_refused (Scarred block) = true
 is_refused (PoisonedBlock block line) = true
 is_refused (PoisonedVolume offset) = true
 is_refused (PoisonedFile name offset) = true
+is_refused (VerifyFile name offset) = false
 is_refused DeviceFailed = false
 is_refused PowerLost = false
 is_refused (MountStopped line) = false
@@ -93,6 +106,21 @@ refuses_volume_refusal (Poison offset) = refl
 refuses_volume : (o : Option VolumeRefusal) → Refuses (option_map volume_answer o)
 refuses_volume None = tt
 refuses_volume (Some why) = refuses_volume_refusal why
+
+refuses_page_refusal : (name : List ℕ) (why : PageRefusal) → is_refused (page_answer name why) ≡ true
+refuses_page_refusal name NoBytes = refl
+refuses_page_refusal name NoLength = refl
+refuses_page_refusal name NoRoom = refl
+refuses_page_refusal name (NoMeta line) = refl
+refuses_page_refusal name (PoisonedLine offset) = refl
+
+refuses_pages : (name : List ℕ) (o : Option PageRefusal) → Refuses (option_map (page_answer name) o)
+refuses_pages name None = tt
+refuses_pages name (Some why) = refuses_page_refusal name why
+
+refuses_copy : (name : List ℕ) (shared : Bool) (o : Option PageRefusal) → Refuses (cond shared None (option_map (page_answer name) o))
+refuses_copy name true o = tt
+refuses_copy name false o = refuses_pages name o
 
 refuses_line : (o : Option ScrubRefusal) → Refuses (option_map line_answer o)
 refuses_line None = tt
@@ -159,6 +187,12 @@ line_reasons o = record { named = tt; places = refuses_line o; full = tt; unread
 past_reasons : (b : Bool) → RefusingReasons (record { named = None; places = cond b None (Some (Refused because.Range)); full = None; changes_metadata = false; unreadable = None })
 past_reasons b = record { named = tt; places = refuses_unless because.Range b; full = tt; unreadable = tt }
 
+-- a change of a file that must be there, and of which there is no mapping
+if_there_unmapped : (h : Machine) (name : List ℕ) → Refuses (first_there (if_missing name h.files) (if_mapped name h.mappings))
+if_there_unmapped h name =
+    refuses_first (if_missing name h.files) (if_mapped name h.mappings) (refuses_unless because.Missing (has_file file_name name h.files))
+    (refuses_where because.Mapped (is_mapped name h.mappings))
+
 refusing_reasons : (h : Machine) (action : Action) → RefusingReasons ((meaning action).reasons h)
 refusing_reasons h (BRead block count) =
     record { named = tt; places = refuses_why _; full = tt; unreadable = refuses_obstacle (first_obstacle h.blocks block count) }
@@ -185,16 +219,49 @@ refusing_reasons h (VDiscardIf page count) = volume_reasons _ None true
 refusing_reasons h (VExists page) = past_reasons _
 refusing_reasons h (Create name pages) =
     record { named = refuses_where because.Exists _; places = refuses_where because.Limit _; full = refuses_where because.Slots _; unreadable = tt }
-refusing_reasons h (Delete name) = record { named = refuses_unless because.Missing _; places = tt; full = tt; unreadable = tt }
+refusing_reasons h (Delete name) =
+    record { named = if_there_unmapped h name; places = tt; full = tt; unreadable = tt }
 refusing_reasons h (Rename name to) = record {
-  named = refuses_first (if_missing name h.files) (if_exists to h.files) (refuses_unless because.Missing _) (refuses_where because.Exists _);
+  named = refuses_first (if_missing name h.files) (first_there (if_exists to h.files) (if_mapped name h.mappings)) (refuses_unless because.Missing (has_file file_name name h.files))
+      (refuses_first (if_exists to h.files) (if_mapped name h.mappings) (refuses_where because.Exists (has_file file_name to h.files)) (refuses_where because.Mapped (is_mapped name h.mappings)));
   places = tt;
   full = tt;
   unreadable = tt;
 }
 refusing_reasons h (Resize name pages) =
-    record { named = refuses_unless because.Missing _; places = refuses_where because.Limit _; full = tt; unreadable = tt }
+    record { named = if_there_unmapped h name; places = refuses_where because.Limit _; full = tt; unreadable = tt }
 refusing_reasons h ListFiles = why_reasons None
+refusing_reasons h (FRead name offset len) = record { named = refuses_unless because.Missing _; places = refuses_why _; full = tt; unreadable = refuses_pages name _ }
+refusing_reasons h (FWrite name offset bytes) =
+    record { named = refuses_unless because.Missing _; places = refuses_pages name _; full = refuses_where because.Full _; unreadable = refuses_pages name _ }
+refusing_reasons h (Map name span kind) = record {
+  named = refuses_unless because.Missing _;
+  places = refuses_first (option_map Refused (span_refusal (4096 * length (pages_named name h.files)) span.start span.len)) (if_full_of_mappings h)
+      (refuses_why (span_refusal (4096 * length (pages_named name h.files)) span.start span.len)) (refuses_where because.Limit (is_full h.mappings h.next_handle));
+  full = tt;
+  unreadable = refuses_copy name (is_shared kind) _;
+}
+refusing_reasons h (Unmap handle) = record { named = refuses_where because.Handle _; places = tt; full = tt; unreadable = tt }
+refusing_reasons h (Load handle offset len) = by_mapping (mapping_of handle h.mappings)
+  where
+    by_kind : (m : Mapping) (shared : Bool)
+        → RefusingReasons ((within_mapping (option_map Refused (most_refusal 65536 m.len offset len)) (if shared then fread m.name (m.start + offset) len else read_copy m offset len)).reasons h)
+    by_kind m true = record { named = tt; places = refuses_why _; full = tt; unreadable = refuses_pages m.name _ }
+    by_kind m false = record { named = tt; places = refuses_why _; full = tt; unreadable = tt }
+
+    by_mapping : (o : Option Mapping) → RefusingReasons (elim o [ None ↦ record no_reasons { named = Some (Refused because.Handle) } | Some m ↦ (load_through offset len m).reasons h ])
+    by_mapping None = record { named = refl; places = tt; full = tt; unreadable = tt }
+    by_mapping (Some m) = by_kind m (is_shared m.kind)
+refusing_reasons h (Store handle offset bytes) = by_mapping (mapping_of handle h.mappings)
+  where
+    by_kind : (m : Mapping) (shared : Bool)
+        → RefusingReasons ((within_mapping (option_map Refused (span_refusal m.len offset (length bytes))) (if shared then fwrite m.name (m.start + offset) bytes else write_copy handle offset bytes)).reasons h)
+    by_kind m true = record { named = tt; places = refuses_why _; full = refuses_where because.Full _; unreadable = refuses_pages m.name _ }
+    by_kind m false = record { named = tt; places = refuses_why _; full = tt; unreadable = tt }
+
+    by_mapping : (o : Option Mapping) → RefusingReasons (elim o [ None ↦ record no_reasons { named = Some (Refused because.Handle) } | Some m ↦ (store_through handle offset bytes m).reasons h ])
+    by_mapping None = record { named = refl; places = tt; full = tt; unreadable = tt }
+    by_mapping (Some m) = by_kind m (is_shared m.kind)
 refusing_reasons h (PoisonBlock block line) = line_reasons _
 refusing_reasons h (PoisonVolume offset) = line_reasons _
 refusing_reasons h (PoisonMeta line) = why_reasons _
@@ -205,6 +272,11 @@ refusing_reasons h (CutIn calls) = why_reasons _
 refusing_reasons h (FailIn calls) = why_reasons _
 refusing_reasons h (Restart choice) = why_reasons None
 refusing_reasons h Recover = why_reasons None
+
+pub refuses_before : (h : Machine) (action : Action) → Refuses (refused_before h action)
+refuses_before h action =
+    let r = refusing_reasons h action in
+    refuses_first _ _ (refuses_mode h.mode h.bad_meta (meaning action).needs) (refuses_first _ _ r.named r.places)
 
 refuses : (mode : Option Answer) (bad_meta : List ℕ) (r : Reasons) → Refuses mode → RefusingReasons r → Refuses (first_reason mode bad_meta r)
 refuses mode bad_meta r first parts =

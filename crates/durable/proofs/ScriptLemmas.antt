@@ -1,5 +1,5 @@
 -- What a script stores are bytes.
-use Rattle.std.proofs.Common.{◌≡◌, ℕ, zero, suc, ◌+◌, ◌*◌, ◌<◌, ◌&&◌, ◌==◌, Bool, true, false, cond, ltb, Option, Some, None, option_map, Result, Ok, Err, List, [], ◌∷◌, ◌++◌, length, get_or, replicate, nat_lt, nat_le, refl, arith}
+use Rattle.std.proofs.Common.{◌≡◌, ℕ, zero, suc, ◌+◌, ◌*◌, ◌<◌, ◌&&◌, ◌==◌, Bool, true, false, cond, ltb, Option, Some, None, option_map, option_and_then, Result, Ok, Err, List, [], ◌∷◌, ◌++◌, length, get_or, replicate, nat_lt, nat_le, refl, arith}
 use Rattle.std.specs.Prelude.{codes}
 use Rattle.std.specs.Char.{digit_value}
 use Rattle.std.specs.List.{slice_split}
@@ -13,9 +13,11 @@ use Rattle.line_device.specs.declared.line.Choice.TheVariants.{Firsts, Lasts, Se
 use Rattle.nvm_base.specs.Data.{ByteRun, byte_count, data_within, followed, item_of, items_of, pair_of, pairs_of, repeated, run, runs_of, spelled, within}
 use Rattle.nvm_base.specs.Numbers.{number_of}
 use Rattle.nvm_base.specs.Names.{name_of}
+use Rattle.nvm_base.specs.declared.files.Kind.{Kind}
 use Rattle.script_text.specs.Action.{Action}
-use Rattle.script_text.specs.Action.Action.{BRead, BWrite, BAtomic, BMulti, BDiscard, BDiscardIf, BExists, BScar, VLoad, VStore, VSync, VRanges, VPSync, VDiscard, VDiscardIf, VExists, Create, Delete, Rename, Resize, ListFiles, PoisonBlock, PoisonVolume, PoisonMeta, WeakenVolume, ClearVolume, CutIn, FailIn, Restart, Recover}
-use Rattle.script_text.specs.Script.{Input, asked, bare_action, command_action, cut_action, data_action, fail_action, files_action, fitting, in_volume_action, inputs, inputs_of, is_comment, line_input, lines_of, media_action, name_action, names_action, number_action, of_both, of_data, plain_action, poison_action, power_action, ranges_action, ranges_of, restart_action, sized_action, span_action, spans_action, spans_of, volume_action, words_input, words_of}
+use Rattle.script_text.specs.Action.Action.{BRead, BWrite, BAtomic, BMulti, BDiscard, BDiscardIf, BExists, BScar, VLoad, VStore, VSync, VRanges, VPSync, VDiscard, VDiscardIf, VExists, Create, Delete, Rename, Resize, ListFiles, FRead, FWrite, Map, Unmap, Load, Store, PoisonBlock, PoisonVolume, PoisonMeta, WeakenVolume, ClearVolume, CutIn, FailIn, Restart, Recover}
+use Rattle.script_text.specs.Operands.{bare_action, data_action, fitting, in_volume_action, kind_action, kind_of, name_action, named_action, names_action, number_action, numbered_action, of_both, of_data, ranges_action, ranges_of, sized_action, span_action, spans_action, spans_of}
+use Rattle.script_text.specs.Script.{Input, asked, command_action, cut_action, fail_action, files_action, inputs, inputs_of, is_comment, line_input, lines_of, media_action, plain_action, poison_action, power_action, restart_action, volume_action, words_input, words_of, map_action, mapped_action, storing_action}
 use Rattle.script_text.specs.Script.Input.{Skipped, Malformed, Asked}
 use Rattle.durable.specs.Durable.{BringBytes, BringsBytes}
 
@@ -186,6 +188,34 @@ brings-data make (x ∷ []) each = tt
 brings-data make (x ∷ text ∷ []) each = brings-of_data make (number_of x) (data_within 65536 text) each (data-bytes 65536 text)
 brings-data make (x ∷ text ∷ z ∷ more) each = tt
 
+brings-named : (more : List ℕ → List (List ℕ) → Option Action) (words : List (List ℕ)) → ((name : List ℕ) (rest : List (List ℕ)) → Brings (more name rest)) → Brings (named_action more words)
+brings-named more [] each = tt
+brings-named more (x ∷ words) each = by_name (name_of x)
+  where
+    by_name : (o : Option (List ℕ)) → Brings (option_and_then (λ name. more name words) o)
+    by_name None = tt
+    by_name (Some name) = each name words
+
+brings-numbered : (more : ℕ → List (List ℕ) → Option Action) (words : List (List ℕ)) → ((n : ℕ) (rest : List (List ℕ)) → Brings (more n rest)) → Brings (numbered_action more words)
+brings-numbered more [] each = tt
+brings-numbered more (x ∷ words) each = by_number (number_of x)
+  where
+    by_number : (o : Option ℕ) → Brings (option_and_then (λ n. more n words) o)
+    by_number None = tt
+    by_number (Some n) = each n words
+
+brings-kind : (make : Kind → Action) (words : List (List ℕ)) → ((kind : Kind) → BringsBytes (make kind)) → Brings (kind_action make words)
+brings-kind make [] each = tt
+brings-kind make (x ∷ []) each = brings-map make (kind_of x) each
+brings-kind make (x ∷ y ∷ words) each = tt
+
+brings-shown : (name : List ℕ) (words : List (List ℕ)) → Brings (map_action name words)
+brings-shown name words =
+    brings-numbered (λ start. numbered_action (λ len. kind_action (Map name (record { start = start; len = len })))) words
+    (λ start rest.
+    brings-numbered (λ len. kind_action (Map name (record { start = start; len = len }))) rest
+    (λ len last. brings-kind (Map name (record { start = start; len = len })) last (λ kind. tt)))
+
 brings-spans : (words : List (List ℕ)) → Brings (spans_action BScar words)
 brings-spans [] = tt
 brings-spans (x ∷ words) = brings-map BScar (spans_of (x ∷ words)) (λ spans. tt)
@@ -237,13 +267,22 @@ brings-media name words =
     (brings-cond (bytes_eq name (codes "weaken")) (in_volume_action WeakenVolume words) _ (brings-in_volume WeakenVolume words (λ a. tt))
     (brings-cond (bytes_eq name (codes "clear")) (in_volume_action ClearVolume words) _ (brings-in_volume ClearVolume words (λ a. tt)) (brings-power name words)))
 
+brings-mapped : (name : List ℕ) (words : List (List ℕ)) → Brings (mapped_action name words)
+brings-mapped name words =
+    brings-cond (bytes_eq name (codes "map")) (named_action map_action words) _ (brings-named map_action words brings-shown)
+    (brings-cond (bytes_eq name (codes "unmap")) (number_action Unmap words) _ (brings-number Unmap words (λ a. tt))
+    (brings-cond (bytes_eq name (codes "load")) (numbered_action (λ handle. span_action (Load handle)) words) _
+    (brings-numbered (λ handle. span_action (Load handle)) words (λ handle rest. brings-span (Load handle) rest (λ a b. tt))) (brings-media name words)))
+
 brings-files : (name : List ℕ) (words : List (List ℕ)) → Brings (files_action name words)
 brings-files name words =
     brings-cond (bytes_eq name (codes "create")) (sized_action Create words) _ (brings-sized Create words (λ a b. tt))
     (brings-cond (bytes_eq name (codes "delete")) (name_action Delete words) _ (brings-name Delete words (λ a. tt))
     (brings-cond (bytes_eq name (codes "rename")) (names_action Rename words) _ (brings-names Rename words (λ a b. tt))
     (brings-cond (bytes_eq name (codes "resize")) (sized_action Resize words) _ (brings-sized Resize words (λ a b. tt))
-    (brings-cond (bytes_eq name (codes "list")) (bare_action ListFiles words) _ (brings-bare ListFiles words tt) (brings-media name words)))))
+    (brings-cond (bytes_eq name (codes "list")) (bare_action ListFiles words) _ (brings-bare ListFiles words tt)
+    (brings-cond (bytes_eq name (codes "fread")) (named_action (λ file. span_action (FRead file)) words) _
+    (brings-named (λ file. span_action (FRead file)) words (λ file rest. brings-span (FRead file) rest (λ a b. tt))) (brings-mapped name words))))))
 
 brings-volume : (name : List ℕ) (words : List (List ℕ)) → Brings (volume_action name words)
 brings-volume name words =
@@ -262,6 +301,11 @@ brings-plain name words =
     (brings-cond (bytes_eq name (codes "bdiscardif")) (span_action BDiscardIf words) _ (brings-span BDiscardIf words (λ a b. tt))
     (brings-cond (bytes_eq name (codes "bexists")) (number_action BExists words) _ (brings-number BExists words (λ a. tt)) (brings-volume name words))))
 
+brings-storing : (name : List ℕ) (words : List (List ℕ)) → Brings (storing_action name words)
+brings-storing name words =
+    brings-cond (bytes_eq name (codes "store")) (numbered_action (λ handle. data_action (Store handle)) words) _
+    (brings-numbered (λ handle. data_action (Store handle)) words (λ handle rest. brings-data (Store handle) rest (λ a bytes small. small))) (brings-plain name words)
+
 brings-command : (name : List ℕ) (words : List (List ℕ)) → Brings (command_action name words)
 unfolding command_action
 brings-command name words =
@@ -269,7 +313,9 @@ brings-command name words =
     (brings-cond (bytes_eq name (codes "vstore")) (data_action VStore words) _ (brings-data VStore words (λ a bytes small. small))
     (brings-cond (bytes_eq name (codes "bscar")) (spans_action BScar words) _ (brings-spans words)
     (brings-cond (bytes_eq name (codes "batomic")) (data_action BAtomic words) _ (brings-data BAtomic words (λ a bytes small. tt))
-    (brings-cond (bytes_eq name (codes "bmulti")) (ranges_action BMulti words) _ (brings-ranges words) (brings-plain name words)))))
+    (brings-cond (bytes_eq name (codes "bmulti")) (ranges_action BMulti words) _ (brings-ranges words)
+    (brings-cond (bytes_eq name (codes "fwrite")) (named_action (λ file. data_action (FWrite file)) words) _
+    (brings-named (λ file. data_action (FWrite file)) words (λ file rest. brings-data (FWrite file) rest (λ a bytes small. small))) (brings-storing name words))))))
 
 -- one input before others that do
 bring-asked : (o : Option Action) (rest : List Input) → Brings o → BringBytes rest → BringBytes (asked o ∷ rest)

@@ -28,12 +28,13 @@ use Rattle.durable.specs.Touching.{changes, holds, is_made_durable, made_durable
 use Rattle.durable.specs.Files.{changes_files}
 use Rattle.durable.specs.Durable.{HasNothing}
 
--- it leaves blocks, volume and files, and what is interrupted
+-- it leaves blocks, volume, files and mappings, and what is interrupted
 pub record Idles (h next : Machine) : Type 0 where
   pub geometry : next.geometry ≡ h.geometry
   pub blocks : next.blocks ≡ h.blocks
   pub volume : next.volume ≡ h.volume
   pub files : next.files ≡ h.files
+  pub mappings : next.mappings ≡ h.mappings
   pub interrupted : next.interrupted ≡ h.interrupted
   pub metadata : h.bad_meta ≢ [] → next.bad_meta ≢ []
   pub mode : next.mode ≡ On → h.mode ≡ On
@@ -54,7 +55,7 @@ pub record Alters (h : Machine) (action : Action) (next : Machine) : Type 0 wher
   pub geometry : next.geometry ≡ h.geometry
   pub blocks : next.blocks ≡ blocks_after action h.blocks
   pub volume : next.volume ≡ volume_after h.geometry action h.volume
-  pub files : next.files ≡ (meaning action).files h.files
+  pub files : next.files ≡ (meaning action).files h.mappings h.files
   pub interrupted : next.interrupted ≡ h.interrupted
   pub mode : next.mode ≡ h.mode
   pub needs : (meaning action).needs ≡ Usable
@@ -65,6 +66,7 @@ pub record Stops (h : Machine) (action : Action) (next : Machine) : Type 0 where
   pub blocks : next.blocks ≡ h.blocks
   pub volume : next.volume ≡ h.volume
   pub files : next.files ≡ h.files
+  pub mappings : next.mappings ≡ h.mappings
   pub interrupted : next.interrupted ≡ Some action
   pub metadata : next.bad_meta ≡ h.bad_meta
   pub mode : next.mode ≢ On
@@ -90,7 +92,7 @@ pub record Remounts (h next : Machine) : Type 0 where
   pub geometry : next.geometry ≡ h.geometry
   pub blocks : MayLeaveBlocks h.interrupted h.blocks next.blocks
   pub volume : MayLeaveVolume h.geometry h.interrupted h.volume next.volume
-  pub files : MayLeaveFiles h.interrupted h.files next.files
+  pub files : MayLeaveFiles h.mappings h.interrupted h.files next.files
   pub interrupted : next.interrupted ≡ None
   pub stopped : next.mode ≢ Stopped
 

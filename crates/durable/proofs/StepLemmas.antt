@@ -1,5 +1,5 @@
 -- Which kind of step a command takes.
-use Rattle.std.proofs.Common.{◌≡◌, ◌⊎◌, inl, inr, ℕ, ◌==◌, Bool, true, false, cond, nat_lt, Option, Some, None, List, [], ◌∷◌, refl, sym, ap, subst, ◌∙◌}
+use Rattle.std.proofs.Common.{◌≡◌, ◌⊎◌, inl, inr, ℕ, Option, Some, None, List, [], ◌∷◌, refl, sym, ap, subst, ◌∙◌}
 use Rattle.std.specs.Prelude.{◌≢◌}
 use Rattle.line_device.specs.Panel.{Image}
 use Rattle.line_device.specs.declared.line.Choice.{Choice}
@@ -8,125 +8,21 @@ use Rattle.line_words.specs.declared.interruption.Interruption.TheVariants.{Fail
 use Rattle.reply_text.specs.Answer.{Answer}
 use Rattle.reply_text.specs.Answer.Answer.{Done}
 use Rattle.script_text.specs.Action.{Action}
-use Rattle.script_text.specs.Action.Action.{BRead, BWrite, BAtomic, BMulti, BDiscard, BDiscardIf, BExists, BScar, VLoad, VStore, VSync, VRanges, VPSync, VDiscard, VDiscardIf, VExists, Create, Delete, Rename, Resize, ListFiles, PoisonBlock, PoisonVolume, PoisonMeta, WeakenVolume, ClearVolume, Cut, CutIn, FailIn, Restart, Recover}
 use Rattle.machine_host.specs.declared.mode.Mode.TheVariants.{On, Off, Stopped}
-use Rattle.machine_host.specs.declared.needs.Needs.TheVariants.{Usable, Unpowered}
 use Rattle.machine_host.specs.Machine.{Machine, Fate}
 use Rattle.machine_host.specs.Machine.Fate.{Gives, Works, Orders, Cuts, Restarts, Recovers}
 use Rattle.machine_host.specs.Commands.{fate, meaning, refusal, unless_refused, while_interrupted}
-use Rattle.machine_host.specs.OnMedia.{with_line}
 use Rattle.machine_host.specs.Interrupted.{Interrupts, interrupted_mode}
 use Rattle.machine_host.specs.Restarting.{RestartMayLeave, mounted_answer, read_with, reading, restarted}
 use Rattle.machine_host.specs.Recovering.{RecoversTo}
 use Rattle.machine_host.specs.Run.{Ends, Hears, Run, Takes, Transcript}
 use Rattle.script_text.specs.Script.{Input}
 use Rattle.script_text.specs.Script.Input.{Skipped, Malformed, Asked}
-use Rattle.durable.specs.Place.{Place}
-use Rattle.durable.specs.Place.Place.{of_volume, of_blocks}
-use Rattle.durable.specs.Touching.{holds, nothing}
 use Rattle.durable.specs.Durable.{HasNothing}
 use Rattle.durable.proofs.RefusalLemmas.{is_off, is_on}
-use Rattle.durable.proofs.StepKinds.{Alters, CoversNothing, Idles, Stops, Step, TouchesNothing, blocks_after, volume_after}
+use Rattle.durable.proofs.StepKinds.{Alters, CoversNothing, Idles, Stops, Step, TouchesNothing}
 use Rattle.durable.proofs.StepKinds.Step.{idles, alters, stops, returns, remounts, empties}
-
--- what comes of a command that is not refused
-abbrev Suits : Machine → Action → Fate → Type 0
-Suits h action (Gives good to) = (CoversNothing h action × Idles h to) ⊎ ((good ≡ Done) × Alters h action to)
-Suits h action (Works good to) = ((good ≡ Done) ⊎ TouchesNothing action) × Alters h action to
-Suits h action (Orders order to) = CoversNothing h action × Idles h to
-Suits h action (Cuts to) = CoversNothing h action × Idles h to
-Suits h action (Restarts choice) = CoversNothing h action × ((meaning action).needs ≡ Unpowered)
-Suits h action Recovers = CoversNothing h action
-
-nowhere : (x : Place) → holds nothing x ≡ false
-nowhere (of_volume i) = refl
-nowhere (of_blocks i) = refl
-
-same : (h : Machine) → Idles h h
-same h = record {
-  geometry = refl;
-  blocks = refl;
-  volume = refl;
-  files = refl;
-  interrupted = refl;
-  metadata = λ bad. bad;
-  mode = λ on. on;
-  stopped = λ is. is;
-}
-
-works : (h to : Machine) (action : Action) → to.geometry ≡ h.geometry → to.blocks ≡ blocks_after action h.blocks → to.volume ≡ volume_after h.geometry action h.volume
-    → to.files ≡ (meaning action).files h.files → to.interrupted ≡ h.interrupted → to.mode ≡ h.mode → (meaning action).needs ≡ Usable → Alters h action to
-works h to action geometry blocks volume files interrupted mode needs =
-    record { geometry = geometry; blocks = blocks; volume = volume; files = files; interrupted = interrupted; mode = mode; needs = needs }
-
-armed : (h to : Machine) → to.geometry ≡ h.geometry → to.blocks ≡ h.blocks → to.volume ≡ h.volume → to.files ≡ h.files → to.interrupted ≡ h.interrupted
-    → to.bad_meta ≡ h.bad_meta → to.mode ≡ h.mode → Idles h to
-armed h to geometry blocks volume files interrupted metadata mode = record {
-  geometry = geometry;
-  blocks = blocks;
-  volume = volume;
-  files = files;
-  interrupted = interrupted;
-  metadata = λ bad none. bad (sym metadata ∙ none);
-  mode = λ on. sym mode ∙ on;
-  stopped = λ is. sym mode ∙ is;
-}
-
--- a line more is bad
-with_line-some : (line : ℕ) (lines : List ℕ) → with_line line lines ≡ [] → ⊥
-with_line-some line [] is = cc is
-with_line-some line (next ∷ lines) is = by_order (nat_lt line next) (line == next) is
-  where
-    by_order : (less same : Bool) → cond less (line ∷ next ∷ lines) (cond same (next ∷ lines) (next ∷ with_line line lines)) ≡ [] → ⊥
-    by_order true same is = cc is
-    by_order false true is = cc is
-    by_order false false is = cc is
-
-suits : (h : Machine) (action : Action) → Suits h action ((meaning action).comes h)
-suits h (BRead block count) = (inr (record { change = nowhere; poison = nowhere; weaken = nowhere; cover = λ geo. nowhere; files = refl }), works h h (BRead block count) refl refl refl refl refl refl refl)
-suits h (BWrite block bytes) = (inl refl, works h _ (BWrite block bytes) refl refl refl refl refl refl refl)
-suits h (BAtomic block bytes) = (inl refl, works h _ (BAtomic block bytes) refl refl refl refl refl refl refl)
-suits h (BMulti ranges bytes) = (inl refl, works h _ (BMulti ranges bytes) refl refl refl refl refl refl refl)
-suits h (BDiscard block count) = (inl refl, works h _ (BDiscard block count) refl refl refl refl refl refl refl)
-suits h (BDiscardIf block count) = (inl refl, works h _ (BDiscardIf block count) refl refl refl refl refl refl refl)
-suits h (BExists block) = inl (record { bytes = nowhere; files = refl }, same h)
-suits h (BScar ranges) = (inl refl, works h _ (BScar ranges) refl refl refl refl refl refl refl)
-suits h (VLoad offset len) = (inr (record { change = nowhere; poison = nowhere; weaken = nowhere; cover = λ geo. nowhere; files = refl }), works h h (VLoad offset len) refl refl refl refl refl refl refl)
-suits h (VStore offset bytes) = (inl refl, works h _ (VStore offset bytes) refl refl refl refl refl refl refl)
-suits h (VSync offset len) = (inl refl, works h _ (VSync offset len) refl refl refl refl refl refl refl)
-suits h VRanges = inl (record { bytes = nowhere; files = refl }, same h)
-suits h (VPSync address len) = (inl refl, works h _ (VPSync address len) refl refl refl refl refl refl refl)
-suits h (VDiscard page count) = (inl refl, works h _ (VDiscard page count) refl refl refl refl refl refl refl)
-suits h (VDiscardIf page count) = (inl refl, works h _ (VDiscardIf page count) refl refl refl refl refl refl refl)
-suits h (VExists page) = inl (record { bytes = nowhere; files = refl }, same h)
-suits h (Create name pages) = (inl refl, works h _ (Create name pages) refl refl refl refl refl refl refl)
-suits h (Delete name) = (inl refl, works h _ (Delete name) refl refl refl refl refl refl refl)
-suits h (Rename name to) = (inl refl, works h _ (Rename name to) refl refl refl refl refl refl refl)
-suits h (Resize name pages) = (inl refl, works h _ (Resize name pages) refl refl refl refl refl refl refl)
-suits h ListFiles = inl (record { bytes = nowhere; files = refl }, same h)
-suits h (PoisonBlock block line) = inr (refl, works h _ (PoisonBlock block line) refl refl refl refl refl refl refl)
-suits h (PoisonVolume offset) = inr (refl, works h _ (PoisonVolume offset) refl refl refl refl refl refl refl)
-suits h (PoisonMeta line) = inl (
-  record { bytes = nowhere; files = refl },
-  record {
-    geometry = refl;
-    blocks = refl;
-    volume = refl;
-    files = refl;
-    interrupted = refl;
-    metadata = λ bad. with_line-some line h.bad_meta;
-    mode = λ on. on;
-    stopped = λ is. is;
-  },
-)
-suits h (WeakenVolume offset) = inr (refl, works h _ (WeakenVolume offset) refl refl refl refl refl refl refl)
-suits h (ClearVolume offset) = (inl refl, works h _ (ClearVolume offset) refl refl refl refl refl refl refl)
-suits h Cut =
-    (record { bytes = nowhere; files = refl }, record { geometry = refl; blocks = refl; volume = refl; files = refl; interrupted = refl; metadata = λ bad. bad; mode = λ on. cc on; stopped = λ is. cc is })
-suits h (CutIn calls) = (record { bytes = nowhere; files = refl }, armed h _ refl refl refl refl refl refl refl)
-suits h (FailIn calls) = (record { bytes = nowhere; files = refl }, armed h _ refl refl refl refl refl refl refl)
-suits h (Restart choice) = (record { bytes = nowhere; files = refl }, refl)
-suits h Recover = record { bytes = nowhere; files = refl }
+use Rattle.durable.proofs.SuitLemmas.{Suits, same, suits}
 
 stops_on : (by : Interruption) → interrupted_mode by ≡ On → ⊥
 stops_on Failed on = cc on
@@ -148,6 +44,7 @@ idle_at h to next idle is = record {
   blocks = ap (λ m. m.blocks) is ∙ idle.blocks;
   volume = ap (λ m. m.volume) is ∙ idle.volume;
   files = ap (λ m. m.files) is ∙ idle.files;
+  mappings = ap (λ m. m.mappings) is ∙ idle.mappings;
   interrupted = ap (λ m. m.interrupted) is ∙ idle.interrupted;
   metadata = λ bad none. idle.metadata bad (sym (ap (λ m. m.bad_meta) is) ∙ none);
   mode = λ on. idle.mode (sym (ap (λ m. m.mode) is) ∙ on);
@@ -174,6 +71,7 @@ ended h action good to answer next none begun done (inr end) = stops end.0 end.1
   blocks = ap (λ m. m.blocks) end.2.state;
   volume = ap (λ m. m.volume) end.2.state;
   files = ap (λ m. m.files) end.2.state;
+  mappings = ap (λ m. m.mappings) end.2.state;
   interrupted = ap (λ m. m.interrupted) end.2.state;
   metadata = ap (λ m. m.bad_meta) end.2.state;
   mode = λ on. stops_on end.0 (sym (ap (λ m. m.mode) end.2.state) ∙ on);
@@ -282,6 +180,7 @@ unmounted by h next at = record {
   blocks = ap (λ m. m.blocks) at.state;
   volume = ap (λ m. m.volume) at.state;
   files = ap (λ m. m.files) at.state;
+  mappings = ap (λ m. m.mappings) at.state;
   interrupted = ap (λ m. m.interrupted) at.state;
   metadata = λ bad none. bad (sym (ap (λ m. m.bad_meta) at.state) ∙ none);
   mode = λ on. absurd (stops_on by (sym (ap (λ m. m.mode) at.state) ∙ on));
@@ -293,7 +192,7 @@ by_fate : (h : Machine) (action : Action) (f : Fate) (said : Transcript) (next :
 by_fate h action (Gives good to) said next none (inl suit) takes =
     record { answer = good; answers = ap (λ s. s.answers) takes.0; step = idles (inr suit.0) (idle_at h to next suit.1 takes.1) }
 by_fate h action (Gives good to) said next none (inr suit) takes =
-    record { answer = good; answers = ap (λ s. s.answers) takes.0; step = alters (inl suit.0) none (altered_at h action to next suit.1 takes.1) }
+    record { answer = good; answers = ap (λ s. s.answers) takes.0; step = alters suit.0 none (altered_at h action to next suit.1 takes.1) }
 by_fate h action (Works good to) said next none suit takes =
     record { answer = takes.0; answers = ap (λ s. s.answers) takes.1; step = ended h action good to takes.0 next none suit.0 suit.1 takes.2 }
 by_fate h action (Orders order to) said next none suit takes =

@@ -93,7 +93,7 @@ lines-persist start len pages whole n there =
     subst IsLineThere (sym (cell_of-persist start len pages n))
     (there-persist start len n (cell_of pages n) (whole n (ap (λ bs. slice_index_or bs (n / 64) false) (sym (presence_of-persist start len pages)) ∙ there)))
 
-lines-put : (at : ℕ) (bytes : List ℕ) (pages : List Page) → HaveLines pages → HaveLines (put at bytes pages)
+pub lines-put : (at : ℕ) (bytes : List ℕ) (pages : List Page) → HaveLines pages → HaveLines (put at bytes pages)
 lines-put at bytes pages whole n there =
     subst IsLineThere (sym (cell_of-put at bytes pages n))
     (there-put at n bytes (cell_of pages n) (whole n (ap (λ bs. slice_index_or bs (n / 64) false) (sym (presence_of-put at bytes pages)) ∙ there)))
@@ -185,7 +185,7 @@ lines-mixed pages to left whole made may n there = elim (may.each (n / 64)) as (
     taken other has is =
         subst (λ o. IsLineThere (line_in n o)) (sym is) (has n (page_present other n ∙ ap has_lines (sym is) ∙ sym (page_present left n) ∙ there))
 
-lines-leaves : (left : VolumeLeft) (pages to new : List Page) → HaveLines pages → HaveLines to → LeavesVolume left pages to new → HaveLines new
+pub lines-leaves : (left : VolumeLeft) (pages to new : List Page) → HaveLines pages → HaveLines to → LeavesVolume left pages to new → HaveLines new
 lines-leaves Unchanged pages to new whole made is = subst HaveLines {x = pages} (sym is) whole
 lines-leaves (PartStored offset bytes) pages to new whole made (inl is) = subst HaveLines {x = pages} (sym is) whole
 lines-leaves (PartStored offset bytes) pages to new whole made (inr lines) =

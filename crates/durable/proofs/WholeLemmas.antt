@@ -33,9 +33,10 @@ use Rattle.machine_host.specs.OnVolume.{persist_at}
 use Rattle.pm_volume.specs.Presence.{presence_read, words_read}
 use Rattle.pm_volume.specs.Refusals.{physical_offset}
 use Rattle.machine_host.specs.Run.{Hears, Run, Transcript}
-use Rattle.durable.specs.Durable.{HasEightLines, HasNothing, HaveEightLines, HaveLines, IsComplete, IsCounted}
+use Rattle.durable.specs.Durable.{AllHaveLines, HasEightLines, HasNothing, HaveEightLines, HaveLines, IsComplete, IsCounted}
 use Rattle.durable.proofs.EightLemmas.{eight-altered, eight-left, eight-read}
 use Rattle.durable.proofs.ThereLemmas.{lines-altered, lines-left, lines-read}
+use Rattle.durable.proofs.FileThereLemmas.{lines-files_altered, lines-files_left, lines-files_read}
 use Rattle.durable.proofs.RefusalLemmas.{is_on}
 use Rattle.durable.proofs.StepKinds.{Alters, Remounts, Returns, Step, blocks_after, volume_after}
 use Rattle.durable.proofs.StepLemmas.{nothing_idle, nothing_stopped, step_of}
@@ -129,9 +130,9 @@ pub counted_on : (h : Machine) → IsComplete h → h.mode ≡ On → IsCounted 
 counted_on h whole on = elim whole.counted as (λ _. IsCounted h) [ inl counted ↦ counted | inr nothing ↦ absurd (nothing.mode on) ]
 
 -- a step that leaves blocks and volume
-same_storage : (h next : Machine) → IsComplete h → next.geometry ≡ h.geometry → next.blocks ≡ h.blocks → next.volume ≡ h.volume → (HasNothing h → HasNothing next)
+same_storage : (h next : Machine) → IsComplete h → next.geometry ≡ h.geometry → next.blocks ≡ h.blocks → next.volume ≡ h.volume → next.files ≡ h.files → (HasNothing h → HasNothing next)
     → (next.mode ≡ On → next.interrupted ≡ None) → (next.mode ≡ Stopped → h.mode ≡ Stopped) → IsComplete next
-same_storage h next whole geometry blocks volume still settled stopped = record {
+same_storage h next whole geometry blocks volume files still settled stopped = record {
   counted = elim whole.counted as (λ _. IsCounted next ⊎ HasNothing next) [
     | inl counted ↦ inl (record {
       blocks = ap length blocks ∙ counted.blocks ∙ sym (ap (λ g. g.blocks) geometry);
@@ -141,6 +142,7 @@ same_storage h next whole geometry blocks volume still settled stopped = record 
   ];
   eight = subst HaveEightLines {x = h.blocks} (sym blocks) whole.eight;
   lines = subst HaveLines {x = h.volume} (sym volume) whole.lines;
+  file_lines = subst AllHaveLines {x = h.files} (sym files) whole.file_lines;
   settled = settled;
   stopped = λ at. still (whole.stopped (stopped at));
 }
@@ -154,6 +156,7 @@ whole-nothing h nothing = record {
   counted = inr nothing;
   eight = subst HaveEightLines {x = []} (sym nothing.blocks) empty_blocks;
   lines = subst HaveLines {x = []} (sym nothing.volume) (λ n there. cc there);
+  file_lines = subst AllHaveLines {x = []} (sym nothing.files) tt;
   settled = λ on. absurd (nothing.mode on);
   stopped = λ at. nothing;
 }
@@ -169,6 +172,7 @@ whole-altered h action next whole on to =
       });
       eight = subst HaveEightLines {x = blocks_after action h.blocks} (sym to.blocks) (eight-altered action h.blocks whole.eight);
       lines = subst HaveLines {x = volume_after h.geometry action h.volume} (sym to.volume) (lines-altered h.geometry action h.volume whole.lines);
+      file_lines = subst AllHaveLines {x = (meaning action).files h.mappings h.files} (sym to.files) (lines-files_altered action h.mappings h.files whole.file_lines);
       settled = λ at. to.interrupted ∙ whole.settled on;
       stopped = λ at. cc (at, to.mode, on);
     }
@@ -182,6 +186,7 @@ whole-returned h next back = record {
   });
   eight = subst HaveEightLines (sym back.blocks) (eight-read h.geometry back.image.is_bad back.image.word);
   lines = subst HaveLines (sym back.volume) (lines-read (volume_line h.geometry) back.image (presence_read h.geometry back.image.word));
+  file_lines = subst AllHaveLines (sym back.files) (lines-files_read h.geometry back.image);
   settled = λ on. back.interrupted;
   stopped = λ at. absurd (back.stopped at);
 }
@@ -197,16 +202,17 @@ whole-remounted h next whole back = record {
   ];
   eight = eight-left h.interrupted h.blocks next.blocks whole.eight back.blocks;
   lines = lines-left h.geometry h.interrupted h.volume next.volume whole.lines back.volume;
+  file_lines = lines-files_left h.mappings h.interrupted h.files next.files whole.file_lines back.files;
   settled = λ on. back.interrupted;
   stopped = λ at. absurd (back.stopped at);
 }
 
 pub whole-step : (h : Machine) (action : Action) (answer : Answer) (next : Machine) → IsComplete h → Step h action answer next → IsComplete next
 whole-step h action answer next whole (idles why to) =
-    same_storage h next whole to.geometry to.blocks to.volume (nothing_idle h next to) (λ on. to.interrupted ∙ whole.settled (to.mode on)) to.stopped
+    same_storage h next whole to.geometry to.blocks to.volume to.files (nothing_idle h next to) (λ on. to.interrupted ∙ whole.settled (to.mode on)) to.stopped
 whole-step h action answer next whole (alters begun none to) = whole-altered h action next whole (is_on h action to.needs none) to
 whole-step h action answer next whole (stops by is to) =
-    same_storage h next whole to.geometry to.blocks to.volume (nothing_stopped h action next to) (λ on. absurd (to.mode on)) (λ at. absurd (to.stopped at))
+    same_storage h next whole to.geometry to.blocks to.volume to.files (nothing_stopped h action next to) (λ on. absurd (to.mode on)) (λ at. absurd (to.stopped at))
 whole-step h action answer next whole (returns covered back) = whole-returned h next back
 whole-step h action answer next whole (remounts covered back) = whole-remounted h next whole back
 whole-step h action answer next whole (empties covered to) = whole-nothing next to.nothing
@@ -228,6 +234,7 @@ whole-armed [] geo image cut fail = record {
   counted = inl (record { blocks = length-read geo image.is_bad image.word; pages = pages-read geo image });
   eight = eight-read geo image.is_bad image.word;
   lines = lines-read (volume_line geo) image (presence_read geo image.word);
+  file_lines = lines-files_read geo image;
   settled = λ on. refl;
   stopped = λ at. cc at;
 }

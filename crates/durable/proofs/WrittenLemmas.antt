@@ -238,7 +238,7 @@ stored_within geo at len none = by_test (nat_lt (4096 * geo.vpages) (at + len)) 
     by_test false is allowed = grind (arith, nat_tests)
 
 -- the pages that it touches are there
-filled_there : (at len i : ℕ) (pages : List Page) → is_among at len i ≡ true → i / 4096 < length pages → is_line_present (fill at len pages) (i / 64) ≡ true
+pub filled_there : (at len i : ℕ) (pages : List Page) → is_among at len i ≡ true → i / 4096 < length pages → is_line_present (fill at len pages) (i / 64) ≡ true
 filled_there at len i pages among within =
     let page = i / 64 / 64 in
     let lt : page < length (presence_of pages) = omega (arith, length-map pages is_present) in
@@ -279,7 +279,7 @@ filled_zero at len n pages absent there =
     by_page (Some (Present cells)) none there = cc none
 
 -- a store that is not refused covers each bad line that it touches
-bad_covered : (at len n : ℕ) (pages : List Page) → HaveLines pages → 1 ≤ len → option_map volume_answer (poisoned_at (first_uncovered_line pages at len)) ≡ None
+pub bad_covered : (at len n : ℕ) (pages : List Page) → HaveLines pages → 1 ≤ len → first_uncovered_line pages at len ≡ None
     → touches at len n ≡ true → is_line_present (fill at len pages) n ≡ true → cell_of (fill at len pages) n ≡ Some Bad → holds_line at len n ≡ true
 unfolding first_uncovered_line
 bad_covered at len n pages lines some none touched present bad = by_page (is_line_present pages n) refl
@@ -293,14 +293,14 @@ bad_covered at len n pages lines some none touched present bad = by_page (is_lin
     by_cell None is none_there = absurd none_there
     by_cell (Some cell) is size =
         covered (is_bad_cell (cell_of pages n)) (holds_line at len n) (ap is_bad_cell (is ∙ sym (cell_of-fill at len pages n cell is) ∙ bad))
-        (none_touched (λ k. is_bad_cell (cell_of pages k) && not (holds_line at len k)) at len n some (no_bad_line _ none) touched)
+        (none_touched (λ k. is_bad_cell (cell_of pages k) && not (holds_line at len k)) at len n some none touched)
 
     by_page : (b : Bool) → is_line_present pages n ≡ b → holds_line at len n ≡ true
     by_page true there = by_cell (cell_of pages n) refl (lines n there)
     by_page false absent = absurd (both_ways (is_bad_cell (cell_of (fill at len pages) n)) (ap is_bad_cell (filled_zero at len n pages absent present)) (ap is_bad_cell bad))
 
 -- it shows what was stored
-stored_byte : (at i : ℕ) (bytes : List ℕ) (pages : List Page) → ((k : ℕ) → get_or bytes k 0 < 256) → is_among at (length bytes) i ≡ true → IsLineThere (cell_of pages (i / 64))
+pub stored_byte : (at i : ℕ) (bytes : List ℕ) (pages : List Page) → ((k : ℕ) → get_or bytes k 0 < 256) → is_among at (length bytes) i ≡ true → IsLineThere (cell_of pages (i / 64))
     → (cell_of pages (i / 64) ≡ Some Bad → holds_line at (length bytes) (i / 64) ≡ true) → line_has (cell_of (put at bytes pages) (i / 64)) (i % 64) ≡ Some (slice_index bytes (i - at))
 stored_byte at i bytes pages small among there covers = by_line (cell_of pages (i / 64)) refl there
   where
@@ -335,7 +335,7 @@ stored_powered h stored at i bytes small stores among strong =
     let to : i < at + length bytes = grind (arith, nat_tests) in
     let from : at ≤ i = grind (arith, nat_tests) in
     let present = filled_there at (length bytes) i h.volume among (omega (arith, within, to, (counted_on h stores.whole on).pages)) in
-    let covers = bad_covered at (length bytes) (i / 64) h.volume stores.whole.lines (omega (arith, from, to)) (unreadable_none h (VStore at bytes) put_is.0) (touched at (length bytes) i among) present in
+    let covers = bad_covered at (length bytes) (i / 64) h.volume stores.whole.lines (omega (arith, from, to)) (no_bad_line _ (unreadable_none h (VStore at bytes) put_is.0)) (touched at (length bytes) i among) present in
     let shown : byte_at_place stored (of_volume i) ≡ Some (slice_index bytes (i - at)) =
     ap (λ m. byte_at_place m (of_volume i)) put_is.1
     ∙ stored_byte at i bytes filled small among (lines-fill at (length bytes) h.volume stores.whole.lines (i / 64) present) covers in

@@ -5,19 +5,19 @@ use Rattle.nvm_model.specs.Cell.{Cell}
 use Rattle.nvm_model.specs.Cell.Cell.{Bad, Kept}
 use Rattle.nvm_model.specs.Numbered.{is_among}
 use Rattle.nvm_model.specs.Page.{Page, cell_of}
-use Rattle.nvm_model.specs.Storage.{Block}
+use Rattle.nvm_model.specs.Storage.{Block, File}
 use Rattle.nvm_model.specs.Storage.Block.{Absent, Scarred, Data}
 use Rattle.reply_text.specs.Answer.{Answer}
 use Rattle.reply_text.specs.Answer.Answer.{Done, Bytes, PowerLost}
 use Rattle.script_text.specs.Action.{Action}
-use Rattle.script_text.specs.Action.Action.{BRead, BWrite, BAtomic, BMulti, BDiscard, BDiscardIf, BExists, BScar, VLoad, VStore, VSync, VRanges, VPSync, VDiscard, VDiscardIf, VExists, Create, Delete, Rename, Resize, ListFiles, PoisonBlock, PoisonVolume, PoisonMeta, WeakenVolume, ClearVolume, Cut, CutIn, FailIn, Restart, Recover}
+use Rattle.script_text.specs.Action.Action.{BRead, BWrite, BAtomic, BMulti, BDiscard, BDiscardIf, BExists, BScar, VLoad, VStore, VSync, VRanges, VPSync, VDiscard, VDiscardIf, VExists, Create, Delete, Rename, Resize, ListFiles, FRead, FWrite, Map, Unmap, Load, Store, PoisonBlock, PoisonVolume, PoisonMeta, WeakenVolume, ClearVolume, Cut, CutIn, FailIn, Restart, Recover}
 use Rattle.script_text.specs.Script.{Input}
 use Rattle.script_text.specs.Script.Input.{Skipped, Malformed, Asked}
 use Rattle.machine_host.specs.declared.mode.Mode.TheVariants.{On, Stopped}
 use Rattle.machine_host.specs.Machine.{Machine}
 use Rattle.machine_host.specs.Run.{Transcript, Hears, Run}
 use Rattle.durable.specs.Place.{Place, byte_at_place, is_line_present}
-use Rattle.durable.specs.Place.Place.{of_volume, of_blocks}
+use Rattle.durable.specs.Place.Place.{of_volume, of_blocks, of_file}
 use Rattle.durable.specs.Touching.{changes, is_begun, is_made_durable, poisons, weakens}
 
 -- a line of the volume is there: it is bad, or has its eight words
@@ -29,6 +29,11 @@ IsLineThere (Some (Kept weak words)) = length words ≡ 8
 -- pages that are there have all their lines
 abbrev pub HaveLines : List Page → Type 0
 HaveLines pages = (n : ℕ) → is_line_present pages n ≡ true → IsLineThere (cell_of pages n)
+
+-- so have those of all files
+abbrev pub AllHaveLines : List File → Type 0
+AllHaveLines [] = Unit {0}
+AllHaveLines (file ∷ files) = HaveLines file.pages × AllHaveLines files
 
 -- a block that has lines has eight, and so have all blocks
 abbrev pub HasEightLines : Block → Type 0
@@ -58,10 +63,11 @@ pub record IsComplete (h : Machine) : Type 0 where
   pub counted : IsCounted h ⊎ HasNothing h
   pub eight : HaveEightLines h.blocks
   pub lines : HaveLines h.volume
+  pub file_lines : AllHaveLines h.files
   pub settled : h.mode ≡ On → h.interrupted ≡ None
   pub stopped : h.mode ≡ Stopped → HasNothing h
 
--- what a store to the volume brings are bytes; nothing is asked of other data
+-- what a store to the volume, to a file or to a mapping brings are bytes; nothing is asked of other data
 abbrev pub BringsBytes : Action → Type 0
 BringsBytes (BRead block count) = Unit {0}
 BringsBytes (BWrite block bytes) = Unit {0}
@@ -84,6 +90,12 @@ BringsBytes (Delete name) = Unit {0}
 BringsBytes (Rename name to) = Unit {0}
 BringsBytes (Resize name pages) = Unit {0}
 BringsBytes ListFiles = Unit {0}
+BringsBytes (FRead name offset len) = Unit {0}
+BringsBytes (FWrite name offset bytes) = (k : ℕ) → slice_index bytes k < 256
+BringsBytes (Map name span kind) = Unit {0}
+BringsBytes (Unmap handle) = Unit {0}
+BringsBytes (Load handle offset len) = Unit {0}
+BringsBytes (Store handle offset bytes) = (k : ℕ) → slice_index bytes k < 256
 BringsBytes (PoisonBlock block line) = Unit {0}
 BringsBytes (PoisonVolume offset) = Unit {0}
 BringsBytes (PoisonMeta line) = Unit {0}
@@ -124,6 +136,9 @@ Reads h (of_volume i) byte = (offset len : ℕ) (bytes : List ℕ) (said : Trans
 Reads h (of_blocks i) byte = (block count : ℕ) (bytes : List ℕ) (said : Transcript) (next : Machine)
     → Hears h (Asked (BRead block count)) said next → said.answers ≡ Bytes bytes ∷ [] → is_among block count (i / 512) ≡ true
     → slice_index bytes (i - 512 * block) ≡ byte
+Reads h (of_file name i) byte = (offset len : ℕ) (bytes : List ℕ) (said : Transcript) (next : Machine)
+    → Hears h (Asked (FRead name offset len)) said next → said.answers ≡ Bytes bytes ∷ [] → is_among offset len i ≡ true
+    → slice_index bytes (i - offset) ≡ byte
 
 -- The place has this byte, or can't be read any more, or nothing is there; None is a byte that couldn't be read. What a read
 -- shows there is the byte.

@@ -5,7 +5,7 @@ use Rattle.nvm_model.specs.Files.{entry_of_file}
 use Rattle.reply_text.specs.Answer.{Answer}
 use Rattle.reply_text.specs.Answer.Answer.{Done, DeviceFailed, PowerLost}
 use Rattle.script_text.specs.Action.{Action}
-use Rattle.script_text.specs.Action.Action.{BRead, BWrite, BAtomic, BMulti, BDiscard, BDiscardIf, BExists, BScar, VLoad, VStore, VSync, VRanges, VPSync, VDiscard, VDiscardIf, VExists, Create, Delete, Rename, Resize, ListFiles, PoisonBlock, PoisonVolume, PoisonMeta, WeakenVolume, ClearVolume, Cut, CutIn, FailIn, Restart, Recover}
+use Rattle.script_text.specs.Action.Action.{BRead, BWrite, BAtomic, BMulti, BDiscard, BDiscardIf, BExists, BScar, VLoad, VStore, VSync, VRanges, VPSync, VDiscard, VDiscardIf, VExists, Create, Delete, Rename, Resize, ListFiles, FRead, FWrite, Map, Unmap, Load, Store, PoisonBlock, PoisonVolume, PoisonMeta, WeakenVolume, ClearVolume, Cut, CutIn, FailIn, Restart, Recover}
 use Rattle.script_text.specs.Script.{Input}
 use Rattle.script_text.specs.Script.Input.{Asked}
 use Rattle.machine_host.specs.declared.mode.Mode.TheVariants.{On}
@@ -37,6 +37,12 @@ changes_files (Delete name) = true
 changes_files (Rename name to) = true
 changes_files (Resize name pages) = true
 changes_files ListFiles = false
+changes_files (FRead name offset len) = false
+changes_files (FWrite name offset bytes) = false
+changes_files (Map name span kind) = false
+changes_files (Unmap handle) = false
+changes_files (Load handle offset len) = false
+changes_files (Store handle offset bytes) = false
 changes_files (PoisonBlock block line) = false
 changes_files (PoisonVolume offset) = false
 changes_files (PoisonMeta line) = false
@@ -53,7 +59,7 @@ abbrev pub files_listed : Machine → List FileEntry
 files_listed h = map entry_of_file h.files
 
 abbrev pub files_after : Machine → Action → List FileEntry
-files_after h action = map entry_of_file ((meaning action).files h.files)
+files_after h action = map entry_of_file ((meaning action).files h.mappings h.files)
 
 -- no change of files is interrupted
 abbrev pub LeavesFiles : Option Action → Type 0

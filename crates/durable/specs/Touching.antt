@@ -1,31 +1,33 @@
 -- Which bytes a command makes durable, which it changes, of which it makes the line bad or weak, and which it keeps from mounts.
-use Rattle.std.specs.Prelude.{◌+◌, ◌*◌, ◌/◌, ◌==◌, ℕ, Bool, true, false, List, Option, Some, None, length}
+use Rattle.std.specs.Prelude.{◌+◌, ◌*◌, ◌/◌, ◌==◌, ◌&&◌, ◌||◌, ℕ, Bool, true, false, List, Option, Some, None, length}
 use Rattle.std.specs.List.{list_any}
+use Rattle.std.specs.Str.{bytes_eq}
 use Rattle.nvm_base.specs.declared.units.Span.{Span}
 use Rattle.nvm_model.specs.Cell.{touches}
 use Rattle.nvm_model.specs.Numbered.{is_among}
 use Rattle.block_device.specs.Refusals.{block_spans}
 use Rattle.pm_volume.specs.Refusals.{physical_offset}
 use Rattle.reply_text.specs.Answer.{Answer}
-use Rattle.reply_text.specs.Answer.Answer.{Done, DoneBad, Bytes, Ranges, Files, Yes, No, Scarred, PoisonBlock as PoisonedBlock, PoisonVolume as PoisonedVolume, PoisonFile as PoisonedFile, DeviceFailed, PowerLost, Stopped, Refused, RefusedMeta}
+use Rattle.reply_text.specs.Answer.Answer.{Done, DoneBad, Bytes, Ranges, Files, Handle, Happened, NoEvent, BadLines, VerifyFile, Yes, No, Scarred, PoisonBlock as PoisonedBlock, PoisonVolume as PoisonedVolume, PoisonFile as PoisonedFile, DeviceFailed, PowerLost, Stopped, Refused, RefusedMeta}
 use Rattle.script_text.specs.Action.{Action}
-use Rattle.script_text.specs.Action.Action.{BRead, BWrite, BAtomic, BMulti, BDiscard, BDiscardIf, BExists, BScar, VLoad, VStore, VSync, VRanges, VPSync, VDiscard, VDiscardIf, VExists, Create, Delete, Rename, Resize, ListFiles, PoisonBlock, PoisonVolume, PoisonMeta, WeakenVolume, ClearVolume, Cut, CutIn, FailIn, Restart, Recover}
+use Rattle.script_text.specs.Action.Action.{BRead, BWrite, BAtomic, BMulti, BDiscard, BDiscardIf, BExists, BScar, VLoad, VStore, VSync, VRanges, VPSync, VDiscard, VDiscardIf, VExists, Create, Delete, Rename, Resize, ListFiles, FRead, FWrite, Map, Unmap, Load, Store, PoisonBlock, PoisonVolume, PoisonMeta, WeakenVolume, ClearVolume, Cut, CutIn, FailIn, Restart, Recover}
 use Rattle.machine_host.specs.OnBlocks.{blocks_from}
 use Rattle.machine_host.specs.Machine.{Machine}
 use Rattle.word_tables.specs.declared.geometry.Geometry.{Geometry}
 use Rattle.durable.specs.Place.{Place}
-use Rattle.durable.specs.Place.Place.{of_volume, of_blocks}
+use Rattle.durable.specs.Place.Place.{of_volume, of_blocks, of_file}
 
--- a part of storage: which bytes of the volume, and which of the blocks
+-- a part of storage: which bytes of the volume, which of the blocks, and which of the file of a name
 pub record Region : Type 0 where
   pub volume : ℕ → Bool
   pub blocks : ℕ → Bool
+  pub files : List ℕ → ℕ → Bool
 
 abbrev pub nothing : Region
-nothing = record { volume = λ i. false; blocks = λ i. false }
+nothing = record { volume = λ i. false; blocks = λ i. false; files = λ name i. false }
 
 abbrev pub everything : Region
-everything = record { volume = λ i. true; blocks = λ i. true }
+everything = record { volume = λ i. true; blocks = λ i. true; files = λ name i. true }
 
 -- the bytes of blocks of some spans
 abbrev pub spanned : List Span → Region
@@ -37,6 +39,20 @@ stored_bytes offset len = record nothing { volume = is_among offset len }
 
 abbrev pub discarded_pages : ℕ → ℕ → Region
 discarded_pages page count = record nothing { volume = λ i. is_among page count (i / 4096) }
+
+-- all bytes of the file of a name, of two names, and some bytes of one
+abbrev pub whole_file : List ℕ → Region
+whole_file file = record nothing { files = λ name i. bytes_eq file name }
+
+abbrev pub two_files : List ℕ → List ℕ → Region
+two_files file other = record nothing { files = λ name i. bytes_eq file name || bytes_eq other name }
+
+abbrev pub file_bytes : List ℕ → ℕ → ℕ → Region
+file_bytes file offset len = record nothing { files = λ name i. bytes_eq file name && is_among offset len i }
+
+-- all bytes of all files: which file a handle is of, the state alone tells
+abbrev pub all_files : Region
+all_files = record nothing { files = λ name i. true }
 
 -- all bytes of a line of the volume, or of the blocks
 abbrev pub line_of_volume : ℕ → Region
@@ -57,6 +73,7 @@ touched_lines_at (Some offset) len = touched_lines offset len
 abbrev pub holds : Region → Place → Bool
 holds region (of_volume i) = region.volume i
 holds region (of_blocks i) = region.blocks i
+holds region (of_file name i) = region.files name i
 
 -- what is durable once a command is done on storage of these sizes: the blocks that it writes, the lines that it syncs, and one that it clears
 abbrev pub made_durable : Geometry → Action → Region
@@ -81,6 +98,12 @@ made_durable geo (Delete name) = nothing
 made_durable geo (Rename name to) = nothing
 made_durable geo (Resize name pages) = nothing
 made_durable geo ListFiles = nothing
+made_durable geo (FRead name offset len) = nothing
+made_durable geo (FWrite name offset bytes) = nothing
+made_durable geo (Map name span kind) = nothing
+made_durable geo (Unmap handle) = nothing
+made_durable geo (Load handle offset len) = nothing
+made_durable geo (Store handle offset bytes) = nothing
 made_durable geo (PoisonBlock block line) = nothing
 made_durable geo (PoisonVolume offset) = nothing
 made_durable geo (PoisonMeta line) = nothing
@@ -92,7 +115,7 @@ made_durable geo (FailIn calls) = nothing
 made_durable geo (Restart choice) = nothing
 made_durable geo Recover = nothing
 
--- what a command writes, discards, scars, stores or clears
+-- what a command writes, discards, scars, stores or clears; and all of a file that it makes, renames, resizes or deletes
 abbrev pub region_changed : Action → Region
 region_changed (BRead block count) = nothing
 region_changed (BWrite block bytes) = spanned (blocks_from block (length bytes / 512))
@@ -110,11 +133,17 @@ region_changed (VPSync address len) = nothing
 region_changed (VDiscard page count) = discarded_pages page count
 region_changed (VDiscardIf page count) = discarded_pages page count
 region_changed (VExists page) = nothing
-region_changed (Create name pages) = nothing
-region_changed (Delete name) = nothing
-region_changed (Rename name to) = nothing
-region_changed (Resize name pages) = nothing
+region_changed (Create name pages) = whole_file name
+region_changed (Delete name) = whole_file name
+region_changed (Rename name to) = two_files name to
+region_changed (Resize name pages) = whole_file name
 region_changed ListFiles = nothing
+region_changed (FRead name offset len) = nothing
+region_changed (FWrite name offset bytes) = file_bytes name offset (length bytes)
+region_changed (Map name span kind) = nothing
+region_changed (Unmap handle) = nothing
+region_changed (Load handle offset len) = nothing
+region_changed (Store handle offset bytes) = all_files
 region_changed (PoisonBlock block line) = nothing
 region_changed (PoisonVolume offset) = nothing
 region_changed (PoisonMeta line) = nothing
@@ -159,6 +188,12 @@ harm_done (Delete name) = no_harm
 harm_done (Rename name to) = no_harm
 harm_done (Resize name pages) = no_harm
 harm_done ListFiles = no_harm
+harm_done (FRead name offset len) = no_harm
+harm_done (FWrite name offset bytes) = no_harm
+harm_done (Map name span kind) = no_harm
+harm_done (Unmap handle) = no_harm
+harm_done (Load handle offset len) = no_harm
+harm_done (Store handle offset bytes) = no_harm
 harm_done (PoisonBlock block line) = record no_harm { poisoned = line_of_blocks (8 * block + line) }
 harm_done (PoisonVolume offset) = record no_harm { poisoned = line_of_volume (offset / 64) }
 harm_done (PoisonMeta line) = record no_harm { unmounted = everything }
@@ -192,12 +227,17 @@ is_begun (DoneBad n) = false
 is_begun (Bytes bytes) = false
 is_begun (Ranges ranges) = false
 is_begun (Files files) = false
+is_begun (Handle n) = false
+is_begun (Happened event) = false
+is_begun NoEvent = false
+is_begun (BadLines lines) = false
 is_begun Yes = false
 is_begun No = false
 is_begun (Scarred block) = false
 is_begun (PoisonedBlock block line) = false
 is_begun (PoisonedVolume offset) = false
 is_begun (PoisonedFile name offset) = false
+is_begun (VerifyFile name offset) = false
 is_begun DeviceFailed = true
 is_begun PowerLost = true
 is_begun (Stopped line) = false

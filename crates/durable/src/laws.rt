@@ -13,7 +13,7 @@ ghost use Rattle.word_tables.specs.Layout.{volume_line};
 ghost use Rattle.pm_volume.specs.Presence.{presence_read};
 ghost use Rattle.pm_volume.specs.Refusals.{physical_offset};
 ghost use Rattle.script_text.specs.Action.{Action};
-ghost use Rattle.script_text.specs.Action.Action.{BRead, BWrite, BAtomic, VLoad, VStore, VSync, VPSync, PoisonBlock, PoisonVolume, ClearVolume, Cut, Restart, ListFiles};
+ghost use Rattle.script_text.specs.Action.Action.{BRead, BWrite, BAtomic, VLoad, VStore, VSync, VPSync, FRead, FWrite, PoisonBlock, PoisonVolume, ClearVolume, Cut, Restart, ListFiles};
 ghost use Rattle.script_text.specs.Script.{Input, inputs};
 ghost use Rattle.script_text.specs.Script.Input.{Asked};
 ghost use Rattle.line_device.specs.declared.line.Choice.TheVariants.{Firsts};
@@ -21,12 +21,13 @@ ghost use Rattle.machine_host.specs.declared.mode.Mode.TheVariants.{On, Stopped}
 ghost use Rattle.machine_host.specs.declared.needs.Needs.TheVariants.{Usable};
 ghost use Rattle.machine_host.specs.Lines.{lowest};
 ghost use Rattle.machine_host.specs.Machine.{Machine};
+ghost use Rattle.machine_host.specs.OnPages.{pages_named};
 ghost use Rattle.machine_host.specs.Restarting.{reading};
 ghost use Rattle.machine_host.specs.Commands.{early_refusal, meaning};
 ghost use Rattle.machine_host.specs.Run.{Hears, Transcript, Run};
 ghost use Rattle.durable.specs.Place.{Place, byte_at_place, is_weak_at, is_weak_line};
-ghost use Rattle.durable.specs.Naming.{Names, NamesLine, NamesObstacle};
-ghost use Rattle.durable.specs.Place.Place.{of_volume, of_blocks};
+ghost use Rattle.durable.specs.Naming.{Names, NamesLine, NamesLineOf, NamesObstacle, refused_before};
+ghost use Rattle.durable.specs.Place.Place.{of_volume, of_blocks, of_file};
 ghost use Rattle.durable.specs.Durable.{BringBytes, BringsBytes, Does, HasNothing, IsDurable, IsComplete, KeepsThrough, Lasts, LastsPowered, Spares};
 ghost use Rattle.durable.specs.Files.{BreaksOff, FilesLast, FilesSettle, FilesThrough, LeavesFiles, changes_files, files_after, files_listed};
 
@@ -65,12 +66,17 @@ pub fn what_was_written_lasts()
 {}
 
 /// While the power stays on, whatever calls fail and however often the storage is recovered, a byte is the one that was last
-/// stored, synced or not, until a command that changes it is begun. It is lost only as one that was made durable may be.
+/// stored, synced or not, until a command that changes it is begun. It is lost only as one that was made durable may be. The
+/// bytes of a file change where its pages do, and where it is made, renamed, resized or deleted.
 pub fn what_is_there_stays_while_powered()
     ensures stays { (h : Machine) (x : Place) → IsComplete h → h.mode ≡ On → is_weak_at h x ≡ false → LastsPowered h x (byte_at_place h x) }
     ensures stored { (h stored : Machine) (offset i : ℕ) (bytes : List ℕ) → BringsBytes (VStore offset bytes)
         → Does h (VStore offset bytes) stored → is_among offset (length bytes) i ≡ true → is_weak_line (cell_of stored.volume (i / 64)) ≡ false
         → LastsPowered stored (of_volume i) (Some (slice_index bytes (i - offset))) }
+    ensures in_file { (h stored : Machine) (name : List ℕ) (offset i : ℕ) (bytes : List ℕ) → BringsBytes (FWrite name offset bytes)
+        → Does h (FWrite name offset bytes) stored → is_among offset (length bytes) i ≡ true
+        → is_weak_line (cell_of (pages_named name stored.files) (i / 64)) ≡ false
+        → LastsPowered stored (of_file name i) (Some (slice_index bytes (i - offset))) }
 {}
 
 /// A line that is poisoned is lost at once, and so is one that was weak when it was synced, though the answer is `ok`. What is
@@ -85,8 +91,8 @@ pub fn what_is_lost_stays_lost()
     ensures stays { (h : Machine) (x : Place) → IsComplete h → h.mode ≡ On → byte_at_place h x ≡ None → Lasts h x None }
 {}
 
-/// A read over a lost byte gives no data. Unless its mode or its span refuses it, it names the lowest bad line of its span, or
-/// the lowest block that is scarred or has a bad line.
+/// A read over a lost byte gives no data. Unless its mode or its span refuses it, it names the lowest bad line of its span, in the
+/// volume or in a file, or the lowest block that is scarred or has a bad line.
 pub fn reads_name_what_is_lost()
     ensures volume { (h next : Machine) (offset len i : ℕ) (said : Transcript) → byte_at_place h (of_volume i) ≡ None
         → is_among offset len i ≡ true → Hears h (Asked (VLoad offset len)) said next
@@ -94,6 +100,9 @@ pub fn reads_name_what_is_lost()
     ensures blocks { (h next : Machine) (block count i : ℕ) (said : Transcript) → IsComplete h → byte_at_place h (of_blocks i) ≡ None
         → is_among block count (i / 512) ≡ true → Hears h (Asked (BRead block count)) said next
         → Names (early_refusal h.mode h.bad_meta h.geometry (BRead block count)) (NamesObstacle h.blocks block count) said.answers }
+    ensures in_file { (h next : Machine) (name : List ℕ) (offset len i : ℕ) (said : Transcript) → byte_at_place h (of_file name i) ≡ None
+        → is_among offset len i ≡ true → Hears h (Asked (FRead name offset len)) said next
+        → Names (refused_before h (FRead name offset len)) (NamesLineOf name (pages_named name h.files) offset len) said.answers }
 {}
 
 /// A line of metadata goes bad only by a command that poisons one, and stays bad. Where a mount is stopped by one, nothing of the

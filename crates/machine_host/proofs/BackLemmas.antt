@@ -38,7 +38,7 @@ use Rattle.machine_host.proofs.MountLemmas.{IsTold, is_told, nothing_wrong_there
 -- What comes back with the power: lines that each kept one value of a word stand for what is read there.
 module _ (h : Machine) (choice : Choice) (old mid : Medium) (image : Image) (was : IsGood h.geometry old)
     (blocks_were : EachReads h.geometry old (MayLeaveBlocks h.interrupted h.blocks)) (volume_was : EachReadsPages h.geometry old (MayLeaveVolume h.geometry h.interrupted h.volume))
-    (files_were : EachReadsFiles h.geometry old (MayLeaveFiles h.interrupted h.files))
+    (files_were : EachReadsFiles h.geometry old (MayLeaveFiles h.mappings h.interrupted h.files))
     (left : Survivors choice old mid) (shows : Depicts mid image) (sound_old : IsSound old) (sound : IsSound mid) where
   abbrev geo : Geometry
   geo = h.geometry
@@ -104,8 +104,8 @@ module _ (h : Machine) (choice : Choice) (old mid : Medium) (image : Image) (was
   pub each_back : EachReadsPages geo mid (λ pages. pages ≡ pages_back)
   each_back word is = record { pages = pages_back; is = refl; all = all_back; replays = replays_back word is; stand = pages_kept.1 }
 
-  came : CameBack choice geo image (MayLeaveFiles h.interrupted h.files) mid
-  came = files_back choice geo old mid image (MayLeaveFiles h.interrupted h.files) was.valid was.lines was.good files_were left shows
+  came : CameBack choice geo image (MayLeaveFiles h.mappings h.interrupted h.files) mid
+  came = files_back choice geo old mid image (MayLeaveFiles h.mappings h.interrupted h.files) was.valid was.lines was.good files_were left shows
 
   pub each_files_back : EachReadsFiles geo mid (λ files. files ≡ files_read geo image)
   each_files_back = came.each

@@ -1,5 +1,5 @@
 -- What a host and its device stand for, after a call on the blocks.
-use Rattle.std.proofs.Common.{◌≡◌, ◌≢◌, ◌<◌, ◌≤◌, ℕ, IsTrue, true, position, Option, Some, None, option_map, inl, Result, Ok, Err, OnOk, List, [], refl, sym, ap, ap₂, subst, ◌∙◌, arith}
+use Rattle.std.proofs.Common.{◌≡◌, ◌≢◌, ◌<◌, ◌≤◌, ℕ, IsTrue, true, position, Option, Some, None, option_map, Result, Ok, Err, OnOk, List, [], refl, sym, ap, ap₂, subst, ◌∙◌, arith}
 use Rattle.nvm_base.proofs.FirstLemmas.{not_mapped}
 use Rattle.line_device.specs.Medium.{Medium}
 use Rattle.line_device.specs.Panel.{Runs}
@@ -179,7 +179,7 @@ module _ (host : HostState) (s : BlocksState) (action : Action) (calls persists 
       → OnOk r (Stands (host_after host s On) new (record h { blocks = f h.blocks }))
   stands_called (Ok x) c ok =
       let now : blocks_of s new.medium ≡ f h.blocks = ok ∙ ap f (stands.blocks on) in
-      stands_done host (host_after host s On) old new h action stands on calls persists few few_persists refl (f h.blocks) h.volume h.files refl c.runs (metadata_beside c) (
+      stands_done host (host_after host s On) old new h action stands on calls persists few few_persists refl refl (f h.blocks) h.volume h.files refl c.runs (metadata_beside c) (
         λ good.
             subst (λ g. EachReads g new.medium (λ bs. bs ≡ f h.blocks)) stands.geometry
             (each_reads-then host.geometry new.medium (λ bs. bs ≡ blocks_of s new.medium) (λ bs. bs ≡ f h.blocks) (λ bs e. e ∙ now)
@@ -203,7 +203,7 @@ module _ (host : HostState) (s : BlocksState) (action : Action) (calls persists 
     volume = λ good.
         each_pages-then h.geometry new.medium (λ pages. pages ≡ h.volume) (MayLeaveVolume h.geometry (Some action) h.volume)
         (λ pages same. subst (MayLeaveVolume h.geometry (Some action) h.volume) (sym same) left) ((pages_left c.outside).0 good);
-    files = λ good. each_files-then h.geometry new.medium (λ files. files ≡ h.files) (MayLeaveFiles (Some action) h.files) (may_leave-same (Some action) h.files) ((files_left c.outside).0 good);
+    files = λ good. each_files-then h.geometry new.medium (λ files. files ≡ h.files) (MayLeaveFiles h.mappings (Some action) h.files) (may_leave-same h.mappings (Some action) h.files) ((files_left c.outside).0 good);
   }
 
   left_called : {T : Type 0} (r : Result T BlockFault) → MayLeaveVolume h.geometry (Some action) h.volume h.volume → Called host s r may calls persists old new → OnWorked r (DeviceLeft h action new.medium)

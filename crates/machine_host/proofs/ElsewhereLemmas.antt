@@ -25,10 +25,10 @@ use Rattle.pm_volume.proofs.StandingLemmas.{pages-kept, each_pages-kept, images-
 use Rattle.file_journal.specs.Area.{IsOfFiles}
 use Rattle.file_journal.specs.Object.{JournalServes}
 use Rattle.file_journal.specs.Tables.{AreTables, known_units}
-use Rattle.file_pages.specs.Object.{PagesState}
 use Rattle.machine_host.specs.declared.mode.Mode.{Mode}
 use Rattle.machine_host.specs.declared.mode.Mode.TheVariants.{On, Stopped}
-use Rattle.machine_host.specs.Stands.{HostState, HostServes, AreMounted, is_powered}
+use Rattle.machine_host.specs.declared.held.HeldFiles.{HeldFiles}
+use Rattle.machine_host.specs.Stands.{AreMounted, EachMapping, HostServes, HostState, is_powered, IsOnFile}
 use Rattle.machine_host.proofs.FilesAsideLemmas.{journal_serves_elsewhere}
 use Rattle.machine_host.proofs.LayoutLemmas.{layout-write_back, same_bad, stays_bad}
 
@@ -103,8 +103,8 @@ module _ (geo : Geometry) (old new : Medium) (valid : IsValid geo) (kept : (line
   }
 
 -- What is mounted stays so where work on one part of storage leaves the lines of the others.
-module _ (geo : Geometry) (b : BlocksState) (v : VolumeState) (p : PagesState) (old new : Medium) (valid : IsValid geo) (strong : AreStrong new (meta_lines geo))
-    (count : new.count ≡ old.count) (mounted : AreMounted geo b v p old) where
+module _ (geo : Geometry) (b : BlocksState) (v : VolumeState) (f : HeldFiles) (old new : Medium) (valid : IsValid geo) (strong : AreStrong new (meta_lines geo))
+    (count : new.count ≡ old.count) (mounted : AreMounted geo b v f old) where
   strong_of : (g : Geometry) → g ≡ geo → AreStrong new (meta_lines g)
   strong_of g same = subst (λ k. AreStrong new (meta_lines k)) (sym same) strong
 
@@ -114,12 +114,12 @@ module _ (geo : Geometry) (b : BlocksState) (v : VolumeState) (p : PagesState) (
   volume_serves_on : ((line : ℕ) → IsOfVolume geo line → LineKept old new line) → VolumeServes v new
   volume_serves_on kept = volume_serves_elsewhere geo old new valid kept v mounted.volume_geometry (strong_of v.geo mounted.volume_geometry) count mounted.volume_serves
 
-  journal_serves_on : ((line : ℕ) → IsOfFiles geo line → LineKept old new line) → JournalServes p.journal new
-  journal_serves_on kept = journal_serves_elsewhere geo old new kept p.journal mounted.journal_geometry (strong_of p.journal.geo mounted.journal_geometry) count mounted.journal_serves
+  journal_serves_on : ((line : ℕ) → IsOfFiles geo line → LineKept old new line) → JournalServes f.pages.journal new
+  journal_serves_on kept = journal_serves_elsewhere geo old new kept f.pages.journal mounted.journal_geometry (strong_of f.pages.journal.geo mounted.journal_geometry) count mounted.journal_serves
 
   -- on the blocks
   pub mounted-blocks : (s : BlocksState) → ((line : ℕ) → IsOfVolume geo line → LineKept old new line) → ((line : ℕ) → IsOfFiles geo line → LineKept old new line)
-      → s.geo ≡ b.geo → IsTrue s.settled → BlocksServe s new → AreMounted geo s v p new
+      → s.geo ≡ b.geo → IsTrue s.settled → BlocksServe s new → AreMounted geo s v f new
   mounted-blocks s volume files same settled serves = record {
     geometry = same ∙ mounted.geometry;
     settled = settled;
@@ -133,11 +133,12 @@ module _ (geo : Geometry) (b : BlocksState) (v : VolumeState) (p : PagesState) (
     journal_right = mounted.journal_right;
     journal_held = mounted.journal_held;
     pages_settled = mounted.pages_settled;
+    mapped = mounted.mapped;
   }
 
   -- on the volume
   pub mounted-volume : (w : VolumeState) → ((n : ℕ) → IsBlockLine geo n → Stays old new n) → ((line : ℕ) → IsOfFiles geo line → LineKept old new line)
-      → w.geo ≡ v.geo → IsTrue w.settled → VolumeServes w new → AreMounted geo b w p new
+      → w.geo ≡ v.geo → IsTrue w.settled → VolumeServes w new → AreMounted geo b w f new
   mounted-volume w blocks files same settled serves = record {
     geometry = mounted.geometry;
     settled = mounted.settled;
@@ -151,13 +152,15 @@ module _ (geo : Geometry) (b : BlocksState) (v : VolumeState) (p : PagesState) (
     journal_right = mounted.journal_right;
     journal_held = mounted.journal_held;
     pages_settled = mounted.pages_settled;
+    mapped = mounted.mapped;
   }
 
   -- on files
-  pub mounted-files : (q : PagesState) → ((n : ℕ) → IsBlockLine geo n → Stays old new n) → ((line : ℕ) → IsOfVolume geo line → LineKept old new line)
-      → q.journal.geo ≡ p.journal.geo → IsTrue q.journal.settled → IsTrue q.settled → JournalServes q.journal new → AreTables geo.fpages q.journal.tables
-      → known_units q.journal.tables.pages q.journal.free ≡ known_units p.journal.tables.pages p.journal.free → AreMounted geo b v q new
-  mounted-files q blocks volume same journal pages serves right held = record {
+  pub mounted-files : (q : HeldFiles) → ((n : ℕ) → IsBlockLine geo n → Stays old new n) → ((line : ℕ) → IsOfVolume geo line → LineKept old new line)
+      → q.pages.journal.geo ≡ f.pages.journal.geo → IsTrue q.pages.journal.settled → IsTrue q.pages.settled → JournalServes q.pages.journal new → AreTables geo.fpages q.pages.journal.tables
+      → known_units q.pages.journal.tables.pages q.pages.journal.free ≡ known_units f.pages.journal.tables.pages f.pages.journal.free
+      → EachMapping (IsOnFile q.pages.journal.tables.files) q.mappings.mappings → AreMounted geo b v q new
+  mounted-files q blocks volume same journal pages serves right held mapped = record {
     geometry = mounted.geometry;
     settled = mounted.settled;
     serves = blocks_serve_on blocks;
@@ -170,12 +173,13 @@ module _ (geo : Geometry) (b : BlocksState) (v : VolumeState) (p : PagesState) (
     journal_right = right;
     journal_held = held ∙ mounted.journal_held;
     pages_settled = pages;
+    mapped = mapped;
   }
 
 -- and where all lines are only written back
-pub mounted-write_back : (geo : Geometry) (b : BlocksState) (v : VolumeState) (p : PagesState) (old new : Medium) → IsValid geo → WritesBack old new → AreMounted geo b v p old → AreMounted geo b v p new
-mounted-write_back geo b v p old new valid w mounted =
-    mounted-blocks geo b v p old new valid (λ n below. w.weak n ∙ mounted.serves.strong n (subst (λ g. n < meta_lines g) (sym mounted.geometry) below)) w.count mounted
+pub mounted-write_back : (geo : Geometry) (b : BlocksState) (v : VolumeState) (f : HeldFiles) (old new : Medium) → IsValid geo → WritesBack old new → AreMounted geo b v f old → AreMounted geo b v f new
+mounted-write_back geo b v f old new valid w mounted =
+    mounted-blocks geo b v f old new valid (λ n below. w.weak n ∙ mounted.serves.strong n (subst (λ g. n < meta_lines g) (sym mounted.geometry) below)) w.count mounted
     b (λ line of. line_kept-write_back old new line w) (λ line of. line_kept-write_back old new line w) refl mounted.settled (serves-write_back b old new w mounted.serves)
 
 -- an order to the device, or a cut, leaves its lines but for write-back

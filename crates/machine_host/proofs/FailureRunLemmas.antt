@@ -174,7 +174,7 @@ may_write script turns lines may written = record {
 pub left_by : (choice : Choice) (image : Image) (h : Machine) (files : List File) → bad_metadata h.geometry image.is_bad ≡ h.bad_meta
     → MayLeaveBlocks h.interrupted h.blocks (blocks_read h.geometry image.is_bad image.word) → MayLeaveVolume h.geometry h.interrupted h.volume h.volume
     → presence_of h.volume ≡ presence_read h.geometry image.word → pages_last (volume_line h.geometry) image h.volume ≡ true
-    → MayLeaveFiles h.interrupted h.files files → KeepsFiles choice h.geometry image files → RestartMayLeave choice image h
+    → MayLeaveFiles h.mappings h.interrupted h.files files → KeepsFiles choice h.geometry image files → RestartMayLeave choice image h
 left_by choice image h files metadata blocks may there last may_files keeps = record {
   metadata = metadata;
   storage = λ _. record {

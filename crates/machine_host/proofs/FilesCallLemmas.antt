@@ -1,7 +1,8 @@
 -- What a host and its device stand for, after a call that changes files.
-use Rattle.std.proofs.Common.{◌≡◌, ◌⊎◌, ◌/◌, ◌<◌, ◌≤◌, ℕ, true, IsTrue, Option, Some, None, option_map, Result, Ok, Err, OnOk, List, [], map, refl, sym, ap, subst, ◌∙◌, arith}
+use Rattle.std.proofs.Common.{◌≡◌, ◌⊎◌, ◌/◌, ◌<◌, ◌≤◌, ℕ, true, false, IsTrue, Option, Some, None, option_map, Result, Ok, Err, OnOk, List, [], map, refl, sym, ap, subst, ◌∙◌, arith}
 use Rattle.line_device.specs.Panel.{Runs}
 use Rattle.line_device.specs.Device.{Device}
+use Rattle.line_device.specs.Medium.{Medium}
 use Rattle.line_words.specs.Told.{Told, Answers, OnRefused, OnWorked, is_done, outcome_by}
 use Rattle.line_words.specs.Told.Told.{Starves}
 use Rattle.line_words.specs.Words.{WritesBackOutside}
@@ -10,6 +11,7 @@ use Rattle.word_log.specs.Changes.{commit_calls, commit_persists}
 use Rattle.word_tables.specs.Bounds.{IsValid}
 use Rattle.word_tables.specs.Layout.{file_pages, HasLine}
 use Rattle.nvm_model.specs.Files.{entry_of_file}
+use Rattle.nvm_model.specs.Mappings.{is_mapped}
 use Rattle.nvm_model.specs.Storage.{File}
 use Rattle.nvm_model.proofs.KeptLemmas.{LineKept}
 use Rattle.block_device.specs.Area.{IsBlockLine}
@@ -20,6 +22,7 @@ use Rattle.block_device.proofs.ReadLemmas.{Stays}
 use Rattle.pm_volume.specs.Area.{IsOfVolume}
 use Rattle.pm_volume.proofs.StandingLemmas.{each_pages-then}
 use Rattle.file_journal.specs.Area.{IsOfFiles, file_area}
+use Rattle.file_journal.specs.Device.{device_files}
 use Rattle.file_journal.specs.Images.{EachReadsTables, IsEither}
 use Rattle.file_journal.specs.Listing.{listed}
 use Rattle.file_journal.specs.Object.{JournalServes, JournalState, KeepsUnits}
@@ -29,6 +32,7 @@ use Rattle.file_journal.specs.Standing.{EachReadsFiles, FilesStand}
 use Rattle.file_journal.specs.Tables.{AreTables, Tables}
 use Rattle.file_journal.specs.declared.fault.JournalFault.{JournalFault}
 use Rattle.file_journal.specs.declared.fault.JournalFault.TheVariants as fault
+use Rattle.file_journal.proofs.DeviceFileLemmas.{device_files-stand}
 use Rattle.file_journal.proofs.AgreeLemmas.{file_count-stands, has_file-stands, listed-stands}
 use Rattle.file_journal.proofs.FileChangeLemmas.{Becomes, changed_images}
 use Rattle.file_journal.proofs.FileLineLemmas.{area_of_files, page_lines-kept}
@@ -38,6 +42,7 @@ use Rattle.reply_text.specs.Answer.{Answer, IsPrintable}
 use Rattle.reply_text.specs.Answer.Answer.{Done}
 use Rattle.reply_text.specs.Room.{most_of}
 use Rattle.script_text.specs.Action.{Action}
+use Rattle.mappings.specs.Object.{MappingsState}
 use Rattle.machine_host.specs.declared.mode.Mode.{Mode}
 use Rattle.machine_host.specs.declared.mode.Mode.TheVariants.{On}
 use Rattle.machine_host.specs.Machine.{Machine}
@@ -49,7 +54,7 @@ use Rattle.machine_host.specs.Lines.{HasLayout, MetadataStands, bad_metadata}
 use Rattle.machine_host.specs.Meaning.{Reasons, metadata_refusal}
 use Rattle.machine_host.specs.OnFiles.{changing_files, journal_answer}
 use Rattle.machine_host.specs.Responding.{Answered}
-use Rattle.machine_host.specs.Stands.{HostState, HostServes, AreMounted, Stands, Comes}
+use Rattle.machine_host.specs.Stands.{AreMounted, Comes, EachMapping, HostServes, HostState, IsOnFile, Stands}
 use Rattle.machine_host.proofs.CallLemmas.{IsPart, comes_of_call, on_refused-then, printable_after, serves_of_call}
 use Rattle.machine_host.proofs.ElsewhereLemmas.{mounted-files}
 use Rattle.machine_host.proofs.FilesAsideLemmas.{files_not_blocks, files_not_volume, first_not_files}
@@ -57,18 +62,19 @@ use Rattle.machine_host.proofs.FilesFateLemmas.{SeesFiles}
 use Rattle.machine_host.proofs.LayoutLemmas.{kept-outside, layout-outside, metadata-then, same_bad, stays_of_kept}
 use Rattle.machine_host.proofs.RefusalLemmas.{meta_refused}
 use Rattle.machine_host.proofs.StepLemmas.{DeviceLeft, blocks_still, pages_still, stands_done}
+use Rattle.machine_host.proofs.MappedLemmas.{Spares, still_on}
 use Rattle.machine_host.proofs.VolumeCallLemmas.{short_after}
 
 -- What a call that changes files says, whichever it is: it leaves these tables, or those before it.
 pub record FilesCalled (host : HostState) (s : JournalState) (r : Result (Unit {0}) JournalFault) (why : Option JournalRefusal) (to : Tables) (words : ℕ) (old new : Device) : Type 0 where
   pub refused : Answers journal_says why r
-  pub untouched : OnRefused journal_says r ((s ≡ host.files.journal) × (new ≡ old))
+  pub untouched : OnRefused journal_says r ((s ≡ host.files.pages.journal) × (new ≡ old))
   pub ok : OnOk r (s.tables ≡ to)
-  pub images : OnWorked journal_says r (EachReadsTables host.files.journal.geo new.medium (IsEither host.files.journal.tables to))
-  pub outside : WritesBackOutside (IsOf (file_area host.files.journal.geo)) old.medium new.medium
+  pub images : OnWorked journal_says r (EachReadsTables host.files.pages.journal.geo new.medium (IsEither host.files.pages.journal.tables to))
+  pub outside : WritesBackOutside (IsOf (file_area host.files.pages.journal.geo)) old.medium new.medium
   pub serves : IsTrue s.settled → JournalServes s new.medium
-  pub object : (s.geo ≡ host.files.journal.geo) × (s.settled ≡ is_done (outcome_by journal_says r))
-  pub units : OnOk r (KeepsUnits 0 host.files.journal s)
+  pub object : (s.geo ≡ host.files.pages.journal.geo) × (s.settled ≡ is_done (outcome_by journal_says r))
+  pub units : OnOk r (KeepsUnits 0 host.files.pages.journal s)
   pub runs : Runs (commit_calls words) (commit_persists words) (outcome_by journal_says r) old.panel new.panel
 
 -- its answers
@@ -116,22 +122,26 @@ worked_none says None (Err f) answers = λ stop. refl
 worked_none says (Some w) (Ok x) answers = absurd answers
 worked_none says (Some w) (Err f) answers = λ stop. cc (stop, answers)
 
+-- files that journal and device stand for
+abbrev pub files_of_device : JournalState → Medium → List File
+files_of_device s m = device_files s.geo m s.tables
+
 -- the host in a mode after the call
 abbrev pub journal_after : HostState → JournalState → Mode → HostState
-journal_after host s mode = record host { mode = mode; files = record host.files { journal = s } }
+journal_after host s mode = record host { mode = mode; files = record host.files { pages = record host.files.pages { journal = s } } }
 
-module _ (host : HostState) (old new : Device) (on : host.mode ≡ On) (serves : HostServes host old) (outside : WritesBackOutside (IsOf (file_area host.files.journal.geo)) old.medium new.medium) where
+module _ (host : HostState) (old new : Device) (on : host.mode ≡ On) (serves : HostServes host old) (outside : WritesBackOutside (IsOf (file_area host.files.pages.journal.geo)) old.medium new.medium) where
   mounted : AreMounted host.geometry host.blocks host.volume host.files old.medium
   mounted = serves.mounted on
 
-  right_was : AreTables host.files.journal.geo.fpages host.files.journal.tables
-  right_was = subst (λ g. AreTables g.fpages host.files.journal.tables) (sym mounted.journal_geometry) mounted.journal_right
+  right_was : AreTables host.files.pages.journal.geo.fpages host.files.pages.journal.tables
+  right_was = subst (λ g. AreTables g.fpages host.files.pages.journal.tables) (sym mounted.journal_geometry) mounted.journal_right
 
   -- lines of other parts are only written back, and so are those of pages
   kept_changed : (n : ℕ) → (IsOfFiles host.geometry n → ⊥) → LineKept old.medium new.medium n
   kept_changed n apart =
-      kept-outside (IsOf (file_area host.files.journal.geo)) old.medium new.medium n
-      (λ p at of. apart (subst (λ g. IsOfFiles g n) mounted.journal_geometry (subst (IsOfFiles host.files.journal.geo) at (area_of_files host.files.journal.geo p of)))) outside
+      kept-outside (IsOf (file_area host.files.pages.journal.geo)) old.medium new.medium n
+      (λ p at of. apart (subst (λ g. IsOfFiles g n) mounted.journal_geometry (subst (IsOfFiles host.files.pages.journal.geo) at (area_of_files host.files.pages.journal.geo p of)))) outside
 
   blocks_stay : (n : ℕ) → IsBlockLine host.geometry n → Stays old.medium new.medium n
   blocks_stay n of = stays_of_kept old.medium new.medium n (kept_changed n (λ of_files. files_not_blocks host.geometry n of_files of))
@@ -139,21 +149,21 @@ module _ (host : HostState) (old new : Device) (on : host.mode ≡ On) (serves :
   volume_stays : (n : ℕ) → IsOfVolume host.geometry n → LineKept old.medium new.medium n
   volume_stays n of = kept_changed n (λ of_files. files_not_volume host.geometry n serves.layout.valid of_files of)
 
-  pages_stay : (n : ℕ) → HasLine host.files.journal.geo file_pages n → LineKept old.medium new.medium n
-  pages_stay = page_lines-kept host.files.journal.geo old.medium new.medium (subst IsValid (sym mounted.journal_geometry) serves.layout.valid) outside
+  pages_stay : (n : ℕ) → HasLine host.files.pages.journal.geo file_pages n → LineKept old.medium new.medium n
+  pages_stay = page_lines-kept host.files.pages.journal.geo old.medium new.medium (subst IsValid (sym mounted.journal_geometry) serves.layout.valid) outside
 
-  first_words : (p : ℕ) → p < 8 → IsOf (file_area host.files.journal.geo) p → ⊥
-  first_words p below of = let first : p / 8 ≡ 0 = omega (arith, below) in first_not_files host.files.journal.geo (subst (IsOfFiles host.files.journal.geo) first (area_of_files host.files.journal.geo p of))
+  first_words : (p : ℕ) → p < 8 → IsOf (file_area host.files.pages.journal.geo) p → ⊥
+  first_words p below of = let first : p / 8 ≡ 0 = omega (arith, below) in first_not_files host.files.pages.journal.geo (subst (IsOfFiles host.files.pages.journal.geo) first (area_of_files host.files.pages.journal.geo p of))
 
   layout_changed : HasLayout host.geometry new.medium
-  layout_changed = layout-outside host.geometry old.medium new.medium serves.layout (IsOf (file_area host.files.journal.geo)) first_words outside
+  layout_changed = layout-outside host.geometry old.medium new.medium serves.layout (IsOf (file_area host.files.pages.journal.geo)) first_words outside
 
-  mounted_changed : (s : JournalState) → s.geo ≡ host.files.journal.geo → IsTrue s.settled → JournalServes s new.medium → AreTables host.files.journal.geo.fpages s.tables → KeepsUnits 0 host.files.journal s
-      → AreMounted host.geometry host.blocks host.volume (record host.files { journal = s }) new.medium
-  mounted_changed s same settled served right units =
+  mounted_changed : (s : JournalState) → s.geo ≡ host.files.pages.journal.geo → IsTrue s.settled → JournalServes s new.medium → AreTables host.files.pages.journal.geo.fpages s.tables → KeepsUnits 0 host.files.pages.journal s
+      → EachMapping (IsOnFile s.tables.files) host.files.mappings.mappings → AreMounted host.geometry host.blocks host.volume (record host.files { pages = record host.files.pages { journal = s } }) new.medium
+  mounted_changed s same settled served right units mapped =
       mounted-files host.geometry host.blocks host.volume host.files old.medium new.medium serves.layout.valid layout_changed.strong outside.count mounted
-      (record host.files { journal = s }) blocks_stay volume_stays same settled mounted.pages_settled served (subst (λ g. AreTables g.fpages s.tables) mounted.journal_geometry right)
-      (omega (arith, units.known))
+      (record host.files { pages = record host.files.pages { journal = s } }) blocks_stay volume_stays same settled mounted.pages_settled served (subst (λ g. AreTables g.fpages s.tables) mounted.journal_geometry right)
+      (omega (arith, units.known)) mapped
 
   -- the blocks can be read still
   readable_changed : bad_metadata host.geometry new.medium.is_bad ≡ [] → AreReadable host.geometry new.medium
@@ -163,25 +173,34 @@ module _ (host : HostState) (old new : Device) (on : host.mode ≡ On) (serves :
 
 module _ (host : HostState) (s : JournalState) (r : Result (Unit {0}) JournalFault) (why : Option JournalRefusal) (to : Tables) (words : ℕ) (f : List File → List File) (old new : Device)
     (on : host.mode ≡ On) (serves : HostServes host old) (call : FilesCalled host s r why to words old new)
-    (becomes : AreTables host.files.journal.geo.fpages host.files.journal.tables → why ≡ None → Becomes host.files.journal.geo host.files.journal.tables to f) where
-  became : why ≡ None → Becomes host.files.journal.geo host.files.journal.tables to f
+    (becomes : AreTables host.files.pages.journal.geo.fpages host.files.pages.journal.tables → why ≡ None → Becomes host.files.pages.journal.geo host.files.pages.journal.tables to f)
+    (spares : AreTables host.files.pages.journal.geo.fpages host.files.pages.journal.tables → why ≡ None → Spares f (files_of_device host.files.pages.journal old.medium) host.files.mappings.mappings) where
+  became : why ≡ None → Becomes host.files.pages.journal.geo host.files.pages.journal.tables to f
   became = becomes (right_was host old new on serves call.outside)
 
-  mounted_ok : OnOk r (AreMounted host.geometry host.blocks host.volume (record host.files { journal = s }) new.medium)
+  still_mapped : why ≡ None → EachMapping (IsOnFile to.files) host.files.mappings.mappings
+  still_mapped none =
+      let j = host.files.pages.journal in
+      let right = right_was host old new on serves call.outside in
+      still_on j old.medium to f right (became none).right ((became none).keeps old.medium (files_of_device j old.medium) (device_files-stand j.geo old.medium j.tables)) host.files.mappings.mappings
+      (serves.mounted on).mapped (spares right none)
+
+  mounted_ok : OnOk r (AreMounted host.geometry host.blocks host.volume (record host.files { pages = record host.files.pages { journal = s } }) new.medium)
   mounted_ok = by_result r call.refused call.object.1 call.ok call.units
     where
-      by_result : (q : Result (Unit {0}) JournalFault) → Answers journal_says why q → s.settled ≡ is_done (outcome_by journal_says q) → OnOk q (s.tables ≡ to) → OnOk q (KeepsUnits 0 host.files.journal s)
-          → OnOk q (AreMounted host.geometry host.blocks host.volume (record host.files { journal = s }) new.medium)
+      by_result : (q : Result (Unit {0}) JournalFault) → Answers journal_says why q → s.settled ≡ is_done (outcome_by journal_says q) → OnOk q (s.tables ≡ to) → OnOk q (KeepsUnits 0 host.files.pages.journal s)
+          → OnOk q (AreMounted host.geometry host.blocks host.volume (record host.files { pages = record host.files.pages { journal = s } }) new.medium)
       by_result (Ok x) answers settled is units =
           mounted_changed host old new on serves call.outside s call.object.0 settled (call.serves settled)
-          (subst (AreTables host.files.journal.geo.fpages) (sym is) (became (worked_none journal_says why (Ok x) answers)).right) units
+          (subst (AreTables host.files.pages.journal.geo.fpages) (sym is) (became (worked_none journal_says why (Ok x) answers)).right) units
+          (subst (λ (now : Tables). EachMapping (IsOnFile now.files) host.files.mappings.mappings) (sym is) (still_mapped (worked_none journal_says why (Ok x) answers)))
       by_result (Err e) answers settled is units = tt
 
   same_host : OnRefused journal_says r ((journal_after host s host.mode ≡ host) × (new ≡ old))
-  same_host = on_refused-then journal_says r (λ same. (ap (λ j. record host { files = record host.files { journal = j } }) same.0, same.1)) call.untouched
+  same_host = on_refused-then journal_says r (λ same. (ap (λ j. record host { files = record host.files { pages = record host.files.pages { journal = j } } }) same.0, same.1)) call.untouched
 
   module _ (h : Machine) (stands : Stands host old h) where
-    geo_is : host.files.journal.geo ≡ h.geometry
+    geo_is : host.files.pages.journal.geo ≡ h.geometry
     geo_is = (serves.mounted on).journal_geometry ∙ stands.geometry
 
     metadata_changed : MetadataStands h.geometry new.medium h.bad_meta
@@ -198,18 +217,18 @@ module _ (host : HostState) (s : JournalState) (r : Result (Unit {0}) JournalFau
             → Runs (commit_calls words) (commit_persists words) (outcome_by journal_says q) old.panel new.panel → OnOk q (Stands (journal_after host s On) new (record h { files = f h.files }))
         by_result (Ok x) answers settled is runs =
             let became_ = became (worked_none journal_says why (Ok x) answers) in
-            let was = files-kept host.files.journal.geo old.medium new.medium host.files.journal.tables h.files (right_was host old new on serves call.outside) (pages_stay host old new on serves call.outside) (stands.files on) in
-            let right : AreTables s.geo.fpages s.tables = subst (λ g. AreTables g.fpages s.tables) (sym call.object.0) (subst (AreTables host.files.journal.geo.fpages) (sym is) became_.right) in
+            let was = files-kept host.files.pages.journal.geo old.medium new.medium host.files.pages.journal.tables h.files (right_was host old new on serves call.outside) (pages_stay host old new on serves call.outside) (stands.files on) in
+            let right : AreTables s.geo.fpages s.tables = subst (λ g. AreTables g.fpages s.tables) (sym call.object.0) (subst (AreTables host.files.pages.journal.geo.fpages) (sym is) became_.right) in
             let now : FilesStand s.geo new.medium s.tables (f h.files) =
             subst (λ g. FilesStand g new.medium s.tables (f h.files)) (sym call.object.0)
-            (subst (λ t. FilesStand host.files.journal.geo new.medium t (f h.files)) (sym is) (became_.keeps new.medium h.files was)) in
-            stands_done host (journal_after host s On) old new h action stands on (commit_calls words) (commit_persists words) few few_persists refl h.blocks h.volume (f h.files) refl runs metadata_changed
+            (subst (λ t. FilesStand host.files.pages.journal.geo new.medium t (f h.files)) (sym is) (became_.keeps new.medium h.files was)) in
+            stands_done host (journal_after host s On) old new h action stands on (commit_calls words) (commit_persists words) few few_persists refl refl h.blocks h.volume (f h.files) refl runs metadata_changed
             (blocks_still host old new h stands serves on (blocks_stay host old new on serves call.outside)) (pages_still host old new h stands serves on (volume_stays host old new on serves call.outside))
             (λ good. subst (λ g. EachReadsFiles g new.medium (λ x. x ≡ f h.files)) (call.object.0 ∙ geo_is) (served_files s new.medium (f h.files) right (call.serves settled) now), now)
         by_result (Err e) answers settled is runs = tt
 
     -- what an interruption left
-    left_changed : (action : Action) (reasons : List File → Reasons) → meaning action ≡ changing_files reasons f words → OnWorked journal_says r (DeviceLeft h action new.medium)
+    left_changed : (action : Action) (reasons : Machine → Reasons) → meaning action ≡ changing_files reasons f words → OnWorked journal_says r (DeviceLeft h action new.medium)
     left_changed action reasons row = by_result r call.refused call.images
       where
         kept_blocks : MayLeaveBlocks (Some action) h.blocks h.blocks
@@ -218,7 +237,7 @@ module _ (host : HostState) (s : JournalState) (r : Result (Unit {0}) JournalFau
         kept_volume : MayLeaveVolume h.geometry (Some action) h.volume h.volume
         kept_volume = subst (λ m. LeavesVolume (m.volume_left h.geometry) h.volume (m.volume h.geometry h.volume) h.volume) (sym row) refl
 
-        left : EachReadsTables host.files.journal.geo new.medium (IsEither host.files.journal.tables to) → why ≡ None → DeviceLeft h action new.medium
+        left : EachReadsTables host.files.pages.journal.geo new.medium (IsEither host.files.pages.journal.tables to) → why ≡ None → DeviceLeft h action new.medium
         left images none = record {
           metadata = metadata_changed;
           blocks = λ good.
@@ -229,23 +248,23 @@ module _ (host : HostState) (s : JournalState) (r : Result (Unit {0}) JournalFau
               (λ pages same. subst (MayLeaveVolume h.geometry (Some action) h.volume) (sym same) kept_volume)
               ((pages_still host old new h stands serves on (volume_stays host old new on serves call.outside)).0 good);
           files = λ good.
-              subst (λ m. EachReadsFiles h.geometry new.medium (λ x. LeavesFiles m.files_left h.files (m.files h.files) x)) (sym row)
+              subst (λ m. EachReadsFiles h.geometry new.medium (λ x. LeavesFiles (m.files_left h.mappings) h.files (m.files h.mappings h.files) x)) (sym row)
               (subst (λ g. EachReadsFiles g new.medium (λ x. (x ≡ h.files) ⊎ (x ≡ f h.files))) geo_is
-              (changed_images host.files.journal.geo old.medium new.medium host.files.journal.tables to f h.files (right_was host old new on serves call.outside) (became none) (stands.files on)
+              (changed_images host.files.pages.journal.geo old.medium new.medium host.files.pages.journal.tables to f h.files (right_was host old new on serves call.outside) (became none) (stands.files on)
               (pages_stay host old new on serves call.outside) images));
         }
 
-        by_result : (q : Result (Unit {0}) JournalFault) → Answers journal_says why q → OnWorked journal_says q (EachReadsTables host.files.journal.geo new.medium (IsEither host.files.journal.tables to))
+        by_result : (q : Result (Unit {0}) JournalFault) → Answers journal_says why q → OnWorked journal_says q (EachReadsTables host.files.pages.journal.geo new.medium (IsEither host.files.pages.journal.tables to))
             → OnWorked journal_says q (DeviceLeft h action new.medium)
         by_result (Ok x) answers images = left images (worked_none journal_says why (Ok x) answers)
         by_result (Err e) answers images = λ stop. left (images stop) (worked_none {T = Unit {0}} journal_says why (Err e) answers stop)
 
 -- a call that changes files, whichever, by its clauses
 pub files_called : {D : Type 0} (state : D → Device) (host : HostState) (s : JournalState) (r : Result (Unit {0}) JournalFault) (why : Option JournalRefusal) (to : Tables) (words : ℕ) (before after : D)
-    → Answers journal_says why r → OnRefused journal_says r ((s ≡ host.files.journal) × (after ≡ before)) → OnOk r (s.tables ≡ to)
-    → OnWorked journal_says r (EachReadsTables host.files.journal.geo (state after).medium (IsEither host.files.journal.tables to)) → WritesBackOutside (IsOf (file_area host.files.journal.geo)) (state before).medium (state after).medium
-    → (IsTrue s.settled → JournalServes s (state after).medium) → (s.geo ≡ host.files.journal.geo) × (s.settled ≡ is_done (outcome_by journal_says r))
-    → OnOk r (KeepsUnits 0 host.files.journal s)
+    → Answers journal_says why r → OnRefused journal_says r ((s ≡ host.files.pages.journal) × (after ≡ before)) → OnOk r (s.tables ≡ to)
+    → OnWorked journal_says r (EachReadsTables host.files.pages.journal.geo (state after).medium (IsEither host.files.pages.journal.tables to)) → WritesBackOutside (IsOf (file_area host.files.pages.journal.geo)) (state before).medium (state after).medium
+    → (IsTrue s.settled → JournalServes s (state after).medium) → (s.geo ≡ host.files.pages.journal.geo) × (s.settled ≡ is_done (outcome_by journal_says r))
+    → OnOk r (KeepsUnits 0 host.files.pages.journal s)
     → Runs (commit_calls words) (commit_persists words) (outcome_by journal_says r) (state before).panel (state after).panel → FilesCalled host s r why to words (state before) (state after)
 files_called state host s r why to words before after refused untouched ok images outside serves object units runs = record {
   refused = refused;
@@ -262,8 +281,9 @@ files_called state host s r why to words before after refused untouched ok image
 -- A change of files, by its row, is answered. Of a host behind a reference `host` is what is inside `now`, and `after` what the answer leaves.
 module _ (now host after : HostState) (s : JournalState) (r : Result (Unit {0}) JournalFault) (why : Option JournalRefusal) (to : Tables) (words : ℕ) (f : List File → List File) (old new : Device)
     (inside : host ≡ now) (state : after ≡ journal_after host s (mode_after journal_says r)) (on : now.mode ≡ On) (serves : HostServes now old)
-    (call : FilesCalled host s r why to words old new) (becomes : AreTables host.files.journal.geo.fpages host.files.journal.tables → why ≡ None → Becomes host.files.journal.geo host.files.journal.tables to f)
-    (action : Action) (reasons : List File → Reasons) (row : meaning action ≡ changing_files reasons f words) where
+    (call : FilesCalled host s r why to words old new) (becomes : AreTables host.files.pages.journal.geo.fpages host.files.pages.journal.tables → why ≡ None → Becomes host.files.pages.journal.geo host.files.pages.journal.tables to f)
+    (spares : AreTables host.files.pages.journal.geo.fpages host.files.pages.journal.tables → why ≡ None → Spares f (files_of_device host.files.pages.journal old.medium) host.files.mappings.mappings)
+    (action : Action) (reasons : Machine → Reasons) (row : meaning action ≡ changing_files reasons f words) where
   on_inside : host.mode ≡ On
   on_inside = ap (λ k. k.mode) inside ∙ on
 
@@ -274,8 +294,8 @@ module _ (now host after : HostState) (s : JournalState) (r : Result (Unit {0}) 
   change_serves =
       subst (λ k. HostServes k new) (sym state)
       (serves_of_call journal_says journal_answer files_part host (journal_after host s) old new on_inside (λ m. refl) (λ m. refl) (commit_calls words) (commit_persists words) r serves_inside
-      (same_host host s r why to words f old new on_inside serves_inside call becomes) (layout_changed host old new on_inside serves_inside call.outside)
-      (readable_changed host old new on_inside serves_inside call.outside) (mounted_ok host s r why to words f old new on_inside serves_inside call becomes) call.runs)
+      (same_host host s r why to words f old new on_inside serves_inside call becomes spares) (layout_changed host old new on_inside serves_inside call.outside)
+      (readable_changed host old new on_inside serves_inside call.outside) (mounted_ok host s r why to words f old new on_inside serves_inside call becomes spares) call.runs)
 
   change_comes : (h : Machine) (answer : Answer) → Stands now old h → fate h action ≡ unless_refused h (option_map journal_answer why) (Works Done (record h { files = f h.files }))
       → answer ≡ answer_after journal_says journal_answer Done r → Comes h action (fate h action) answer after old new
@@ -287,9 +307,9 @@ module _ (now host after : HostState) (s : JournalState) (r : Result (Unit {0}) 
       (subst (λ k. Comes h action (fate h action) (answer_after journal_says journal_answer Done r) k old new) (sym state)
       (subst (λ fate. Comes h action fate (answer_after journal_says journal_answer Done r) (journal_after host s (mode_after journal_says r)) old new) (sym fate_is)
       (comes_of_call journal_says journal_answer files_part host (journal_after host s) old new on_inside (λ m. refl) (λ m. refl) (commit_calls words) (commit_persists words) action h stands_inside few few_persists
-      r Done why (record h { files = f h.files }) refl call.refused (same_host host s r why to words f old new on_inside serves_inside call becomes)
-      (stands_ok host s r why to words f old new on_inside serves_inside call becomes h stands_inside action few few_persists)
-      (left_changed host s r why to words f old new on_inside serves_inside call becomes h stands_inside action reasons row) call.runs)))
+      r Done why (record h { files = f h.files }) refl call.refused (same_host host s r why to words f old new on_inside serves_inside call becomes spares)
+      (stands_ok host s r why to words f old new on_inside serves_inside call becomes spares h stands_inside action few few_persists)
+      (left_changed host s r why to words f old new on_inside serves_inside call becomes spares h stands_inside action reasons row) call.runs)))
 
   pub change_answered : (answer : Answer) → ((h : Machine) → Stands now old h → fate h action ≡ unless_refused h (option_map journal_answer why) (Works Done (record h { files = f h.files })))
       → answer ≡ answer_after journal_says journal_answer Done r → Answered action answer now after old new
@@ -302,24 +322,28 @@ module _ (now host after : HostState) (s : JournalState) (r : Result (Unit {0}) 
 
 -- What the journal tells of files is told of the machine's, of a state that the host stands for.
 module _ (now host : HostState) (old : Device) (h : Machine) (inside : host ≡ now) (on : now.mode ≡ On) (serves : HostServes now old) (stands : Stands now old h) where
-  journal_sizes : host.files.journal.geo ≡ h.geometry
-  journal_sizes = ap (λ k. k.files.journal.geo) inside ∙ (serves.mounted on).journal_geometry ∙ stands.geometry
+  pub journal_sizes : host.files.pages.journal.geo ≡ h.geometry
+  journal_sizes = ap (λ k. k.files.pages.journal.geo) inside ∙ (serves.mounted on).journal_geometry ∙ stands.geometry
 
-  files_seen : FilesStand host.files.journal.geo old.medium host.files.journal.tables h.files
-  files_seen = subst (λ k. FilesStand k.files.journal.geo old.medium k.files.journal.tables h.files) (sym inside) (stands.files on)
+  pub files_seen : FilesStand host.files.pages.journal.geo old.medium host.files.pages.journal.tables h.files
+  files_seen = subst (λ k. FilesStand k.files.pages.journal.geo old.medium k.files.pages.journal.tables h.files) (sym inside) (stands.files on)
 
-  right_seen : AreTables now.geometry.fpages host.files.journal.tables
-  right_seen = subst (λ k. AreTables now.geometry.fpages k.files.journal.tables) (sym inside) (serves.mounted on).journal_right
+  pub right_seen : AreTables now.geometry.fpages host.files.pages.journal.tables
+  right_seen = subst (λ k. AreTables now.geometry.fpages k.files.pages.journal.tables) (sym inside) (serves.mounted on).journal_right
 
-  pub sees_files : SeesFiles h host.files.journal old.medium
+  pub sees_files : SeesFiles h host.files.pages.journal old.medium
   sees_files = record {
     on = sym stands.mode ∙ on;
     meta = ap (metadata_refusal true) (sym stands.device.metadata.bad ∙ ap (λ g. bad_metadata g old.medium.is_bad) (sym journal_sizes))
-        ∙ meta_refused Meta journal_answer (λ n. refl) host.files.journal.geo old.medium.is_bad;
-    names = λ name. sym (has_file-stands host.files.journal.geo old.medium host.files.journal.tables h.files files_seen now.geometry.fpages name right_seen);
-    count = sym (file_count-stands host.files.journal.geo old.medium host.files.journal.tables h.files files_seen);
+        ∙ meta_refused Meta journal_answer (λ n. refl) host.files.pages.journal.geo old.medium.is_bad;
+    names = λ name. sym (has_file-stands host.files.pages.journal.geo old.medium host.files.pages.journal.tables h.files files_seen now.geometry.fpages name right_seen);
+    count = sym (file_count-stands host.files.pages.journal.geo old.medium host.files.pages.journal.tables h.files files_seen);
   }
 
   -- the same list of them
-  pub listed_seen : listed host.files.journal.tables ≡ map entry_of_file h.files
-  listed_seen = listed-stands host.files.journal.geo old.medium host.files.journal.tables h.files files_seen
+  pub listed_seen : listed host.files.pages.journal.tables ≡ map entry_of_file h.files
+  listed_seen = listed-stands host.files.pages.journal.geo old.medium host.files.pages.journal.tables h.files files_seen
+
+-- a file that has no mapping of the host has none of the state
+pub free_seen : (name : List ℕ) (host : HostState) (old : Device) (h : Machine) → host.mode ≡ On → Stands host old h → is_mapped name host.files.mappings.mappings ≡ false → is_mapped name h.mappings ≡ false
+free_seen name host old h on stands free = ap (λ (s : MappingsState). is_mapped name s.mappings) (sym (stands.mappings on)) ∙ free

@@ -2,7 +2,7 @@
 use Rattle.std.proofs.Common.{◌≡◌, inl, Option, Some, None, List, refl, sym, subst}
 use Rattle.nvm_model.specs.Files.{OneFileLeft}
 use Rattle.nvm_model.specs.Interrupted.{MayStore}
-use Rattle.nvm_model.specs.Storage.{File}
+use Rattle.nvm_model.specs.Storage.{File, Mapping}
 use Rattle.nvm_model.proofs.FileLeftLemmas.{one_left-same}
 use Rattle.script_text.specs.Action.{Action}
 use Rattle.machine_host.specs.Commands.{LeavesFiles, MayLeaveFiles, meaning}
@@ -16,6 +16,6 @@ leaves-same (StoredInPart name offset bytes) old to left same =
     subst (OneFileLeft name (MayStore offset bytes) old) {x = old} (sym same) (one_left-same name (MayStore offset bytes) (λ pages. inl refl) old)
 
 -- no action has to change them
-pub may_leave-same : (o : Option Action) (old left : List File) → left ≡ old → MayLeaveFiles o old left
-may_leave-same None old left same = same
-may_leave-same (Some action) old left same = leaves-same (meaning action).files_left old ((meaning action).files old) left same
+pub may_leave-same : (mappings : List Mapping) (o : Option Action) (old left : List File) → left ≡ old → MayLeaveFiles mappings o old left
+may_leave-same mappings None old left same = same
+may_leave-same mappings (Some action) old left same = leaves-same ((meaning action).files_left mappings) old ((meaning action).files mappings old) left same

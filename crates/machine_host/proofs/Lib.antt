@@ -32,12 +32,26 @@ pub mod RemountLemmas
 pub mod SettlingLemmas
 pub mod VolumeFateLemmas
 pub mod FilesFateLemmas
+pub mod MappedLemmas
+pub mod AsLemmas
+pub mod HandleLemmas
+pub mod HandledLemmas
+pub mod MappedFateLemmas
+pub mod MapFateLemmas
+pub mod MapToldLemmas
+pub mod MapLemmas
+pub mod HandleCallLemmas
 pub mod FilesLeftLemmas
 pub mod FilesCallLemmas
 mod ListingLemmas
+pub mod UsedPageLemmas
+pub mod FilePageFateLemmas
+pub mod FilePageCallLemmas
+pub mod FilePageLemmas
 pub mod LoadLemmas
 pub mod MediaLemmas
 pub mod PoisonLemmas
 pub mod LineLemmas
 mod FailureRunLemmas
 mod FileRunLemmas
+mod PageStoreRunLemmas

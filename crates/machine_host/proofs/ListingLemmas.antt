@@ -16,7 +16,7 @@ use Rattle.machine_host.proofs.ExistsLemmas.{same_state}
 use Rattle.machine_host.proofs.FilesCallLemmas.{listed_seen}
 use Rattle.machine_host.proofs.RefusalLemmas.{fate_usable}
 
-pub list_answered : (now host : HostState) (d : Device) (files : List FileEntry) → host ≡ now → now.mode ≡ On → HostServes now d → files ≡ listed host.files.journal.tables
+pub list_answered : (now host : HostState) (d : Device) (files : List FileEntry) → host ≡ now → now.mode ≡ On → HostServes now d → files ≡ listed host.files.pages.journal.tables
     → Answered ListFiles (Files files) now now d d
 list_answered now host d files inside on serves is = record {
   step = λ h stands.
@@ -28,10 +28,10 @@ list_answered now host d files inside on serves is = record {
   serves = serves;
 }
   where
-    right : AreTables now.geometry.fpages host.files.journal.tables
-    right = subst (λ k. AreTables now.geometry.fpages k.files.journal.tables) (sym inside) (serves.mounted on).journal_right
+    right : AreTables now.geometry.fpages host.files.pages.journal.tables
+    right = subst (λ k. AreTables now.geometry.fpages k.files.pages.journal.tables) (sym inside) (serves.mounted on).journal_right
 
     few : length files ≤ 64
     few =
-        let slots = host.files.journal.tables.files in
+        let slots = host.files.pages.journal.tables.files in
         omega (arith, ap length is, length-in_order entry_name slots, count_by-le-length is_some slots, right.names.all)

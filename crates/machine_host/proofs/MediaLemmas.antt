@@ -153,7 +153,7 @@ module _ (host : HostState) (old new : Device) (serves : HostServes host old) (o
         let good = subst (λ g. HasGoodMetadata g new.medium) (sym (mounted.geometry ∙ stands.geometry)) (good_lines h.geometry new.medium (metadata.bad ∙ none)) in
         subst (λ g. EachReads g new.medium (λ bs. bs ≡ f h.blocks)) (mounted.geometry ∙ stands.geometry)
         (subst (λ to. EachReads host.blocks.geo new.medium (λ bs. bs ≡ to)) seen (served_reads host.blocks new.medium good served)) in
-        stands_done host host old new h action stands on 0 0 (omega arith) (omega arith) refl (f h.blocks) h.volume h.files on nothing_run metadata (reads, seen)
+        stands_done host host old new h action stands on 0 0 (omega arith) (omega arith) refl refl (f h.blocks) h.volume h.files on nothing_run metadata (reads, seen)
         (pages_still host old new h stands serves on volume_line_kept) (files_still host old new h stands serves on file_line_kept)
 
   -- lines of the volume
@@ -173,5 +173,5 @@ module _ (host : HostState) (old new : Device) (serves : HostServes host old) (o
     volume_marked h action pages stands holds =
         let each : EachReadsPages h.geometry new.medium (λ x. x ≡ pages) =
         subst (λ g. EachReadsPages g new.medium (λ x. x ≡ pages)) (mounted.volume_geometry ∙ stands.geometry) (served_pages host.volume new.medium pages served holds) in
-        stands_done host host old new h action stands on 0 0 (omega arith) (omega arith) refl h.blocks pages h.files on nothing_run (metadata_marked h stands)
+        stands_done host host old new h action stands on 0 0 (omega arith) (omega arith) refl refl h.blocks pages h.files on nothing_run (metadata_marked h stands)
         (blocks_still host old new h stands serves on block_line_stays) (λ none. each, holds) (files_still host old new h stands serves on file_line_stays)

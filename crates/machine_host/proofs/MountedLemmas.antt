@@ -34,7 +34,7 @@ use Rattle.recovery.proofs.FindingLemmas.{early_none as both_none, good_metadata
 use Rattle.machine_host.specs.declared.mode.Mode.TheVariants as modes
 use Rattle.machine_host.specs.Lines.{MetadataStands}
 use Rattle.machine_host.specs.Restarting.{holding, reading}
-use Rattle.machine_host.specs.Stands.{HostState, HostServes, IsFlushed, Stands, is_powered}
+use Rattle.machine_host.specs.Stands.{HostState, HostServes, IsFlushed, Stands, is_powered, no_mappings}
 use Rattle.machine_host.proofs.DepictedLemmas.{blocks_depicted, files_depicted, holds_depicted}
 use Rattle.recovery.proofs.SuperblockLemmas.{some_lines}
 use Rattle.machine_host.proofs.BadLineLemmas.{good_lines}
@@ -44,9 +44,9 @@ use Rattle.machine_host.proofs.ReadingLemmas.{bad_shown, read_whole}
 
 -- Once all storage is mounted, host and device stand for it.
 pub stands_mounted : (host : HostState) (d : Device) (pages : List Page) (files : List File) → host.mode ≡ modes.On → HostServes host d → MetadataStands host.geometry d.medium []
-    → VolumeHolds host.volume d.medium pages → FilesStand host.files.journal.geo d.medium host.files.journal.tables files
+    → VolumeHolds host.volume d.medium pages → FilesStand host.files.pages.journal.geo d.medium host.files.pages.journal.tables files → host.files.mappings ≡ no_mappings
     → Stands host d (record (holding host.geometry (blocks_of host.blocks d.medium) pages files) { cut_armed = d.panel.cut_armed; fail_armed = d.panel.fail_armed })
-stands_mounted host d pages files on serves metadata holds stand =
+stands_mounted host d pages files on serves metadata holds stand none =
     let mounted = serves.mounted on in
     let good = subst (λ g. HasGoodMetadata g d.medium) (sym mounted.geometry) (good_lines host.geometry d.medium metadata.bad) in
     record {
@@ -55,12 +55,13 @@ stands_mounted host d pages files on serves metadata holds stand =
       blocks = λ _. refl;
       volume = λ _. holds;
       files = λ _. stand;
+      mappings = λ _. none;
       device = record {
         metadata = metadata;
         blocks = λ _. subst (λ g. EachReads g d.medium (λ bs. bs ≡ blocks_of host.blocks d.medium)) mounted.geometry (served_reads host.blocks d.medium good mounted.serves);
         volume = λ _. subst (λ g. EachReadsPages g d.medium (λ x. x ≡ pages)) mounted.volume_geometry (served_pages host.volume d.medium pages mounted.volume_serves holds);
         files = λ _. subst (λ g. EachReadsFiles g d.medium (λ x. x ≡ files)) mounted.journal_geometry
-            (served_files host.files.journal d.medium files (subst (λ g. AreTables g.fpages host.files.journal.tables) (sym mounted.journal_geometry) mounted.journal_right) mounted.journal_serves stand);
+            (served_files host.files.pages.journal d.medium files (subst (λ g. AreTables g.fpages host.files.pages.journal.tables) (sym mounted.journal_geometry) mounted.journal_right) mounted.journal_serves stand);
         power = serves.power ∙ ap is_powered on;
         cut_armed = refl;
         fail_armed = refl;
@@ -113,11 +114,11 @@ readable_served geo s m same serves good =
 pub stands_found : (host : HostState) (old new : Device) (image : Image) → IsSound old.medium → IsFlushed old.medium → first_finding old.medium ≡ None → Depicts old.medium image
     → host.geometry ≡ geometry_told old.medium → host.mode ≡ modes.On
     → blocks_of host.blocks new.medium ≡ blocks_read (geometry_told old.medium) old.medium.is_bad (last_image old.medium)
-    → host.volume.present ≡ presence_read (geometry_told old.medium) (last_image old.medium) → host.files.journal.tables ≡ tables_read (geometry_told old.medium) (last_image old.medium)
+    → host.volume.present ≡ presence_read (geometry_told old.medium) (last_image old.medium) → host.files.pages.journal.tables ≡ tables_read (geometry_told old.medium) (last_image old.medium)
     → WritesBackOutside (IsOfLogs (geometry_told old.medium)) old.medium new.medium
-    → MetadataStands host.geometry new.medium [] → HostServes host new
+    → MetadataStands host.geometry new.medium [] → HostServes host new → host.files.mappings ≡ no_mappings
     → Stands host new (record (reading (geometry_told old.medium) image) { cut_armed = new.panel.cut_armed; fail_armed = new.panel.fail_armed })
-stands_found host old new image sound flushed none shows sizes on blocks present tables outside metadata serves =
+stands_found host old new image sound flushed none shows sizes on blocks present tables outside metadata serves unmapped =
     let m = old.medium in
     let geo = geometry_told m in
     let layout = layout_found m flushed none in
@@ -127,9 +128,9 @@ stands_found host old new image sound flushed none shows sizes on blocks present
     let holds = holds_depicted geo m image layout shows new.medium host.volume sound (volume_found m none) outside ((serves.mounted on).volume_geometry ∙ sizes) present in
     let files = files_read geo image in
     let mounted = serves.mounted on in
-    let right = subst (λ g. AreTables g.fpages host.files.journal.tables) sizes mounted.journal_right in
-    let stand = files_depicted geo m image layout shows new.medium host.files.journal sound (files_found m none) right outside (mounted.journal_geometry ∙ sizes) tables in
+    let right = subst (λ g. AreTables g.fpages host.files.pages.journal.tables) sizes mounted.journal_right in
+    let stand = files_depicted geo m image layout shows new.medium host.files.pages.journal sound (files_found m none) right outside (mounted.journal_geometry ∙ sizes) tables in
     subst (λ k. Stands host new (record k { cut_armed = new.panel.cut_armed; fail_armed = new.panel.fail_armed })) (sym (read_whole geo image shown))
     (subst (λ bs. Stands host new (record (holding geo bs pages files) { cut_armed = new.panel.cut_armed; fail_armed = new.panel.fail_armed })) read
     (subst (λ g. Stands host new (record (holding g (blocks_of host.blocks new.medium) pages files) { cut_armed = new.panel.cut_armed; fail_armed = new.panel.fail_armed })) sizes
-    (stands_mounted host new pages files on serves metadata holds stand)))
+    (stands_mounted host new pages files on serves metadata holds stand unmapped)))

@@ -86,10 +86,11 @@ module _ (host : HostState) (old new : Device) (line : ℕ) (serves : HostServes
     volume_serves = volume_serves-kept host.volume old.medium new.medium (λ p of v at. fewer p v at) (λ n below. still_strong n (mounted.volume_serves.strong n below)) w.count mounted.volume_serves;
     journal_geometry = mounted.journal_geometry;
     journal_settled = mounted.journal_settled;
-    journal_serves = journal-kept host.files.journal old.medium new.medium (λ p of v at. fewer p v at) (λ n below. still_strong n (mounted.journal_serves.strong n below)) w.count mounted.journal_serves;
+    journal_serves = journal-kept host.files.pages.journal old.medium new.medium (λ p of v at. fewer p v at) (λ n below. still_strong n (mounted.journal_serves.strong n below)) w.count mounted.journal_serves;
     journal_right = mounted.journal_right;
     journal_held = mounted.journal_held;
     pages_settled = mounted.pages_settled;
+    mapped = mounted.mapped;
   }
 
   serves_poisoned : HostServes host new
@@ -122,10 +123,10 @@ module _ (host : HostState) (old new : Device) (line : ℕ) (serves : HostServes
               (λ n lt. behind_kept (volume_line v.geo n) (subst (λ g. meta_lines g ≤ volume_line v.geo n) mounted.volume_geometry (volume_behind v.geo n))) holds.stand;
         }
 
-    files_same : host.mode ≡ modes.On → FilesStand host.files.journal.geo new.medium host.files.journal.tables h.files
+    files_same : host.mode ≡ modes.On → FilesStand host.files.pages.journal.geo new.medium host.files.pages.journal.tables h.files
     files_same on =
         let mounted = serves.mounted on in
-        let j = host.files.journal in
+        let j = host.files.pages.journal in
         files-kept j.geo old.medium new.medium j.tables h.files (subst (λ g. AreTables g.fpages j.tables) (sym mounted.journal_geometry) mounted.journal_right)
         (λ n has. behind_kept n (subst (λ g. meta_lines g ≤ n) mounted.journal_geometry (page_line_behind j.geo n has))) (stands.files on)
 
@@ -136,6 +137,7 @@ module _ (host : HostState) (old new : Device) (line : ℕ) (serves : HostServes
       blocks = blocks_same;
       volume = volume_same;
       files = files_same;
+      mappings = stands.mappings;
       device = record {
         metadata = metadata-poisoned h.geometry line old.medium new.medium (subst (λ g. line < meta_lines g) stands.geometry within) w h.bad_meta stands.device.metadata;
         blocks = λ none. absurd (some_bad line h.bad_meta none);

@@ -126,6 +126,7 @@ module _ (host : HostState) (old new : Device) (serves : HostServes host old) (u
         journal_right = right;
         journal_held = given.journal_held ∙ ap (λ g. g.fpages) told.sizes;
         pages_settled = refl;
+        mapped = tt;
       };
       stopped = λ stop. cc stop;
     }
@@ -157,10 +158,10 @@ module _ (host : HostState) (old new : Device) (serves : HostServes host old) (u
         each_pages-reached geo old.medium new.medium (MayLeaveVolume geo h.interrupted h.volume) was.valid presence
         (range_kept geo old.medium new.medium was.valid (outside_of geo old new was sound x (none_of good))) (stands.device.volume good)
 
-    files_kept : h.bad_meta ≡ [] → EachReadsFiles geo new.medium (MayLeaveFiles h.interrupted h.files)
+    files_kept : h.bad_meta ≡ [] → EachReadsFiles geo new.medium (MayLeaveFiles h.mappings h.interrupted h.files)
     files_kept good =
         let reached = subst (λ g. EachImage (file_area g) new.medium (IsReached (file_area g) old.medium)) (told_of good).sizes x.files in
-        each_files-reached geo old.medium new.medium (MayLeaveFiles h.interrupted h.files) was.valid reached
+        each_files-reached geo old.medium new.medium (MayLeaveFiles h.mappings h.interrupted h.files) was.valid reached
         (file_pages_kept geo old.medium new.medium was.valid (outside_of geo old new was sound x (none_of good))) (stands.device.files good)
 
     -- The state stays, where the mount was not done, in this mode and with what is armed then.
@@ -172,6 +173,7 @@ module _ (host : HostState) (old new : Device) (serves : HostServes host old) (u
       blocks = λ on. absurd (off on);
       volume = λ on. absurd (off on);
       files = λ on. absurd (off on);
+      mappings = λ on. absurd (off on);
       device = record {
         metadata = metadata;
         blocks = blocks_kept;
@@ -191,7 +193,7 @@ module _ (host : HostState) (old new : Device) (serves : HostServes host old) (u
         nothing_wrong_there geo old.medium (good_of geo old new was sound x (none_of good)) (told_of good) sound
         (each_reads-then geo old.medium (MayLeaveBlocks h.interrupted h.blocks) (λ _. Unit {0}) (λ bs is. tt) (stands.device.blocks good))
         (each_pages-then geo old.medium (MayLeaveVolume geo h.interrupted h.volume) (λ _. Unit {0}) (λ _ _. tt) (stands.device.volume good))
-        (each_files-then geo old.medium (MayLeaveFiles h.interrupted h.files) (λ _. Unit {0}) (λ _ _. tt) (stands.device.files good))
+        (each_files-then geo old.medium (MayLeaveFiles h.mappings h.interrupted h.files) (λ _. Unit {0}) (λ _ _. tt) (stands.device.files good))
 
     -- and no word is found wrong
     pub never_wrong : (at : ℕ) → first_finding old.medium ≡ Some (wrong_word at) → ⊥
@@ -251,6 +253,7 @@ module _ (host : HostState) (old new : Device) (serves : HostServes host old) (u
                 blocks = λ on. cc on;
                 volume = λ on. cc on;
                 files = λ on. cc;
+                mappings = λ on. cc on;
                 device = record {
                   metadata = subst (MetadataStands geo new.medium) is metadata;
                   blocks = λ none. cc none;
@@ -299,7 +302,7 @@ module _ (host : HostState) (old new : Device) (serves : HostServes host old) (u
                   (pages-kept geo old.medium new.medium pages pages_last.all (range_kept geo old.medium new.medium was.valid (outside_of geo old new was sound x (none_of good_meta))) pages_last.stand);
             }
 
-        files_last : ReadsFiles geo old.medium (MayLeaveFiles h.interrupted h.files) (last_image old.medium)
+        files_last : ReadsFiles geo old.medium (MayLeaveFiles h.mappings h.interrupted h.files) (last_image old.medium)
         files_last = stands.device.files good_meta (last_image old.medium) (file_image-last geo old.medium sound (good_of geo old new was sound x (none_of good_meta)))
 
         -- and the journal for its files
@@ -330,6 +333,7 @@ module _ (host : HostState) (old new : Device) (serves : HostServes host old) (u
                 blocks = λ _. refl;
                 volume = λ _. holds;
                 files = λ _. stands_for;
+                mappings = λ _. refl;
                 device = record {
                   metadata = subst (MetadataStands geo new.medium) good_meta metadata;
                   blocks = λ _.

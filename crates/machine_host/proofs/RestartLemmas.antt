@@ -98,6 +98,7 @@ module _ (host : HostState) (choice : Choice) (old mid : Device) (start : Start)
               blocks = λ on. cc on;
               volume = λ on. cc on;
               files = λ on. cc;
+              mappings = λ on. cc on;
               device = record {
                 metadata = subst (MetadataStands geo mid.medium) good metadata;
                 blocks = λ _.
@@ -120,6 +121,7 @@ module _ (host : HostState) (choice : Choice) (old mid : Device) (start : Start)
               blocks = λ on. cc on;
               volume = λ on. cc on;
               files = λ on. cc;
+              mappings = λ on. cc on;
               device = record {
                 metadata = subst (MetadataStands geo mid.medium) bad metadata;
                 blocks = λ none. cc none;

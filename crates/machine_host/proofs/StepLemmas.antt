@@ -54,7 +54,7 @@ abbrev pub PagesAre : HostState → Device → Machine → List Page → Type 0
 PagesAre host d h pages = (h.bad_meta ≡ [] → EachReadsPages h.geometry d.medium (λ x. x ≡ pages)) × VolumeHolds host.volume d.medium pages
 
 abbrev pub FilesAre : HostState → Device → Machine → List File → Type 0
-FilesAre host d h files = (h.bad_meta ≡ [] → EachReadsFiles h.geometry d.medium (λ x. x ≡ files)) × FilesStand host.files.journal.geo d.medium host.files.journal.tables files
+FilesAre host d h files = (h.bad_meta ≡ [] → EachReadsFiles h.geometry d.medium (λ x. x ≡ files)) × FilesStand host.files.pages.journal.geo d.medium host.files.pages.journal.tables files
 
 -- Each part stays for what it is, while lines of other parts are worked on.
 module _ (host : HostState) (old new : Device) (h : Machine) (stands : Stands host old h) (serves : HostServes host old) where
@@ -84,15 +84,15 @@ module _ (host : HostState) (old new : Device) (h : Machine) (stands : Stands ho
       )
 
   pub files_aside : ((line : ℕ) → IsOfFiles host.geometry line → LineKept old.medium new.medium line)
-      → (h.bad_meta ≡ [] → EachReadsFiles h.geometry new.medium (MayLeaveFiles h.interrupted h.files)) × (host.mode ≡ modes.On → FilesStand host.files.journal.geo new.medium host.files.journal.tables h.files)
+      → (h.bad_meta ≡ [] → EachReadsFiles h.geometry new.medium (MayLeaveFiles h.mappings h.interrupted h.files)) × (host.mode ≡ modes.On → FilesStand host.files.pages.journal.geo new.medium host.files.pages.journal.tables h.files)
   files_aside kept =
-      let P = MayLeaveFiles h.interrupted h.files in (
+      let P = MayLeaveFiles h.mappings h.interrupted h.files in (
         λ good.
             subst (λ g. EachReadsFiles g new.medium P) stands.geometry
             (files_elsewhere host.geometry old.medium new.medium kept P (subst (λ g. EachReadsFiles g old.medium P) (sym stands.geometry) (stands.device.files good))),
         λ on.
             let mounted = serves.mounted on in
-            files_stand_elsewhere host.geometry old.medium new.medium kept host.files.journal h.files mounted.journal_geometry mounted.journal_right (stands.files on),
+            files_stand_elsewhere host.geometry old.medium new.medium kept host.files.pages.journal h.files mounted.journal_geometry mounted.journal_right (stands.files on),
       )
 
   -- With the power on nothing is interrupted.
@@ -113,14 +113,14 @@ module _ (host : HostState) (old new : Device) (h : Machine) (stands : Stands ho
     pub files_still : ((line : ℕ) → IsOfFiles host.geometry line → LineKept old.medium new.medium line) → FilesAre host new h h.files
     files_still lines =
         let kept = files_aside lines in
-        (λ good. subst (λ interrupted. EachReadsFiles h.geometry new.medium (MayLeaveFiles interrupted h.files)) is_whole (kept.0 good), kept.1 on)
+        (λ good. subst (λ interrupted. EachReadsFiles h.geometry new.medium (MayLeaveFiles h.mappings interrupted h.files)) is_whole (kept.0 good), kept.1 on)
 
 -- what an interrupted action left on the device
 pub record DeviceLeft (h : Machine) (action : Action) (new : Medium) : Type 0 where
   pub metadata : MetadataStands h.geometry new h.bad_meta
   pub blocks : h.bad_meta ≡ [] → EachReads h.geometry new (MayLeaveBlocks (Some action) h.blocks)
   pub volume : h.bad_meta ≡ [] → EachReadsPages h.geometry new (MayLeaveVolume h.geometry (Some action) h.volume)
-  pub files : h.bad_meta ≡ [] → EachReadsFiles h.geometry new (MayLeaveFiles (Some action) h.files)
+  pub files : h.bad_meta ≡ [] → EachReadsFiles h.geometry new (MayLeaveFiles h.mappings (Some action) h.files)
 
 module _ (host after : HostState) (old new : Device) (h : Machine) (action : Action) (stands : Stands host old h) (on : host.mode ≡ modes.On)
     (calls persists : ℕ) (few : calls ≤ (spending h action).calls) (few_persists : persists ≤ (spending h action).persists) (same : after.geometry ≡ host.geometry) where
@@ -135,10 +135,10 @@ module _ (host after : HostState) (old new : Device) (h : Machine) (action : Act
     stands = now;
   }
 
-  -- the state after it, where blocks, pages and files are these
-  pub stands_done : (bs : List Block) (pages : List Page) (files : List File) → after.mode ≡ modes.On → Runs calls persists went old.panel new.panel → MetadataStands h.geometry new.medium h.bad_meta
+  -- the state after it, where blocks, pages and files are these, and the mappings as they were
+  pub stands_done : after.files.mappings ≡ host.files.mappings → (bs : List Block) (pages : List Page) (files : List File) → after.mode ≡ modes.On → Runs calls persists went old.panel new.panel → MetadataStands h.geometry new.medium h.bad_meta
       → BlocksAre after new h bs → PagesAre after new h pages → FilesAre after new h files → Stands after new (record h { blocks = bs; volume = pages; files = files })
-  stands_done bs pages files mode runs metadata blocks_are pages_are files_are =
+  stands_done maps bs pages files mode runs metadata blocks_are pages_are files_are =
       let whole = stands.device.whole (sym stands.mode ∙ on) in
       record {
         geometry = same ∙ stands.geometry;
@@ -146,11 +146,12 @@ module _ (host after : HostState) (old new : Device) (h : Machine) (action : Act
         blocks = λ _. blocks_are.1;
         volume = λ _. pages_are.1;
         files = λ _. files_are.1;
+        mappings = λ _. maps ∙ stands.mappings on;
         device = record {
           metadata = metadata;
           blocks = λ good. subst (λ interrupted. EachReads h.geometry new.medium (MayLeaveBlocks interrupted bs)) (sym whole) (blocks_are.0 good);
           volume = λ good. subst (λ interrupted. EachReadsPages h.geometry new.medium (MayLeaveVolume h.geometry interrupted pages)) (sym whole) (pages_are.0 good);
-          files = λ good. subst (λ interrupted. EachReadsFiles h.geometry new.medium (MayLeaveFiles interrupted files)) (sym whole) (files_are.0 good);
+          files = λ good. subst (λ interrupted. EachReadsFiles h.geometry new.medium (MayLeaveFiles h.mappings interrupted files)) (sym whole) (files_are.0 good);
           power = runs.cause.0 ∙ stands.device.power;
           cut_armed = runs.cause.2 ∙ stands.device.cut_armed;
           fail_armed = runs.cause.3 ∙ stands.device.fail_armed;
@@ -178,6 +179,7 @@ module _ (host after : HostState) (old new : Device) (h : Machine) (action : Act
       blocks = λ is_on. absurd (never_on by (sym mode ∙ is_on));
       volume = λ is_on. absurd (never_on by (sym mode ∙ is_on));
       files = λ is_on. absurd (never_on by (sym mode ∙ is_on));
+      mappings = λ is_on. absurd (never_on by (sym mode ∙ is_on));
       device = record {
         metadata = left.metadata;
         blocks = left.blocks;
@@ -193,7 +195,7 @@ module _ (host after : HostState) (old new : Device) (h : Machine) (action : Act
   }
 
 -- what stands while all is only written back, in another mode and with other flags
-written_back : (host : HostState) (old new : Device) (h next : Machine) → Stands host old h → HostServes host old → WritesBack old.medium new.medium → (next ≡ record h { mode = next.mode; cut_armed = next.cut_armed; fail_armed = next.fail_armed })
+pub written_back : (host : HostState) (old new : Device) (h next : Machine) → Stands host old h → HostServes host old → WritesBack old.medium new.medium → (next ≡ record h { mode = next.mode; cut_armed = next.cut_armed; fail_armed = next.fail_armed })
     → new.panel.power ≡ is_powered next.mode → new.panel.cut_armed ≡ next.cut_armed → new.panel.fail_armed ≡ next.fail_armed → (next.mode ≡ modes.On → h.mode ≡ modes.On)
     → (next.mode ≡ modes.Stopped → h.mode ≡ modes.Stopped) → Stands (record host { mode = next.mode }) new next
 written_back host old new h next stands serves write_back is power cut fail mode stop =
@@ -207,6 +209,7 @@ written_back host old new h next stands serves write_back is power cut fail mode
       blocks = λ on. kept.1 (stands.mode ∙ mode on);
       volume = λ on. pages.1 (stands.mode ∙ mode on);
       files = λ on. listed.1 (stands.mode ∙ mode on);
+      mappings = λ on. stands.mappings (stands.mode ∙ mode on);
       device = record {
         metadata = metadata-then h.geometry old.medium new.medium h.bad_meta (layout-write_back h.geometry old.medium new.medium stands.device.metadata.layout write_back) (λ n below. write_back.bad n) stands.device.metadata;
         blocks = kept.0;

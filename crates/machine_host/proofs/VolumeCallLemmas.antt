@@ -1,5 +1,5 @@
 -- What a host and its device stand for, after a call on the volume.
-use Rattle.std.proofs.Common.{◌≡◌, ◌≢◌, ◌==◌, ◌<◌, ◌≤◌, ℕ, Bool, true, false, IsTrue, inl, Option, Some, None, option_map, option_and_then, is_none, Result, Ok, Err, OnOk, List, [], refl, sym, ap, subst, ◌∙◌, arith}
+use Rattle.std.proofs.Common.{◌≡◌, ◌≢◌, ◌==◌, ◌<◌, ◌≤◌, ℕ, Bool, true, false, IsTrue, Option, Some, None, option_map, option_and_then, is_none, Result, Ok, Err, OnOk, List, [], refl, sym, ap, subst, ◌∙◌, arith}
 use Rattle.line_device.specs.Medium.{Medium}
 use Rattle.line_device.specs.Panel.{Runs}
 use Rattle.line_device.specs.Device.{Device}
@@ -98,7 +98,7 @@ printable_refusal (Poison offset) = tt
 pub volume_part : IsPart volume_says volume_answer
 volume_part = record { printable = printable_refusal; quiet = no_stop; short = short_refusal; fed = never_starves }
 
-pub short_after : {E R : Type 0} (says : E → Told R) (answer_to : R → Answer) → IsPart says answer_to → (good : Answer) → most_of good ≤ 72 → (r : Result (Unit {0}) E) → most_of (answer_after says answer_to good r) ≤ 72
+pub short_after : {T E R : Type 0} (says : E → Told R) (answer_to : R → Answer) → IsPart says answer_to → (good : Answer) → most_of good ≤ 72 → (r : Result T E) → most_of (answer_after says answer_to good r) ≤ 72
 short_after says answer_to part good short (Ok x) = short
 short_after says answer_to part good short (Err f) = short_told answer_to part.short (says f)
 
@@ -160,7 +160,7 @@ module _ {E R : Type 0} (says : E → Told R) (host : HostState) (s : VolumeStat
   stands_worked : {T : Type 0} {may : List Page → List Page → Type 0} (r : Result T E) (pages : List Page) → VolumeCalled says host s r may calls persists old new → OnOk r (VolumeHolds s new.medium pages)
       → OnOk r (Stands (volume_after host s On) new (record h { volume = pages }))
   stands_worked (Ok x) pages c holds =
-      stands_done host (volume_after host s On) old new h action stands on calls persists few few_persists refl h.blocks pages h.files refl c.runs (metadata_after c.outside c.marks)
+      stands_done host (volume_after host s On) old new h action stands on calls persists few few_persists refl refl h.blocks pages h.files refl c.runs (metadata_after c.outside c.marks)
       (blocks_after c.outside)
       (λ good. subst (λ g. EachReadsPages g new.medium (λ x. x ≡ pages)) (c.sizes ∙ geo_is) (served_pages s new.medium pages (c.serves c.settled) holds), holds)
       (files_after c.outside)
@@ -172,7 +172,7 @@ module _ {E R : Type 0} (says : E → Told R) (host : HostState) (s : VolumeStat
     metadata = metadata_after outside marks;
     blocks = λ good. each_reads-then h.geometry new.medium (λ bs. bs ≡ h.blocks) (MayLeaveBlocks (Some action) h.blocks) kept ((blocks_after outside).0 good);
     volume = λ good. subst (λ g. EachReadsPages g new.medium (MayLeaveVolume g (Some action) h.volume)) geo_is each;
-    files = λ good. each_files-then h.geometry new.medium (λ files. files ≡ h.files) (MayLeaveFiles (Some action) h.files) (may_leave-same (Some action) h.files) ((files_after outside).0 good);
+    files = λ good. each_files-then h.geometry new.medium (λ files. files ≡ h.files) (MayLeaveFiles h.mappings (Some action) h.files) (may_leave-same h.mappings (Some action) h.files) ((files_after outside).0 good);
   }
 
   left_worked : {T : Type 0} (r : Result T E) → ((bs : List Block) → bs ≡ h.blocks → MayLeaveBlocks (Some action) h.blocks bs)

@@ -5,11 +5,11 @@ use Rattle.nvm_model.specs.Files.{OneFileLeft}
 use Rattle.nvm_model.specs.Interrupted.{MayStore, MaySync}
 use Rattle.nvm_model.specs.Numbered.{AreMixed}
 use Rattle.nvm_model.specs.Page.{Page}
-use Rattle.nvm_model.specs.Storage.{Block, File}
+use Rattle.nvm_model.specs.Storage.{Block, File, Mapping}
 use Rattle.block_device.specs.Images.{IsEither}
 use Rattle.word_tables.specs.declared.geometry.Geometry.{Geometry}
 use Rattle.script_text.specs.Action.{Action}
-use Rattle.script_text.specs.Action.Action.{BRead, BWrite, BAtomic, BMulti, BDiscard, BDiscardIf, BExists, BScar, VLoad, VStore, VSync, VRanges, VPSync, VDiscard, VDiscardIf, VExists, Create, Delete, Rename, Resize, ListFiles, PoisonBlock, PoisonVolume, PoisonMeta, WeakenVolume, ClearVolume, Cut, CutIn, FailIn, Restart, Recover}
+use Rattle.script_text.specs.Action.Action.{BRead, BWrite, BAtomic, BMulti, BDiscard, BDiscardIf, BExists, BScar, VLoad, VStore, VSync, VRanges, VPSync, VDiscard, VDiscardIf, VExists, Create, Delete, Rename, Resize, ListFiles, FRead, FWrite, Map, Unmap, Load, Store, PoisonBlock, PoisonVolume, PoisonMeta, WeakenVolume, ClearVolume, Cut, CutIn, FailIn, Restart, Recover}
 use Rattle.reply_text.specs.Answer.{Answer}
 use Rattle.reply_text.specs.Answer.Answer.{Refused}
 use Rattle.machine_host.specs.declared.mode.Mode.{Mode}
@@ -23,6 +23,8 @@ use Rattle.machine_host.specs.Meaning.VolumeLeft.{Kept, PartStored, PartSynced, 
 use Rattle.machine_host.specs.OnBlocks as on_blocks
 use Rattle.machine_host.specs.OnVolume as on_volume
 use Rattle.machine_host.specs.OnFiles as on_files
+use Rattle.machine_host.specs.OnPages as on_file_pages
+use Rattle.machine_host.specs.OnMappings as on_mappings
 use Rattle.machine_host.specs.OnMedia as on_media
 use Rattle.machine_host.specs.OnPower as on_power
 
@@ -48,6 +50,12 @@ meaning (Delete name) = on_files.delete name
 meaning (Rename name to) = on_files.rename name to
 meaning (Resize name pages) = on_files.resize name pages
 meaning ListFiles = on_files.list_files
+meaning (FRead name offset len) = on_file_pages.fread name offset len
+meaning (FWrite name offset bytes) = on_file_pages.fwrite name offset bytes
+meaning (Map name span kind) = on_mappings.map_file name span kind
+meaning (Unmap handle) = on_mappings.unmap handle
+meaning (Load handle offset len) = on_mappings.load handle offset len
+meaning (Store handle offset bytes) = on_mappings.store handle offset bytes
 meaning (PoisonBlock block line) = on_media.poison_block block line
 meaning (PoisonVolume offset) = on_media.poison_volume offset
 meaning (PoisonMeta line) = on_media.poison_meta line
@@ -114,6 +122,6 @@ abbrev pub MayLeaveVolume : Geometry → Option Action → List Page → List Pa
 MayLeaveVolume geo None old new = new ≡ old
 MayLeaveVolume geo (Some action) old new = LeavesVolume ((meaning action).volume_left geo) old ((meaning action).volume geo old) new
 
-abbrev pub MayLeaveFiles : Option Action → List File → List File → Type 0
-MayLeaveFiles None old new = new ≡ old
-MayLeaveFiles (Some action) old new = LeavesFiles (meaning action).files_left old ((meaning action).files old) new
+abbrev pub MayLeaveFiles : List Mapping → Option Action → List File → List File → Type 0
+MayLeaveFiles mappings None old new = new ≡ old
+MayLeaveFiles mappings (Some action) old new = LeavesFiles ((meaning action).files_left mappings) old ((meaning action).files mappings old) new

@@ -18,6 +18,8 @@ use Rattle.file_journal.specs.Object.{JournalState}
 use Rattle.file_journal.specs.Standing.{FilesStand}
 use Rattle.file_journal.specs.declared.fault.JournalFault.{JournalFault}
 use Rattle.file_journal.specs.Refusals.{journal_says}
+use Rattle.file_pages.specs.declared.fault.PageFault.{PageFault}
+use Rattle.file_pages.specs.Refusals.{page_says}
 use Rattle.pm_volume.specs.Object.{VolumeState, VolumeHolds}
 use Rattle.block_device.specs.declared.fault.BlockFault.{BlockFault}
 use Rattle.block_device.specs.Refusals.{block_says}
@@ -29,6 +31,10 @@ use Rattle.machine_host.specs.Machine.{Machine}
 use Rattle.machine_host.specs.OnBlocks.{refusal_answer}
 use Rattle.machine_host.specs.OnVolume.{volume_answer}
 use Rattle.machine_host.specs.OnFiles.{journal_answer}
+use Rattle.machine_host.specs.OnPages.{page_answer}
+use Rattle.machine_host.specs.OnMappings.{map_answer}
+use Rattle.mappings.specs.Refusals.{map_says}
+use Rattle.mappings.specs.declared.fault.MapFault.{MapFault}
 use Rattle.pm_volume.specs.declared.fault.VolumeFault.{VolumeFault}
 use Rattle.pm_volume.specs.Refusals.{volume_says}
 use Rattle.machine_host.specs.Commands.{meaning}
@@ -69,7 +75,7 @@ LeavesStarved Unrecovered host after old new = LeftUnrecovered host after old ne
 abbrev pub Leaves : Action → HostState → HostState → Device → Device → Type 0
 Leaves action = LeavesStarved (meaning action).starved
 
--- the mode after a call whose fault told this, and what it is answered; no call on blocks, volume or files wants memory
+-- the mode after a call whose fault told this, and what it is answered; of all calls only a mapping wants memory, and is not answered then
 abbrev pub told_mode : {R : Type 0} → Mode → Told R → Mode
 told_mode mode (Refuses why) = mode
 told_mode mode (Stops by) = interrupted_mode by
@@ -98,6 +104,20 @@ journal_fault_mode mode fault = told_mode mode (journal_says fault)
 
 abbrev pub journal_fault_answer : JournalFault → Answer
 journal_fault_answer fault = told_answer journal_answer (journal_says fault)
+
+-- and of the pages of the file of that name
+abbrev pub page_fault_mode : Mode → PageFault → Mode
+page_fault_mode mode fault = told_mode mode (page_says fault)
+
+abbrev pub page_fault_answer : List ℕ → PageFault → Answer
+page_fault_answer name fault = told_answer (page_answer name) (page_says fault)
+
+-- and of the mappings
+abbrev pub map_fault_mode : Mode → MapFault → Mode
+map_fault_mode mode fault = told_mode mode (map_says fault)
+
+abbrev pub map_fault_answer : List ℕ → MapFault → Answer
+map_fault_answer name fault = told_answer (map_answer name) (map_says fault)
 
 -- the mode after a call whose faults say this, and what it is answered where it gives that at Ok
 abbrev pub mode_after : {T E R : Type 0} → (E → Told R) → Result T E → Mode

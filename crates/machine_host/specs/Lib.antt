@@ -5,6 +5,8 @@ pub mod Meaning
 pub mod OnBlocks
 pub mod OnVolume
 pub mod OnFiles
+pub mod OnPages
+pub mod OnMappings
 pub mod OnMedia
 pub mod OnPower
 pub mod Commands
@@ -25,3 +27,5 @@ pub mod VolumeRows
 pub mod MediaRows
 pub mod FailureRows
 pub mod FileRows
+pub mod MappingRows
+pub mod PageRows

@@ -4,7 +4,7 @@ use Rattle.line_device.specs.declared.line.Choice.{Choice}
 use Rattle.word_tables.specs.declared.geometry.Geometry.{Geometry}
 use Rattle.nvm_model.specs.Blocks.{first_there}
 use Rattle.nvm_model.specs.Page.{Page}
-use Rattle.nvm_model.specs.Storage.{Block, File}
+use Rattle.nvm_model.specs.Storage.{Block, File, Mapping}
 use Rattle.reply_text.specs.declared.reply.Why.{Why}
 use Rattle.reply_text.specs.declared.reply.Why.TheVariants as because
 use Rattle.reply_text.specs.Answer.{Answer}
@@ -58,8 +58,8 @@ pub data Starved : Type 0 where
   Unrecovered : Starved
 
 -- A command: the mode that it needs, the places that the host looks at before anything else does, all that refuses it, what
--- comes of it where nothing does, what it makes of blocks, volume and files, what an interruption may leave of them and want of
--- memory of all, what it may spend, and the room of its reply.
+-- comes of it where nothing does, what it makes of blocks, volume and files (of which a handle names one by the mappings), what an
+-- interruption may leave of them and want of memory of all, what it may spend, and the room of its reply.
 pub record Meaning : Type 0 where
   pub needs : Needs
   pub checked : Geometry → Option Why
@@ -67,10 +67,10 @@ pub record Meaning : Type 0 where
   pub comes : Machine → Fate
   pub blocks : List Block → List Block
   pub volume : Geometry → List Page → List Page
-  pub files : List File → List File
+  pub files : List Mapping → List File → List File
   pub blocks_left : BlocksLeft
   pub volume_left : Geometry → VolumeLeft
-  pub files_left : FilesLeft
+  pub files_left : List Mapping → FilesLeft
   pub starved : Starved
   pub spends : Machine → Spending
   pub room : ℕ
@@ -88,10 +88,10 @@ quiet needs checked comes = record {
   comes = comes;
   blocks = λ blocks. blocks;
   volume = λ geo pages. pages;
-  files = λ files. files;
+  files = λ mappings files. files;
   blocks_left = Same;
   volume_left = λ geo. Kept;
-  files_left = Unchanged;
+  files_left = λ mappings. Unchanged;
   starved = Untouched;
   spends = λ h. no_spending;
   room = 72;

@@ -9,7 +9,7 @@ use Rattle.machine_host.specs.Restarting.{holding, stopped_by}
 pub record IsRemounted (h next : Machine) : Type 0 where
   pub blocks : MayLeaveBlocks h.interrupted h.blocks next.blocks
   pub volume : MayLeaveVolume h.geometry h.interrupted h.volume next.volume
-  pub files : MayLeaveFiles h.interrupted h.files next.files
+  pub files : MayLeaveFiles h.mappings h.interrupted h.files next.files
   pub state : next ≡ record (holding h.geometry next.blocks next.volume next.files) { cut_armed = h.cut_armed; fail_armed = h.fail_armed }
 
 -- the state after it, by the bad lines of metadata

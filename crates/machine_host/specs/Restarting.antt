@@ -68,7 +68,7 @@ pub record MayLeaveStorage (choice : Choice) (image : Image) (h : Machine) : Typ
   pub there : presence_of left ≡ presence_read h.geometry image.word
   pub volume : KeepsPages choice (volume_line h.geometry) image left
   pub files_left : List File
-  pub may_files : MayLeaveFiles h.interrupted h.files files_left
+  pub may_files : MayLeaveFiles h.mappings h.interrupted h.files files_left
   pub files : KeepsFiles choice h.geometry image files_left
 
 -- What a restart may leave of a state: the same lines of metadata bad, and that of storage where there are none.

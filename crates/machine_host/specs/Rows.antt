@@ -45,7 +45,7 @@ pub record Rows : Type 0 where
       (leaving Lasts (with_page 0 506381209866536711) ∷ []) (codes "ok" ∷ codes "ok" ∷ codes "ok bad 0" ∷ codes "data 07*8" ∷ [])
   pub refusals_in_order : Writes
       (text (codes "vload 8184 8" ∷ codes "vload 8188 8" ∷ codes "vload 0 0" ∷ codes "restart all" ∷ codes "cut" ∷ codes "vload 0 1"
-      ∷ codes "fread a 0 1" ∷ []))
+      ∷ codes "fread a 0" ∷ []))
       []
       (codes "data 00*8" ∷ codes "refused range" ∷ codes "refused length" ∷ codes "refused on" ∷ codes "ok" ∷ codes "refused off"
       ∷ codes "refused syntax" ∷ [])

@@ -1,13 +1,15 @@
 -- When a host and its device stand for a state of the machine, and what one step is.
-use Rattle.std.specs.Prelude.{◌≡◌, ◌≢◌, ◌/◌, ◌<◌, ◌++◌, ℕ, Bool, true, false, IsTrue, List, [], ◌∷◌, None}
+use Rattle.std.specs.Prelude.{◌≡◌, ◌≢◌, ◌+◌, ◌*◌, ◌/◌, ◌<◌, ◌≤◌, ◌++◌, ℕ, Bool, true, false, IsTrue, List, [], ◌∷◌, Option, Some, None}
 use Rattle.line_device.specs.Medium.{Medium, last_image}
 use Rattle.line_device.specs.Device.{Device}
 use Rattle.line_words.specs.Words.{IsOnly}
+use Rattle.nvm_base.specs.declared.files.FileEntry.{FileEntry}
 use Rattle.word_tables.specs.declared.geometry.Geometry.{Geometry}
 use Rattle.block_device.specs.Object.{BlocksState, BlocksServe, blocks_of}
 use Rattle.block_device.specs.Images.{AreReadable, EachReads}
 use Rattle.script_text.specs.Action.{Action}
 use Rattle.reply_text.specs.Answer.{Answer, answer_line}
+use Rattle.machine_host.specs.declared.held.HeldFiles.{HeldFiles}
 use Rattle.machine_host.specs.declared.mode.Mode.{Mode}
 use Rattle.machine_host.specs.declared.mode.Mode.TheVariants as modes
 use Rattle.machine_host.specs.Machine.{Machine, Fate}
@@ -18,7 +20,9 @@ use Rattle.machine_host.specs.Lines.{HasLayout, MetadataStands, bad_metadata}
 use Rattle.file_journal.specs.Object.{JournalServes, JournalState}
 use Rattle.file_journal.specs.Standing.{EachReadsFiles, FilesStand}
 use Rattle.file_journal.specs.Tables.{AreTables, known_units}
-use Rattle.file_pages.specs.Object.{PagesState}
+use Rattle.inode_table.specs.Slots.{inode_of, pages_at}
+use Rattle.nvm_model.specs.Storage.{Mapping}
+use Rattle.mappings.specs.Object.{MappingsState}
 use Rattle.pm_volume.specs.Images.{EachReadsPages}
 use Rattle.pm_volume.specs.Object.{VolumeState, VolumeHolds, VolumeServes}
 
@@ -28,7 +32,7 @@ pub record HostState : Type 0 where
   pub mode : Mode
   pub blocks : BlocksState
   pub volume : VolumeState
-  pub files : PagesState
+  pub files : HeldFiles
 
 -- whether the power is on in a mode
 abbrev pub is_powered : Mode → Bool
@@ -37,24 +41,44 @@ is_powered modes.Off = false
 is_powered modes.Unsettled = true
 is_powered modes.Stopped = true
 
--- files as they were just mounted
-abbrev pub just_mounted : JournalState → PagesState
-just_mounted j = record { journal = j; settled = true }
+-- no mappings, and handles from 0 on
+abbrev pub no_mappings : MappingsState
+no_mappings = record { mappings = []; next = 0 }
 
--- the mounted blocks, volume and files are those of the device, ready for the next call
-pub record AreMounted (geo : Geometry) (b : BlocksState) (v : VolumeState) (p : PagesState) (m : Medium) : Type 0 where
+-- files as they were just mounted
+abbrev pub just_mounted : JournalState → HeldFiles
+just_mounted j = record { pages = record { journal = j; settled = true }; mappings = no_mappings }
+
+-- the mappings of a state, and its next handle
+abbrev pub mappings_of : Machine → MappingsState
+mappings_of h = record { mappings = h.mappings; next = h.next_handle }
+
+-- the file of a mapping is there, and has its stretch
+pub record IsOnFile (slots : List (Option FileEntry)) (m : Mapping) : Type 0 where
+  pub inode : ℕ
+  pub found : inode_of m.name slots ≡ Some inode
+  pub within : m.start + m.len ≤ 4096 * pages_at slots inode
+
+-- each of these mappings has it
+abbrev pub EachMapping : (Mapping → Type 0) → List Mapping → Type 0
+EachMapping P [] = Unit {0}
+EachMapping P (m ∷ ms) = P m × EachMapping P ms
+
+-- the mounted blocks, volume and files are those of the device, ready for the next call, and each mapping is on a file
+pub record AreMounted (geo : Geometry) (b : BlocksState) (v : VolumeState) (f : HeldFiles) (m : Medium) : Type 0 where
   pub geometry : b.geo ≡ geo
   pub settled : IsTrue b.settled
   pub serves : BlocksServe b m
   pub volume_geometry : v.geo ≡ geo
   pub volume_settled : IsTrue v.settled
   pub volume_serves : VolumeServes v m
-  pub journal_geometry : p.journal.geo ≡ geo
-  pub journal_settled : IsTrue p.journal.settled
-  pub journal_serves : JournalServes p.journal m
-  pub journal_right : AreTables geo.fpages p.journal.tables
-  pub journal_held : known_units p.journal.tables.pages p.journal.free ≡ geo.fpages
-  pub pages_settled : IsTrue p.settled
+  pub journal_geometry : f.pages.journal.geo ≡ geo
+  pub journal_settled : IsTrue f.pages.journal.settled
+  pub journal_serves : JournalServes f.pages.journal m
+  pub journal_right : AreTables geo.fpages f.pages.journal.tables
+  pub journal_held : known_units f.pages.journal.tables.pages f.pages.journal.free ≡ geo.fpages
+  pub pages_settled : IsTrue f.pages.settled
+  pub mapped : EachMapping (IsOnFile f.pages.journal.tables.files) f.mappings.mappings
 
 -- The host may command the device: it has the lines of the host's sizes, and blocks can be read in each image, where no line of
 -- metadata is bad. Its power is off exactly in mode Off, in mode On all storage is mounted, and in mode Stopped a line of
@@ -76,20 +100,21 @@ pub record DeviceStands (d : Device) (h : Machine) : Type 0 where
   pub metadata : MetadataStands h.geometry d.medium h.bad_meta
   pub blocks : h.bad_meta ≡ [] → EachReads h.geometry d.medium (MayLeaveBlocks h.interrupted h.blocks)
   pub volume : h.bad_meta ≡ [] → EachReadsPages h.geometry d.medium (MayLeaveVolume h.geometry h.interrupted h.volume)
-  pub files : h.bad_meta ≡ [] → EachReadsFiles h.geometry d.medium (MayLeaveFiles h.interrupted h.files)
+  pub files : h.bad_meta ≡ [] → EachReadsFiles h.geometry d.medium (MayLeaveFiles h.mappings h.interrupted h.files)
   pub power : d.panel.power ≡ is_powered h.mode
   pub cut_armed : d.panel.cut_armed ≡ h.cut_armed
   pub fail_armed : d.panel.fail_armed ≡ h.fail_armed
   pub whole : h.mode ≡ modes.On → h.interrupted ≡ None
   pub stopped : h.mode ≡ modes.Stopped → h.bad_meta ≢ []
 
--- and the host is in its mode, and sees its blocks, pages and files
+-- and the host is in its mode, and sees its blocks, pages, files and mappings
 pub record Stands (host : HostState) (d : Device) (h : Machine) : Type 0 where
   pub geometry : host.geometry ≡ h.geometry
   pub mode : host.mode ≡ h.mode
   pub blocks : host.mode ≡ modes.On → blocks_of host.blocks d.medium ≡ h.blocks
   pub volume : host.mode ≡ modes.On → VolumeHolds host.volume d.medium h.volume
-  pub files : host.mode ≡ modes.On → FilesStand host.files.journal.geo d.medium host.files.journal.tables h.files
+  pub files : host.mode ≡ modes.On → FilesStand host.files.pages.journal.geo d.medium host.files.pages.journal.tables h.files
+  pub mappings : host.mode ≡ modes.On → host.files.mappings ≡ mappings_of h
   pub device : DeviceStands d h
 
 -- The command came to this in h: the device tells what was said, and stands for the state after.

@@ -2,7 +2,9 @@
 mod blocks;
 mod commands;
 mod files;
+mod mapped;
 mod media;
+mod pages;
 mod power;
 mod refusals;
 mod settling;
@@ -11,9 +13,9 @@ mod tests;
 mod volume;
 
 use crate::Mode;
+use crate::held::HeldFiles;
 use block_device::Blocks;
 use commands::longest_reply;
-use file_pages::FilePages;
 use line_device::LineDevice;
 use nvm_base::Bytes;
 use pm_volume::Volume;
@@ -32,7 +34,7 @@ pub struct Host {
     mode: Mode,
     blocks: Blocks,
     volume: Volume,
-    files: FilePages,
+    files: HeldFiles,
 }
 
 impl Model for Host {
@@ -80,7 +82,7 @@ impl Host {
             ≡ blocks_read (geometry_told (D.state device.old).medium) (D.state device.old).medium.is_bad
             (last_image (D.state device.old).medium))
             × (host.volume.present ≡ presence_read (geometry_told (D.state device.old).medium) (last_image (D.state device.old).medium))
-            × (host.files.journal.tables ≡ tables_read (geometry_told (D.state device.old).medium) (last_image (D.state device.old).medium))) }
+            × (host.files.pages.journal.tables ≡ tables_read (geometry_told (D.state device.old).medium) (last_image (D.state device.old).medium))) }
         ensures finds { Finds (first_finding (D.state device.old).medium) result }
         ensures lines { WritesBackOutside (IsOfLogs (geometry_told (D.state device.old).medium))
             (D.state device.old).medium (D.state device.new).medium }
@@ -108,7 +110,7 @@ impl Host {
             mode: Mode::On,
             blocks: mounted.blocks,
             volume: mounted.volume,
-            files: FilePages::from(mounted.journal),
+            files: HeldFiles::of(alloc, mounted.journal),
         })
     }
 

@@ -1,6 +1,7 @@
 //! The host of one machine over a line device: script text to commands, a command to device calls, an answer to text.
 #![tactic(auto)]
 
+mod held;
 mod host;
 mod mode;
 mod needs;
@@ -8,4 +9,6 @@ mod rows;
 
 pub use host::Host;
 pub use mode::Mode;
-pub use rows::{worked_cuts, worked_failures, worked_files, worked_scripts};
+pub use rows::{
+    worked_cuts, worked_failures, worked_files, worked_mappings, worked_pages, worked_scripts,
+};

@@ -5,6 +5,8 @@ ghost use Rattle.machine_host.specs.VolumeRows.{VolumeRows, VolumeRuns};
 ghost use Rattle.machine_host.specs.MediaRows.{MediaRows};
 ghost use Rattle.machine_host.specs.FailureRows.{FailureRows, FailureRuns};
 ghost use Rattle.machine_host.specs.FileRows.{FileRows, FileRuns};
+ghost use Rattle.machine_host.specs.PageRows.{PageRows, PageRuns};
+ghost use Rattle.machine_host.specs.MappingRows.{MappingRows};
 
 /// What the machine writes for the worked scripts.
 pub fn worked_scripts()
@@ -31,4 +33,15 @@ pub fn worked_failures()
 pub fn worked_files()
     ensures files { FileRows }
     ensures may_change { FileRuns }
+{}
+
+/// What it writes for those with the bytes of files, and what it may write after a cut in a store.
+pub fn worked_pages()
+    ensures bytes { PageRows }
+    ensures may_store { PageRuns }
+{}
+
+/// What it writes for those with mappings of files.
+pub fn worked_mappings()
+    ensures mappings { MappingRows }
 {}

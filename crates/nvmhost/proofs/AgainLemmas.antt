@@ -145,7 +145,7 @@ module _ (h : Machine) (m : Medium) (lines : List LineState) (sound : IsSound m)
 
   module _ (each_block : h.bad_meta ≡ [] → EachReads geo m (MayLeaveBlocks h.interrupted h.blocks))
       (each_page : h.bad_meta ≡ [] → EachReadsPages geo m (MayLeaveVolume geo h.interrupted h.volume))
-      (each_file : h.bad_meta ≡ [] → EachReadsFiles geo m (MayLeaveFiles h.interrupted h.files)) where
+      (each_file : h.bad_meta ≡ [] → EachReadsFiles geo m (MayLeaveFiles h.mappings h.interrupted h.files)) where
     own_blocks : h.bad_meta ≡ [] → EachReads geo own (MayLeaveBlocks h.interrupted h.blocks)
     own_blocks none =
         let valid = stands.layout.valid in
@@ -154,8 +154,8 @@ module _ (h : Machine) (m : Medium) (lines : List LineState) (sound : IsSound m)
     own_pages : h.bad_meta ≡ [] → EachReadsPages geo own (MayLeaveVolume geo h.interrupted h.volume)
     own_pages none = pages_elsewhere geo m own stands.layout.valid (λ k of. kept_of k (volume_within geo k of)) (MayLeaveVolume geo h.interrupted h.volume) (each_page none)
 
-    own_files : h.bad_meta ≡ [] → EachReadsFiles geo own (MayLeaveFiles h.interrupted h.files)
-    own_files none = files_elsewhere geo m own (λ k of. kept_of k (files_within geo k of)) (MayLeaveFiles h.interrupted h.files) (each_file none)
+    own_files : h.bad_meta ≡ [] → EachReadsFiles geo own (MayLeaveFiles h.mappings h.interrupted h.files)
+    own_files none = files_elsewhere geo m own (λ k of. kept_of k (files_within geo k of)) (MayLeaveFiles h.mappings h.interrupted h.files) (each_file none)
 
     pub is_read_again : IsReadAgain lines h
     is_read_again = by_lines h.bad_meta refl

@@ -98,7 +98,7 @@ stands-read_out h old new stands w sets power cut fail = record {
       (λ image is. images-kept h.geometry old.medium new.medium (λ p of. line_kept-write_back old.medium new.medium (p / 8) w) image is)
       (λ n below. line_kept-write_back old.medium new.medium (volume_line h.geometry n) w) (stands.volume none);
   files = λ none.
-      files_elsewhere h.geometry old.medium new.medium (λ line of. line_kept-write_back old.medium new.medium line w) (MayLeaveFiles h.interrupted h.files) (stands.files none);
+      files_elsewhere h.geometry old.medium new.medium (λ line of. line_kept-write_back old.medium new.medium line w) (MayLeaveFiles h.mappings h.interrupted h.files) (stands.files none);
   power = power ∙ stands.power;
   cut_armed = stays_off old.panel.cut_armed new.panel.cut_armed (stands.cut_armed ∙ cut) sets.armed.cut ∙ sym cut;
   fail_armed = stays_off old.panel.fail_armed new.panel.fail_armed (stands.fail_armed ∙ fail) sets.armed.fail ∙ sym fail;

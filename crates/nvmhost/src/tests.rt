@@ -10,6 +10,7 @@ use std::test::Fail;
 use test_devices::Recorder;
 
 mod early_ends;
+mod files;
 mod hostile;
 mod stories;
 

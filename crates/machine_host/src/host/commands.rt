@@ -9,7 +9,7 @@ ghost use Rattle.machine_host.specs.Responding.{Responds};
 
 use super::Host;
 use line_device::LineDevice;
-use nvm_base::BLOCK;
+use nvm_base::{BLOCK, MOST};
 use page_table::INODES;
 use reply_text::Reply;
 use script_text::Command;
@@ -23,6 +23,7 @@ pub fn longest_reply(command: &Command) -> u64
     match command {
         Command::BRead { count, .. } => 72 + 3 * (BLOCK * *count),
         Command::VLoad { len, .. } => 72 + 3 * *len,
+        Command::FRead { len, .. } | Command::Load { len, .. } => 72 + 3 * (*len).min(MOST),
         Command::VRanges => 133,
         Command::List => 64 + 54 * INODES,
         Command::BWrite { .. }
@@ -42,6 +43,10 @@ pub fn longest_reply(command: &Command) -> u64
         | Command::Delete { .. }
         | Command::Rename { .. }
         | Command::Resize { .. }
+        | Command::FWrite { .. }
+        | Command::Map { .. }
+        | Command::Unmap { .. }
+        | Command::Store { .. }
         | Command::PoisonBlock { .. }
         | Command::PoisonVolume { .. }
         | Command::PoisonMeta { .. }
@@ -92,6 +97,24 @@ impl Host {
             Command::Rename { name, to } => Ok(self.rename(device, name, to)),
             Command::Resize { name, pages } => Ok(self.resize(device, name, *pages)),
             Command::List => self.list(device),
+            Command::FRead { name, offset, len } => self.fread(device, name, *offset, *len),
+            Command::FWrite {
+                name,
+                offset,
+                bytes,
+            } => Ok(self.fwrite(device, name, *offset, bytes.as_slice())),
+            Command::Map { name, span, kind } => self.map(device, name, *span, *kind),
+            Command::Unmap { handle } => Ok(self.unmap(device, *handle)),
+            Command::Load {
+                handle,
+                offset,
+                len,
+            } => self.load(device, *handle, *offset, *len),
+            Command::Store {
+                handle,
+                offset,
+                bytes,
+            } => Ok(self.store(device, *handle, *offset, bytes.as_slice())),
             Command::PoisonBlock { block, line } => Ok(self.poison_block(device, *block, *line)),
             Command::PoisonVolume { offset } => Ok(self.poison_volume(device, *offset)),
             Command::PoisonMeta { line } => Ok(self.poison_meta(device, *line)),

@@ -1,5 +1,6 @@
 // Commands on files.
-ghost use Rattle.std.specs.Prelude.{◌≡◌};
+ghost use Rattle.std.specs.Prelude.{◌≡◌, false};
+ghost use Rattle.nvm_model.specs.Mappings.{is_mapped};
 ghost use Rattle.machine_host.specs.declared.mode.Mode.TheVariants.{On};
 ghost use Rattle.script_text.specs.Action.Action.{Create, Delete, Rename, Resize, ListFiles};
 ghost use Rattle.reply_text.specs.Answer.{answer_of};
@@ -25,7 +26,7 @@ impl Host {
         ensures { Answered (Create name.now pages) (answer_of result) self.old self.new (D.state device.old) (D.state device.new) }
     {
         let _is_name = name.bytes();
-        let call = self.files.journal_mut().create(device, name, pages);
+        let call = self.files.pages.journal_mut().create(device, name, pages);
         self.journal_answer(call)
     }
 
@@ -34,7 +35,20 @@ impl Host {
         requires on { self.old.mode ≡ On }
         ensures { Answered (Delete name.now) (answer_of result) self.old self.new (D.state device.old) (D.state device.new) }
     {
-        let call = self.files.journal_mut().delete(device, name);
+        if self.files.mappings.has(name) {
+            return Reply::Refused(Why::Mapped);
+        }
+        self.delete_unmapped(device, name)
+    }
+
+    // The same of a file that has no mapping, as in the next two.
+    fn delete_unmapped<D: LineDevice>(&mut self, device: &mut D, name: &Name) -> Reply
+        requires serves { HostServes self.old (D.state device.old) }
+        requires on { self.old.mode ≡ On }
+        requires free { is_mapped name.now self.old.files.mappings.mappings ≡ false }
+        ensures { Answered (Delete name.now) (answer_of result) self.old self.new (D.state device.old) (D.state device.new) }
+    {
+        let call = self.files.pages.journal_mut().delete(device, name);
         self.journal_answer(call)
     }
 
@@ -43,8 +57,23 @@ impl Host {
         requires on { self.old.mode ≡ On }
         ensures { Answered (Rename name.now to.now) (answer_of result) self.old self.new (D.state device.old) (D.state device.new) }
     {
+        if !self.files.mappings.has(name) {
+            return self.rename_unmapped(device, name, to);
+        }
+        if self.files.pages.journal().find(to).is_some() {
+            return Reply::Refused(Why::Exists);
+        }
+        Reply::Refused(Why::Mapped)
+    }
+
+    fn rename_unmapped<D: LineDevice>(&mut self, device: &mut D, name: &Name, to: &Name) -> Reply
+        requires serves { HostServes self.old (D.state device.old) }
+        requires on { self.old.mode ≡ On }
+        requires free { is_mapped name.now self.old.files.mappings.mappings ≡ false }
+        ensures { Answered (Rename name.now to.now) (answer_of result) self.old self.new (D.state device.old) (D.state device.new) }
+    {
         let _is_name = to.bytes();
-        let call = self.files.journal_mut().rename(device, name, to);
+        let call = self.files.pages.journal_mut().rename(device, name, to);
         self.journal_answer(call)
     }
 
@@ -53,7 +82,19 @@ impl Host {
         requires on { self.old.mode ≡ On }
         ensures { Answered (Resize name.now pages) (answer_of result) self.old self.new (D.state device.old) (D.state device.new) }
     {
-        let call = self.files.journal_mut().resize(device, name, pages);
+        if self.files.mappings.has(name) {
+            return Reply::Refused(Why::Mapped);
+        }
+        self.resize_unmapped(device, name, pages)
+    }
+
+    fn resize_unmapped<D: LineDevice>(&mut self, device: &mut D, name: &Name, pages: u64) -> Reply
+        requires serves { HostServes self.old (D.state device.old) }
+        requires on { self.old.mode ≡ On }
+        requires free { is_mapped name.now self.old.files.mappings.mappings ≡ false }
+        ensures { Answered (Resize name.now pages) (answer_of result) self.old self.new (D.state device.old) (D.state device.new) }
+    {
+        let call = self.files.pages.journal_mut().resize(device, name, pages);
         self.journal_answer(call)
     }
 
@@ -62,7 +103,7 @@ impl Host {
         requires on { self.old.mode ≡ On }
         ensures { Responds ListFiles result self.old self.new (D.state device.now) (D.state device.now) }
     {
-        let files = self.files.journal().list(self.alloc)?;
+        let files = self.files.pages.journal().list(self.alloc)?;
         Ok(Reply::Files(files))
     }
 

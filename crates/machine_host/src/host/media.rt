@@ -80,7 +80,12 @@ impl Host {
         requires on { self.now.mode ≡ On }
         ensures { (h : Machine) → Stands self.now (D.state device.now) h → result ≡ bad_of h }
     {
-        bad_count(device, &self.blocks, &self.volume, self.files.journal())
+        bad_count(
+            device,
+            &self.blocks,
+            &self.volume,
+            self.files.pages.journal(),
+        )
     }
 
     // What a clear is answered, and the mode after it.

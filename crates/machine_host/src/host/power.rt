@@ -14,7 +14,7 @@ ghost use Rattle.machine_host.specs.Responding.{Answered, Responds};
 
 use super::Host;
 use crate::Mode;
-use file_pages::FilePages;
+use crate::held::HeldFiles;
 use line_device::{Choice, LineDevice};
 use line_words::Interruption;
 use recovery::{MountFault, Mounted};
@@ -98,7 +98,7 @@ impl Host {
     {
         self.blocks = mounted.blocks;
         self.volume = mounted.volume;
-        self.files = FilePages::from(mounted.journal);
+        self.files = HeldFiles::of(self.alloc, mounted.journal);
         self.mode = Mode::On;
     }
 

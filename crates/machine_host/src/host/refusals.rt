@@ -99,6 +99,12 @@ fn needs(command: &Command) -> Needs
         | Command::Rename { .. }
         | Command::Resize { .. }
         | Command::List
+        | Command::FRead { .. }
+        | Command::FWrite { .. }
+        | Command::Map { .. }
+        | Command::Unmap { .. }
+        | Command::Load { .. }
+        | Command::Store { .. }
         | Command::PoisonBlock { .. }
         | Command::PoisonVolume { .. }
         | Command::WeakenVolume { .. }
@@ -143,6 +149,12 @@ fn place_refusal(geo: Geometry, command: &Command) -> Option<Why>
         | Command::Rename { .. }
         | Command::Resize { .. }
         | Command::List
+        | Command::FRead { .. }
+        | Command::FWrite { .. }
+        | Command::Map { .. }
+        | Command::Unmap { .. }
+        | Command::Load { .. }
+        | Command::Store { .. }
         | Command::PoisonBlock { .. }
         | Command::PoisonVolume { .. }
         | Command::WeakenVolume { .. }
@@ -154,7 +166,7 @@ fn place_refusal(geo: Geometry, command: &Command) -> Option<Why>
 }
 
 // What is wrong with so many of something that a read asks for, where at most so many are read at once.
-fn most_refusal(size: u64, start: u64, len: u64, most: u64) -> Option<Why>
+pub(super) fn most_refusal(size: u64, start: u64, len: u64, most: u64) -> Option<Why>
     requires { start + len < 2 ^ 64 }
     ensures { result ≡ most_refusal most size start len }
 {
@@ -164,7 +176,7 @@ fn most_refusal(size: u64, start: u64, len: u64, most: u64) -> Option<Why>
     }
 }
 
-fn span_refusal(size: u64, offset: u64, len: u64) -> Option<Why>
+pub(super) fn span_refusal(size: u64, offset: u64, len: u64) -> Option<Why>
     requires { offset + len < 2 ^ 64 }
     ensures { result ≡ span_refusal size offset len }
 {

@@ -12,7 +12,7 @@ const TO_ALL_KINDS: &str =
     "ok\nok\npower lost\nok\nrefused device\nok bad 0\nok\nok\nrefused device\nok\nok bad 0\ndata 11*512\nok\ndata aa*4,00*4\nrefused meta 9\nok\nrefused device\nstopped meta 9\nok\nrefused meta 3\nok\nstopped meta 3\nok\n";
 
 /// Lines to draw from, with cuts, failures and media errors.
-pub static LINES: [&str; 48] = [
+pub static LINES: [&str; 54] = [
     "bwrite 0 11*1024\n",
     "batomic 1 22*1024\n",
     "bmulti 0 33*512 3 44*512\n",
@@ -41,6 +41,12 @@ pub static LINES: [&str; 48] = [
     "delete a\n",
     "delete b\n",
     "list\n",
+    "fwrite a 4090 04*12\n",
+    "fwrite b 0 05*70\n",
+    "fwrite b 4090 06*12\n",
+    "fread a 0 4\n",
+    "fread b 60 16\n",
+    "fread c 4088 16\n",
     "poison volume 64\n",
     "poison block 0 3\n",
     "weaken volume 0\n",
@@ -68,7 +74,7 @@ pub const LAST_LINES: &str =
     "restart all\nrecover\npoison meta 9\nbread 0 1\nvload 0 8\nbscar 0 1\ncut\nrestart all\npoison meta 5\nbread 0 1\n";
 
 /// Each script with its replies.
-pub static STORIES: [(&str, &str); 37] = [
+pub static STORIES: [(&str, &str); 45] = [
     // What is not synced may be lost, or kept.
     (
         "vstore 0 07*8\ncut\nrestart none\nvload 0 8\n",
@@ -88,7 +94,7 @@ pub static STORIES: [(&str, &str); 37] = [
     ),
     // Refusals.
     (
-        "vload 8184 8\nvload 8188 8\nvload 0 0\nrestart all\ncut\nvload 0 1\nfread a 0 1\n",
+        "vload 8184 8\nvload 8188 8\nvload 0 0\nrestart all\ncut\nvload 0 1\nfread a 0\n",
         "data 00*8\nrefused range\nrefused length\nrefused on\nok\nrefused off\nrefused syntax\n",
     ),
     (
@@ -218,6 +224,41 @@ pub static STORIES: [(&str, &str); 37] = [
     (
         "create a 1\nfail in 2\ndelete a\nlist\nrecover\nlist\n",
         "ok\nok\nrefused device\nrefused recover\nok bad 0\nfiles a:1\n",
+    ),
+    // Bytes of files: over a page that is there and a hole, up to the last pages, and in files of other names.
+    (
+        "create a 3\nfread a 0 4\nfwrite a 0 05\nfwrite a 4092 11*8\nfread a 4091 10\nfread a 0 2\nfread a 8192 3\n",
+        "ok\ndata 00*4\nok\nok\ndata 00,11*8,00\ndata 05,00\ndata 00*3\n",
+    ),
+    (
+        "create a 1\ncreate b 1\nfwrite b 0 0b*4\nfwrite a 0 0a*4\nfread b 0 4\nrename a c\nfread c 0 5\nfread a 0 4\n",
+        "ok\nok\nok\nok\ndata 0b*4\nok\ndata 0a*4,00\nrefused missing\n",
+    ),
+    (
+        "create a 2\nfwrite a 4096 05*4\nresize a 1\nresize a 2\nfwrite a 4097 01\nfread a 4096 4\n",
+        "ok\nok\nok\nok\nok\ndata 00,01,00*2\n",
+    ),
+    // Why they are refused, and which reason comes first.
+    (
+        "fread a 0 1\nfwrite a 9000 01\ncreate a 2\nfread a 8191 2\nfread a 8193 0\nfread a 8192 0\nfread a 0 65537\nfwrite a 8191 0101\nfread b 9000 0\n",
+        "refused missing\nrefused missing\nok\nrefused range\nrefused range\nrefused length\nrefused range\nrefused range\nrefused missing\n",
+    ),
+    (
+        "create a 17\nfwrite a 0 01*65536\nfwrite a 65536 01\nfwrite a 65535 0203\nfread a 65535 2\nfread a 0 65536\nfread a 0 65537\nfwrite a 65535 02\n",
+        "ok\nok\nrefused full\nrefused full\ndata 01,00\ndata 01*65536\nrefused limit\nok\n",
+    ),
+    (
+        "create a 2\nfwrite a 0 01\npoison meta 154\nfwrite a 1 02\nfwrite a 4095 0303\nfread a 0 3\n",
+        "ok\nok\nok\nok\nrefused meta 154\ndata 01,02,00\n",
+    ),
+    // What is stored there may be lost, or kept.
+    (
+        "create a 1\nfwrite a 0 ff*8\ncut\nrestart none\nfread a 0 8\n",
+        "ok\nok\nok\nok bad 0\ndata 00*8\n",
+    ),
+    (
+        "create a 1\nfwrite a 0 ff*8\ncut\nrestart all\nfread a 0 8\n",
+        "ok\nok\nok\nok bad 0\ndata ff*8\n",
     ),
     // Bad metadata stops changes of them, and the list once the device is mounted anew.
     (

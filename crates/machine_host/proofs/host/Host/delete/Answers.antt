@@ -1,24 +1,12 @@
-use Rattle.std.proofs.Common.{refl, ◌≡◌, ap, ◌∙◌}
-use Rattle.file_journal.specs.Object.{JournalState}
-use Rattle.nvm_model.specs.Listing.{file_name, without_file}
-use Rattle.machine_host.specs.Meaning.{no_reasons}
-use Rattle.machine_host.specs.OnFiles.{if_missing}
-use Rattle.machine_host.specs.Stands.{HostState}
+use Rattle.std.proofs.Common.{refl, ◌∙◌, ap, sym, arith}
+use Rattle.nvm_model.specs.Mappings.{is_mapped}
 use Rattle.script_text.specs.Action.Action.{Delete}
-use Rattle.machine_host.proofs.FilesCallLemmas.{change_answered, files_called, sees_files}
-use Rattle.machine_host.proofs.FilesFateLemmas.{fate_delete, delete_becomes}
+use Rattle.machine_host.specs.Stands.{HostState}
+use Rattle.machine_host.proofs.MappedFateLemmas.{mapped_answered}
 use Rattle.machine_host.proofs.host.Host.delete.Goals as goal
 
-pub returns : goal.returns
-returns g c =
-    let said = c.delete-call.ensures in
-    let now = c.args.self.now in
-    let host : HostState = record { geometry = c.self.inside.geometry; mode = c.self.inside.mode; blocks = c.self.inside.blocks; volume = c.self.inside.volume; files = record { journal = c.journal_mut.result.now; settled = c.self.inside.files.settled } } in
-    let inside : host ≡ now = ap (λ (j : JournalState). let k : HostState = record { geometry = c.self.inside.geometry; mode = c.self.inside.mode; blocks = c.self.inside.blocks; volume = c.self.inside.volume; files = record { journal = j; settled = c.self.inside.files.settled } } in k) c.journal_mut.ensures.value ∙ c.self.view_is in
-    let old = g.D.Lines.state c.args.device.now in
-    change_answered now host _ _ c.delete-call.result _ _ 261 (without_file file_name c.args.name.now) old _ inside c.journal_answer.ensures.state c.requires.on c.requires.serves
-    (files_called g.D.Lines.state host _ c.delete-call.result _ _ 261 _ _ said.refused said.untouched said.ok said.images said.outside said.serves said.object said.units said.runs)
-    (λ are none. delete_becomes host.files.journal old.medium are c.args.name.now)
-    (Delete c.args.name.now) (λ files. record no_reasons { named = if_missing c.args.name.now files }) refl _
-    (λ h stands. fate_delete h host.files.journal old.medium (sees_files now host old h inside c.requires.on c.requires.serves stands) c.args.name.now)
-    c.journal_answer.ensures.answer
+pub returns-then-has : goal.returns-then-has
+returns-then-has g c =
+    mapped_answered c.args.self.now _ c.requires.on c.requires.serves c.args.name.now
+    (ap (λ (k : HostState). is_mapped c.args.name.now k.files.mappings.mappings) (sym c.self.view_is) ∙ sym c.has.ensures ∙ c.if-has.true)
+    (Delete c.args.name.now) refl (omega arith) (λ h. refl)

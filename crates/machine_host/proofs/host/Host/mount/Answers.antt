@@ -1,9 +1,9 @@
 use Rattle.std.proofs.Common.{[], refl, ap, sym, subst, ◌∙◌}
-use Rattle.file_pages.specs.Object.{PagesState}
 use Rattle.file_journal.specs.Tables.{AreTables}
 use Rattle.recovery.specs.Findings.{geometry_told}
 use Rattle.recovery.specs.Mounting.{IsInOrder}
 use Rattle.machine_host.specs.Lines.{MetadataStands}
+use Rattle.machine_host.specs.declared.held.HeldFiles.{HeldFiles}
 use Rattle.machine_host.specs.Stands.{AreMounted}
 use Rattle.machine_host.proofs.MountLemmas.{durable_flushed, found_tables, metadata_mounted}
 use Rattle.machine_host.proofs.MountedLemmas.{readable_served, stands_found}
@@ -27,7 +27,7 @@ returns-clause-serves g c =
       layout = (returns-clause-metadata g c).layout;
       readable = λ none. readable_served c.in_ok-mounted.mounted.geo c.in_ok-mounted.mounted.blocks new (x.ok.1 ∙ sym x.ok.0) (x.serves (durable_flushed _ c.requires.flushed)) (good_lines c.in_ok-mounted.mounted.geo new none);
       power = x.runs.cause.0 ∙ c.requires.on;
-      mounted = λ _. subst (λ p. AreMounted c.in_ok-mounted.mounted.geo c.in_ok-mounted.mounted.blocks c.in_ok-mounted.mounted.volume p new) (sym c.from.ensures) (record {
+      mounted = λ _. subst (λ (f : HeldFiles). AreMounted c.in_ok-mounted.mounted.geo c.in_ok-mounted.mounted.blocks c.in_ok-mounted.mounted.volume f new) (sym c.of.ensures) (record {
         geometry = x.ok.1 ∙ sym x.ok.0;
         settled = x.settled.0;
         serves = x.serves (durable_flushed _ c.requires.flushed);
@@ -39,6 +39,7 @@ returns-clause-serves g c =
         journal_serves = x.journal;
         journal_held = x.held;
         pages_settled = refl;
+        mapped = tt;
         journal_right = subst (λ geo. AreTables geo.fpages c.in_ok-mounted.mounted.journal.tables) (sym x.ok.0)
             (subst (AreTables (geometry_told old).fpages) (sym x.ok.6) (found_tables old x.finds));
       });
@@ -50,5 +51,5 @@ returns-clause-stands g c = λ image shows.
     let old = (g.D.Lines.state c.args.device.now) in
     let new = (g.D.Lines.state c.mount.new.dev) in
     let x = c.in_ok-mounted.ensures in
-    stands_found _ old new image (g.met.D.Lines.sound c.args.device.now) c.requires.flushed x.finds shows x.ok.0 refl x.ok.2 x.ok.4 (ap (λ (p : PagesState). p.journal.tables) c.from.ensures ∙ x.ok.6) x.outside (returns-clause-metadata g c)
-    (returns-clause-serves g c)
+    stands_found _ old new image (g.met.D.Lines.sound c.args.device.now) c.requires.flushed x.finds shows x.ok.0 refl x.ok.2 x.ok.4 (ap (λ (f : HeldFiles). f.pages.journal.tables) c.of.ensures ∙ x.ok.6) x.outside (returns-clause-metadata g c)
+    (returns-clause-serves g c) (ap (λ (f : HeldFiles). f.mappings) c.of.ensures)

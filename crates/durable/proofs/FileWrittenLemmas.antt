@@ -1,0 +1,78 @@
+-- What was stored in a file is what it has, while the power stays on.
+use Rattle.std.proofs.Common.{◌≡◌, ◌⊎◌, inl, inr, ℕ, ◌+◌, ◌-◌, ◌*◌, ◌/◌, ◌%◌, ◌<◌, ◌≤◌, Bool, true, false, Some, None, List, [], length, get_or, nat_lt, refl, ap, subst, ◌∙◌, arith}
+use Rattle.std.specs.Prelude.{slice_index}
+use Rattle.std.proofs.lemmas.Bool.Decides.{nat_tests}
+use Rattle.nvm_base.proofs.FirstLemmas.{not_mapped}
+use Rattle.nvm_model.specs.Cell.{touches}
+use Rattle.nvm_model.specs.Numbered.{is_among}
+use Rattle.nvm_model.specs.Page.{Page, cell_of, fill, first_uncovered_line, put}
+use Rattle.file_pages.specs.Refusals.{bytes_refusal}
+use Rattle.script_text.specs.Action.Action.{FWrite}
+use Rattle.script_text.specs.Script.Input.{Asked}
+use Rattle.machine_host.specs.Machine.{Machine}
+use Rattle.machine_host.specs.OnPages.{page_answer, pages_named, stored_in}
+use Rattle.durable.specs.Place.{byte_at_place, is_weak_line, line_has}
+use Rattle.durable.specs.Place.Place.{of_file}
+use Rattle.durable.specs.Durable.{Does, HaveLines, LastsPowered}
+use Rattle.durable.proofs.FileThereLemmas.{lines-named}
+use Rattle.durable.proofs.LawLemmas.{lasts_powered}
+use Rattle.durable.proofs.NamedPageLemmas.{named-own}
+use Rattle.durable.proofs.RefusalLemmas.{is_on, places_none, unreadable_none}
+use Rattle.durable.proofs.ThereLemmas.{lines-fill}
+use Rattle.durable.proofs.WholeLemmas.{whole-heard}
+use Rattle.durable.proofs.WrittenLemmas.{bad_covered, filled_there, stored_byte, works_done}
+
+-- a store that is not refused ends within the file
+within_pages : (pages at len : ℕ) → bytes_refusal pages at len ≡ None → at + len ≤ 4096 * pages
+within_pages pages at len none = by_test (nat_lt (4096 * pages) (at + len)) refl none
+  where
+    by_test : (b : Bool) → nat_lt (4096 * pages) (at + len) ≡ b → bytes_refusal pages at len ≡ None → at + len ≤ 4096 * pages
+    by_test true is none_there = cc (is, none_there)
+    by_test false is none_there = grind (arith, nat_tests)
+
+-- a byte of pages that were stored in
+byte_put : (at i : ℕ) (bytes : List ℕ) (pages : List Page) → ((k : ℕ) → get_or bytes k 0 < 256) → is_among at (length bytes) i ≡ true → HaveLines pages
+    → at + length bytes ≤ 4096 * length pages → first_uncovered_line pages at (length bytes) ≡ None
+    → line_has (cell_of (put at bytes (fill at (length bytes) pages)) (i / 64)) (i % 64) ≡ Some (slice_index bytes (i - at))
+byte_put at i bytes pages small among lines within none =
+    let present = filled_there at (length bytes) i pages among (omega (arith, to, within)) in
+    stored_byte at i bytes (fill at (length bytes) pages) small among (lines-fill at (length bytes) pages lines (i / 64) present)
+    (bad_covered at (length bytes) (i / 64) pages lines (omega (arith, from, to)) none touched present)
+  where
+    from : at ≤ i
+    from = grind (arith, nat_tests)
+
+    to : i < at + length bytes
+    to = grind (arith, nat_tests)
+
+    touched : touches at (length bytes) (i / 64) ≡ true
+    touched = grind (arith, nat_tests)
+
+pub stored_in_powered : (h stored : Machine) (name : List ℕ) (at i : ℕ) (bytes : List ℕ) → ((k : ℕ) → get_or bytes k 0 < 256) → Does h (FWrite name at bytes) stored
+    → is_among at (length bytes) i ≡ true → is_weak_line (cell_of (pages_named name stored.files) (i / 64)) ≡ false
+    → LastsPowered stored (of_file name i) (Some (slice_index bytes (i - at)))
+stored_in_powered h stored name at i bytes small stores among strong =
+    let put_is = works_done h (FWrite name at bytes) (record h { files = stored_in name at bytes h.files }) stored refl stores in
+    let within = within_pages (length old) at (length bytes) (not_mapped (page_answer name) _ (places_none h (FWrite name at bytes) put_is.0)) in
+    let good = not_mapped _ (first_uncovered_line old at (length bytes)) (not_mapped (page_answer name) _ (unreadable_none h (FWrite name at bytes) put_is.0)) in
+    let now : pages_named name stored.files ≡ change old = ap (λ m. pages_named name m.files) put_is.1 ∙ own within (named-own name change h.files) in
+    let shown : byte_at_place stored (of_file name i) ≡ Some (slice_index bytes (i - at)) =
+    ap (λ p. line_has (cell_of p (i / 64)) (i % 64)) now ∙ byte_put at i bytes old small among (lines-named name h.files stores.whole.file_lines) within good in
+    subst (LastsPowered stored (of_file name i)) shown
+    (lasts_powered stored (of_file name i) (whole-heard h (Asked (FWrite name at bytes)) stores.said stored stores.whole stores.came)
+    (ap (λ m. m.mode) put_is.1 ∙ is_on h (FWrite name at bytes) refl put_is.0) strong)
+  where
+    old : List Page
+    old = pages_named name h.files
+
+    change : List Page → List Page
+    change pages = put at bytes (fill at (length bytes) pages)
+
+    to : i < at + length bytes
+    to = grind (arith, nat_tests)
+
+    own : at + length bytes ≤ 4096 * length old
+        → (pages_named name (stored_in name at bytes h.files) ≡ change old) ⊎ ((pages_named name (stored_in name at bytes h.files) ≡ old) × (old ≡ []))
+        → pages_named name (stored_in name at bytes h.files) ≡ change old
+    own within (inl is) = is
+    own within (inr none) = let empty : length old ≡ 0 = ap length none.1 in absurd (omega (arith, to, within, empty))
