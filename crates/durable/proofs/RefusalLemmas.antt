@@ -13,7 +13,7 @@ use Rattle.reply_text.specs.Answer.{Answer}
 use Rattle.reply_text.specs.Answer.Answer.{Done, DoneBad, Bytes, Ranges, Files, Handle, Happened, NoEvent, BadLines, VerifyFile, Yes, No, Scarred, PoisonBlock as PoisonedBlock, PoisonVolume as PoisonedVolume, PoisonFile as PoisonedFile, DeviceFailed, PowerLost, Stopped as MountStopped, Refused, RefusedMeta}
 use Rattle.reply_text.specs.declared.reply.Why.TheVariants as because
 use Rattle.script_text.specs.Action.{Action}
-use Rattle.script_text.specs.Action.Action.{BRead, BWrite, BAtomic, BMulti, BDiscard, BDiscardIf, BExists, BScar, VLoad, VStore, VSync, VRanges, VPSync, VDiscard, VDiscardIf, VExists, Create, Delete, Rename, Resize, ListFiles, FRead, FWrite, Map, Unmap, Load, Store, PoisonBlock, PoisonVolume, PoisonMeta, WeakenVolume, ClearVolume, Cut, CutIn, FailIn, Restart, Recover}
+use Rattle.script_text.specs.Action.Action.{BRead, BWrite, BAtomic, BMulti, BDiscard, BDiscardIf, BExists, BScar, VLoad, VStore, VSync, VRanges, VPSync, VDiscard, VDiscardIf, VExists, Create, Delete, Rename, Resize, ListFiles, FRead, FWrite, Map, Unmap, Load, Store, Sync, Flush, FlushVerify, DeepFlush, CheckFile, PoisonBlock, PoisonVolume, PoisonFile, PoisonMeta, WeakenFile, WeakenVolume, ClearFile, ClearVolume, Cut, CutIn, FailIn, Restart, Recover}
 use Rattle.machine_host.specs.declared.mode.Mode.{Mode}
 use Rattle.machine_host.specs.declared.mode.Mode.TheVariants.{On, Off, Unsettled, Stopped}
 use Rattle.machine_host.specs.Machine.{Machine}

@@ -101,11 +101,11 @@ module _ (now host : HostState) (old : Device) (inside : host ≡ now) (on : now
   right_now =
       subst (λ g. AreTables g.fpages host.files.pages.journal.tables) (sym sizes_now) (subst (λ k. AreTables now.geometry.fpages k.files.pages.journal.tables) (sym inside) (serves.mounted on).journal_right)
 
-  held_now : known_units host.files.pages.journal.tables.pages host.files.pages.journal.free ≡ host.files.pages.journal.geo.fpages
+  pub held_now : known_units host.files.pages.journal.tables.pages host.files.pages.journal.free ≡ host.files.pages.journal.geo.fpages
   held_now =
       ap (λ k. known_units k.files.pages.journal.tables.pages k.files.pages.journal.free) inside ∙ (serves.mounted on).journal_held ∙ ap (λ g. g.fpages) (sym sizes_now)
 
-  journal_now : host.files.pages.journal.settled ≡ true
+  pub journal_now : host.files.pages.journal.settled ≡ true
   journal_now = ap (λ k. k.files.pages.journal.settled) inside ∙ (serves.mounted on).journal_settled
 
   -- What host and device show of a state that they stand for.

@@ -89,7 +89,7 @@ module _ (now : HostState) (old : Device) (on : now.mode ≡ On) (serves : HostS
   seen_of o is h stands = ap (λ (s : MappingsState). mapping_of handle s.mappings) (sym (stands.mappings on)) ∙ is
 
   -- the file of a mapping, in each state that they stand for
-  file_under : (m : Mapping) → mapping_of handle now.files.mappings.mappings ≡ Some m → (h : Machine) → Stands now old h → IsAmong h.files m
+  pub file_under : (m : Mapping) → mapping_of handle now.files.mappings.mappings ≡ Some m → (h : Machine) → Stands now old h → IsAmong h.files m
   file_under m is h stands =
       among-of now.files.pages.journal old.medium right h.files (stands.files on) m (held_by (IsOnFile now.files.pages.journal.tables.files) handle now.files.mappings.mappings m is (serves.mounted on).mapped)
 

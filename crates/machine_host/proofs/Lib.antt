@@ -41,6 +41,8 @@ pub mod MapFateLemmas
 pub mod MapToldLemmas
 pub mod MapLemmas
 pub mod HandleCallLemmas
+pub mod FlushFateLemmas
+pub mod FlushLemmas
 pub mod FilesLeftLemmas
 pub mod FilesCallLemmas
 mod ListingLemmas
@@ -51,7 +53,10 @@ pub mod FilePageLemmas
 pub mod LoadLemmas
 pub mod MediaLemmas
 pub mod PoisonLemmas
+mod WeakenLemmas
 pub mod LineLemmas
+pub mod FileErrorLemmas
+pub mod FileCheckLemmas
 mod FailureRunLemmas
 mod FileRunLemmas
 mod PageStoreRunLemmas

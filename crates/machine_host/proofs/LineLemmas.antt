@@ -80,11 +80,11 @@ pub if_err_all : {T E : Type 0} {P : E → Type 0} (r : Result T E) → ((f : E)
 if_err_all (Ok x) all = tt
 if_err_all (Err f) all = all f
 
-short_after : {E : Type 0} (says : E → Told ScrubRefusal) (r : Result (Unit {0}) E) → most_of (answer_after says line_answer Done r) ≤ 72
+pub short_after : {E : Type 0} (says : E → Told ScrubRefusal) (r : Result (Unit {0}) E) → most_of (answer_after says line_answer Done r) ≤ 72
 short_after says (Ok x) = omega arith
 short_after says (Err f) = short_told line_answer short_line (says f)
 
-line_printable : {E : Type 0} (says : E → Told ScrubRefusal) (r : Result (Unit {0}) E) → IsPrintable (answer_after says line_answer Done r)
+pub line_printable : {E : Type 0} (says : E → Told ScrubRefusal) (r : Result (Unit {0}) E) → IsPrintable (answer_after says line_answer Done r)
 line_printable says (Ok x) = tt
 line_printable says (Err f) = printable_told line_answer printable_line (says f)
 
@@ -134,10 +134,10 @@ module _ (host : HostState) (old new : Device) (serves : HostServes host old) (o
   mounted = serves.mounted on
 
   -- it was refused, so all is as it was
-  same_serves : new ≡ old → HostServes host new
+  pub same_serves : new ≡ old → HostServes host new
   same_serves same = subst (λ d. HostServes host d) (sym same) serves
 
-  refused_same : {E : Type 0} (says : E → Told ScrubRefusal) (f : E) → IsRefusal (says f) → OnRefused {T = Unit {0}} says (Err f) (new ≡ old) → new ≡ old
+  pub refused_same : {E : Type 0} (says : E → Told ScrubRefusal) (f : E) → IsRefusal (says f) → OnRefused {T = Unit {0}} says (Err f) (new ≡ old) → new ≡ old
   refused_same says f is untouched = untouched (λ none. by_told (says f) is none)
     where
       by_told : (t : Told ScrubRefusal) → IsRefusal t → refusal_of t ≡ None → ⊥

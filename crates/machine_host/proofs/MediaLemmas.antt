@@ -12,7 +12,7 @@ use Rattle.line_words.specs.Told.Told.{Refuses, Stops, Starves}
 use Rattle.word_tables.specs.declared.geometry.Geometry.{Geometry}
 use Rattle.word_tables.specs.Layout.{meta_lines}
 use Rattle.nvm_model.specs.Page.{Page}
-use Rattle.nvm_model.specs.Storage.{Block}
+use Rattle.nvm_model.specs.Storage.{Block, File}
 use Rattle.block_device.specs.Area.{IsBlockLine}
 use Rattle.block_device.specs.Images.{EachReads}
 use Rattle.block_device.specs.Object.{BlocksServe, HasGoodMetadata, blocks_of}
@@ -22,6 +22,10 @@ use Rattle.pm_volume.specs.Area.{IsOfVolume}
 use Rattle.pm_volume.specs.Images.{EachReadsPages}
 use Rattle.pm_volume.specs.Object.{VolumeHolds, VolumeServes}
 use Rattle.file_journal.specs.Area.{IsOfFiles}
+use Rattle.file_journal.specs.Standing.{EachReadsFiles, FilesStand}
+use Rattle.file_journal.specs.Tables.{AreTables}
+use Rattle.file_journal.proofs.ServesLemmas.{served_files}
+use Rattle.file_pages.specs.Object.{PagesServe}
 use Rattle.nvm_model.proofs.KeptLemmas.{LineKept}
 use Rattle.pm_volume.proofs.StandingLemmas.{served_pages}
 use Rattle.recovery.proofs.SuperblockLemmas.{some_meta}
@@ -41,7 +45,7 @@ use Rattle.machine_host.specs.Telling.{Tells}
 use Rattle.machine_host.specs.Stands.{HostState, HostServes, AreMounted, Stands, Comes}
 use Rattle.machine_host.proofs.BadLineLemmas.{good_lines}
 use Rattle.machine_host.proofs.MountedLemmas.{readable_served}
-use Rattle.machine_host.proofs.ElsewhereLemmas.{mounted-blocks, mounted-volume, volume_apart}
+use Rattle.machine_host.proofs.ElsewhereLemmas.{mounted-blocks, mounted-files, mounted-volume, volume_apart}
 use Rattle.machine_host.proofs.FilesAsideLemmas.{files_not_blocks, files_not_volume}
 use Rattle.machine_host.proofs.LayoutLemmas.{layout-kept, metadata-then, stays_of_kept}
 use Rattle.machine_host.proofs.StepLemmas.{blocks_still, files_still, pages_still, stands_done}
@@ -175,3 +179,26 @@ module _ (host : HostState) (old new : Device) (serves : HostServes host old) (o
         subst (λ g. EachReadsPages g new.medium (λ x. x ≡ pages)) (mounted.volume_geometry ∙ stands.geometry) (served_pages host.volume new.medium pages served holds) in
         stands_done host host old new h action stands on 0 0 (omega arith) (omega arith) refl refl h.blocks pages h.files on nothing_run (metadata_marked h stands)
         (blocks_still host old new h stands serves on block_line_stays) (λ none. each, holds) (files_still host old new h stands serves on file_line_stays)
+
+  -- lines of files
+  module _ (apart : (n : ℕ) → lines n → IsOfFiles geo n) (served : PagesServe host.files.pages new.medium) where
+    block_stays : (n : ℕ) → IsBlockLine geo n → Stays old.medium new.medium n
+    block_stays n of = stays_of_kept old.medium new.medium n (kept-but lines old.medium new.medium n (λ at. files_not_blocks geo n (apart n at) of) x)
+
+    volume_stays : (n : ℕ) → IsOfVolume geo n → LineKept old.medium new.medium n
+    volume_stays n of = kept-but lines old.medium new.medium n (λ at. files_not_volume geo n serves.layout.valid (apart n at) of) x
+
+    pub files_marked_serve : HostServes host new
+    files_marked_serve =
+        goes_on (mounted-files geo host.blocks host.volume host.files old.medium new.medium serves.layout.valid strong_marked x.count mounted
+        host.files block_stays volume_stays refl mounted.journal_settled mounted.pages_settled served mounted.journal_right refl mounted.mapped)
+
+    pub files_marked : (h : Machine) (action : Action) (files : List File) → Stands host old h → FilesStand host.files.pages.journal.geo new.medium host.files.pages.journal.tables files
+        → Stands host new (record h { files = files })
+    files_marked h action files stands stand =
+        let right : AreTables host.files.pages.journal.geo.fpages host.files.pages.journal.tables =
+        subst (λ g. AreTables g.fpages host.files.pages.journal.tables) (sym mounted.journal_geometry) mounted.journal_right in
+        let each : EachReadsFiles h.geometry new.medium (λ x. x ≡ files) =
+        subst (λ g. EachReadsFiles g new.medium (λ x. x ≡ files)) (mounted.journal_geometry ∙ stands.geometry) (served_files host.files.pages.journal new.medium files right served stand) in
+        stands_done host host old new h action stands on 0 0 (omega arith) (omega arith) refl refl h.blocks h.volume files on nothing_run (metadata_marked h stands)
+        (blocks_still host old new h stands serves on block_stays) (pages_still host old new h stands serves on volume_stays) (λ none. each, stand)

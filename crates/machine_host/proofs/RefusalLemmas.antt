@@ -10,7 +10,7 @@ use Rattle.nvm_model.specs.Storage.{Block}
 use Rattle.block_device.specs.Refusals.{Refusal}
 use Rattle.block_device.specs.Refusals.Refusal.{Unreadable}
 use Rattle.script_text.specs.Action.{Action}
-use Rattle.script_text.specs.Action.Action.{BRead, BWrite, BAtomic, BMulti, BDiscard, BDiscardIf, BExists, BScar, VLoad, VStore, VSync, VRanges, VPSync, VDiscard, VDiscardIf, VExists, Create, Delete, Rename, Resize, ListFiles, FRead, FWrite, Map, Unmap, Load, Store, PoisonBlock, PoisonVolume, PoisonMeta, WeakenVolume, ClearVolume, Cut, CutIn, FailIn, Restart, Recover}
+use Rattle.script_text.specs.Action.Action.{BRead, BWrite, BAtomic, BMulti, BDiscard, BDiscardIf, BExists, BScar, VLoad, VStore, VSync, VRanges, VPSync, VDiscard, VDiscardIf, VExists, Create, Delete, Rename, Resize, ListFiles, FRead, FWrite, Map, Unmap, Load, Store, Sync, Flush, FlushVerify, DeepFlush, CheckFile, PoisonBlock, PoisonVolume, PoisonFile, PoisonMeta, WeakenFile, WeakenVolume, ClearFile, ClearVolume, Cut, CutIn, FailIn, Restart, Recover}
 use Rattle.reply_text.specs.declared.reply.Why.{Why}
 use Rattle.reply_text.specs.declared.reply.Why.TheVariants.{Range, Length, Limit}
 use Rattle.reply_text.specs.declared.reply.Why.TheVariants as because
@@ -172,10 +172,18 @@ places_refused h (Map name span kind) why is = cc is
 places_refused h (Unmap handle) why is = cc is
 places_refused h (Load handle offset len) why is = cc is
 places_refused h (Store handle offset bytes) why is = cc is
+places_refused h (Sync handle offset len) why is = cc is
+places_refused h (Flush handle spans) why is = cc is
+places_refused h (FlushVerify handle spans) why is = cc is
+places_refused h (DeepFlush handle spans) why is = cc is
+places_refused h (CheckFile name offset len) why is = cc is
 places_refused h (PoisonBlock block line) why is = cc is
 places_refused h (PoisonVolume offset) why is = cc is
+places_refused h (PoisonFile name offset) why is = cc is
 places_refused h (PoisonMeta line) why is = (refl, ap (option_map Refused) is)
+places_refused h (WeakenFile name offset) why is = cc is
 places_refused h (WeakenVolume offset) why is = cc is
+places_refused h (ClearFile name offset) why is = cc is
 places_refused h (ClearVolume offset) why is = cc is
 places_refused h Cut why is = cc is
 places_refused h (CutIn calls) why is = (refl, ap (option_map Refused) is)

@@ -2,14 +2,14 @@
 use Rattle.std.specs.Prelude.{◌≡◌, ◌⊎◌, ℕ, List, Option, Some, None, option_map}
 use Rattle.nvm_model.specs.Blocks.{first_there, IsMixed}
 use Rattle.nvm_model.specs.Files.{OneFileLeft}
-use Rattle.nvm_model.specs.Interrupted.{MayStore, MaySync}
+use Rattle.nvm_model.specs.Interrupted.{MayStore, MaySync, MaySyncAll}
 use Rattle.nvm_model.specs.Numbered.{AreMixed}
 use Rattle.nvm_model.specs.Page.{Page}
 use Rattle.nvm_model.specs.Storage.{Block, File, Mapping}
 use Rattle.block_device.specs.Images.{IsEither}
 use Rattle.word_tables.specs.declared.geometry.Geometry.{Geometry}
 use Rattle.script_text.specs.Action.{Action}
-use Rattle.script_text.specs.Action.Action.{BRead, BWrite, BAtomic, BMulti, BDiscard, BDiscardIf, BExists, BScar, VLoad, VStore, VSync, VRanges, VPSync, VDiscard, VDiscardIf, VExists, Create, Delete, Rename, Resize, ListFiles, FRead, FWrite, Map, Unmap, Load, Store, PoisonBlock, PoisonVolume, PoisonMeta, WeakenVolume, ClearVolume, Cut, CutIn, FailIn, Restart, Recover}
+use Rattle.script_text.specs.Action.Action.{BRead, BWrite, BAtomic, BMulti, BDiscard, BDiscardIf, BExists, BScar, VLoad, VStore, VSync, VRanges, VPSync, VDiscard, VDiscardIf, VExists, Create, Delete, Rename, Resize, ListFiles, FRead, FWrite, Map, Unmap, Load, Store, Sync, Flush, FlushVerify, DeepFlush, CheckFile, PoisonBlock, PoisonVolume, PoisonFile, PoisonMeta, WeakenFile, WeakenVolume, ClearFile, ClearVolume, Cut, CutIn, FailIn, Restart, Recover}
 use Rattle.reply_text.specs.Answer.{Answer}
 use Rattle.reply_text.specs.Answer.Answer.{Refused}
 use Rattle.machine_host.specs.declared.mode.Mode.{Mode}
@@ -18,14 +18,16 @@ use Rattle.machine_host.specs.Machine.{Machine, Fate}
 use Rattle.machine_host.specs.Machine.Fate.{Gives}
 use Rattle.machine_host.specs.Meaning.{BlocksLeft, FilesLeft, Meaning, VolumeLeft, first_reason, mode_refusal}
 use Rattle.machine_host.specs.Meaning.BlocksLeft.{Same, Either, Mixed}
-use Rattle.machine_host.specs.Meaning.FilesLeft.{Unchanged, OldOrNew, StoredInPart}
+use Rattle.machine_host.specs.Meaning.FilesLeft.{Unchanged, OldOrNew, StoredInPart, SyncedInPart}
 use Rattle.machine_host.specs.Meaning.VolumeLeft.{Kept, PartStored, PartSynced, AllOrNone, PageByPage}
 use Rattle.machine_host.specs.OnBlocks as on_blocks
 use Rattle.machine_host.specs.OnVolume as on_volume
 use Rattle.machine_host.specs.OnFiles as on_files
 use Rattle.machine_host.specs.OnPages as on_file_pages
 use Rattle.machine_host.specs.OnMappings as on_mappings
+use Rattle.machine_host.specs.OnFlushes as on_flushes
 use Rattle.machine_host.specs.OnMedia as on_media
+use Rattle.machine_host.specs.OnFileErrors as on_file_errors
 use Rattle.machine_host.specs.OnPower as on_power
 
 abbrev pub meaning : Action → Meaning
@@ -56,10 +58,18 @@ meaning (Map name span kind) = on_mappings.map_file name span kind
 meaning (Unmap handle) = on_mappings.unmap handle
 meaning (Load handle offset len) = on_mappings.load handle offset len
 meaning (Store handle offset bytes) = on_mappings.store handle offset bytes
+meaning (Sync handle offset len) = on_flushes.sync handle offset len
+meaning (Flush handle spans) = on_flushes.flush handle spans
+meaning (FlushVerify handle spans) = on_flushes.flush_verify handle spans
+meaning (DeepFlush handle spans) = on_flushes.deep_flush handle spans
+meaning (CheckFile name offset len) = on_file_errors.check_file name offset len
 meaning (PoisonBlock block line) = on_media.poison_block block line
 meaning (PoisonVolume offset) = on_media.poison_volume offset
+meaning (PoisonFile name offset) = on_file_errors.poison_file name offset
 meaning (PoisonMeta line) = on_media.poison_meta line
+meaning (WeakenFile name offset) = on_file_errors.weaken_file name offset
 meaning (WeakenVolume offset) = on_media.weaken_volume offset
+meaning (ClearFile name offset) = on_file_errors.clear_file name offset
 meaning (ClearVolume offset) = on_media.clear_volume offset
 meaning Cut = on_power.cut
 meaning (CutIn calls) = on_power.cut_in calls
@@ -112,6 +122,7 @@ abbrev pub LeavesFiles : FilesLeft → List File → List File → List File →
 LeavesFiles Unchanged old to new = new ≡ old
 LeavesFiles OldOrNew old to new = (new ≡ old) ⊎ (new ≡ to)
 LeavesFiles (StoredInPart name offset bytes) old to new = OneFileLeft name (MayStore offset bytes) old new
+LeavesFiles (SyncedInPart name spans) old to new = OneFileLeft name (MaySyncAll spans) old new
 
 -- what the interrupted action may have left, if there is one
 abbrev pub MayLeaveBlocks : Option Action → List Block → List Block → Type 0

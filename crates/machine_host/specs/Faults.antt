@@ -8,7 +8,12 @@ use Rattle.machine_host.specs.declared.mode.Mode.{Mode}
 use Rattle.machine_host.specs.declared.mode.Mode.TheVariants as modes
 use Rattle.script_text.specs.Action.{Action}
 use Rattle.reply_text.specs.Answer.{Answer}
-use Rattle.reply_text.specs.Answer.Answer.{DeviceFailed, DoneBad, PowerLost, Stopped}
+use Rattle.flush_engine.specs.declared.fault.FlushFault.{FlushFault}
+use Rattle.flush_engine.specs.declared.fault.FlushFault.TheVariants as flush
+use Rattle.flush_engine.specs.Refusals.{FlushRefusal}
+use Rattle.flush_engine.specs.Refusals.FlushRefusal.{Range, Length, Limit, Poison, Verify}
+use Rattle.reply_text.specs.declared.reply.Why.TheVariants as because
+use Rattle.reply_text.specs.Answer.Answer.{DeviceFailed, Done, DoneBad, PoisonFile, PowerLost, Refused, Stopped, VerifyFile}
 use Rattle.nvm_model.specs.Blocks.{bad_block_lines}
 use Rattle.nvm_model.specs.Files.{bad_file_lines}
 use Rattle.nvm_model.specs.Page.{Page, bad_lines}
@@ -118,6 +123,24 @@ map_fault_mode mode fault = told_mode mode (map_says fault)
 
 abbrev pub map_fault_answer : List ℕ → MapFault → Answer
 map_fault_answer name fault = told_answer (map_answer name) (map_says fault)
+
+-- and of a flush of the file of that name: what refuses it, and what is told once its lines were looked at again
+abbrev pub flush_answer : List ℕ → FlushRefusal → Answer
+flush_answer name Range = Refused because.Range
+flush_answer name Length = Refused because.Length
+flush_answer name Limit = Refused because.Limit
+flush_answer name (Poison offset) = PoisonFile name offset
+flush_answer name (Verify offset) = VerifyFile name offset
+
+abbrev pub verify_answer : List ℕ → Result (Unit {0}) FlushFault → Answer
+verify_answer name (Ok done) = Done
+verify_answer name (Err flush.Range) = Done
+verify_answer name (Err flush.Length) = Done
+verify_answer name (Err flush.Limit) = Done
+verify_answer name (Err (flush.Poison offset)) = Done
+verify_answer name (Err (flush.Verify offset)) = VerifyFile name offset
+verify_answer name (Err flush.Device) = Done
+verify_answer name (Err flush.PowerLost) = Done
 
 -- the mode after a call whose faults say this, and what it is answered where it gives that at Ok
 abbrev pub mode_after : {T E R : Type 0} → (E → Told R) → Result T E → Mode

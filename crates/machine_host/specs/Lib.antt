@@ -7,7 +7,9 @@ pub mod OnVolume
 pub mod OnFiles
 pub mod OnPages
 pub mod OnMappings
+pub mod OnFlushes
 pub mod OnMedia
+pub mod OnFileErrors
 pub mod OnPower
 pub mod Commands
 pub mod Interrupted
@@ -28,4 +30,6 @@ pub mod MediaRows
 pub mod FailureRows
 pub mod FileRows
 pub mod MappingRows
+pub mod FlushRows
+pub mod FileErrorRows
 pub mod PageRows

@@ -1,5 +1,6 @@
 -- What a row of the table says of a command, and in which order reasons refuse it.
 use Rattle.std.specs.Prelude.{◌+◌, ◌==◌, ℕ, Bool, true, false, List, [], ◌∷◌, Option, Some, None, nat_lt, option_map, if◌then◌else◌}
+use Rattle.nvm_base.specs.declared.units.Span.{Span}
 use Rattle.line_device.specs.declared.line.Choice.{Choice}
 use Rattle.word_tables.specs.declared.geometry.Geometry.{Geometry}
 use Rattle.nvm_model.specs.Blocks.{first_there}
@@ -43,11 +44,12 @@ pub data VolumeLeft : Type 0 where
   AllOrNone : VolumeLeft
   PageByPage : VolumeLeft
 
--- and of the files: all as they were, all old or all new, or a part of what is stored in one
+-- and of the files: all as they were, all old or all new, or a part of what is stored in one or of what is made durable there
 pub data FilesLeft : Type 0 where
   Unchanged : FilesLeft
   OldOrNew : FilesLeft
   StoredInPart : List ℕ → ℕ → List ℕ → FilesLeft
+  SyncedInPart : List ℕ → List Span → FilesLeft
 
 -- what want of memory leaves: all as it was; lines that were written back; a restart that was refused, or done with no mount;
 -- or a recovery that mounted nothing

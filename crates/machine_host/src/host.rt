@@ -1,7 +1,9 @@
 // The host: it refuses a command, or performs it on the device and answers it by one line.
 mod blocks;
 mod commands;
+mod file_errors;
 mod files;
+mod flushing;
 mod mapped;
 mod media;
 mod pages;

@@ -3,6 +3,7 @@
 
 mod held;
 mod host;
+mod look;
 mod mode;
 mod needs;
 mod rows;
@@ -10,5 +11,6 @@ mod rows;
 pub use host::Host;
 pub use mode::Mode;
 pub use rows::{
-    worked_cuts, worked_failures, worked_files, worked_mappings, worked_pages, worked_scripts,
+    worked_cuts, worked_failures, worked_file_errors, worked_files, worked_flushes, worked_mappings,
+    worked_pages, worked_scripts,
 };

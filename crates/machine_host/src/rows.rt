@@ -7,6 +7,8 @@ ghost use Rattle.machine_host.specs.FailureRows.{FailureRows, FailureRuns};
 ghost use Rattle.machine_host.specs.FileRows.{FileRows, FileRuns};
 ghost use Rattle.machine_host.specs.PageRows.{PageRows, PageRuns};
 ghost use Rattle.machine_host.specs.MappingRows.{MappingRows};
+ghost use Rattle.machine_host.specs.FlushRows.{FlushRows};
+ghost use Rattle.machine_host.specs.FileErrorRows.{FileErrorRows};
 
 /// What the machine writes for the worked scripts.
 pub fn worked_scripts()
@@ -44,4 +46,14 @@ pub fn worked_pages()
 /// What it writes for those with mappings of files.
 pub fn worked_mappings()
     ensures mappings { MappingRows }
+{}
+
+/// What it writes for those that make bytes of mapped files durable.
+pub fn worked_flushes()
+    ensures flushes { FlushRows }
+{}
+
+/// What it writes for those with media errors of files.
+pub fn worked_file_errors()
+    ensures errors { FileErrorRows }
 {}

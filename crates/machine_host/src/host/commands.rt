@@ -8,12 +8,16 @@ ghost use Rattle.machine_host.specs.Stands.{HostServes};
 ghost use Rattle.machine_host.specs.Responding.{Responds};
 
 use super::Host;
+use crate::look::Look;
 use line_device::LineDevice;
-use nvm_base::{BLOCK, MOST};
+use nvm_base::{BLOCK, MOST, Span, lines_of};
 use page_table::INODES;
 use reply_text::Reply;
 use script_text::Command;
 use std::alloc::AllocError;
+
+/// Most lines of a file.
+const MOST_LINES: u64 = 16384;
 
 /// The most bytes that the reply's line may have.
 pub fn longest_reply(command: &Command) -> u64
@@ -24,6 +28,13 @@ pub fn longest_reply(command: &Command) -> u64
         Command::BRead { count, .. } => 72 + 3 * (BLOCK * *count),
         Command::VLoad { len, .. } => 72 + 3 * *len,
         Command::FRead { len, .. } | Command::Load { len, .. } => 72 + 3 * (*len).min(MOST),
+        Command::CheckFile { offset, len, .. } => {
+            let span = Span {
+                start: *offset,
+                len: *len,
+            };
+            72 + 21 * lines_of(span).len.min(MOST_LINES)
+        }
         Command::VRanges => 133,
         Command::List => 64 + 54 * INODES,
         Command::BWrite { .. }
@@ -47,10 +58,17 @@ pub fn longest_reply(command: &Command) -> u64
         | Command::Map { .. }
         | Command::Unmap { .. }
         | Command::Store { .. }
+        | Command::Sync { .. }
+        | Command::Flush { .. }
+        | Command::FlushVerify { .. }
+        | Command::DeepFlush { .. }
         | Command::PoisonBlock { .. }
         | Command::PoisonVolume { .. }
+        | Command::PoisonFile { .. }
         | Command::PoisonMeta { .. }
+        | Command::WeakenFile { .. }
         | Command::WeakenVolume { .. }
+        | Command::ClearFile { .. }
         | Command::ClearVolume { .. }
         | Command::Cut
         | Command::CutIn { .. }
@@ -115,10 +133,37 @@ impl Host {
                 offset,
                 bytes,
             } => Ok(self.store(device, *handle, *offset, bytes.as_slice())),
+            Command::Sync {
+                handle,
+                offset,
+                len,
+            } => {
+                let span = Span {
+                    start: *offset,
+                    len: *len,
+                };
+                Ok(self.flush(device, *handle, &[span], Look::Once))
+            }
+            Command::Flush { handle, spans } | Command::DeepFlush { handle, spans } => {
+                Ok(self.flush(device, *handle, spans.as_slice(), Look::Once))
+            }
+            Command::FlushVerify { handle, spans } => {
+                Ok(self.flush(device, *handle, spans.as_slice(), Look::Again))
+            }
+            Command::CheckFile { name, offset, len } => {
+                let span = Span {
+                    start: *offset,
+                    len: *len,
+                };
+                self.check_file(device, name, span)
+            }
             Command::PoisonBlock { block, line } => Ok(self.poison_block(device, *block, *line)),
             Command::PoisonVolume { offset } => Ok(self.poison_volume(device, *offset)),
+            Command::PoisonFile { name, offset } => Ok(self.poison_file(device, name, *offset)),
             Command::PoisonMeta { line } => Ok(self.poison_meta(device, *line)),
+            Command::WeakenFile { name, offset } => self.weaken_file(device, name, *offset),
             Command::WeakenVolume { offset } => self.weaken_volume(device, *offset),
+            Command::ClearFile { name, offset } => Ok(self.clear_file(device, name, *offset)),
             Command::ClearVolume { offset } => Ok(self.clear_volume(device, *offset)),
             Command::Cut => Ok(self.cut(device)),
             Command::CutIn { calls } => Ok(self.cut_in(device, *calls)),

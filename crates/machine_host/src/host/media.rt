@@ -1,11 +1,12 @@
 // Media errors: lines that go bad or weak, and bad lines that are made good again.
-ghost use Rattle.std.specs.Prelude.{◌≡◌, ◌<◌};
+ghost use Rattle.std.specs.Prelude.{◌≡◌, ◌<◌, Err, MatchResult};
 ghost use Rattle.word_tables.specs.Layout.{meta_lines};
 ghost use Rattle.machine_host.specs.declared.mode.Mode.TheVariants.{On};
 ghost use Rattle.script_text.specs.Action.Action.{PoisonBlock, PoisonVolume, PoisonMeta, WeakenVolume, ClearVolume};
 ghost use Rattle.reply_text.specs.Answer.{answer_of};
 ghost use Rattle.reply_text.specs.Answer.Answer.{Done};
-ghost use Rattle.scrub.specs.Refusals.{place_says, scrub_says};
+ghost use Rattle.scrub.specs.Refusals.{place_says, scrub_says, weaken_says};
+ghost use Rattle.scrub.specs.declared.fault.WeakenFault.TheVariants.{Memory};
 ghost use Rattle.machine_host.specs.OnMedia.{line_answer};
 ghost use Rattle.machine_host.specs.Machine.{Machine, bad_of};
 ghost use Rattle.machine_host.specs.Stands.{HostServes, Stands};
@@ -57,12 +58,8 @@ impl Host {
         requires on { self.now.mode ≡ On }
         ensures { Responds (WeakenVolume offset) result self.now self.now (D.state device.old) (D.state device.new) }
     {
-        match scrub::weaken_volume(device, &self.volume, offset) {
-            Ok(()) => Ok(Reply::Done),
-            Err(WeakenFault::Range) => Ok(Reply::Refused(Why::Range)),
-            Err(WeakenFault::Nothing) => Ok(Reply::Refused(Why::Nothing)),
-            Err(WeakenFault::Memory) => Err(AllocError),
-        }
+        let call = scrub::weaken_volume(device, &self.volume, offset);
+        weakened(call)
     }
 
     pub(super) fn clear_volume<D: LineDevice>(&mut self, device: &mut D, offset: u64) -> Reply
@@ -89,7 +86,7 @@ impl Host {
     }
 
     // What a clear is answered, and the mode after it.
-    fn cleared(&mut self, call: Result<(), ScrubFault>) -> Reply
+    pub(super) fn cleared(&mut self, call: Result<(), ScrubFault>) -> Reply
         requires on { self.old.mode ≡ On }
         ensures state { self.new ≡ record self.old { mode = mode_after scrub_says call } }
         ensures answer { answer_of result ≡ answer_after scrub_says line_answer Done call }
@@ -106,12 +103,25 @@ impl Host {
 }
 
 // What it is answered that a line was lost, or that there is no such line.
-fn marked(call: Result<(), PlaceFault>) -> Reply
+pub(super) fn marked(call: Result<(), PlaceFault>) -> Reply
     ensures { answer_of result ≡ answer_after place_says line_answer Done call }
 {
     match call {
         Ok(()) => Reply::Done,
         Err(PlaceFault::Range) => Reply::Refused(Why::Range),
         Err(PlaceFault::Nothing) => Reply::Refused(Why::Nothing),
+    }
+}
+
+// The same of a line that became weak, which may want memory.
+pub(super) fn weakened(call: Result<(), WeakenFault>) -> Result<Reply, AllocError>
+    ensures { MatchResult result (λ reply. (call ≡ Err Memory → ⊥) × (answer_of reply ≡ answer_after weaken_says line_answer Done call))
+        (λ _. call ≡ Err Memory) }
+{
+    match call {
+        Ok(()) => Ok(Reply::Done),
+        Err(WeakenFault::Range) => Ok(Reply::Refused(Why::Range)),
+        Err(WeakenFault::Nothing) => Ok(Reply::Refused(Why::Nothing)),
+        Err(WeakenFault::Memory) => Err(AllocError),
     }
 }

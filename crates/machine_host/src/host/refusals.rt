@@ -105,9 +105,17 @@ fn needs(command: &Command) -> Needs
         | Command::Unmap { .. }
         | Command::Load { .. }
         | Command::Store { .. }
+        | Command::Sync { .. }
+        | Command::Flush { .. }
+        | Command::FlushVerify { .. }
+        | Command::DeepFlush { .. }
+        | Command::CheckFile { .. }
         | Command::PoisonBlock { .. }
         | Command::PoisonVolume { .. }
+        | Command::PoisonFile { .. }
+        | Command::WeakenFile { .. }
         | Command::WeakenVolume { .. }
+        | Command::ClearFile { .. }
         | Command::ClearVolume { .. } => Needs::Usable,
         Command::PoisonMeta { .. } | Command::CutIn { .. } | Command::FailIn { .. } => {
             Needs::Anytime
@@ -155,9 +163,17 @@ fn place_refusal(geo: Geometry, command: &Command) -> Option<Why>
         | Command::Unmap { .. }
         | Command::Load { .. }
         | Command::Store { .. }
+        | Command::Sync { .. }
+        | Command::Flush { .. }
+        | Command::FlushVerify { .. }
+        | Command::DeepFlush { .. }
+        | Command::CheckFile { .. }
         | Command::PoisonBlock { .. }
         | Command::PoisonVolume { .. }
+        | Command::PoisonFile { .. }
+        | Command::WeakenFile { .. }
         | Command::WeakenVolume { .. }
+        | Command::ClearFile { .. }
         | Command::ClearVolume { .. }
         | Command::Cut
         | Command::Restart { .. }

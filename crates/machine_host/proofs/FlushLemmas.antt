@@ -1,0 +1,292 @@
+-- What flushes through mappings come to.
+use Rattle.std.proofs.Common.{◌≡◌, ◌+◌, ◌*◌, ◌<◌, ◌≤◌, ◌∙◌, ℕ, zero, suc, Bool, true, IsTrue, Option, Some, None, Result, Ok, Err, OnOk, List, [], ◌∷◌, length, refl, sym, ap, subst, arith}
+use Rattle.std.proofs.lemmas.Option.{same_Some}
+use Rattle.line_device.specs.Device.{Device}
+use Rattle.line_device.specs.Panel.{Outcome, Runs}
+use Rattle.line_words.specs.Told.{Answers, OnRefused, OnWorked, is_done, outcome_by}
+use Rattle.line_words.specs.Told.Told.{Starves}
+use Rattle.nvm_base.specs.Units.{units_of}
+use Rattle.nvm_base.specs.declared.units.Span.{Span}
+use Rattle.inode_table.specs.Slots.{inode_of}
+use Rattle.inode_table.proofs.SlotLemmas.{found_is_named}
+use Rattle.nvm_model.specs.Files.{OneFileLeft, on_pages}
+use Rattle.nvm_model.specs.Interrupted.{MaySyncAll}
+use Rattle.nvm_model.specs.Listing.{change_file, file_name}
+use Rattle.nvm_model.specs.Mappings.{is_shared, mapping_of}
+use Rattle.nvm_model.specs.Page.{Page}
+use Rattle.nvm_model.specs.Storage.{Block, File, Mapping}
+use Rattle.nvm_model.specs.Touched.{next_bad_touched, persist_spans}
+use Rattle.page_lines.specs.Placed.{one_there, there_among}
+use Rattle.page_lines.specs.Turns.{WritesBackOthers}
+use Rattle.file_journal.specs.Area.{IsOfFiles}
+use Rattle.file_journal.specs.Object.{JournalState}
+use Rattle.file_journal.specs.Standing.{EachReadsFiles, FilesStand}
+use Rattle.file_journal.specs.Tables.{AreTables, known_units}
+use Rattle.file_journal.proofs.EachFilesLemmas.{each_files-then}
+use Rattle.file_pages.specs.Costs.{lines_there}
+use Rattle.file_pages.specs.Object.{IsFileAt, KeepsMarks, PagesServe, PagesState, file_place}
+use Rattle.file_pages.proofs.FoundLemmas.{file-found}
+use Rattle.flush_engine.specs.Refusals.{FlushRefusal, flush_refusal, flush_says, flushed, verified}
+use Rattle.flush_engine.specs.Refusals.FlushRefusal.{Length, Limit, Poison, Range, Verify}
+use Rattle.flush_engine.specs.Spans.{lines_in}
+use Rattle.flush_engine.specs.declared.fault.FlushFault.{FlushFault}
+use Rattle.flush_engine.specs.declared.fault.FlushFault.TheVariants as fault
+use Rattle.reply_text.specs.Answer.{Answer, IsPrintable}
+use Rattle.reply_text.specs.Answer.Answer.{Done, VerifyFile}
+use Rattle.reply_text.specs.Room.{most_of}
+use Rattle.script_text.specs.Action.{Action}
+use Rattle.machine_host.specs.declared.look.Look.{Look}
+use Rattle.machine_host.specs.declared.look.Look.TheVariants.{Once, Again}
+use Rattle.machine_host.specs.declared.mode.Mode.TheVariants.{On}
+use Rattle.machine_host.specs.Commands.{LeavesBlocks, LeavesFiles, LeavesVolume, MayLeaveFiles, meaning, spending}
+use Rattle.machine_host.specs.Costs.{no_spending}
+use Rattle.machine_host.specs.Faults.{answer_after, flush_answer, mode_after, verify_answer}
+use Rattle.machine_host.specs.Interrupted.{stop_in}
+use Rattle.machine_host.specs.Machine.{Machine}
+use Rattle.machine_host.specs.Meaning.{Meaning}
+use Rattle.machine_host.specs.Meaning.FilesLeft.{SyncedInPart, Unchanged}
+use Rattle.machine_host.specs.OnFlushes.{all_moved, flush_through, flush_with, flushed_answer, lines_touched_by, second_look, spans_refusal, synced_in}
+use Rattle.machine_host.specs.OnPages.{pages_named}
+use Rattle.machine_host.specs.Responding.{Answered}
+use Rattle.machine_host.specs.Stands.{HostServes, HostState, Stands}
+use Rattle.machine_host.proofs.CallLemmas.{IsPart, on_refused-then, printable_after}
+use Rattle.machine_host.proofs.FilePageCallLemmas.{AreReady, LeavesOthers, PagesCalled, pages_after, work_comes, work_serves}
+use Rattle.machine_host.proofs.FilePageFateLemmas.{pages_are}
+use Rattle.machine_host.proofs.FilePageLemmas.{file_seen, held_now, journal_now, right_now}
+use Rattle.machine_host.proofs.FlushFateLemmas.{fate_flush, shows}
+use Rattle.machine_host.proofs.HandleCallLemmas.{file_under}
+use Rattle.machine_host.proofs.HandledLemmas.{seen}
+use Rattle.machine_host.proofs.MapFateLemmas.{has-found}
+use Rattle.machine_host.proofs.VolumeCallLemmas.{short_after}
+
+-- answers of flushes
+never_starves : (f : FlushFault) → flush_says f ≡ Starves → ⊥
+never_starves fault.Range e = cc e
+never_starves fault.Length e = cc e
+never_starves fault.Limit e = cc e
+never_starves (fault.Poison offset) e = cc e
+never_starves (fault.Verify offset) e = cc e
+never_starves fault.Device e = cc e
+never_starves fault.PowerLost e = cc e
+
+module _ (name : List ℕ) where
+  no_stop : (w : FlushRefusal) → stop_in (flush_answer name w) ≡ None
+  no_stop Range = refl
+  no_stop Length = refl
+  no_stop Limit = refl
+  no_stop (Poison offset) = refl
+  no_stop (Verify offset) = refl
+
+  short_refusal : (w : FlushRefusal) → most_of (flush_answer name w) ≤ 72
+  short_refusal Range = omega arith
+  short_refusal Length = omega arith
+  short_refusal Limit = omega arith
+  short_refusal (Poison offset) = omega arith
+  short_refusal (Verify offset) = omega arith
+
+  printable_refusal : (w : FlushRefusal) → IsPrintable (flush_answer name w)
+  printable_refusal Range = tt
+  printable_refusal Length = tt
+  printable_refusal Limit = tt
+  printable_refusal (Poison offset) = tt
+  printable_refusal (Verify offset) = tt
+
+  flush_part : IsPart flush_says (flush_answer name)
+  flush_part = record { printable = printable_refusal; quiet = no_stop; short = short_refusal; fed = never_starves }
+
+  -- of what was looked at again
+  quiet_look : (look : Look) (lost : Option ℕ) → stop_in (second_look look name lost) ≡ None
+  quiet_look Once lost = refl
+  quiet_look Again None = refl
+  quiet_look Again (Some n) = refl
+
+  printable_verify : (r : Result (Unit {0}) FlushFault) → IsPrintable (verify_answer name r)
+  printable_verify (Ok done) = tt
+  printable_verify (Err fault.Range) = tt
+  printable_verify (Err fault.Length) = tt
+  printable_verify (Err fault.Limit) = tt
+  printable_verify (Err (fault.Poison offset)) = tt
+  printable_verify (Err (fault.Verify offset)) = tt
+  printable_verify (Err fault.Device) = tt
+  printable_verify (Err fault.PowerLost) = tt
+
+  short_verify : (r : Result (Unit {0}) FlushFault) → most_of (verify_answer name r) ≤ 72
+  short_verify (Ok done) = omega arith
+  short_verify (Err fault.Range) = omega arith
+  short_verify (Err fault.Length) = omega arith
+  short_verify (Err fault.Limit) = omega arith
+  short_verify (Err (fault.Poison offset)) = omega arith
+  short_verify (Err (fault.Verify offset)) = omega arith
+  short_verify (Err fault.Device) = omega arith
+  short_verify (Err fault.PowerLost) = omega arith
+
+-- what a flush says of the lines that it lost: nothing, or the lowest
+abbrev pub Looked : Look → Result (Unit {0}) FlushFault → Option ℕ → Type 0
+Looked Once r lost = flushed r ≡ r
+Looked Again r lost = OnOk (flushed r) (r ≡ verified lost)
+
+told_look : (look : Look) (name : List ℕ) (r : Result (Unit {0}) FlushFault) (lost : Option ℕ) → Looked look r lost
+    → answer_after flush_says (flush_answer name) (verify_answer name r) (flushed r) ≡ answer_after flush_says (flush_answer name) (second_look look name lost) (flushed r)
+told_look Once name (Ok done) lost looked = refl
+told_look Again name (Ok done) None looked = refl
+told_look Again name (Ok done) (Some n) looked = cc looked
+told_look look name (Err fault.Range) lost looked = refl
+told_look look name (Err fault.Length) lost looked = refl
+told_look look name (Err fault.Limit) lost looked = refl
+told_look look name (Err (fault.Poison offset)) lost looked = refl
+told_look Once name (Err (fault.Verify offset)) lost looked = cc looked
+told_look Again name (Err (fault.Verify offset)) None looked = cc looked
+told_look Again name (Err (fault.Verify offset)) (Some n) looked = let same : offset ≡ 64 * n = cc looked in ap (λ k. VerifyFile name k) same
+told_look look name (Err fault.Device) lost looked = refl
+told_look look name (Err fault.PowerLost) lost looked = refl
+
+-- as far as the device goes the look makes no difference
+pub same_outcome : (r : Result (Unit {0}) FlushFault) → outcome_by flush_says (flushed r) ≡ outcome_by flush_says r
+same_outcome (Ok done) = refl
+same_outcome (Err fault.Range) = refl
+same_outcome (Err fault.Length) = refl
+same_outcome (Err fault.Limit) = refl
+same_outcome (Err (fault.Poison offset)) = refl
+same_outcome (Err (fault.Verify offset)) = refl
+same_outcome (Err fault.Device) = refl
+same_outcome (Err fault.PowerLost) = refl
+
+-- no more lines are there than are touched
+few_there : (place : ℕ → Option ℕ) (first k : ℕ) → there_among place first k ≤ k
+few_there place first zero = omega arith
+few_there place first (suc k) = let rest = few_there place first k in let last = one (place (first + k)) in omega (arith, rest, last)
+  where
+    one : (o : Option ℕ) → one_there o ≤ 1
+    one None = omega arith
+    one (Some line) = omega arith
+
+few_lines : (s : JournalState) (inode : ℕ) (spans : List Span) → lines_in s inode spans ≤ lines_touched_by spans
+few_lines s inode [] = omega arith
+few_lines s inode (span ∷ spans) =
+    let here : lines_there s inode span.start span.len ≤ (units_of 64 span).len = few_there (file_place s inode) (units_of 64 span).start (units_of 64 span).len in let rest = few_lines s inode spans in omega (arith, here, rest)
+
+worked_then : {T P Q : Type 0} (r : Result T FlushFault) → (P → Q) → OnWorked flush_says r P → OnWorked flush_says r Q
+worked_then (Ok x) then_ p = then_ p
+worked_then (Err f) then_ p = λ stop. then_ (p stop)
+
+-- Of a shared mapping that has these spans.
+module _ (now host : HostState) (p : PagesState) (r : Result (Unit {0}) FlushFault) (action : Action) (handle inode : ℕ) (look : Look) (spans : List Span) (m : Mapping) (old : Device)
+    (inside : host ≡ now) (on : now.mode ≡ On) (serves : HostServes now old) (row : meaning action ≡ flush_with look handle spans) (is : mapping_of handle now.files.mappings.mappings ≡ Some m)
+    (shared : is_shared m.kind ≡ true) (right : spans_refusal m.len spans ≡ None) (here : inode_of m.name host.files.pages.journal.tables.files ≡ Some inode) where
+  abbrev to : List Span
+  to = all_moved m.start spans
+
+  -- what the row leaves where it is interrupted
+  left_by_row : (files left : List File) → OneFileLeft m.name (MaySyncAll to) files left → MayLeaveFiles host.files.mappings.mappings (Some action) files left
+  left_by_row files left may =
+      let of = flush_through look spans in
+      let ms = host.files.mappings.mappings in
+      let there : mapping_of handle ms ≡ Some m = ap (λ (k : HostState). mapping_of handle k.files.mappings.mappings) inside ∙ is in
+      subst (λ (x : Meaning). LeavesFiles (x.files_left ms) files (x.files ms files) left) (sym row)
+      (subst (λ (o : Option Mapping). LeavesFiles (elim o [ None ↦ Unchanged | Some n ↦ (of n).files_left ms ]) files (elim o [ None ↦ files | Some n ↦ (of n).files ms files ]) left) (sym there)
+      (subst (λ (x : Meaning). LeavesFiles (x.files_left ms) files (x.files ms files) left) (sym (shows now old on serves action handle look spans row m is shared right)) may))
+
+  flush_leaves : LeavesOthers action
+  flush_leaves = record {
+    blocks = λ bs new same. subst (λ (x : Meaning). LeavesBlocks x.blocks_left bs (x.blocks bs) new) (sym row) same;
+    volume = λ geo pages new same. subst (λ (x : Meaning). LeavesVolume (x.volume_left geo) pages (x.volume geo pages) new) (sym row) same;
+  }
+
+  abbrev lines : ℕ
+  lines = lines_in host.files.pages.journal inode to
+
+  spent : (h : Machine) → Stands now old h → (lines ≤ (spending h action).calls) × (lines ≤ (spending h action).persists)
+  spent h stands =
+      let of = flush_through look spans in
+      let few = few_lines host.files.pages.journal inode to in
+      let same : lines_touched_by to ≡ (spending h action).calls = sym (calls_are h stands) in
+      (omega (arith, few, same), let also : lines_touched_by to ≡ (spending h action).persists = sym (persists_are h stands) in omega (arith, few, also))
+    where
+      spends_are : (h : Machine) → Stands now old h → (meaning action).spends h ≡ record { calls = lines_touched_by to; persists = lines_touched_by to }
+      spends_are h stands =
+          let of = flush_through look spans in
+          ap (λ (x : Meaning). x.spends h) row ∙ ap (λ (o : Option Mapping). elim o [ None ↦ no_spending | Some n ↦ (of n).spends h ]) (seen now old on serves action handle 72 of row (Some m) is h stands)
+          ∙ ap (λ (x : Meaning). x.spends h) (shows now old on serves action handle look spans row m is shared right)
+
+      calls_are : (h : Machine) → Stands now old h → (spending h action).calls ≡ lines_touched_by to
+      calls_are h stands = ap (λ s. s.calls) (spends_are h stands)
+
+      persists_are : (h : Machine) → Stands now old h → (spending h action).persists ≡ lines_touched_by to
+      persists_are h stands = ap (λ s. s.persists) (spends_are h stands)
+
+  -- A flush's clauses are those of a call on bytes.
+  module _ {D : Type 0} (state : D → Device) (before after : D) (first : state before ≡ old) (untouched : OnRefused flush_says (flushed r) ((p ≡ host.files.pages) × (after ≡ before)))
+      (images : OnWorked flush_says (flushed r) ((files : List File) (file : File) → IsFileAt host.files.pages.journal (state before).medium inode files file
+      → EachReadsFiles host.files.pages.journal.geo (state after).medium (OneFileLeft file.name (MaySyncAll to) files)))
+      (outside : WritesBackOthers (IsOfFiles host.files.pages.journal.geo) (state before).medium (state after).medium) (marks : KeepsMarks host.files.pages.journal.geo (state before).medium (state after).medium)
+      (served : PagesServe p (state after).medium) (object : (p.journal ≡ host.files.pages.journal) × (p.settled ≡ is_done (outcome_by flush_says r))) (runs : Runs lines lines (outcome_by flush_says r) (state before).panel (state after).panel) where
+    right_here : AreTables host.files.pages.journal.geo.fpages host.files.pages.journal.tables
+    right_here = right_now now host old inside on serves
+
+    of_name : ((files : List File) (file : File) → IsFileAt host.files.pages.journal (state before).medium inode files file → EachReadsFiles host.files.pages.journal.geo (state after).medium (OneFileLeft file.name (MaySyncAll to) files))
+        → (files : List File) → FilesStand host.files.pages.journal.geo (state before).medium host.files.pages.journal.tables files
+        → EachReadsFiles host.files.pages.journal.geo (state after).medium (MayLeaveFiles host.files.mappings.mappings (Some action) files)
+    of_name each files stand =
+        let found = file-found host.files.pages.journal (state before).medium right_here m.name files stand inode (found_is_named m.name host.files.pages.journal.tables.files inode here) in
+        each_files-then host.files.pages.journal.geo (state after).medium (OneFileLeft m.name (MaySyncAll to) files) (MayLeaveFiles host.files.mappings.mappings (Some action) files) (left_by_row files)
+        (subst (λ n. EachReadsFiles host.files.pages.journal.geo (state after).medium (OneFileLeft n (MaySyncAll to) files)) found.named (each files found.file found.at))
+
+    ready_after : {T : Type 0} (q : Result T FlushFault) → p.settled ≡ is_done (outcome_by flush_says q) → OnOk q (AreReady host.files.pages.journal p (state after).medium)
+    ready_after (Ok x) settled = record {
+      sizes = ap (λ j. j.geo) object.0;
+      names = ap (λ j. j.tables.files) object.0;
+      settled = settled;
+      journal = ap (λ j. j.settled) object.0 ∙ journal_now now host old inside on serves;
+      serves = served;
+      right = subst (λ (j : JournalState). AreTables host.files.pages.journal.geo.fpages j.tables) (sym object.0) right_here;
+      held = ap (λ j. known_units j.tables.pages j.free) object.0 ∙ held_now now host old inside on serves;
+    }
+    ready_after (Err f) settled = tt
+
+    pub flush_called : PagesCalled flush_says host p (flushed r) (MayLeaveFiles host.files.mappings.mappings (Some action)) lines lines (state before) (state after)
+    flush_called = record {
+      untouched = on_refused-then flush_says (flushed r) (λ same. (same.0, ap state same.1)) untouched;
+      images = worked_then (flushed r) of_name images;
+      outside = outside;
+      marks = marks;
+      ready = ready_after (flushed r) (object.1 ∙ ap is_done (sym (same_outcome r)));
+      runs = subst (λ (o : Outcome). Runs lines lines o (state before).panel (state after).panel) (sym (same_outcome r)) runs;
+    }
+
+  module _ (after : HostState) (new : Device) (state : after ≡ pages_after host p (mode_after flush_says (flushed r)))
+      (call : PagesCalled flush_says host p (flushed r) (MayLeaveFiles host.files.mappings.mappings (Some action)) lines lines old new) (object : p.journal ≡ host.files.pages.journal) where
+    pub flush_answered : (answer : Answer)
+        → ((files : List File) (file : File) → IsFileAt host.files.pages.journal old.medium inode files file → Answers flush_says (flush_refusal file.pages to) (flushed r))
+        → OnOk (flushed r) ((files : List File) (file : File) → IsFileAt host.files.pages.journal old.medium inode files file
+        → FilesStand host.files.pages.journal.geo new.medium host.files.pages.journal.tables (change_file file_name file.name (on_pages (persist_spans to)) files))
+        → ((files : List File) (file : File) → IsFileAt host.files.pages.journal old.medium inode files file → Looked look r (next_bad_touched to (persist_spans to file.pages) 0))
+        → answer ≡ answer_after flush_says (flush_answer m.name) (verify_answer m.name r) (flushed r) → Answered action answer now after old new
+    flush_answered answer refused ok looked answer_is = record {
+      step = λ h stands.
+          let found = file_seen now host old inside on serves m.name h stands inode here in
+          let among = file_under now old on serves handle m is h stands in
+          let same : among.file ≡ found.file = same_Some _ _ (sym among.found ∙ found.found) in
+          let whole : m.start + m.len ≤ 4096 * length found.file.pages = subst (λ (f : File). m.start + m.len ≤ 4096 * length f.pages) same among.within in
+          let named : pages_named m.name h.files ≡ found.file.pages = pages_are h m.name found.file (sym stands.mode ∙ on) (has-found m.name h.files found.file found.found) found.found in
+          work_comes flush_says (flush_answer m.name) (flush_part m.name) now host after p (flushed r) lines lines old new inside state on serves action spent flush_leaves call
+          h (flushed_answer look m.name to found.file.pages) answer (flush_refusal found.file.pages to) (synced_in m.name to h.files)
+          (quiet_look m.name look (next_bad_touched to (persist_spans to found.file.pages) 0)) stands
+          (fate_flush now old on serves action handle look spans row m is shared right h stands found.file.pages named whole)
+          (refused h.files found.file found.at) (synced (flushed r) ok h.files found.file found.at found.named)
+          (answer_is ∙ told_look look m.name r (next_bad_touched to (persist_spans to found.file.pages) 0) (looked h.files found.file found.at));
+      printable = subst IsPrintable (sym answer_is) (printable_after flush_says (flush_answer m.name) (flush_part m.name) (verify_answer m.name r) (printable_verify m.name r) (flushed r));
+      room =
+          let short = subst (λ a. most_of a ≤ 72) (sym answer_is) (short_after flush_says (flush_answer m.name) (flush_part m.name) (short_verify m.name r) (flushed r)) in
+          subst (λ (x : Meaning). most_of answer ≤ x.room) (sym row) short;
+      serves = work_serves flush_says (flush_answer m.name) (flush_part m.name) now host after p (flushed r) lines lines old new inside state on serves action spent flush_leaves call;
+    }
+      where
+        synced : (q : Result (Unit {0}) FlushFault)
+            → OnOk q ((files : List File) (file : File) → IsFileAt host.files.pages.journal old.medium inode files file
+            → FilesStand host.files.pages.journal.geo new.medium host.files.pages.journal.tables (change_file file_name file.name (on_pages (persist_spans to)) files))
+            → (files : List File) (file : File) → IsFileAt host.files.pages.journal old.medium inode files file → file.name ≡ m.name
+            → OnOk q (FilesStand host.files.pages.journal.geo new.medium p.journal.tables (synced_in m.name to files))
+        synced (Ok x) ok files file at named =
+            subst (λ (j : JournalState). FilesStand host.files.pages.journal.geo new.medium j.tables (synced_in m.name to files)) (sym object)
+            (subst (λ n. FilesStand host.files.pages.journal.geo new.medium host.files.pages.journal.tables (change_file file_name n (on_pages (persist_spans to)) files)) named (ok files file at))
+        synced (Err f) ok files file at named = tt

@@ -1,0 +1,64 @@
+-- Media errors of files: lines that go bad or weak, bad lines that are made good again, and those that are told.
+use Rattle.std.specs.Prelude.{◌+◌, ◌*◌, ◌/◌, ℕ, List, [], ◌∷◌, length, min, option_map}
+use Rattle.nvm_base.specs.Units.{units_of}
+use Rattle.nvm_base.specs.declared.units.Span.{Span}
+use Rattle.nvm_model.specs.Cell.{Cell, clear_cell, lose_cell, weaken_cell}
+use Rattle.nvm_model.specs.Events.{offsets_of}
+use Rattle.nvm_model.specs.Files.{on_pages}
+use Rattle.nvm_model.specs.Listing.{change_file, file_name}
+use Rattle.nvm_model.specs.Page.{change_line}
+use Rattle.nvm_model.specs.Storage.{File}
+use Rattle.nvm_model.specs.Touched.{bad_touched}
+use Rattle.scrub.specs.Refusals.{file_clear_refusal, file_refusal}
+use Rattle.reply_text.specs.Answer.Answer.{BadLines, Done, Refused}
+use Rattle.machine_host.specs.Machine.Fate.{Gives, Works}
+use Rattle.machine_host.specs.Meaning.{Meaning, anywhere, no_reasons, quiet, span_refusal}
+use Rattle.machine_host.specs.Meaning.FilesLeft.{OldOrNew}
+use Rattle.machine_host.specs.Meaning.Starved.{WrittenBack}
+use Rattle.machine_host.specs.declared.needs.Needs.TheVariants.{Usable}
+use Rattle.machine_host.specs.OnFiles.{if_missing}
+use Rattle.machine_host.specs.OnMedia.{line_answer}
+use Rattle.machine_host.specs.OnPages.{pages_named}
+
+-- the files with the line of a byte of one changed
+abbrev pub marked_in : (Cell → Cell) → List ℕ → ℕ → List File → List File
+marked_in mark name offset files = change_file file_name name (on_pages (change_line mark (offset / 64))) files
+
+-- a line is marked, which needs no counted call
+abbrev pub marking_file : (Cell → Cell) → List ℕ → ℕ → Meaning
+marking_file mark name offset = record (quiet Usable anywhere (λ h. Gives Done (record h { files = marked_in mark name offset h.files }))) {
+  reasons = λ h. record no_reasons {
+    named = if_missing name h.files;
+    places = option_map line_answer (file_refusal (pages_named name h.files) offset);
+  };
+}
+
+abbrev pub poison_file : List ℕ → ℕ → Meaning
+poison_file name offset = marking_file lose_cell name offset
+
+abbrev pub weaken_file : List ℕ → ℕ → Meaning
+weaken_file name offset = record (marking_file weaken_cell name offset) { starved = WrittenBack }
+
+-- one call of the device
+abbrev pub clear_file : List ℕ → ℕ → Meaning
+clear_file name offset = record (quiet Usable anywhere (λ h. Works Done (record h { files = marked_in clear_cell name offset h.files }))) {
+  reasons = λ h. record no_reasons {
+    named = if_missing name h.files;
+    places = option_map line_answer (file_clear_refusal (pages_named name h.files) offset);
+  };
+  files = λ mappings. marked_in clear_cell name offset;
+  files_left = λ mappings. OldOrNew;
+  spends = λ h. record { calls = 1; persists = 0 };
+}
+
+-- a file has 16,384 lines at most
+abbrev pub check_file : List ℕ → ℕ → ℕ → Meaning
+check_file name offset len =
+    let span : Span = record { start = offset; len = len } in
+    record (quiet Usable anywhere (λ h. Gives (BadLines (offsets_of (bad_touched (span ∷ []) (pages_named name h.files)))) h)) {
+      reasons = λ h. record no_reasons {
+        named = if_missing name h.files;
+        places = option_map Refused (span_refusal (4096 * length (pages_named name h.files)) offset len);
+      };
+      room = 72 + 21 * min (units_of 64 span).len 16384;
+    }
