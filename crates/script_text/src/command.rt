@@ -113,13 +113,13 @@ pub enum Command {
         offset: u64,
         bytes: Bytes,
     },
-    /// A span of a mapping becomes durable.
+    /// The lines of a span of a mapping become durable.
     Sync {
         handle: u64,
         offset: u64,
         len: u64,
     },
-    /// The lines of spans of a mapping are flushed.
+    /// The same of several spans.
     Flush {
         handle: u64,
         spans: Spans,
@@ -129,7 +129,7 @@ pub enum Command {
         handle: u64,
         spans: Spans,
     },
-    /// As `Flush`, past the device's buffers.
+    /// As `Flush`, to the last domain of persistence.
     DeepFlush {
         handle: u64,
         spans: Spans,
