@@ -8,7 +8,7 @@ use Rattle.script_text.specs.Script.Input.{Malformed, Asked}
 pub record FlushRows : Type 0 where
   pub mapping_synced : line_input (codes "sync 7 64 128") ≡ Asked (Sync 7 64 128)
   pub sync_without_a_length : line_input (codes "sync 7 0") ≡ Malformed
-  pub sync_of_three_numbers_and_one : line_input (codes "sync 7 0 64 64") ≡ Malformed
+  pub sync_of_a_span_and_a_number : line_input (codes "sync 7 0 64 64") ≡ Malformed
   pub span_flushed : line_input (codes "flush 7 0 64") ≡ Asked (Flush 7 (range 0 64 ∷ []))
   pub spans_flushed : line_input (codes "flush 7 0 64 4096 1") ≡ Asked (Flush 7 (range 0 64 ∷ range 4096 1 ∷ []))
   pub flush_of_no_span : line_input (codes "flush 7") ≡ Malformed

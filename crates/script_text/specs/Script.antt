@@ -55,8 +55,8 @@ abbrev pub map_action : List ℕ → List (List ℕ) → Option Action
 map_action file words = numbered_action (λ start. numbered_action (λ len. kind_action (Map file (record { start = start; len = len })))) words
 
 -- What a command's name and words ask for, None where they are no command: of those on the power, of these and those on
--- bad and weak lines, of these and those on mappings, on files, and on the volume that bring no list, of all that bring no
--- list, of these and the flushes of a mapping, of these and a store to a mapping, of all.
+-- bad and weak lines, of these and those on mappings and events, on files, and on the volume that bring no list, of all that
+-- bring no list, of these and the flushes of a mapping, of these and a store to a mapping, of all.
 abbrev pub power_action : List ℕ → List (List ℕ) → Option Action
 power_action name words =
     if bytes_eq name (codes "cut") then cut_action words

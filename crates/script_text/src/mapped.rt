@@ -1,4 +1,4 @@
-// Commands on mappings.
+// Commands on mappings and on events.
 ghost use Rattle.std.specs.Prelude.{◌≡◌, IfErr, option_map};
 ghost use Rattle.nvm_base.specs.declared.files.Kind.{Kind as Shows};
 ghost use Rattle.script_text.specs.Action.{Action, action_of};

@@ -27,8 +27,7 @@ pub(crate) fn read_media(name: &[u8], words: &[u8]) -> Option<Command>
     }
 }
 
-// `block` with its number and a line in it, `file` with its name and an offset, `volume` and an offset, or `meta` and a
-// line.
+// `block`, its number and a line in it, `file`, its name and an offset, `volume` and an offset, or `meta` and a line.
 fn read_poison(words: &[u8]) -> Option<Command>
     ensures { option_map action_of result ≡ poison_action (words_of words.now) }
 {
@@ -46,7 +45,7 @@ fn read_poison(words: &[u8]) -> Option<Command>
     }
 }
 
-// `file` with its name and an offset, or `volume` and an offset.
+// `file`, its name and an offset, or `volume` and an offset.
 fn read_weaken(words: &[u8]) -> Option<Command>
     ensures { option_map action_of result ≡ placed_action WeakenFile WeakenVolume (words_of words.now) }
 {
@@ -60,7 +59,7 @@ fn read_weaken(words: &[u8]) -> Option<Command>
     }
 }
 
-// As of `weaken`.
+// The same words.
 fn read_clear(words: &[u8]) -> Option<Command>
     ensures { option_map action_of result ≡ placed_action ClearFile ClearVolume (words_of words.now) }
 {

@@ -10,7 +10,7 @@ unfolding number_of runs_of data_of data_within words_of command_action line_inp
 returns c = record {
   mapping_synced = refl;
   sync_without_a_length = refl;
-  sync_of_three_numbers_and_one = refl;
+  sync_of_a_span_and_a_number = refl;
   span_flushed = refl;
   spans_flushed = refl;
   flush_of_no_span = refl;
