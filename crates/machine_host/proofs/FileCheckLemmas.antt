@@ -66,24 +66,25 @@ few_pass test start (suc len) = by_test (test start) (few_pass test (start + 1) 
     by_test false few = omega (arith, few)
 
 few_bad : (span : Span) (pages : List Page) → 1 ≤ span.len → span.start + span.len ≤ 4096 * length pages → length pages ≤ 256
-    → length (offsets_of (bad_touched (span ∷ []) pages)) ≤ min (units_of 64 span).len 16384
+    → length (offsets_of (bad_touched (span ∷ []) pages)) ≤ min (span.len / 64 + 2) 16384
 few_bad span pages some within few =
     let lines = (units_of 64 span).len in
     let bad : ℕ → Bool = λ n. is_bad_cell (cell_of pages n) in
     let count : length (offsets_of (bad_touched (span ∷ []) pages)) ≤ lines =
-    subst (λ n. n ≤ lines) (sym (length-map (λ (n : ℕ). 64 * n) (bad_touched (span ∷ []) pages) ∙ ap length (bad_touched-among span pages some within))) (few_pass bad (units_of 64 span).start lines) in
+    subst (λ n. n ≤ lines) (sym (length-map (bad_touched (span ∷ []) pages) (λ (n : ℕ). 64 * n) ∙ ap length (bad_touched-among span pages some within))) (few_pass bad (units_of 64 span).start lines) in
     let most : lines ≤ 16384 = omega (arith, some, within, few) in
-    omega (arith, count, most)
+    let near : lines ≤ span.len / 64 + 2 = omega (arith, some) in
+    omega (arith, count, most, near)
 
 -- where a span is refused or allowed
-answers_refused : {T : Type 0} (why : Option SpanRefusal) (f : LinesFault) (w : SpanRefusal) → lines_says f ≡ Refuses w → Answers {T = T} lines_says why (Err f) → why ≡ Some w
-answers_refused None f w is refused = absurd (no_stop (lines_says f) is refused)
+answers_refused : (T : Type 0) (why : Option SpanRefusal) (f : LinesFault) (w : SpanRefusal) → lines_says f ≡ Refuses w → Answers {T = T} lines_says why (Err f) → why ≡ Some w
+answers_refused T None f w is refused = absurd (no_stop (lines_says f) is refused)
   where
     no_stop : (t : Told SpanRefusal) → t ≡ Refuses w → refusal_of t ≡ None → ⊥
     no_stop (Refuses v) is none = cc none
     no_stop (Stops by) is none = cc is
     no_stop Starves is none = cc is
-answers_refused (Some v) f w is refused = sym (ap refusal_of is) ∙ refused
+answers_refused T (Some v) f w is refused = sym refused ∙ ap refusal_of is
 
 -- a span that is not refused
 allowed : (pages offset len : ℕ) → span_refusal pages (record { start = offset; len = len }) ≡ None → (1 ≤ len) × (offset + len ≤ 4096 * pages)
@@ -138,17 +139,17 @@ module _ (now host : HostState) (d : Device) (inside : host ≡ now) (on : now.m
           let right = allowed (length file.pages) span.start span.len (not_refused x (span_refusal (length file.pages) span) (refused files_here file found_here.at)) in
           let most : length file.pages ≤ 256 = subst (λ n. n ≤ 256) (sym found_here.size) (pages_at_most host.files.pages.journal.tables.files inode (right_now now host d inside on serves).names within) in
           let count = few_bad span file.pages right.0 right.1 most in
-          let size : length lines ≤ min (units_of 64 span).len 16384 = subst (λ (l : List ℕ). length l ≤ min (units_of 64 span).len 16384) (sym (is files_here file found_here.at)) count in
+          let size : length lines ≤ min (span.len / 64 + 2) 16384 = subst (λ (l : List ℕ). length l ≤ min (span.len / 64 + 2) 16384) (sym (is files_here file found_here.at)) count in
           omega (arith, size)
 
-  pub check_refused : {T : Type 0} (f : LinesFault) (w : SpanRefusal) → lines_says f ≡ Refuses w
+  pub check_refused : (T : Type 0) (f : LinesFault) (w : SpanRefusal) → lines_says f ≡ Refuses w
       → ((files : List File) (file : File) → IsFileAt host.files.pages.journal d.medium inode files file → Answers {T = T} lines_says (span_refusal (length file.pages) span) (Err f))
       → Answered action (Refused (span_answer w)) now now d d
-  check_refused f w says refused = record {
+  check_refused T f w says refused = record {
     step = λ h stands.
         let found = file_is now host d inside on serves name inode here h stands in
         subst (λ x. Comes h action x (Refused (span_answer w)) now d d)
-        (sym (fate_check h stands found.file.pages (pages_seen now host d inside on serves name inode here h stands) (Some w) (answers_refused (span_refusal (length found.file.pages) span) f w says (refused h.files found.file found.at))))
+        (sym (fate_check h stands found.file.pages (pages_seen now host d inside on serves name inode here h stands) (Some w) (answers_refused T (span_refusal (length found.file.pages) span) f w says (refused h.files found.file found.at))))
         (same_state now d h action (Refused (span_answer w)) refl stands);
     printable = tt;
     room = omega arith;

@@ -119,7 +119,7 @@ module _ (now host : HostState) (old : Device) (inside : host ≡ now) (on : now
     units_seen : pages_used h.files ≡ used_pages host.files.pages.journal.tables.pages
     units_seen = used_seen host.files.pages.journal.geo old.medium host.files.pages.journal.tables h.files right_now (files_seen now host old h inside on serves stands)
 
-    named_seen : (o : Option ℕ) → o ≡ inode_of name host.files.pages.journal.tables.files → has_file file_name name h.files ≡ is_some o
+    pub named_seen : (o : Option ℕ) → o ≡ inode_of name host.files.pages.journal.tables.files → has_file file_name name h.files ≡ is_some o
     named_seen o is = (sees_files now host old h inside on serves stands).names name ∙ ap is_some (sym is)
 
     -- the file of an inode

@@ -74,7 +74,7 @@ moved_refusal name m pages spans within right =
     ∙ sym (ap (option_map (flush_answer name))
     (ap₂ (λ (a b : Bool). first_there (first_there (refused_if a Range) (refused_if b Length)) (first_there (limit_refusal to) (poison_refusal (next_bad_touched to pages 0))))
     (none_past m.len m.start (4096 * length pages) within spans right.past) (none_empty m.len m.start (4096 * length pages) within spans ∙ right.empty)
-    ∙ ap (λ (b : Bool). first_there (refused_if b Limit) (poison_refusal (next_bad_touched to pages 0))) (ap (λ n. n == 0 || nat_lt 8 n) (length-map (moved m.start) spans) ∙ right.count)))
+    ∙ ap (λ (b : Bool). first_there (refused_if b Limit) (poison_refusal (next_bad_touched to pages 0))) (ap (λ n. n == 0 || nat_lt 8 n) (length-map spans (moved m.start)) ∙ right.count)))
   where
     mapped_poison : (o : Option ℕ) → option_map (λ n. PoisonFile name (64 * n)) o ≡ option_map (flush_answer name) (poison_refusal o)
     mapped_poison None = refl
@@ -88,7 +88,7 @@ module _ (now : HostState) (d : Device) (on : now.mode ≡ On) (serves : HostSer
   abbrev inner : Meaning
   inner = flush_file look m.name to
 
-  shows : flush_through look spans m ≡ within_mapping (option_map Refused (spans_refusal m.len spans)) inner
+  pub shows : flush_through look spans m ≡ within_mapping (option_map Refused (spans_refusal m.len spans)) inner
   shows = ap (λ b. within_mapping (option_map Refused (spans_refusal m.len spans)) (if b then inner else nothing_done)) shared
 
   -- it is the flush of its file, refused for its bad lines alone

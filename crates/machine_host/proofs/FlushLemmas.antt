@@ -1,12 +1,15 @@
 -- What flushes through mappings come to.
 use Rattle.std.proofs.Common.{◌≡◌, ◌+◌, ◌*◌, ◌<◌, ◌≤◌, ◌∙◌, ℕ, zero, suc, Bool, true, IsTrue, Option, Some, None, Result, Ok, Err, OnOk, List, [], ◌∷◌, length, refl, sym, ap, subst, arith}
+use Rattle.std.proofs.lemmas.List.Sums.{sum_by-cons}
 use Rattle.std.proofs.lemmas.Option.{same_Some}
 use Rattle.line_device.specs.Device.{Device}
 use Rattle.line_device.specs.Panel.{Outcome, Runs}
 use Rattle.line_words.specs.Told.{Answers, OnRefused, OnWorked, is_done, outcome_by}
 use Rattle.line_words.specs.Told.Told.{Starves}
 use Rattle.nvm_base.specs.Units.{units_of}
+use Rattle.nvm_base.specs.declared.files.Kind.TheVariants.{Shared}
 use Rattle.nvm_base.specs.declared.units.Span.{Span}
+use Rattle.mappings.specs.declared.info.MapInfo.{MapInfo}
 use Rattle.inode_table.specs.Slots.{inode_of}
 use Rattle.inode_table.proofs.SlotLemmas.{found_is_named}
 use Rattle.nvm_model.specs.Files.{OneFileLeft, on_pages}
@@ -48,15 +51,16 @@ use Rattle.machine_host.specs.Meaning.FilesLeft.{SyncedInPart, Unchanged}
 use Rattle.machine_host.specs.OnFlushes.{all_moved, flush_through, flush_with, flushed_answer, lines_touched_by, second_look, spans_refusal, synced_in}
 use Rattle.machine_host.specs.OnPages.{pages_named}
 use Rattle.machine_host.specs.Responding.{Answered}
-use Rattle.machine_host.specs.Stands.{HostServes, HostState, Stands}
+use Rattle.machine_host.specs.Stands.{HostServes, HostState, IsOnFile, Stands}
 use Rattle.machine_host.proofs.CallLemmas.{IsPart, on_refused-then, printable_after}
 use Rattle.machine_host.proofs.FilePageCallLemmas.{AreReady, LeavesOthers, PagesCalled, pages_after, work_comes, work_serves}
 use Rattle.machine_host.proofs.FilePageFateLemmas.{pages_are}
 use Rattle.machine_host.proofs.FilePageLemmas.{file_seen, held_now, journal_now, right_now}
 use Rattle.machine_host.proofs.FlushFateLemmas.{fate_flush, shows}
-use Rattle.machine_host.proofs.HandleCallLemmas.{file_under}
+use Rattle.machine_host.proofs.HandleCallLemmas.{Told, file_under}
 use Rattle.machine_host.proofs.HandledLemmas.{seen}
 use Rattle.machine_host.proofs.MapFateLemmas.{has-found}
+use Rattle.machine_host.proofs.MappedLemmas.{held_by}
 use Rattle.machine_host.proofs.VolumeCallLemmas.{short_after}
 
 -- answers of flushes
@@ -163,7 +167,10 @@ few_there place first (suc k) = let rest = few_there place first k in let last =
 few_lines : (s : JournalState) (inode : ℕ) (spans : List Span) → lines_in s inode spans ≤ lines_touched_by spans
 few_lines s inode [] = omega arith
 few_lines s inode (span ∷ spans) =
-    let here : lines_there s inode span.start span.len ≤ (units_of 64 span).len = few_there (file_place s inode) (units_of 64 span).start (units_of 64 span).len in let rest = few_lines s inode spans in omega (arith, here, rest)
+    let here : lines_there s inode span.start span.len ≤ (units_of 64 span).len = few_there (file_place s inode) (units_of 64 span).start (units_of 64 span).len in
+    let rest = few_lines s inode spans in
+    let one = sum_by-cons (λ (x : Span). lines_there s inode x.start x.len) span spans in
+    let other = sum_by-cons (λ (x : Span). (units_of 64 x).len) span spans in omega (arith, here, rest, one, other)
 
 worked_then : {T P Q : Type 0} (r : Result T FlushFault) → (P → Q) → OnWorked flush_says r P → OnWorked flush_says r Q
 worked_then (Ok x) then_ p = then_ p
@@ -276,7 +283,7 @@ module _ (now host : HostState) (p : PagesState) (r : Result (Unit {0}) FlushFau
           (answer_is ∙ told_look look m.name r (next_bad_touched to (persist_spans to found.file.pages) 0) (looked h.files found.file found.at));
       printable = subst IsPrintable (sym answer_is) (printable_after flush_says (flush_answer m.name) (flush_part m.name) (verify_answer m.name r) (printable_verify m.name r) (flushed r));
       room =
-          let short = subst (λ a. most_of a ≤ 72) (sym answer_is) (short_after flush_says (flush_answer m.name) (flush_part m.name) (short_verify m.name r) (flushed r)) in
+          let short = subst (λ a. most_of a ≤ 72) (sym answer_is) (short_after flush_says (flush_answer m.name) (flush_part m.name) (verify_answer m.name r) (short_verify m.name r) (flushed r)) in
           subst (λ (x : Meaning). most_of answer ≤ x.room) (sym row) short;
       serves = work_serves flush_says (flush_answer m.name) (flush_part m.name) now host after p (flushed r) lines lines old new inside state on serves action spent flush_leaves call;
     }
@@ -290,3 +297,65 @@ module _ (now host : HostState) (p : PagesState) (r : Result (Unit {0}) FlushFau
             subst (λ (j : JournalState). FilesStand host.files.pages.journal.geo new.medium j.tables (synced_in m.name to files)) (sym object)
             (subst (λ n. FilesStand host.files.pages.journal.geo new.medium host.files.pages.journal.tables (change_file file_name n (on_pages (persist_spans to)) files)) named (ok files file at))
         synced (Err f) ok files file at named = tt
+
+-- What is said of a flush of a file, with or without a second look.
+pub record FlushSaid {D : Type 0} (state : D → Device) (host : HostState) (p : PagesState) (r : Result (Unit {0}) FlushFault) (look : Look) (inode : ℕ) (spans : List Span) (before after : D) : Type 0 where
+  pub refused : (files : List File) (file : File) → IsFileAt host.files.pages.journal (state before).medium inode files file → Answers flush_says (flush_refusal file.pages spans) (flushed r)
+  pub untouched : OnRefused flush_says (flushed r) ((p ≡ host.files.pages) × (after ≡ before))
+  pub ok : OnOk (flushed r) ((files : List File) (file : File) → IsFileAt host.files.pages.journal (state before).medium inode files file
+      → FilesStand host.files.pages.journal.geo (state after).medium host.files.pages.journal.tables (change_file file_name file.name (on_pages (persist_spans spans)) files))
+  pub looked : (files : List File) (file : File) → IsFileAt host.files.pages.journal (state before).medium inode files file → Looked look r (next_bad_touched spans (persist_spans spans file.pages) 0)
+  pub images : OnWorked flush_says (flushed r) ((files : List File) (file : File) → IsFileAt host.files.pages.journal (state before).medium inode files file
+      → EachReadsFiles host.files.pages.journal.geo (state after).medium (OneFileLeft file.name (MaySyncAll spans) files))
+  pub outside : WritesBackOthers (IsOfFiles host.files.pages.journal.geo) (state before).medium (state after).medium
+  pub marks : KeepsMarks host.files.pages.journal.geo (state before).medium (state after).medium
+  pub serves : PagesServe p (state after).medium
+  pub object : (p.journal ≡ host.files.pages.journal) × (p.settled ≡ is_done (outcome_by flush_says r))
+  pub runs : Runs (lines_in host.files.pages.journal inode spans) (lines_in host.files.pages.journal inode spans) (outcome_by flush_says r) (state before).panel (state after).panel
+
+-- So it is answered. Of a host behind a reference: `host` is what is inside `now`, and `after_host` what the answer leaves.
+pub flush_told : {D : Type 0} (state : D → Device) (now host after_host : HostState) (p : PagesState) (r : Result (Unit {0}) FlushFault) (handle inode : ℕ) (look : Look) (spans moved : List Span) (before after : D) (answer : Answer) (info : MapInfo)
+    → host ≡ now → now.mode ≡ On → HostServes now (state before) → (told : Told now.files.mappings.mappings handle info) → info.kind ≡ Shared → None ≡ spans_refusal info.span.len spans
+    → inode_of info.name host.files.pages.journal.tables.files ≡ Some inode → moved ≡ all_moved info.span.start spans → after_host ≡ pages_after host p (mode_after flush_says (flushed r))
+    → FlushSaid state host p r look inode moved before after → answer ≡ answer_after flush_says (flush_answer info.name) (verify_answer info.name r) (flushed r)
+    → (action : Action) → meaning action ≡ flush_with look handle spans → Answered action answer now after_host (state before) (state after)
+flush_told state now host after_host p r handle inode look spans moved before after answer info inside on serves told shared right here moved_is is said answer_is action row =
+    let m = told.mapping in
+    let shown : is_shared m.kind ≡ true = ap (λ (i : MapInfo). is_shared i.kind) told.same ∙ ap is_shared shared in
+    let fits : spans_refusal m.len spans ≡ None = ap (λ (i : MapInfo). spans_refusal i.span.len spans) told.same ∙ sym right in
+    let found : inode_of m.name host.files.pages.journal.tables.files ≡ Some inode = ap (λ (i : MapInfo). inode_of i.name host.files.pages.journal.tables.files) told.same ∙ here in
+    let to_is : moved ≡ all_moved m.start spans = moved_is ∙ ap (λ (i : MapInfo). all_moved i.span.start spans) (sym told.same) in
+    let s = subst (λ xs. FlushSaid state host p r look inode xs before after) to_is said in
+    flush_answered now host p r action handle inode look spans m (state before) inside on serves row told.is shown fits found after_host (state after) is
+    (flush_called now host p r action handle inode look spans m (state before) inside on serves row told.is shown fits found state before after refl s.untouched s.images s.outside s.marks s.serves s.object s.runs)
+    s.object.0 answer s.refused s.ok s.looked (answer_is ∙ ap (λ (i : MapInfo). answer_after flush_says (flush_answer i.name) (verify_answer i.name r) (flushed r)) (sym told.same))
+
+-- a file of a shared mapping is there
+pub mapped_found : (now : HostState) (d : Device) (handle : ℕ) (info : MapInfo) → now.mode ≡ On → HostServes now d → (told : Told now.files.mappings.mappings handle info) → None ≡ inode_of info.name now.files.pages.journal.tables.files → ⊥
+mapped_found now d handle info on serves told none =
+    let m = told.mapping in
+    let held = held_by (IsOnFile now.files.pages.journal.tables.files) handle now.files.mappings.mappings m told.is (serves.mounted on).mapped in
+    let gone : inode_of m.name now.files.pages.journal.tables.files ≡ None = ap (λ (i : MapInfo). inode_of i.name now.files.pages.journal.tables.files) told.same ∙ sym none in
+    let found = held.found in cc (gone, found)
+
+-- what a second look tells of each file that the inode may be
+pub looked_again : (r : Result (Unit {0}) FlushFault) (At : List File → File → Type 0) (found : List File → File → Option ℕ) (files : List File) (file : File) → At files file
+    → OnOk (flushed r) ((files : List File) (file : File) → At files file → r ≡ verified (found files file)) → OnOk (flushed r) (r ≡ verified (found files file))
+looked_again r At found files file at all = by_end (flushed r) all
+  where
+    by_end : (q : Result (Unit {0}) FlushFault) → OnOk q ((files : List File) (file : File) → At files file → r ≡ verified (found files file)) → OnOk q (r ≡ verified (found files file))
+    by_end (Ok x) all = all files file at
+    by_end (Err f) all = tt
+
+-- where no look is taken, what is said of a flush is said of it
+pub refused_once : (P : Type 0) (r : Result (Unit {0}) FlushFault) → flushed r ≡ r → OnRefused flush_says r P → OnRefused flush_says (flushed r) P
+refused_once P r same said = subst (λ q. OnRefused flush_says q P) (sym same) said
+
+pub ok_once : (P : Type 0) (r : Result (Unit {0}) FlushFault) → flushed r ≡ r → OnOk r P → OnOk (flushed r) P
+ok_once P r same said = subst (λ q. OnOk q P) (sym same) said
+
+pub worked_once : (P : Type 0) (r : Result (Unit {0}) FlushFault) → flushed r ≡ r → OnWorked flush_says r P → OnWorked flush_says (flushed r) P
+worked_once P r same said = subst (λ q. OnWorked flush_says q P) (sym same) said
+
+pub answers_once : (why : Option FlushRefusal) (r : Result (Unit {0}) FlushFault) → flushed r ≡ r → Answers flush_says why r → Answers flush_says why (flushed r)
+answers_once why r same said = subst (Answers flush_says why) (sym same) said

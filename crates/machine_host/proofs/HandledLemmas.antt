@@ -136,11 +136,11 @@ module _ (now : HostState) (d : Device) (on : now.mode ≡ On) (serves : HostSer
     pub seen : mapping_of handle h.mappings ≡ o
     seen = ap (λ (s : MappingsState). mapping_of handle s.mappings) (sym (stands.mappings on)) ∙ is
 
-    reasons_are : (meaning b).reasons h ≡ elim o [ None ↦ record no_reasons { named = Some (Refused because.Handle) } | Some m ↦ (of m).reasons h ]
+    pub reasons_are : (meaning b).reasons h ≡ elim o [ None ↦ record no_reasons { named = Some (Refused because.Handle) } | Some m ↦ (of m).reasons h ]
     reasons_are =
         ap (λ (x : Meaning). x.reasons h) row ∙ ap (λ (p : Option Mapping). elim p [ None ↦ record no_reasons { named = Some (Refused because.Handle) } | Some m ↦ (of m).reasons h ]) seen
 
-    comes_is : (meaning b).comes h ≡ elim o [ None ↦ Gives Done h | Some m ↦ (of m).comes h ]
+    pub comes_is : (meaning b).comes h ≡ elim o [ None ↦ Gives Done h | Some m ↦ (of m).comes h ]
     comes_is = ap (λ (x : Meaning). x.comes h) row ∙ ap (λ (p : Option Mapping). elim p [ None ↦ Gives Done h | Some m ↦ (of m).comes h ]) seen
 
   pub no_handle_answered : mapping_of handle now.files.mappings.mappings ≡ None → 72 ≤ room → Answered b (Refused because.Handle) now now d d

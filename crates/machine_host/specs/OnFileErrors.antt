@@ -1,6 +1,5 @@
 -- Media errors of files: lines that go bad or weak, bad lines that are made good again, and those that are told.
 use Rattle.std.specs.Prelude.{◌+◌, ◌*◌, ◌/◌, ℕ, List, [], ◌∷◌, length, min, option_map}
-use Rattle.nvm_base.specs.Units.{units_of}
 use Rattle.nvm_base.specs.declared.units.Span.{Span}
 use Rattle.nvm_model.specs.Cell.{Cell, clear_cell, lose_cell, weaken_cell}
 use Rattle.nvm_model.specs.Events.{offsets_of}
@@ -51,7 +50,7 @@ clear_file name offset = record (quiet Usable anywhere (λ h. Works Done (record
   spends = λ h. record { calls = 1; persists = 0 };
 }
 
--- a file has 16,384 lines at most
+-- a span of so many bytes touches no more lines than these, and a file has 16,384
 abbrev pub check_file : List ℕ → ℕ → ℕ → Meaning
 check_file name offset len =
     let span : Span = record { start = offset; len = len } in
@@ -60,5 +59,5 @@ check_file name offset len =
         named = if_missing name h.files;
         places = option_map Refused (span_refusal (4096 * length (pages_named name h.files)) offset len);
       };
-      room = 72 + 21 * min (units_of 64 span).len 16384;
+      room = 72 + 21 * min (len / 64 + 2) 16384;
     }

@@ -10,7 +10,7 @@ ghost use Rattle.machine_host.specs.Responding.{Responds};
 use super::Host;
 use crate::look::Look;
 use line_device::LineDevice;
-use nvm_base::{BLOCK, MOST, Span, lines_of};
+use nvm_base::{BLOCK, LINE, MOST, Span};
 use page_table::INODES;
 use reply_text::Reply;
 use script_text::Command;
@@ -28,13 +28,7 @@ pub fn longest_reply(command: &Command) -> u64
         Command::BRead { count, .. } => 72 + 3 * (BLOCK * *count),
         Command::VLoad { len, .. } => 72 + 3 * *len,
         Command::FRead { len, .. } | Command::Load { len, .. } => 72 + 3 * (*len).min(MOST),
-        Command::CheckFile { offset, len, .. } => {
-            let span = Span {
-                start: *offset,
-                len: *len,
-            };
-            72 + 21 * lines_of(span).len.min(MOST_LINES)
-        }
+        Command::CheckFile { len, .. } => 72 + 21 * (*len / LINE + 2).min(MOST_LINES),
         Command::VRanges => 133,
         Command::List => 64 + 54 * INODES,
         Command::BWrite { .. }

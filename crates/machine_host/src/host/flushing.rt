@@ -80,13 +80,17 @@ impl Host {
             unreachable!()
         };
         let moved = all_moved(spans, info.span.start);
-        let call = match look {
-            Look::Once => flush(device, &mut self.files.pages, inode, &moved[..spans.len()]),
-            Look::Again => {
-                flush_verify(device, &mut self.files.pages, inode, &moved[..spans.len()])
+        let spans = &moved[..spans.len()];
+        match look {
+            Look::Once => {
+                let call = flush(device, &mut self.files.pages, inode, spans);
+                self.flushed(&info.name, call)
             }
-        };
-        self.flushed(&info.name, call)
+            Look::Again => {
+                let call = flush_verify(device, &mut self.files.pages, inode, spans);
+                self.flushed(&info.name, call)
+            }
+        }
     }
 
     // What a flush of that file is answered, and the mode after it.

@@ -5,7 +5,7 @@ use Rattle.line_device.specs.Word.{byte_over, reaches, word_from, word_over}
 use Rattle.nvm_base.specs.Data.{data_text, data_within, runs_of}
 use Rattle.nvm_base.specs.Numbers.{number_of}
 use Rattle.word_tables.specs.Layout.{first_line, size, total_lines, volume_line}
-use Rattle.nvm_model.specs.Page.{fill, first_bad_line, first_uncovered_line, look, put, read_pages}
+use Rattle.nvm_model.specs.Page.{change_line, fill, first_bad_line, first_uncovered_line, look, put, read_pages}
 use Rattle.nvm_model.specs.Touched.{bad_touched, next_bad_touched, persist_spans}
 use Rattle.pm_volume.specs.Presence.{words_read}
 use Rattle.word_log.specs.Replay.{listed}
@@ -20,7 +20,7 @@ use Rattle.machine_host.specs.Restarting.{reading}
 use Rattle.machine_host.proofs.rows.worked_file_errors.Goals as goal
 
 pub returns : goal.returns
-unfolding digits word_from byte_over word_over reaches number_of runs_of data_within data_text fill put first_bad_line first_uncovered_line look read_pages words_read answer_line lines_of words_of command_action line_input refusal size first_line total_lines volume_line reading states_read blocks_read listed files_read file_words tables_of slots_of bytes_in bad_touched next_bad_touched persist_spans
+unfolding digits word_from byte_over word_over reaches number_of runs_of data_within data_text change_line fill put first_bad_line first_uncovered_line look read_pages words_read answer_line lines_of words_of command_action line_input refusal size first_line total_lines volume_line reading states_read blocks_read listed files_read file_words tables_of slots_of bytes_in bad_touched next_bad_touched persist_spans
 returns c = record {
   errors = record {
     bad_line_named = refl;

@@ -1,13 +1,12 @@
 use Rattle.std.proofs.Common.{◌≡◌, Some, None, ap, refl, sym, ◌∙◌, arith}
 use Rattle.inode_table.specs.Slots.{inode_of}
 use Rattle.file_journal.specs.Object.{JournalState}
+use Rattle.scrub.specs.Spans.{lines_says}
 use Rattle.scrub.specs.Spans.SpanRefusal.{Range, Length}
 use Rattle.script_text.specs.Action.Action.{CheckFile}
-use Rattle.machine_host.specs.Meaning.Starved.{Untouched}
 use Rattle.machine_host.specs.Stands.{HostState}
 use Rattle.machine_host.proofs.FileCheckLemmas.{check_done, check_refused}
 use Rattle.machine_host.proofs.FilePageLemmas.{missing_answered}
-use Rattle.machine_host.proofs.StepLemmas.{leaves_all}
 use Rattle.machine_host.proofs.host.Host.check_file.Goals as goal
 
 pub returns-in_default : goal.returns-in_default
@@ -29,4 +28,11 @@ returns-in-Err-Range g c =
     let name = c.args.name.now in
     let host : HostState = record { geometry = c.self.inside.geometry; mode = c.self.inside.mode; blocks = c.self.inside.blocks; volume = c.self.inside.volume; files = c.self.inside.files } in
     let here : inode_of name host.files.pages.journal.tables.files ≡ Some c.in-Some.inode = ap (λ (j : JournalState). inode_of name j.tables.files) (sym c.journal.ensures) ∙ sym c.in-Some.ensures.value in
-    check_refused c.args.self.now host _ c.self.view_is c.requires.on c.requires.serves name c.in-Some.inode c.in-Some.ensures.within here c.args.span c.in-Err-Range.field-0 Range c.in-Err-Range.ensures.refused
+    check_refused c.args.self.now host _ c.self.view_is c.requires.on c.requires.serves name c.in-Some.inode c.in-Some.ensures.within here c.args.span _ c.in-Err-Range.field-0 Range (ap lines_says c.in-Err-Range.field-0-is) c.in-Err-Range.ensures.refused
+
+pub returns-in-Err-Length : goal.returns-in-Err-Length
+returns-in-Err-Length g c =
+    let name = c.args.name.now in
+    let host : HostState = record { geometry = c.self.inside.geometry; mode = c.self.inside.mode; blocks = c.self.inside.blocks; volume = c.self.inside.volume; files = c.self.inside.files } in
+    let here : inode_of name host.files.pages.journal.tables.files ≡ Some c.in-Some.inode = ap (λ (j : JournalState). inode_of name j.tables.files) (sym c.journal.ensures) ∙ sym c.in-Some.ensures.value in
+    check_refused c.args.self.now host _ c.self.view_is c.requires.on c.requires.serves name c.in-Some.inode c.in-Some.ensures.within here c.args.span _ c.in-Err-Length.field-0 Length (ap lines_says c.in-Err-Length.field-0-is) c.in-Err-Length.ensures.refused
