@@ -1,19 +1,24 @@
 -- Which files there are: by induction over a run.
-use Rattle.std.proofs.Common.{◌≡◌, ◌⊎◌, inl, inr, ℕ, ◌+◌, Bool, true, false, Option, Some, None, List, [], ◌∷◌, ◌++◌, length, map, refl, sym, ap, ap₂, subst, ◌∙◌, if◌then◌else◌}
+use Rattle.std.proofs.Common.{◌≡◌, ◌⊎◌, inl, inr, ℕ, ◌+◌, Bool, true, false, Option, Some, None, List, [], ◌∷◌, ◌++◌, length, map, refl, sym, ap, ap₂, subst, ◌∙◌, ◌/◌, if◌then◌else◌}
 use Rattle.std.proofs.lemmas.Bool.{both_ways}
 use Rattle.std.proofs.lemmas.List.{length-map}
 use Rattle.line_device.specs.Panel.{Image}
 use Rattle.line_device.specs.declared.line.Choice.{Choice}
 use Rattle.word_tables.specs.declared.geometry.Geometry.{Geometry}
 use Rattle.nvm_base.specs.declared.files.FileEntry.{FileEntry}
+use Rattle.nvm_base.specs.declared.units.Span.{Span}
+use Rattle.nvm_model.specs.Cell.{Cell, clear_cell, lose_cell, weaken_cell}
 use Rattle.nvm_model.specs.Files.{entry_of_file}
 use Rattle.nvm_model.specs.Listing.{AreAlike, file_name}
-use Rattle.nvm_model.specs.Page.{fill, is_present, put}
+use Rattle.nvm_model.specs.Page.{Page, change_line, fill, is_present, put}
 use Rattle.nvm_model.specs.Storage.{File, Mapping}
-use Rattle.nvm_model.specs.Interrupted.{MayStore}
+use Rattle.nvm_model.specs.Interrupted.{MayStore, MaySyncAll}
+use Rattle.nvm_model.specs.Touched.{persist_spans}
 use Rattle.nvm_model.proofs.FileLeftLemmas.{may_store-length, one_left-entries}
+use Rattle.nvm_model.proofs.MediaLemmas.{length-change}
 use Rattle.nvm_model.proofs.OneFileLemmas.{left-change}
 use Rattle.nvm_model.proofs.PageLemmas.{length-put_fill, length-read_pages}
+use Rattle.nvm_model.proofs.SeveralLemmas.{length-spans}
 use Rattle.file_journal.specs.Files.{UnitFile, files_of, unit_file_name}
 use Rattle.file_journal.specs.Reading.{tables_read}
 use Rattle.file_journal.specs.Standing.{KeepsFile, KeepsFiles, file_read, files_read, line_of_file, pages_there}
@@ -21,26 +26,30 @@ use Rattle.reply_text.specs.Answer.{Answer}
 use Rattle.reply_text.specs.Answer.Answer.{Done}
 use Rattle.reply_text.specs.Answer.Answer.{Files as FilesAre}
 use Rattle.script_text.specs.Action.{Action}
-use Rattle.script_text.specs.Action.Action.{Create, Delete, Rename, Resize, ListFiles, FWrite, Load, Store}
+use Rattle.script_text.specs.Action.Action.{Create, Delete, Rename, Resize, ListFiles, FWrite, Load, Store, Sync, Flush, FlushVerify, DeepFlush, PoisonFile, WeakenFile, ClearFile}
 use Rattle.script_text.specs.Script.{Input}
 use Rattle.script_text.specs.Script.Input.{Skipped, Malformed, Asked}
 use Rattle.machine_host.specs.declared.mode.Mode.TheVariants.{On}
 use Rattle.machine_host.specs.Machine.{Machine}
 use Rattle.machine_host.specs.Commands.{MayLeaveFiles, meaning, refusal, unless_refused, LeavesFiles as LeftFiles}
 use Rattle.machine_host.specs.Meaning.{FilesLeft}
-use Rattle.machine_host.specs.Meaning.FilesLeft.{Unchanged, OldOrNew, StoredInPart}
+use Rattle.machine_host.specs.Meaning.FilesLeft.{Unchanged, OldOrNew, StoredInPart, SyncedInPart}
+use Rattle.machine_host.specs.declared.look.Look.{Look}
+use Rattle.machine_host.specs.declared.look.Look.TheVariants.{Once, Again}
+use Rattle.machine_host.specs.OnFileErrors.{marked_in}
+use Rattle.machine_host.specs.OnFlushes.{all_moved, flush_file, flush_through, flush_with, nothing_done, synced_in}
 use Rattle.machine_host.specs.OnMappings.{load_through, read_copy, store_through, write_copy}
 use Rattle.machine_host.specs.OnPages.{fread, fwrite, stored_in}
 use Rattle.nvm_model.specs.Mappings.{is_shared, mapping_of}
 use Rattle.machine_host.specs.Run.{Hears, Run, Takes, Transcript}
 use Rattle.durable.specs.Touching.{is_begun}
-use Rattle.durable.specs.Durable.{Does, HasNothing, IsComplete, NoneBegun}
+use Rattle.durable.specs.Durable.{Does, HasNothing, IsComplete, IsDone, NoneBegun}
 use Rattle.durable.specs.Files.{BreaksOff, FilesLast, FilesSettle, FilesThrough, IsStopped, LeavesFiles, changes_files, files_after, files_listed}
-use Rattle.durable.proofs.StepKinds.{Step, Stops}
+use Rattle.durable.proofs.StepKinds.{Step, Stops, files_made}
 use Rattle.durable.proofs.StepKinds.Step.{idles, alters, stops, returns, remounts, empties}
 use Rattle.durable.proofs.StepLemmas.{nothing_run, step_of}
-use Rattle.durable.proofs.KeepLemmas.{stop_begun}
-use Rattle.durable.proofs.LawLemmas.{came_of, none-asked, not_done}
+use Rattle.durable.proofs.KeepLemmas.{done_begun, stop_begun}
+use Rattle.durable.proofs.LawLemmas.{came_of, finishes, none-asked, not_done}
 use Rattle.durable.proofs.PassLemmas.{pass}
 use Rattle.durable.proofs.RefusalLemmas.{is_on, is_refused, refused_told}
 use Rattle.durable.proofs.WholeLemmas.{whole-heard, whole-run}
@@ -70,6 +79,33 @@ stored_entries name offset bytes files =
     (left-change name (λ pages. put offset bytes (fill offset (length bytes) pages)) (λ old new. length new ≡ length old)
     (λ pages. length-put_fill offset (length bytes) bytes pages) files)
 
+-- lines of one flushed or marked
+synced_entries : (name : List ℕ) (spans : List Span) (files : List File) → map entry_of_file (synced_in name spans files) ≡ map entry_of_file files
+synced_entries name spans files =
+    one_left-entries name (λ old new. length new ≡ length old) (λ old new same. same) files (synced_in name spans files)
+    (left-change name (persist_spans spans) (λ old new. length new ≡ length old) (length-spans spans) files)
+
+marked_entries : (mark : Cell → Cell) (name : List ℕ) (offset : ℕ) (files : List File) → map entry_of_file (marked_in mark name offset files) ≡ map entry_of_file files
+marked_entries mark name offset files =
+    one_left-entries name (λ old new. length new ≡ length old) (λ old new same. same) files (marked_in mark name offset files)
+    (left-change name (change_line mark (offset / 64)) (λ old new. length new ≡ length old) (length-change mark (offset / 64)) files)
+
+flushed_entries : (look : Look) (handle : ℕ) (spans : List Span) (mappings : List Mapping) (files : List File)
+    → map entry_of_file ((flush_with look handle spans).files mappings files) ≡ map entry_of_file files
+flushed_entries look handle spans mappings files = by_mapping (mapping_of handle mappings)
+  where
+    by_kind : (m : Mapping) (shared : Bool)
+        → map entry_of_file ((if shared then flush_file look m.name (all_moved m.start spans) else nothing_done).files mappings files) ≡ map entry_of_file files
+    by_kind m true = synced_entries m.name (all_moved m.start spans) files
+    by_kind m false = refl
+
+    by_mapping : (o : Option Mapping) → map entry_of_file (elim o [ None ↦ files | Some m ↦ (flush_through look spans m).files mappings files ]) ≡ map entry_of_file files
+    by_mapping None = refl
+    by_mapping (Some m) = by_kind m (is_shared m.kind)
+
+may_spans-length : (spans : List Span) (old new : List Page) → MaySyncAll spans old new → length new ≡ length old
+may_spans-length spans old new left = sym (length-map new is_present) ∙ ap length left.there ∙ length-map old is_present
+
 -- a command that changes no list of files
 entries_same : (action : Action) (mappings : List Mapping) (files : List File) → changes_files action ≡ false → map entry_of_file ((meaning action).files mappings files) ≡ map entry_of_file files
 entries_same (Create name pages) mappings files none = cc none
@@ -95,7 +131,23 @@ entries_same (Store handle offset bytes) mappings files none = by_mapping (mappi
     by_mapping : (o : Option Mapping) → map entry_of_file (elim o [ None ↦ files | Some m ↦ (store_through handle offset bytes m).files mappings files ]) ≡ map entry_of_file files
     by_mapping None = refl
     by_mapping (Some m) = by_kind m (is_shared m.kind)
+entries_same (Sync handle offset len) mappings files none = flushed_entries Once handle (record { start = offset; len = len } ∷ []) mappings files
+entries_same (Flush handle spans) mappings files none = flushed_entries Once handle spans mappings files
+entries_same (FlushVerify handle spans) mappings files none = flushed_entries Again handle spans mappings files
+entries_same (DeepFlush handle spans) mappings files none = flushed_entries Once handle spans mappings files
+entries_same (ClearFile name offset) mappings files none = marked_entries clear_cell name offset files
 entries_same action mappings files none = refl
+
+entries_made : (action : Action) (mappings : List Mapping) (files : List File) → changes_files action ≡ false → map entry_of_file (files_made mappings action files) ≡ map entry_of_file files
+entries_made (PoisonFile name offset) mappings files none = marked_entries lose_cell name offset files
+entries_made (WeakenFile name offset) mappings files none = marked_entries weaken_cell name offset files
+entries_made action mappings files none = entries_same action mappings files none
+
+-- and one that changes it marks no lines
+files_meant : (action : Action) (mappings : List Mapping) (files : List File) → changes_files action ≡ true → files_made mappings action files ≡ (meaning action).files mappings files
+files_meant (PoisonFile name offset) mappings files change = cc change
+files_meant (WeakenFile name offset) mappings files change = cc change
+files_meant action mappings files change = refl
 
 module _ (P : List FileEntry → Type 0) where
   -- So they are listed, and so are those that a mount may find. In mode On no change of them is interrupted.
@@ -113,6 +165,7 @@ module _ (P : List FileEntry → Type 0) where
       by_how OldOrNew (inl is) = subst (λ fs. P (map entry_of_file fs)) {x = old} (sym is) now
       by_how OldOrNew (inr is) = subst P (sym (ap (map entry_of_file) is ∙ entries_same action mappings old none)) now
       by_how (StoredInPart name offset bytes) left = subst P (sym (one_left-entries name (MayStore offset bytes) (may_store-length offset bytes) old files left)) now
+      by_how (SyncedInPart name spans) left = subst P (sym (one_left-entries name (MaySyncAll spans) (may_spans-length spans) old files left)) now
 
   lists_free : (h : Machine) → LeavesFiles h.interrupted → P (files_listed h) → Lists h
   lists_free h free now = record { now = now; left = λ files may. lists_left h.mappings h.interrupted h.files files free now may; settled = λ on. free }
@@ -133,9 +186,9 @@ module _ (P : List FileEntry → Type 0) where
   lists_step h action answer next spares lists (idles why to) = inl (lists_same h next to.files to.mappings to.interrupted to.mode lists)
   lists_step h action answer next spares lists (alters begun none to) =
       let leaves : changes_files action ≡ false =
-      elim begun as (λ _. changes_files action ≡ false) [ inl done ↦ spares (ap is_begun done) | inr touches ↦ touches.files ] in
+      elim begun as (λ _. changes_files action ≡ false) [ inl done ↦ spares (done_begun answer done) | inr touches ↦ touches.files ] in
       inl (lists_free next (subst LeavesFiles (sym to.interrupted) (lists.settled (is_on h action to.needs none)))
-      (subst P (sym (ap (map entry_of_file) to.files ∙ entries_same action h.mappings h.files leaves)) lists.now))
+      (subst P (sym (ap (map entry_of_file) to.files ∙ entries_made action h.mappings h.files leaves)) lists.now))
   lists_step h action answer next spares lists (stops by is to) =
       inl (lists_free next (subst LeavesFiles {x = Some action} (sym to.interrupted) (spares (ap is_begun is ∙ stop_begun by)))
       (subst (λ fs. P (map entry_of_file fs)) {x = h.files} (sym to.files) lists.now))
@@ -186,18 +239,20 @@ settled_free h whole on = subst LeavesFiles {x = None} (sym (whole.settled on)) 
 -- a change that was done
 pub files_done : (h next : Machine) (action : Action) → Does h action next → changes_files action ≡ true → FilesLast next (files_after h action)
 files_done h next action does change =
-    let came = came_of h next action does (λ none. both_ways (changes_files action) none.files change) in
+    let came = came_of h next action (finishes h next action does) (λ none. both_ways (changes_files action) none.files change) in
     let free = came.to.interrupted ∙ does.whole.settled (is_on h action came.to.needs came.none) in
-    subst (FilesLast next) (ap (map entry_of_file) came.to.files) (files_last next (subst LeavesFiles {x = None} (sym free) tt))
+    subst (FilesLast next) (ap (map entry_of_file) (came.to.files ∙ files_meant action h.mappings h.files change)) (files_last next (subst LeavesFiles {x = None} (sym free) tt))
 
 -- and one that was stopped
 not_stopped : (answer : Answer) → IsStopped (answer ∷ []) → is_refused answer ≡ false
 not_stopped answer (inl is) = cc is
 not_stopped answer (inr is) = cc is
 
-done_or_stopped : (answer : Answer) → IsStopped (answer ∷ []) → answer ≡ Done → ⊥
-done_or_stopped answer (inl is) done = cc (is, done)
-done_or_stopped answer (inr is) done = cc (is, done)
+done_or_stopped : (answer : Answer) → IsStopped (answer ∷ []) → IsDone answer → ⊥
+done_or_stopped answer (inl is) (inl done) = cc (is, done)
+done_or_stopped answer (inl is) (inr done) = cc (is, done.2)
+done_or_stopped answer (inr is) (inl done) = cc (is, done)
+done_or_stopped answer (inr is) (inr done) = cc (is, done.2)
 
 stopped_by : (h : Machine) (action : Action) (answer : Answer) (next : Machine) → changes_files action ≡ true → IsStopped (answer ∷ []) → Step h action answer next
     → Stops h action next
@@ -223,6 +278,7 @@ lists_stopped h action next to = record {
     by_how files OldOrNew (inl is) = inl (ap (map entry_of_file) is)
     by_how files OldOrNew (inr is) = inr (ap (map entry_of_file) is)
     by_how files (StoredInPart name offset bytes) left = inl (one_left-entries name (MayStore offset bytes) (may_store-length offset bytes) h.files files left)
+    by_how files (SyncedInPart name spans) left = inl (one_left-entries name (MaySyncAll spans) (may_spans-length spans) h.files files left)
 
     by_may : (files : List File) → MayLeaveFiles h.mappings (Some action) h.files files → (map entry_of_file files ≡ files_listed h) ⊎ (map entry_of_file files ≡ files_after h action)
     by_may files may = by_how files ((meaning action).files_left h.mappings) may

@@ -1,16 +1,18 @@
 pub mod StepKinds
+pub mod HandleLemmas
 pub mod SuitLemmas
 pub mod StepLemmas
 pub mod WordLemmas
 pub mod PresenceLemmas
 pub mod LineLemmas
+pub mod SparedLemmas
 pub mod VolumeLemmas
 pub mod BlockLemmas
 pub mod EightLemmas
 pub mod NamedPageLemmas
+pub mod FileLineLemmas
 pub mod FileKeepLemmas
 pub mod KeepLemmas
-pub mod HandleLemmas
 pub mod RefusalLemmas
 pub mod ThereLemmas
 pub mod FileThereLemmas
@@ -18,6 +20,7 @@ pub mod WholeLemmas
 pub mod NamingLemmas
 pub mod ReadLemmas
 pub mod PowerLemmas
+pub mod CoverLemmas
 pub mod LawLemmas
 pub mod LostLemmas
 pub mod ScriptLemmas

@@ -1,8 +1,11 @@
-use Rattle.durable.proofs.LostLemmas.{poisoned, poisoned_block, stays_lost, worn_out}
+use Rattle.durable.proofs.LostLemmas.{poisoned, poisoned_block, poisoned_in_file, stays_lost, worn_out}
 use Rattle.durable.proofs.laws.what_is_lost_stays_lost.Goals as goal
 
 pub returns-clause-poisoned : goal.returns-clause-poisoned
 returns-clause-poisoned c = poisoned
+
+pub returns-clause-poisoned_in_file : goal.returns-clause-poisoned_in_file
+returns-clause-poisoned_in_file c = poisoned_in_file
 
 pub returns-clause-of_a_block : goal.returns-clause-of_a_block
 returns-clause-of_a_block c = poisoned_block
