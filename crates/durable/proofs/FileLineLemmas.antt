@@ -1,5 +1,5 @@
 -- A line of a file that is flushed, or marked.
-use Rattle.std.proofs.Common.{◌≡◌, ◌⊎◌, inl, inr, ℕ, ◌+◌, ◌/◌, Bool, true, false, cond, Option, Some, None, option_map, List, [], ◌∷◌, sym, ap, subst, ◌∙◌, if◌then◌else◌}
+use Rattle.std.proofs.Common.{◌≡◌, inl, inr, ℕ, ◌/◌, Bool, true, false, cond, Option, Some, None, option_map, List, [], sym, ap, subst, ◌∙◌, if◌then◌else◌}
 use Rattle.std.proofs.lemmas.Bool.{and_parts}
 use Rattle.std.proofs.lemmas.Slice.Eq.{bytes_eq-Decides}
 use Rattle.nvm_base.specs.declared.units.Span.{Span}
@@ -74,7 +74,7 @@ pub named-marked : (mark : Cell → Cell) (name : List ℕ) (offset : ℕ) (file
     → cell_of (pages_named name (marked_in mark name offset files)) (offset / 64) ≡ option_map mark (cell_of (pages_named name files) (offset / 64))
 named-marked mark name offset files =
     elim (named-own name (change_line mark (offset / 64)) files) as
-        (λ _. cell_of (pages_named name (marked_in mark name offset files)) (offset / 64) ≡ option_map mark (cell_of (pages_named name files) (offset / 64))) [
+    (λ _. cell_of (pages_named name (marked_in mark name offset files)) (offset / 64) ≡ option_map mark (cell_of (pages_named name files) (offset / 64))) [
       | inl is ↦ ap (λ p. cell_of p (offset / 64)) is ∙ cell_of-changed mark (offset / 64) (pages_named name files)
       | inr none ↦ ap (λ p. cell_of p (offset / 64)) none.0 ∙ no_line mark (offset / 64) (pages_named name files) none.1
     ]

@@ -1,5 +1,5 @@
 -- What holds of each thing that a command on a mapping may come to holds of what it comes to.
-use Rattle.std.proofs.Common.{◌≡◌, ◌⊎◌, inl, inr, ℕ, ◌+◌, ◌*◌, Bool, true, false, Option, Some, None, List, refl, if◌then◌else◌}
+use Rattle.std.proofs.Common.{inl, inr, ℕ, ◌+◌, ◌*◌, Bool, true, false, Option, Some, None, List, refl, if◌then◌else◌}
 use Rattle.nvm_base.specs.declared.files.Kind.{Kind}
 use Rattle.nvm_base.specs.declared.units.Span.{Span}
 use Rattle.nvm_model.specs.Mappings.{is_shared, mapping_of}

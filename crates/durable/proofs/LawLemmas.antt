@@ -1,14 +1,8 @@
 -- What was made durable stays: by induction over a run.
-use Rattle.std.proofs.Common.{◌≡◌, ◌⊎◌, inl, inr, ℕ, ◌/◌, ◌%◌, Bool, true, false, cond, Option, Some, None, option_map, List, [], ◌∷◌, ◌++◌, slice_index_or, refl, sym, ap, subst, ◌∙◌, arith}
-use Rattle.std.proofs.lemmas.Bool.{both_ways, eqb-true}
+use Rattle.std.proofs.Common.{◌≡◌, ◌⊎◌, inl, inr, ℕ, Bool, true, false, Option, None, List, [], ◌∷◌, ◌++◌, refl, sym, ap, subst, ◌∙◌}
+use Rattle.std.proofs.lemmas.Bool.{both_ways}
 use Rattle.line_words.specs.declared.interruption.Interruption.{Interruption}
 use Rattle.line_words.specs.declared.interruption.Interruption.TheVariants.{Failed, PowerLost as Lost}
-use Rattle.nvm_model.specs.Cell.{Cell, clear_cell, flush_cell, persist_cell, touches, zero_cell}
-use Rattle.nvm_model.specs.Cell.Cell.{Bad, Kept}
-use Rattle.nvm_model.specs.Page.{Page, cell_of, change_line, persist}
-use Rattle.nvm_model.proofs.MediaLemmas.{cell_of-changed}
-use Rattle.scrub.specs.Refusals.{line_refusal}
-use Rattle.nvm_model.proofs.PageLemmas.{cell_of-persist, presence_of-persist}
 use Rattle.reply_text.specs.Answer.{Answer}
 use Rattle.reply_text.specs.Answer.Answer.{Done}
 use Rattle.script_text.specs.Action.{Action}
@@ -20,16 +14,14 @@ use Rattle.word_tables.specs.declared.geometry.Geometry.{Geometry}
 use Rattle.machine_host.specs.Commands.{meaning, refusal}
 use Rattle.machine_host.specs.Interrupted.{interrupted_answer}
 use Rattle.machine_host.specs.declared.needs.Needs.TheVariants.{Usable}
-use Rattle.machine_host.specs.OnVolume.{persist_at}
-use Rattle.pm_volume.specs.Refusals.{physical_offset}
 use Rattle.machine_host.specs.Run.{Hears, Run, Transcript, followed_by}
 use Rattle.machine_host.specs.declared.mode.Mode.TheVariants.{On, Off}
 use Rattle.std.specs.Prelude.{◌≢◌}
 use Rattle.machine_host.specs.OnPages.{pages_named}
 use Rattle.durable.proofs.FileThereLemmas.{lines-named}
 use Rattle.durable.proofs.PowerLemmas.{powered_first, powered_heard, powered_rest}
-use Rattle.durable.specs.Place.{Place, byte_at_place, line_has}
-use Rattle.durable.specs.Place.{is_line_present, is_weak_at}
+use Rattle.durable.specs.Place.{Place, byte_at_place}
+use Rattle.durable.specs.Place.{is_weak_at}
 use Rattle.durable.specs.Place.Place.{of_volume, of_blocks, of_file}
 use Rattle.durable.specs.Touching.{changes, holds, is_begun, is_made_durable, may_be_made_durable, may_make_durable, poisons, weakens}
 use Rattle.durable.specs.Durable.{BringBytes, BringsBytes, Does, Finishes, HasNothing, IsComplete, IsDone, IsDurable, Lasts, LastsPowered, NoneBegun, Remains, Spares, StaysPowered}

@@ -1,14 +1,11 @@
 -- What was written is what lasts.
-use Rattle.std.proofs.Common.{◌≡◌, inl, inr, ℕ, zero, suc, not, ◌&&◌, ◌||◌, ◌==◌, ◌+◌, ◌-◌, ◌*◌, ◌/◌, ◌%◌, ◌<◌, ◌≤◌, Bool, true, false, cond, Option, Some, None, option_map, option_and_then, List, [], ◌∷◌, length, map, replicate, get_or, nat_lt, slice_get, slice_index_or, refl, sym, ap, subst, ◌∙◌, arith}
+use Rattle.std.proofs.Common.{◌≡◌, inl, inr, ℕ, not, ◌&&◌, ◌||◌, ◌==◌, ◌+◌, ◌-◌, ◌*◌, ◌/◌, ◌%◌, ◌<◌, ◌≤◌, Bool, true, false, cond, Option, Some, None, option_map, option_and_then, List, [], ◌∷◌, length, replicate, get_or, nat_lt, slice_get, slice_index_or, refl, sym, ap, subst, ◌∙◌, arith}
 use Rattle.std.specs.Prelude.{slice_index}
 use Rattle.std.proofs.lemmas.Bool.{both_ways, eq-eqb, eqb-false}
 use Rattle.std.proofs.lemmas.Bool.Decides.{nat_tests}
 use Rattle.std.proofs.lemmas.Option.{get_or_from_slice_get, slice_get-get_or}
-use Rattle.std.specs.Int.{byte_at}
-use Rattle.line_device.specs.History.{latest, newest}
 use Rattle.line_device.specs.Medium.{word_stored}
 use Rattle.line_device.proofs.WordLemmas.{byte_over-in}
-use Rattle.line_device.proofs.HistoryLemmas.{newest-latest}
 use Rattle.nvm_model.specs.Blocks.{data_from, first_there, nth, write, write_block}
 use Rattle.nvm_model.specs.Cell.{Cell, TakesPut, cell_byte, clear_cell, zero_cell, covers as holds_line, flush_cell, persist_cell, put_cell, touches}
 use Rattle.nvm_model.specs.Cell.Cell.{Bad, Kept}
