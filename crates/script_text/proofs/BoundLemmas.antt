@@ -1,15 +1,15 @@
 -- How large what a line asks for can be.
 use Rattle.std.proofs.Common.{◌≡◌, ℕ, Bool, true, false, List, [], ◌∷◌, Option, Some, None, Result, Ok, Err, if◌then◌else◌, IfOk, IfSome, refl, subst}
 use Rattle.script_text.specs.Action.{Action, action_of}
-use Rattle.script_text.specs.Action.Action.{BRead, BWrite, BDiscard, BDiscardIf, BExists, BAtomic, BScar, VLoad, VStore, VSync, VRanges, VPSync, VDiscard, VDiscardIf, VExists, Create, Delete, Rename, Resize, ListFiles, FRead, FWrite, Map, Unmap, Load, Store, PoisonBlock, PoisonVolume, PoisonMeta, WeakenVolume, ClearVolume, Cut, CutIn, FailIn, Restart, Recover}
-use Rattle.script_text.specs.Operands.{span_action, data_action}
-use Rattle.script_text.specs.Script.{cut_action, fail_action, restart_action, poison_action, map_action, power_action, media_action, mapped_action, files_action, volume_action, plain_action, storing_action, command_action, is_comment, asked, words_input}
+use Rattle.script_text.specs.Action.Action.{BRead, BWrite, BDiscard, BDiscardIf, BExists, BAtomic, BScar, VLoad, VStore, VSync, VRanges, VPSync, VDiscard, VDiscardIf, VExists, Create, Delete, Rename, Resize, ListFiles, FRead, FWrite, Map, Unmap, Load, Store, Sync, Flush, FlushVerify, DeepFlush, CheckFile, PoisonBlock, PoisonVolume, PoisonFile, PoisonMeta, WeakenFile, WeakenVolume, ClearFile, ClearVolume, Cut, CutIn, FailIn, Restart, Recover}
+use Rattle.script_text.specs.Operands.{span_action, data_action, spans_action}
+use Rattle.script_text.specs.Script.{cut_action, fail_action, restart_action, poison_action, map_action, power_action, media_action, mapped_action, files_action, volume_action, plain_action, flushing_action, storing_action, command_action, is_comment, asked, words_input}
 use Rattle.script_text.specs.Script.Input.{Skipped, Asked}
 use Rattle.line_device.specs.declared.line.Choice.TheVariants.{Firsts, Lasts, Seed}
 use Rattle.script_text.specs.declared.parsing.LineFault.{LineFault}
 use Rattle.script_text.specs.declared.command.Command.{Command}
 use Rattle.script_text.specs.Parsing.{InBounds, Parses}
-use Rattle.script_text.proofs.OperandLemmas.{IsName, Keeps, Keeps-none, Keeps-cond, bare_action-bounds, number_action-bounds, span_action-bounds, name_action-bounds, names_action-bounds, sized_action-bounds, data_action-bounds, named_action-bounds, numbered_action-bounds, kind_action-bounds, in_volume_action-bounds}
+use Rattle.script_text.proofs.OperandLemmas.{IsName, Keeps, Keeps-none, Keeps-cond, bare_action-bounds, number_action-bounds, span_action-bounds, name_action-bounds, names_action-bounds, sized_action-bounds, data_action-bounds, named_action-bounds, numbered_action-bounds, kind_action-bounds, placed_action-bounds}
 use Rattle.script_text.proofs.PairLemmas.{spans_action-bounds, multi_action-bounds}
 
 cut_action-bounds : (words : List (List ℕ)) → Keeps (cut_action words)
@@ -31,8 +31,9 @@ poison_action-bounds : (words : List (List ℕ)) → Keeps (poison_action words)
 poison_action-bounds [] = Keeps-none
 poison_action-bounds (x ∷ words) =
     Keeps-cond _ _ _ (span_action-bounds PoisonBlock (λ a b p q. (p, q)) words)
+    (Keeps-cond _ _ _ (sized_action-bounds PoisonFile (λ file a p q. (p, q)) words)
     (Keeps-cond _ _ _ (number_action-bounds PoisonVolume (λ a p. p) words)
-    (Keeps-cond _ _ _ (number_action-bounds PoisonMeta (λ a p. p) words) Keeps-none))
+    (Keeps-cond _ _ _ (number_action-bounds PoisonMeta (λ a p. p) words) Keeps-none)))
 
 map_action-bounds : (file : List ℕ) (words : List (List ℕ)) → IsName file → Keeps (map_action file words)
 map_action-bounds file words good =
@@ -48,14 +49,16 @@ power_action-bounds name words =
 media_action-bounds : (name : List ℕ) (words : List (List ℕ)) → Keeps (media_action name words)
 media_action-bounds name words =
     Keeps-cond _ _ _ (poison_action-bounds words)
-    (Keeps-cond _ _ _ (in_volume_action-bounds WeakenVolume (λ a p. p) words)
-    (Keeps-cond _ _ _ (in_volume_action-bounds ClearVolume (λ a p. p) words) (power_action-bounds name words)))
+    (Keeps-cond _ _ _ (placed_action-bounds WeakenFile WeakenVolume (λ file a p q. (p, q)) (λ a p. p) words)
+    (Keeps-cond _ _ _ (placed_action-bounds ClearFile ClearVolume (λ file a p q. (p, q)) (λ a p. p) words)
+    (Keeps-cond _ _ _ (named_action-bounds (λ file. span_action (CheckFile file)) (λ file rest good. span_action-bounds (CheckFile file) (λ a b p q. (good, p, q)) rest) words) (power_action-bounds name words))))
 
 mapped_action-bounds : (name : List ℕ) (words : List (List ℕ)) → Keeps (mapped_action name words)
 mapped_action-bounds name words =
     Keeps-cond _ _ _ (named_action-bounds map_action map_action-bounds words)
     (Keeps-cond _ _ _ (number_action-bounds Unmap (λ a p. p) words)
-    (Keeps-cond _ _ _ (numbered_action-bounds (λ h. span_action (Load h)) (λ h rest good. span_action-bounds (Load h) (λ a b p q. (good, p, q)) rest) words) (media_action-bounds name words)))
+    (Keeps-cond _ _ _ (numbered_action-bounds (λ h. span_action (Load h)) (λ h rest good. span_action-bounds (Load h) (λ a b p q. (good, p, q)) rest) words)
+    (Keeps-cond _ _ _ (numbered_action-bounds (λ h. span_action (Sync h)) (λ h rest good. span_action-bounds (Sync h) (λ a b p q. (good, p, q)) rest) words) (media_action-bounds name words))))
 
 files_action-bounds : (name : List ℕ) (words : List (List ℕ)) → Keeps (files_action name words)
 files_action-bounds name words =
@@ -83,9 +86,15 @@ plain_action-bounds name words =
     (Keeps-cond _ _ _ (span_action-bounds BDiscardIf (λ a b p q. (p, q)) words)
     (Keeps-cond _ _ _ (number_action-bounds BExists (λ a p. p) words) (volume_action-bounds name words))))
 
+flushing_action-bounds : (name : List ℕ) (words : List (List ℕ)) → Keeps (flushing_action name words)
+flushing_action-bounds name words =
+    Keeps-cond _ _ _ (numbered_action-bounds (λ h. spans_action (Flush h)) (λ h rest good. spans_action-bounds (Flush h) (λ spans some each. (good, some, each)) rest) words)
+    (Keeps-cond _ _ _ (numbered_action-bounds (λ h. spans_action (FlushVerify h)) (λ h rest good. spans_action-bounds (FlushVerify h) (λ spans some each. (good, some, each)) rest) words)
+    (Keeps-cond _ _ _ (numbered_action-bounds (λ h. spans_action (DeepFlush h)) (λ h rest good. spans_action-bounds (DeepFlush h) (λ spans some each. (good, some, each)) rest) words) (plain_action-bounds name words)))
+
 storing_action-bounds : (name : List ℕ) (words : List (List ℕ)) → Keeps (storing_action name words)
 storing_action-bounds name words =
-    Keeps-cond _ _ _ (numbered_action-bounds (λ h. data_action (Store h)) (λ h rest good. data_action-bounds (Store h) (λ a bytes p q r. (good, p, q, r)) rest) words) (plain_action-bounds name words)
+    Keeps-cond _ _ _ (numbered_action-bounds (λ h. data_action (Store h)) (λ h rest good. data_action-bounds (Store h) (λ a bytes p q r. (good, p, q, r)) rest) words) (flushing_action-bounds name words)
 
 command_action-bounds : (name : List ℕ) (words : List (List ℕ)) → Keeps (command_action name words)
 unfolding command_action

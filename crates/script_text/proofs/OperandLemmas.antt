@@ -7,7 +7,7 @@ use Rattle.nvm_base.specs.declared.reading.TextFault.{TextFault}
 use Rattle.nvm_base.specs.Data.{data_within}
 use Rattle.script_text.proofs.DataLemmas.{data_of-some, data_within-ok}
 use Rattle.script_text.specs.Action.{Action}
-use Rattle.script_text.specs.Operands.{of_both, of_data, bare_action, number_action, span_action, name_action, names_action, sized_action, data_action, named_action, numbered_action, kind_of, kind_action, in_volume_action}
+use Rattle.script_text.specs.Operands.{of_both, of_data, bare_action, number_action, span_action, name_action, names_action, sized_action, data_action, named_action, numbered_action, kind_of, kind_action, placed_action}
 use Rattle.script_text.specs.Parsing.{InBounds}
 
 -- what is asked for is in bounds
@@ -150,10 +150,12 @@ kind_action-bounds make small (x ∷ []) action e = go (kind_of x) e
     go (Some kind) e = let same : make kind ≡ action = cc in subst InBounds same (small kind)
 kind_action-bounds make small (x ∷ y ∷ more) action e = absurd (cc)
 
--- a byte of the volume
-pub in_volume_action-bounds : (make : ℕ → Action) → ((a : ℕ) → a < 2 ^ 32 → InBounds (make a)) → (words : List (List ℕ)) → Keeps (in_volume_action make words)
-in_volume_action-bounds make small [] = Keeps-none
-in_volume_action-bounds make small (x ∷ words) = Keeps-cond _ _ _ (number_action-bounds make small words) Keeps-none
+-- a byte of a file or of the volume
+pub placed_action-bounds : (in_file : List ℕ → ℕ → Action) (in_volume : ℕ → Action) → ((a : List ℕ) (b : ℕ) → IsName a → b < 2 ^ 32 → InBounds (in_file a b))
+    → ((a : ℕ) → a < 2 ^ 32 → InBounds (in_volume a)) → (words : List (List ℕ)) → Keeps (placed_action in_file in_volume words)
+placed_action-bounds in_file in_volume named small [] = Keeps-none
+placed_action-bounds in_file in_volume named small (x ∷ words) =
+    Keeps-cond _ _ _ (sized_action-bounds in_file named words) (Keeps-cond _ _ _ (number_action-bounds in_volume small words) Keeps-none)
 
 -- the first word is this name, or this number
 pub named_action-first : (more : List ℕ → List (List ℕ) → Option Action) (words : List (List ℕ)) (x : List ℕ) (rest : List (List ℕ)) (name : List ℕ) → words ≡ x ∷ rest → Some name ≡ name_of x → named_action more words ≡ more name rest

@@ -34,10 +34,18 @@ pub data Action : Type 0 where
   Unmap : ℕ → Action
   Load : ℕ → ℕ → ℕ → Action
   Store : ℕ → ℕ → List ℕ → Action
+  Sync : ℕ → ℕ → ℕ → Action
+  Flush : ℕ → List Span → Action
+  FlushVerify : ℕ → List Span → Action
+  DeepFlush : ℕ → List Span → Action
+  CheckFile : List ℕ → ℕ → ℕ → Action
   PoisonBlock : ℕ → ℕ → Action
   PoisonVolume : ℕ → Action
+  PoisonFile : List ℕ → ℕ → Action
   PoisonMeta : ℕ → Action
+  WeakenFile : List ℕ → ℕ → Action
   WeakenVolume : ℕ → Action
+  ClearFile : List ℕ → ℕ → Action
   ClearVolume : ℕ → Action
   Cut : Action
   CutIn : ℕ → Action
@@ -74,10 +82,18 @@ action_of (command.Map name span kind) = Map name span kind
 action_of (command.Unmap handle) = Unmap handle
 action_of (command.Load handle offset len) = Load handle offset len
 action_of (command.Store handle offset bytes) = Store handle offset bytes.items
+action_of (command.Sync handle offset len) = Sync handle offset len
+action_of (command.Flush handle spans) = Flush handle spans.items
+action_of (command.FlushVerify handle spans) = FlushVerify handle spans.items
+action_of (command.DeepFlush handle spans) = DeepFlush handle spans.items
+action_of (command.CheckFile name offset len) = CheckFile name offset len
 action_of (command.PoisonBlock block line) = PoisonBlock block line
 action_of (command.PoisonVolume offset) = PoisonVolume offset
+action_of (command.PoisonFile name offset) = PoisonFile name offset
 action_of (command.PoisonMeta line) = PoisonMeta line
+action_of (command.WeakenFile name offset) = WeakenFile name offset
 action_of (command.WeakenVolume offset) = WeakenVolume offset
+action_of (command.ClearFile name offset) = ClearFile name offset
 action_of (command.ClearVolume offset) = ClearVolume offset
 action_of command.Cut = Cut
 action_of (command.CutIn calls) = CutIn calls

@@ -4,3 +4,4 @@ pub mod Script
 pub mod Parsing
 pub mod Rows
 pub mod MappedRows
+pub mod FlushRows

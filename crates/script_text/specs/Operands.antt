@@ -105,7 +105,9 @@ abbrev pub ranges_action : (List Span → List ℕ → Action) → List (List �
 ranges_action make [] = None
 ranges_action make (a ∷ words) = option_map (λ p. make p.0 p.1) (fitting 65536 (ranges_of (a ∷ words)))
 
--- an action on a byte of the volume
-abbrev pub in_volume_action : (ℕ → Action) → List (List ℕ) → Option Action
-in_volume_action make [] = None
-in_volume_action make (word ∷ words) = if bytes_eq word (codes "volume") then number_action make words else None
+-- an action on a byte of a file or of the volume
+abbrev pub placed_action : (List ℕ → ℕ → Action) → (ℕ → Action) → List (List ℕ) → Option Action
+placed_action in_file in_volume [] = None
+placed_action in_file in_volume (word ∷ words) =
+    if bytes_eq word (codes "file") then sized_action in_file words
+    else (if bytes_eq word (codes "volume") then number_action in_volume words else None)

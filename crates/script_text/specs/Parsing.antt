@@ -9,7 +9,7 @@ use Rattle.script_text.specs.declared.command.Command.{Command}
 use Rattle.script_text.specs.declared.parsing.LineFault.{LineFault}
 use Rattle.script_text.specs.declared.parsing.LineFault.TheVariants.{Syntax, Memory}
 use Rattle.script_text.specs.Action.{Action, action_of}
-use Rattle.script_text.specs.Action.Action.{BRead, BWrite, BDiscard, BDiscardIf, BExists, BScar, BAtomic, BMulti, VLoad, VStore, VSync, VRanges, VPSync, VDiscard, VDiscardIf, VExists, Create, Delete, Rename, Resize, ListFiles, FRead, FWrite, Map, Unmap, Load, Store, PoisonBlock, PoisonVolume, PoisonMeta, WeakenVolume, ClearVolume, Cut, CutIn, FailIn, Restart, Recover}
+use Rattle.script_text.specs.Action.Action.{BRead, BWrite, BDiscard, BDiscardIf, BExists, BScar, BAtomic, BMulti, VLoad, VStore, VSync, VRanges, VPSync, VDiscard, VDiscardIf, VExists, Create, Delete, Rename, Resize, ListFiles, FRead, FWrite, Map, Unmap, Load, Store, Sync, Flush, FlushVerify, DeepFlush, CheckFile, PoisonBlock, PoisonVolume, PoisonFile, PoisonMeta, WeakenFile, WeakenVolume, ClearFile, ClearVolume, Cut, CutIn, FailIn, Restart, Recover}
 use Rattle.std.specs.Borrow.{Bor}
 use Rattle.script_text.specs.Operands.{fitting, ranges_of, spans_of, with_range}
 use Rattle.script_text.specs.Script.{Input, words_of}
@@ -43,7 +43,7 @@ Parses input (Err Memory) = Unit {0}
 -- the name of a command that brings a list
 abbrev pub IsLong : List ℕ → Type 0
 IsLong name = (name ≡ codes "bwrite") ⊎ (name ≡ codes "vstore") ⊎ (name ≡ codes "bscar") ⊎ (name ≡ codes "batomic") ⊎ (name ≡ codes "bmulti") ⊎ (name ≡ codes "fwrite")
-    ⊎ (name ≡ codes "store")
+    ⊎ (name ≡ codes "store") ⊎ (name ≡ codes "flush") ⊎ (name ≡ codes "flushv") ⊎ (name ≡ codes "deepflush")
 
 -- the words are of such a command
 abbrev pub BringsMore : List (List ℕ) → Type 0
@@ -94,10 +94,18 @@ InBounds (Map name span kind) = (is_name name ≡ true) × IsSmall span
 InBounds (Unmap handle) = handle < 2 ^ 32
 InBounds (Load handle offset len) = (handle < 2 ^ 32) × (offset < 2 ^ 32) × (len < 2 ^ 32)
 InBounds (Store handle offset bytes) = (handle < 2 ^ 32) × (offset < 2 ^ 32) × (0 < length bytes) × (length bytes ≤ 65536)
+InBounds (Sync handle offset len) = (handle < 2 ^ 32) × (offset < 2 ^ 32) × (len < 2 ^ 32)
+InBounds (Flush handle spans) = (handle < 2 ^ 32) × (0 < length spans) × All IsSmall spans
+InBounds (FlushVerify handle spans) = (handle < 2 ^ 32) × (0 < length spans) × All IsSmall spans
+InBounds (DeepFlush handle spans) = (handle < 2 ^ 32) × (0 < length spans) × All IsSmall spans
+InBounds (CheckFile name offset len) = (is_name name ≡ true) × (offset < 2 ^ 32) × (len < 2 ^ 32)
 InBounds (PoisonBlock block line) = (block < 2 ^ 32) × (line < 2 ^ 32)
 InBounds (PoisonVolume offset) = offset < 2 ^ 32
+InBounds (PoisonFile name offset) = (is_name name ≡ true) × (offset < 2 ^ 32)
 InBounds (PoisonMeta line) = line < 2 ^ 32
+InBounds (WeakenFile name offset) = (is_name name ≡ true) × (offset < 2 ^ 32)
 InBounds (WeakenVolume offset) = offset < 2 ^ 32
+InBounds (ClearFile name offset) = (is_name name ≡ true) × (offset < 2 ^ 32)
 InBounds (ClearVolume offset) = offset < 2 ^ 32
 InBounds Cut = Unit {0}
 InBounds (CutIn calls) = calls < 2 ^ 32

@@ -5,8 +5,8 @@ use Rattle.std.specs.Str.{bytes_eq}
 use Rattle.std.specs.Io.BufRead.{strip_last}
 use Rattle.line_device.specs.declared.line.Choice.TheVariants.{Firsts, Lasts, Seed}
 use Rattle.script_text.specs.Action.{Action}
-use Rattle.script_text.specs.Action.Action.{BRead, BWrite, BDiscard, BDiscardIf, BExists, BScar, BAtomic, BMulti, VLoad, VStore, VSync, VRanges, VPSync, VDiscard, VDiscardIf, VExists, Create, Delete, Rename, Resize, ListFiles, FRead, FWrite, Map, Unmap, Load, Store, PoisonBlock, PoisonVolume, PoisonMeta, WeakenVolume, ClearVolume, Cut, CutIn, FailIn, Restart, Recover}
-use Rattle.script_text.specs.Operands.{bare_action, number_action, span_action, name_action, names_action, sized_action, data_action, named_action, numbered_action, kind_action, spans_action, ranges_action, in_volume_action}
+use Rattle.script_text.specs.Action.Action.{BRead, BWrite, BDiscard, BDiscardIf, BExists, BScar, BAtomic, BMulti, VLoad, VStore, VSync, VRanges, VPSync, VDiscard, VDiscardIf, VExists, Create, Delete, Rename, Resize, ListFiles, FRead, FWrite, Map, Unmap, Load, Store, Sync, Flush, FlushVerify, DeepFlush, CheckFile, PoisonBlock, PoisonVolume, PoisonFile, PoisonMeta, WeakenFile, WeakenVolume, ClearFile, ClearVolume, Cut, CutIn, FailIn, Restart, Recover}
+use Rattle.script_text.specs.Operands.{bare_action, number_action, span_action, name_action, names_action, sized_action, data_action, named_action, numbered_action, kind_action, spans_action, ranges_action, placed_action}
 
 -- a line: nothing to do, no command, or what it asks for
 pub data Input : Type 0 where
@@ -46,16 +46,17 @@ abbrev pub poison_action : List (List ℕ) → Option Action
 poison_action [] = None
 poison_action (word ∷ words) =
     if bytes_eq word (codes "block") then span_action PoisonBlock words
+    else (if bytes_eq word (codes "file") then sized_action PoisonFile words
     else (if bytes_eq word (codes "volume") then number_action PoisonVolume words
-    else (if bytes_eq word (codes "meta") then number_action PoisonMeta words else None))
+    else (if bytes_eq word (codes "meta") then number_action PoisonMeta words else None)))
 
 -- the words after a mapped file's name
 abbrev pub map_action : List ℕ → List (List ℕ) → Option Action
 map_action file words = numbered_action (λ start. numbered_action (λ len. kind_action (Map file (record { start = start; len = len })))) words
 
 -- What a command's name and words ask for, None where they are no command: of those on the power, of these and those on
--- bad and weak lines, of these and those on mappings, on files, and on the volume that bring no list, of all that bring no
--- list, of these and a store to a mapping, of all.
+-- bad and weak lines, of these and those on mappings and events, on files, and on the volume that bring no list, of all that
+-- bring no list, of these and the flushes of a mapping, of these and a store to a mapping, of all.
 abbrev pub power_action : List ℕ → List (List ℕ) → Option Action
 power_action name words =
     if bytes_eq name (codes "cut") then cut_action words
@@ -66,14 +67,16 @@ power_action name words =
 abbrev pub media_action : List ℕ → List (List ℕ) → Option Action
 media_action name words =
     if bytes_eq name (codes "poison") then poison_action words
-    else (if bytes_eq name (codes "weaken") then in_volume_action WeakenVolume words
-    else (if bytes_eq name (codes "clear") then in_volume_action ClearVolume words else power_action name words))
+    else (if bytes_eq name (codes "weaken") then placed_action WeakenFile WeakenVolume words
+    else (if bytes_eq name (codes "clear") then placed_action ClearFile ClearVolume words
+    else (if bytes_eq name (codes "check") then named_action (λ file. span_action (CheckFile file)) words else power_action name words)))
 
 abbrev pub mapped_action : List ℕ → List (List ℕ) → Option Action
 mapped_action name words =
     if bytes_eq name (codes "map") then named_action map_action words
     else (if bytes_eq name (codes "unmap") then number_action Unmap words
-    else (if bytes_eq name (codes "load") then numbered_action (λ handle. span_action (Load handle)) words else media_action name words))
+    else (if bytes_eq name (codes "load") then numbered_action (λ handle. span_action (Load handle)) words
+    else (if bytes_eq name (codes "sync") then numbered_action (λ handle. span_action (Sync handle)) words else media_action name words)))
 
 abbrev pub files_action : List ℕ → List (List ℕ) → Option Action
 files_action name words =
@@ -101,8 +104,14 @@ plain_action name words =
     else (if bytes_eq name (codes "bdiscardif") then span_action BDiscardIf words
     else (if bytes_eq name (codes "bexists") then number_action BExists words else volume_action name words)))
 
+abbrev pub flushing_action : List ℕ → List (List ℕ) → Option Action
+flushing_action name words =
+    if bytes_eq name (codes "flush") then numbered_action (λ handle. spans_action (Flush handle)) words
+    else (if bytes_eq name (codes "flushv") then numbered_action (λ handle. spans_action (FlushVerify handle)) words
+    else (if bytes_eq name (codes "deepflush") then numbered_action (λ handle. spans_action (DeepFlush handle)) words else plain_action name words))
+
 abbrev pub storing_action : List ℕ → List (List ℕ) → Option Action
-storing_action name words = if bytes_eq name (codes "store") then numbered_action (λ handle. data_action (Store handle)) words else plain_action name words
+storing_action name words = if bytes_eq name (codes "store") then numbered_action (λ handle. data_action (Store handle)) words else flushing_action name words
 
 unfoldable pub command_action : List ℕ → List (List ℕ) → Option Action
 command_action name words =

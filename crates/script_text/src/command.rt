@@ -113,6 +113,33 @@ pub enum Command {
         offset: u64,
         bytes: Bytes,
     },
+    /// The lines of a span of a mapping become durable.
+    Sync {
+        handle: u64,
+        offset: u64,
+        len: u64,
+    },
+    /// The same of several spans.
+    Flush {
+        handle: u64,
+        spans: Spans,
+    },
+    /// As `Flush`, and a second look at the lines.
+    FlushVerify {
+        handle: u64,
+        spans: Spans,
+    },
+    /// As `Flush`, to the last domain of persistence.
+    DeepFlush {
+        handle: u64,
+        spans: Spans,
+    },
+    /// The bad lines of a span of the file.
+    CheckFile {
+        name: Name,
+        offset: u64,
+        len: u64,
+    },
     /// A line of a block goes bad.
     PoisonBlock {
         block: u64,
@@ -122,15 +149,30 @@ pub enum Command {
     PoisonVolume {
         offset: u64,
     },
+    /// The line of that byte of the file goes bad.
+    PoisonFile {
+        name: Name,
+        offset: u64,
+    },
     /// That line of the metadata goes bad.
     PoisonMeta {
         line: u64,
     },
     /// The line of that byte goes bad when it is next made durable.
+    WeakenFile {
+        name: Name,
+        offset: u64,
+    },
+    /// As `WeakenFile`, of a byte of the volume.
     WeakenVolume {
         offset: u64,
     },
     /// The bad line of that byte becomes zeros.
+    ClearFile {
+        name: Name,
+        offset: u64,
+    },
+    /// As `ClearFile`, of a byte of the volume.
     ClearVolume {
         offset: u64,
     },

@@ -3,6 +3,7 @@
 
 mod command;
 mod files;
+mod flushing;
 mod lines;
 mod lists;
 mod mapped;
@@ -21,4 +22,4 @@ mod words;
 pub use command::Command;
 pub use lines::split_line;
 pub use parsing::{LineFault, parse};
-pub use rows::{worked_lines, worked_mapped_lines};
+pub use rows::{worked_flush_lines, worked_lines, worked_mapped_lines};

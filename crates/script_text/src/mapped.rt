@@ -1,4 +1,4 @@
-// Commands on mappings.
+// Commands on mappings and on events.
 ghost use Rattle.std.specs.Prelude.{◌≡◌, IfErr, option_map};
 ghost use Rattle.nvm_base.specs.declared.files.Kind.{Kind as Shows};
 ghost use Rattle.script_text.specs.Action.{Action, action_of};
@@ -7,15 +7,15 @@ ghost use Rattle.script_text.specs.Operands.{data_action, kind_action, named_act
 ghost use Rattle.script_text.specs.Parsing.{IsLong, ParsesAs};
 ghost use Rattle.script_text.specs.Script.{map_action, mapped_action, storing_action, words_of};
 
+use crate::flushing::read_flushing;
 use crate::media::read_media;
-use crate::operands::{read_data, read_only, read_shown};
-use crate::plain::read_plain;
+use crate::operands::{read_bare, read_data, read_only, read_shown};
 use crate::words::{next_word, only_word};
 use crate::{Command, LineFault};
 use nvm_base::{Kind, Name, Span, read_number};
 use std::alloc::Global;
 
-// A store to a mapping, or a command that brings no list.
+// A store to a mapping, or one further.
 pub(crate) fn read_storing(alloc: Global, name: &[u8], words: &[u8]) -> Result<Command, LineFault>
     ensures command { ParsesAs action_of (storing_action name.now (words_of words.now)) result }
     ensures memory { IfErr result (λ e. e ≡ LineFault.Memory → IsLong name.now) }
@@ -23,7 +23,7 @@ pub(crate) fn read_storing(alloc: Global, name: &[u8], words: &[u8]) -> Result<C
     if name == b"store".as_slice() {
         read_mapped_store(alloc, words)
     } else {
-        read_plain(name, words).ok_or(LineFault::Syntax)
+        read_flushing(alloc, name, words)
     }
 }
 
@@ -57,6 +57,12 @@ pub(crate) fn read_mapped(name: &[u8], words: &[u8]) -> Option<Command>
         read_only(words).map(|handle| Command::Unmap { handle })
     } else if name == b"load".as_slice() {
         read_shown(words).map(|(handle, offset, len)| Command::Load {
+            handle,
+            offset,
+            len,
+        })
+    } else if name == b"sync".as_slice() {
+        read_shown(words).map(|(handle, offset, len)| Command::Sync {
             handle,
             offset,
             len,

@@ -1,3 +1,4 @@
+ghost use Rattle.script_text.specs.FlushRows.{FlushRows};
 ghost use Rattle.script_text.specs.MappedRows.{MappedRows};
 ghost use Rattle.script_text.specs.Rows.{LineRows};
 
@@ -9,4 +10,9 @@ pub fn worked_lines()
 /// What the worked lines on mapped files ask for.
 pub fn worked_mapped_lines()
     ensures { MappedRows }
+{}
+
+/// What the worked lines on flushes and on bad and weak lines of files ask for.
+pub fn worked_flush_lines()
+    ensures { FlushRows }
 {}

@@ -32,13 +32,20 @@ fn files_are_named(rt: HostRuntime) -> Result<(), &'static str> {
             "fwrite\tabcdefghijklmnopqrstuvwxyz-_.012 0004294967  00*65535,01\r",
             Gave::FWrite(most, 4294967, 65536),
         ),
+        ("check log 0 65536", Gave::CheckFile(log, 0, 65536)),
+        ("poison file log.old 64", Gave::PoisonFile(old, 64)),
+        ("weaken file log 0", Gave::WeakenFile(log, 0)),
+        (
+            "\tclear file  log\t4294967295 \r",
+            Gave::ClearFile(log, 4294967295),
+        ),
     ] {
         assert_eq!(rt; parsed(rt.alloc(), line.as_bytes()), wanted, "{line}");
     }
     Ok(())
 }
 
-static WRONG: [&str; 38] = [
+static WRONG: [&str; 51] = [
     "create",
     "create log",
     "create log x",
@@ -76,6 +83,19 @@ static WRONG: [&str; 38] = [
     "fwrite abcdefghijklmnopqrstuvwxyz-_.0123 0 00",
     "fwrite log -1 00",
     "fwrite log 0 00*65537",
+    "check",
+    "check log",
+    "check log 0",
+    "check log 0 1 2",
+    "check 0 log 1",
+    "poison file",
+    "poison file log",
+    "poison file Log 64",
+    "poison file log 64 1",
+    "weaken log 64",
+    "weaken file log",
+    "clear file log 4294967296",
+    "clear file log 64 1",
     "Create log 4",
 ];
 

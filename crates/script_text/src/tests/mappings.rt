@@ -46,7 +46,26 @@ fn mappings_are_named_by_handles(rt: HostRuntime) -> Result<(), &'static str> {
     Ok(())
 }
 
-static WRONG: [&str; 27] = [
+#[test]
+fn spans_of_a_mapping_are_flushed(rt: HostRuntime) {
+    for (line, wanted) in [
+        ("sync 1 64 8", Gave::SyncMapped(1, 64, 8)),
+        (
+            "sync 4294967295 4294967295 4294967295",
+            Gave::SyncMapped(4294967295, 4294967295, 4294967295),
+        ),
+        ("flush 1 64 8", Gave::Flush(1, 1)),
+        ("\tflush  1 64 8\t0 1 128 64 \r", Gave::Flush(1, 3)),
+        ("flushv 1 64 8", Gave::FlushVerify(1, 1)),
+        ("flushv 1 64 8 0 1", Gave::FlushVerify(1, 2)),
+        ("deepflush 1 64 8", Gave::DeepFlush(1, 1)),
+        ("deepflush 1 64 8 0 1", Gave::DeepFlush(1, 2)),
+    ] {
+        assert_eq!(rt; parsed(rt.alloc(), line.as_bytes()), wanted, "{line}");
+    }
+}
+
+static WRONG: [&str; 41] = [
     "map",
     "map log",
     "map log 0",
@@ -74,6 +93,20 @@ static WRONG: [&str; 27] = [
     "store 1 0 00 00",
     "store log 0 00",
     "store 1 0 00*65537",
+    "sync",
+    "sync 1 0",
+    "sync 1 0 1 2",
+    "sync log 0 1",
+    "flush",
+    "flush 1",
+    "flush 1 0",
+    "flush 1 0 1 2",
+    "flush log 0 1",
+    "flushv 1",
+    "flushv 4294967296 0 1",
+    "deepflush 1 0",
+    "deepflush 1 0 1 2 x",
+    "event",
 ];
 
 #[test]
