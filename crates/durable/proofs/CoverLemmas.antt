@@ -51,25 +51,25 @@ no_file (Some start) len name i covered = cc covered
 
 -- a flush covers bytes of files alone
 flush_files : (mappings : List Mapping) (handle : ℕ) (spans : List Span) (x : Place) → holds (flushed_through mappings handle spans) x ≡ true → holds all_files x ≡ true
-flush_files mappings handle spans (of_file name i) covered = refl
-flush_files mappings handle spans (of_volume i) covered = by_mapping (mapping_of handle mappings) covered
+flush_files mappings handle spans x = by_mapping (mapping_of handle mappings) x
   where
-    by_kind : (m : Mapping) (shared : Bool) → (if shared then flushed_lines m.name (all_moved m.start spans) else nothing).volume i ≡ true → false ≡ true
-    by_kind m true is = is
-    by_kind m false is = is
+    of_none : (x : Place) → holds nothing x ≡ true → holds all_files x ≡ true
+    of_none (of_volume i) is = is
+    of_none (of_blocks i) is = is
+    of_none (of_file name i) is = refl
 
-    by_mapping : (o : Option Mapping) → (flushed_by spans o).volume i ≡ true → false ≡ true
-    by_mapping None is = is
-    by_mapping (Some m) is = by_kind m (is_shared m.kind) is
-flush_files mappings handle spans (of_blocks i) covered = by_mapping (mapping_of handle mappings) covered
-  where
-    by_kind : (m : Mapping) (shared : Bool) → (if shared then flushed_lines m.name (all_moved m.start spans) else nothing).blocks i ≡ true → false ≡ true
-    by_kind m true is = is
-    by_kind m false is = is
+    of_lines : (text : List ℕ) (moved : List Span) (x : Place) → holds (flushed_lines text moved) x ≡ true → holds all_files x ≡ true
+    of_lines text moved (of_volume i) is = is
+    of_lines text moved (of_blocks i) is = is
+    of_lines text moved (of_file name i) is = refl
 
-    by_mapping : (o : Option Mapping) → (flushed_by spans o).blocks i ≡ true → false ≡ true
-    by_mapping None is = is
-    by_mapping (Some m) is = by_kind m (is_shared m.kind) is
+    by_kind : (m : Mapping) (shared : Bool) (x : Place) → holds (if shared then flushed_lines m.name (all_moved m.start spans) else nothing) x ≡ true → holds all_files x ≡ true
+    by_kind m true x is = of_lines m.name (all_moved m.start spans) x is
+    by_kind m false x is = of_none x is
+
+    by_mapping : (o : Option Mapping) (x : Place) → holds (flushed_by spans o) x ≡ true → holds all_files x ≡ true
+    by_mapping None x is = of_none x is
+    by_mapping (Some m) x is = by_kind m (is_shared m.kind) x is
 
 -- so what a command makes durable is of what it may make durable
 pub may_cover : (h : Machine) (action : Action) (x : Place) → is_made_durable h action x ≡ true → may_be_made_durable h action x ≡ true

@@ -31,10 +31,10 @@ ghost use Rattle.durable.specs.Place.Place.{of_volume, of_blocks, of_file};
 ghost use Rattle.durable.specs.Durable.{BringBytes, BringsBytes, Does, Finishes, HasNothing, IsDurable, IsComplete, KeepsThrough, Lasts, LastsPowered, Spares};
 ghost use Rattle.durable.specs.Files.{BreaksOff, FilesLast, FilesSettle, FilesThrough, LeavesFiles, changes_files, files_after, files_listed};
 
-/// A command that covers a byte of blocks, volume or a file was done: in every later state, whatever is cut, fails, and is restarted or
-/// recovered, the byte is the same or its line is lost, until a command that changes it is begun; or nothing is there, since metadata is
-/// bad. It isn't lost where no command poisons its line, and none makes the line weak or none may sync it. A flush that found lines lost
-/// as it looked again was done too.
+/// A command that covers a byte of the blocks, the volume or a file was done, a flush also where it lost a line: in every later state,
+/// whatever is cut, fails, and is restarted or recovered, the byte is the same or its line is lost, until a command that changes it is
+/// begun; or nothing is there, since metadata is bad. It isn't lost where no command poisons its line, and none makes the line weak or
+/// none may sync it.
 pub fn what_was_made_durable_stays()
     ensures stays { (h next : Machine) (action : Action) (x : Place) → Finishes h action next → is_made_durable h action x ≡ true → IsDurable next x }
     ensures bounded { (h : Machine) (action : Action) (x : Place) → is_made_durable h action x ≡ true → may_be_made_durable h action x ≡ true }
@@ -43,8 +43,8 @@ pub fn what_was_made_durable_stays()
     ensures scripts { (script : List ℕ) → BringBytes (inputs script) }
 {}
 
-/// The bytes that were written are the ones that last: those of a write of blocks, those of a store in the volume or in a file that is
-/// synced or flushed, but in a weak line, and the zeros of a line that is cleared.
+/// The bytes that were written are the ones that last: those of a write of blocks, those of a store to the volume or in a file that
+/// is then made durable, but in a weak line, and the zeros of a line that is cleared.
 pub fn what_was_written_lasts()
     ensures write { (h next : Machine) (block i : ℕ) (bytes : List ℕ) → Does h (BWrite block bytes) next
         → is_among block (length bytes / 512) (i / 512) ≡ true
@@ -87,8 +87,8 @@ pub fn what_is_there_stays_while_powered()
         → LastsPowered stored (of_file name i) (Some (slice_index bytes (i - offset))) }
 {}
 
-/// A line that is poisoned is lost at once, and so is one that was weak when it was synced or flushed, though the answer is `ok`. What is
-/// lost stays lost, whatever is cut, fails, and is restarted or recovered, until a command that changes it is begun.
+/// A line that is poisoned is lost at once, and so is one that was weak when it was synced or flushed, though the answer is `ok`.
+/// What is lost stays lost, whatever is cut, fails, and is restarted or recovered, until a command that changes it is begun.
 pub fn what_is_lost_stays_lost()
     ensures poisoned { (h next : Machine) (offset i : ℕ) → Does h (PoisonVolume offset) next → i / 64 ≡ offset / 64
         → byte_at_place next (of_volume i) ≡ None }
