@@ -23,6 +23,7 @@ pub mod PowerLemmas
 pub mod CoverLemmas
 pub mod LawLemmas
 pub mod LostLemmas
+pub mod VerifyLemmas
 pub mod ScriptLemmas
 pub mod WrittenLemmas
 pub mod FileWrittenLemmas

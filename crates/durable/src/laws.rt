@@ -1,10 +1,11 @@
 // Laws of whole runs, each a function without a body.
-ghost use Rattle.std.specs.Prelude.{◌≡◌, ◌+◌, ◌-◌, ◌*◌, ◌/◌, ℕ, true, false, List, [], ◌∷◌, ◌++◌, length, slice_index, Some, None};
+ghost use Rattle.std.specs.Prelude.{◌≡◌, ◌≢◌, ◌+◌, ◌-◌, ◌*◌, ◌/◌, ℕ, true, false, List, [], ◌∷◌, ◌++◌, length, slice_index, Some, None};
 ghost use Rattle.word_tables.specs.declared.geometry.Geometry.{Geometry};
 ghost use Rattle.std.specs.List.{Contains};
 ghost use Rattle.durable.specs.Touching.{is_made_durable, may_be_made_durable, unmounts};
 ghost use Rattle.nvm_base.specs.declared.files.FileEntry.{FileEntry};
-ghost use Rattle.reply_text.specs.Answer.Answer.{Files, RefusedMeta, Stopped as StoppedMeta};
+ghost use Rattle.nvm_base.specs.declared.units.Span.{Span};
+ghost use Rattle.reply_text.specs.Answer.Answer.{Files, RefusedMeta, Stopped as StoppedMeta, VerifyFile};
 ghost use Rattle.nvm_model.specs.Cell.{covers, touches};
 ghost use Rattle.nvm_model.specs.Numbered.{is_among};
 ghost use Rattle.nvm_model.specs.Page.{cell_of, touches_absent};
@@ -13,7 +14,7 @@ ghost use Rattle.word_tables.specs.Layout.{volume_line};
 ghost use Rattle.pm_volume.specs.Presence.{presence_read};
 ghost use Rattle.pm_volume.specs.Refusals.{physical_offset};
 ghost use Rattle.script_text.specs.Action.{Action};
-ghost use Rattle.script_text.specs.Action.Action.{BRead, BWrite, BAtomic, VLoad, VStore, VSync, VPSync, FRead, FWrite, PoisonBlock, PoisonFile, PoisonVolume, ClearFile, ClearVolume, Cut, Restart, ListFiles};
+ghost use Rattle.script_text.specs.Action.Action.{BRead, BWrite, BAtomic, VLoad, VStore, VSync, VPSync, FRead, FWrite, FlushVerify, PoisonBlock, PoisonFile, PoisonVolume, ClearFile, ClearVolume, Cut, Restart, ListFiles};
 ghost use Rattle.script_text.specs.Script.{Input, inputs};
 ghost use Rattle.script_text.specs.Script.Input.{Asked};
 ghost use Rattle.line_device.specs.declared.line.Choice.TheVariants.{Firsts};
@@ -88,7 +89,8 @@ pub fn what_is_there_stays_while_powered()
 {}
 
 /// A line that is poisoned is lost at once, and so is one that was weak when it was synced or flushed, though the answer is `ok`.
-/// What is lost stays lost, whatever is cut, fails, and is restarted or recovered, until a command that changes it is begun.
+/// A flush that looks again names a line that is lost, and is answered `ok` only where it leaves none lost. What is lost stays lost,
+/// whatever is cut, fails, and is restarted or recovered, until a command that changes it is begun.
 pub fn what_is_lost_stays_lost()
     ensures poisoned { (h next : Machine) (offset i : ℕ) → Does h (PoisonVolume offset) next → i / 64 ≡ offset / 64
         → byte_at_place next (of_volume i) ≡ None }
@@ -98,6 +100,11 @@ pub fn what_is_lost_stays_lost()
         → byte_at_place next (of_blocks i) ≡ None }
     ensures worn_out { (h next : Machine) (action : Action) (x : Place) → Finishes h action next → is_made_durable h action x ≡ true
         → is_weak_at h x ≡ true → byte_at_place next x ≡ None }
+    ensures verified { (h next : Machine) (handle offset i : ℕ) (spans : List Span) (name : List ℕ) (said : Transcript)
+        → Hears h (Asked (FlushVerify handle spans)) said next → said.answers ≡ VerifyFile name offset ∷ [] → i / 64 ≡ offset / 64
+        → byte_at_place next (of_file name i) ≡ None }
+    ensures none_lost { (h next : Machine) (handle i : ℕ) (spans : List Span) (name : List ℕ) → Does h (FlushVerify handle spans) next
+        → is_made_durable h (FlushVerify handle spans) (of_file name i) ≡ true → byte_at_place next (of_file name i) ≢ None }
     ensures stays { (h : Machine) (x : Place) → IsComplete h → h.mode ≡ On → byte_at_place h x ≡ None → Lasts h x None }
 {}
 
