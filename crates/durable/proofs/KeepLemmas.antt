@@ -32,7 +32,8 @@ use Rattle.durable.proofs.LineLemmas.{HasOrLost, MayBe}
 use Rattle.durable.proofs.SparedLemmas.{SparedBy, SparesPlace}
 use Rattle.durable.proofs.VolumeLemmas.{VolumeKeeps, byte-kept, keeps-clear, keeps-lose, keeps-weaken, keeps-persist, keeps-stored, keeps-may_store, keeps-may_sync, keeps-discard, keeps-may_discard, keeps-read}
 use Rattle.durable.proofs.BlockLemmas.{has-lost, nth-spared, nth-left}
-use Rattle.durable.proofs.FileKeepLemmas.{FileKeeps, file_altered, file_left, file_read}
+use Rattle.durable.proofs.FlushedFileLemmas.{FileKeeps}
+use Rattle.durable.proofs.FileKeepLemmas.{file_altered, file_left, file_read}
 
 -- a command that was stopped was begun
 pub stop_begun : (by : Interruption) → is_begun (interrupted_answer by) ≡ true

@@ -11,6 +11,7 @@ pub mod BlockLemmas
 pub mod EightLemmas
 pub mod NamedPageLemmas
 pub mod FileLineLemmas
+pub mod FlushedFileLemmas
 pub mod FileKeepLemmas
 pub mod KeepLemmas
 pub mod RefusalLemmas
@@ -30,4 +31,5 @@ pub mod FileWrittenLemmas
 pub mod UnsyncedLemmas
 pub mod PassLemmas
 pub mod MetadataLemmas
+pub mod EntryLemmas
 pub mod FileLemmas
