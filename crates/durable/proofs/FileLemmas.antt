@@ -1,101 +1,35 @@
 -- Which files there are: by induction over a run.
-use Rattle.std.proofs.Common.{◌≡◌, ◌⊎◌, inl, inr, ℕ, ◌+◌, Bool, true, false, Option, Some, None, List, [], ◌∷◌, ◌++◌, length, map, refl, sym, ap, ap₂, subst, ◌∙◌, if◌then◌else◌}
+use Rattle.std.proofs.Common.{◌≡◌, ◌⊎◌, inl, inr, true, false, Option, Some, None, List, [], ◌∷◌, ◌++◌, map, refl, sym, ap, subst, ◌∙◌}
 use Rattle.std.proofs.lemmas.Bool.{both_ways}
-use Rattle.std.proofs.lemmas.List.{length-map}
-use Rattle.line_device.specs.Panel.{Image}
-use Rattle.line_device.specs.declared.line.Choice.{Choice}
-use Rattle.word_tables.specs.declared.geometry.Geometry.{Geometry}
 use Rattle.nvm_base.specs.declared.files.FileEntry.{FileEntry}
 use Rattle.nvm_model.specs.Files.{entry_of_file}
-use Rattle.nvm_model.specs.Listing.{AreAlike, file_name}
-use Rattle.nvm_model.specs.Page.{fill, is_present, put}
 use Rattle.nvm_model.specs.Storage.{File, Mapping}
-use Rattle.nvm_model.specs.Interrupted.{MayStore}
+use Rattle.nvm_model.specs.Interrupted.{MayStore, MaySyncAll}
 use Rattle.nvm_model.proofs.FileLeftLemmas.{may_store-length, one_left-entries}
-use Rattle.nvm_model.proofs.OneFileLemmas.{left-change}
-use Rattle.nvm_model.proofs.PageLemmas.{length-put_fill, length-read_pages}
-use Rattle.file_journal.specs.Files.{UnitFile, files_of, unit_file_name}
-use Rattle.file_journal.specs.Reading.{tables_read}
-use Rattle.file_journal.specs.Standing.{KeepsFile, KeepsFiles, file_read, files_read, line_of_file, pages_there}
 use Rattle.reply_text.specs.Answer.{Answer}
-use Rattle.reply_text.specs.Answer.Answer.{Done}
 use Rattle.reply_text.specs.Answer.Answer.{Files as FilesAre}
 use Rattle.script_text.specs.Action.{Action}
-use Rattle.script_text.specs.Action.Action.{Create, Delete, Rename, Resize, ListFiles, FWrite, Load, Store}
+use Rattle.script_text.specs.Action.Action.{ListFiles}
 use Rattle.script_text.specs.Script.{Input}
 use Rattle.script_text.specs.Script.Input.{Skipped, Malformed, Asked}
 use Rattle.machine_host.specs.declared.mode.Mode.TheVariants.{On}
 use Rattle.machine_host.specs.Machine.{Machine}
 use Rattle.machine_host.specs.Commands.{MayLeaveFiles, meaning, refusal, unless_refused, LeavesFiles as LeftFiles}
 use Rattle.machine_host.specs.Meaning.{FilesLeft}
-use Rattle.machine_host.specs.Meaning.FilesLeft.{Unchanged, OldOrNew, StoredInPart}
-use Rattle.machine_host.specs.OnMappings.{load_through, read_copy, store_through, write_copy}
-use Rattle.machine_host.specs.OnPages.{fread, fwrite, stored_in}
-use Rattle.nvm_model.specs.Mappings.{is_shared, mapping_of}
+use Rattle.machine_host.specs.Meaning.FilesLeft.{Unchanged, OldOrNew, StoredInPart, SyncedInPart}
 use Rattle.machine_host.specs.Run.{Hears, Run, Takes, Transcript}
 use Rattle.durable.specs.Touching.{is_begun}
-use Rattle.durable.specs.Durable.{Does, HasNothing, IsComplete, NoneBegun}
+use Rattle.durable.specs.Durable.{Does, HasNothing, IsComplete, IsDone, NoneBegun}
 use Rattle.durable.specs.Files.{BreaksOff, FilesLast, FilesSettle, FilesThrough, IsStopped, LeavesFiles, changes_files, files_after, files_listed}
 use Rattle.durable.proofs.StepKinds.{Step, Stops}
 use Rattle.durable.proofs.StepKinds.Step.{idles, alters, stops, returns, remounts, empties}
 use Rattle.durable.proofs.StepLemmas.{nothing_run, step_of}
-use Rattle.durable.proofs.KeepLemmas.{stop_begun}
-use Rattle.durable.proofs.LawLemmas.{came_of, none-asked, not_done}
+use Rattle.durable.proofs.EntryLemmas.{entries_made, entries_read, entries_same, files_meant, may_spans-length}
+use Rattle.durable.proofs.KeepLemmas.{done_begun, stop_begun}
+use Rattle.durable.proofs.LawLemmas.{came_of, finishes, none-asked, not_done}
 use Rattle.durable.proofs.PassLemmas.{pass}
 use Rattle.durable.proofs.RefusalLemmas.{is_on, is_refused, refused_told}
 use Rattle.durable.proofs.WholeLemmas.{whole-heard, whole-run}
-
--- what a restart left of files is listed as what it may have left
-entries_kept : (choice : Choice) (geo : Geometry) (image : Image) (on : List UnitFile) (files : List File) → AreAlike unit_file_name file_name (KeepsFile choice geo image) on files
-    → map entry_of_file (map (file_read geo image) on) ≡ map entry_of_file files
-entries_kept choice geo image [] [] alike = refl
-entries_kept choice geo image [] (y ∷ ys) alike = absurd alike
-entries_kept choice geo image (x ∷ xs) [] alike = absurd alike
-entries_kept choice geo image (x ∷ xs) (y ∷ ys) alike =
-    let pages : length (file_read geo image x).pages ≡ length y.pages =
-    length-read_pages (line_of_file geo x) image (pages_there x) ∙ ap length (sym alike.1.there) ∙ length-map y.pages is_present in
-    let one : entry_of_file (file_read geo image x) ≡ entry_of_file y =
-    ap₂ (λ (n : List ℕ) (k : ℕ). let e : FileEntry = record { name = n; pages = k } in e) alike.0 pages in
-    ap₂ (λ (e : FileEntry) (es : List FileEntry). e ∷ es) one (entries_kept choice geo image xs ys alike.2)
-
-entries_read : (choice : Choice) (geo : Geometry) (image : Image) (files : List File) → KeepsFiles choice geo image files
-    → map entry_of_file (files_read geo image) ≡ map entry_of_file files
-unfolding files_read
-entries_read choice geo image files keeps = entries_kept choice geo image (files_of (tables_read geo image.word)) files keeps
-
--- bytes stored in a file
-stored_entries : (name : List ℕ) (offset : ℕ) (bytes : List ℕ) (files : List File) → map entry_of_file (stored_in name offset bytes files) ≡ map entry_of_file files
-stored_entries name offset bytes files =
-    one_left-entries name (λ old new. length new ≡ length old) (λ old new same. same) files (stored_in name offset bytes files)
-    (left-change name (λ pages. put offset bytes (fill offset (length bytes) pages)) (λ old new. length new ≡ length old)
-    (λ pages. length-put_fill offset (length bytes) bytes pages) files)
-
--- a command that changes no list of files
-entries_same : (action : Action) (mappings : List Mapping) (files : List File) → changes_files action ≡ false → map entry_of_file ((meaning action).files mappings files) ≡ map entry_of_file files
-entries_same (Create name pages) mappings files none = cc none
-entries_same (Delete name) mappings files none = cc none
-entries_same (Rename name to) mappings files none = cc none
-entries_same (Resize name pages) mappings files none = cc none
-entries_same (FWrite name offset bytes) mappings files none = stored_entries name offset bytes files
-entries_same (Load handle offset len) mappings files none = by_mapping (mapping_of handle mappings)
-  where
-    by_kind : (m : Mapping) (shared : Bool) → map entry_of_file ((if shared then fread m.name (m.start + offset) len else read_copy m offset len).files mappings files) ≡ map entry_of_file files
-    by_kind m true = refl
-    by_kind m false = refl
-
-    by_mapping : (o : Option Mapping) → map entry_of_file (elim o [ None ↦ files | Some m ↦ (load_through offset len m).files mappings files ]) ≡ map entry_of_file files
-    by_mapping None = refl
-    by_mapping (Some m) = by_kind m (is_shared m.kind)
-entries_same (Store handle offset bytes) mappings files none = by_mapping (mapping_of handle mappings)
-  where
-    by_kind : (m : Mapping) (shared : Bool) → map entry_of_file ((if shared then fwrite m.name (m.start + offset) bytes else write_copy handle offset bytes).files mappings files) ≡ map entry_of_file files
-    by_kind m true = stored_entries m.name (m.start + offset) bytes files
-    by_kind m false = refl
-
-    by_mapping : (o : Option Mapping) → map entry_of_file (elim o [ None ↦ files | Some m ↦ (store_through handle offset bytes m).files mappings files ]) ≡ map entry_of_file files
-    by_mapping None = refl
-    by_mapping (Some m) = by_kind m (is_shared m.kind)
-entries_same action mappings files none = refl
 
 module _ (P : List FileEntry → Type 0) where
   -- So they are listed, and so are those that a mount may find. In mode On no change of them is interrupted.
@@ -113,6 +47,7 @@ module _ (P : List FileEntry → Type 0) where
       by_how OldOrNew (inl is) = subst (λ fs. P (map entry_of_file fs)) {x = old} (sym is) now
       by_how OldOrNew (inr is) = subst P (sym (ap (map entry_of_file) is ∙ entries_same action mappings old none)) now
       by_how (StoredInPart name offset bytes) left = subst P (sym (one_left-entries name (MayStore offset bytes) (may_store-length offset bytes) old files left)) now
+      by_how (SyncedInPart name spans) left = subst P (sym (one_left-entries name (MaySyncAll spans) (may_spans-length spans) old files left)) now
 
   lists_free : (h : Machine) → LeavesFiles h.interrupted → P (files_listed h) → Lists h
   lists_free h free now = record { now = now; left = λ files may. lists_left h.mappings h.interrupted h.files files free now may; settled = λ on. free }
@@ -133,9 +68,9 @@ module _ (P : List FileEntry → Type 0) where
   lists_step h action answer next spares lists (idles why to) = inl (lists_same h next to.files to.mappings to.interrupted to.mode lists)
   lists_step h action answer next spares lists (alters begun none to) =
       let leaves : changes_files action ≡ false =
-      elim begun as (λ _. changes_files action ≡ false) [ inl done ↦ spares (ap is_begun done) | inr touches ↦ touches.files ] in
+      elim begun as (λ _. changes_files action ≡ false) [ inl done ↦ spares (done_begun answer done) | inr touches ↦ touches.files ] in
       inl (lists_free next (subst LeavesFiles (sym to.interrupted) (lists.settled (is_on h action to.needs none)))
-      (subst P (sym (ap (map entry_of_file) to.files ∙ entries_same action h.mappings h.files leaves)) lists.now))
+      (subst P (sym (ap (map entry_of_file) to.files ∙ entries_made action h.mappings h.files leaves)) lists.now))
   lists_step h action answer next spares lists (stops by is to) =
       inl (lists_free next (subst LeavesFiles {x = Some action} (sym to.interrupted) (spares (ap is_begun is ∙ stop_begun by)))
       (subst (λ fs. P (map entry_of_file fs)) {x = h.files} (sym to.files) lists.now))
@@ -186,18 +121,20 @@ settled_free h whole on = subst LeavesFiles {x = None} (sym (whole.settled on)) 
 -- a change that was done
 pub files_done : (h next : Machine) (action : Action) → Does h action next → changes_files action ≡ true → FilesLast next (files_after h action)
 files_done h next action does change =
-    let came = came_of h next action does (λ none. both_ways (changes_files action) none.files change) in
+    let came = came_of h next action (finishes h next action does) (λ none. both_ways (changes_files action) none.files change) in
     let free = came.to.interrupted ∙ does.whole.settled (is_on h action came.to.needs came.none) in
-    subst (FilesLast next) (ap (map entry_of_file) came.to.files) (files_last next (subst LeavesFiles {x = None} (sym free) tt))
+    subst (FilesLast next) (ap (map entry_of_file) (came.to.files ∙ files_meant action h.mappings h.files change)) (files_last next (subst LeavesFiles {x = None} (sym free) tt))
 
 -- and one that was stopped
 not_stopped : (answer : Answer) → IsStopped (answer ∷ []) → is_refused answer ≡ false
 not_stopped answer (inl is) = cc is
 not_stopped answer (inr is) = cc is
 
-done_or_stopped : (answer : Answer) → IsStopped (answer ∷ []) → answer ≡ Done → ⊥
-done_or_stopped answer (inl is) done = cc (is, done)
-done_or_stopped answer (inr is) done = cc (is, done)
+done_or_stopped : (answer : Answer) → IsStopped (answer ∷ []) → IsDone answer → ⊥
+done_or_stopped answer (inl is) (inl done) = cc (is, done)
+done_or_stopped answer (inl is) (inr done) = cc (is, done.2)
+done_or_stopped answer (inr is) (inl done) = cc (is, done)
+done_or_stopped answer (inr is) (inr done) = cc (is, done.2)
 
 stopped_by : (h : Machine) (action : Action) (answer : Answer) (next : Machine) → changes_files action ≡ true → IsStopped (answer ∷ []) → Step h action answer next
     → Stops h action next
@@ -223,6 +160,7 @@ lists_stopped h action next to = record {
     by_how files OldOrNew (inl is) = inl (ap (map entry_of_file) is)
     by_how files OldOrNew (inr is) = inr (ap (map entry_of_file) is)
     by_how files (StoredInPart name offset bytes) left = inl (one_left-entries name (MayStore offset bytes) (may_store-length offset bytes) h.files files left)
+    by_how files (SyncedInPart name spans) left = inl (one_left-entries name (MaySyncAll spans) (may_spans-length spans) h.files files left)
 
     by_may : (files : List File) → MayLeaveFiles h.mappings (Some action) h.files files → (map entry_of_file files ≡ files_listed h) ⊎ (map entry_of_file files ≡ files_after h action)
     by_may files may = by_how files ((meaning action).files_left h.mappings) may

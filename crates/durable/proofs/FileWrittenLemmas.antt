@@ -1,21 +1,30 @@
--- What was stored in a file is what it has, while the power stays on.
-use Rattle.std.proofs.Common.{◌≡◌, ◌⊎◌, inl, inr, ℕ, ◌+◌, ◌-◌, ◌*◌, ◌/◌, ◌%◌, ◌<◌, ◌≤◌, Bool, true, false, Some, None, List, [], length, get_or, nat_lt, refl, ap, subst, ◌∙◌, arith}
+-- What was stored in a file is what it has while the power stays on, and what lasts once it is flushed.
+use Rattle.std.proofs.Common.{◌≡◌, ◌⊎◌, inl, inr, ℕ, ◌+◌, ◌-◌, ◌*◌, ◌/◌, ◌%◌, ◌<◌, ◌≤◌, Bool, true, false, Option, Some, None, option_map, List, [], length, get_or, nat_lt, refl, ap, subst, ◌∙◌, arith}
 use Rattle.std.specs.Prelude.{slice_index}
 use Rattle.std.proofs.lemmas.Bool.Decides.{nat_tests}
 use Rattle.nvm_base.proofs.FirstLemmas.{not_mapped}
-use Rattle.nvm_model.specs.Cell.{touches}
+use Rattle.nvm_model.specs.Cell.{Cell, clear_cell, flush_cell, touches}
+use Rattle.nvm_model.specs.Cell.Cell.{Bad, Kept}
 use Rattle.nvm_model.specs.Numbered.{is_among}
 use Rattle.nvm_model.specs.Page.{Page, cell_of, fill, first_uncovered_line, put}
 use Rattle.file_pages.specs.Refusals.{bytes_refusal}
-use Rattle.script_text.specs.Action.Action.{FWrite}
+use Rattle.script_text.specs.Action.{Action}
+use Rattle.script_text.specs.Action.Action.{ClearFile, FWrite}
 use Rattle.script_text.specs.Script.Input.{Asked}
+use Rattle.machine_host.specs.Commands.{refusal}
 use Rattle.machine_host.specs.Machine.{Machine}
+use Rattle.machine_host.specs.OnFileErrors.{marked_in}
 use Rattle.machine_host.specs.OnPages.{page_answer, pages_named, stored_in}
 use Rattle.durable.specs.Place.{byte_at_place, is_weak_line, line_has}
 use Rattle.durable.specs.Place.Place.{of_file}
-use Rattle.durable.specs.Durable.{Does, HaveLines, LastsPowered}
+use Rattle.durable.specs.Touching.{is_made_durable}
+use Rattle.durable.specs.Durable.{Does, Finishes, HaveLines, Lasts, LastsPowered}
+use Rattle.durable.proofs.LineLemmas.{flush_shown, zero_shown}
+use Rattle.durable.proofs.FileLineLemmas.{LineFlushed}
+use Rattle.durable.proofs.FileKeepLemmas.{in_line}
+use Rattle.durable.proofs.CoverLemmas.{file-cleared, file_renewed, was_bad_in}
 use Rattle.durable.proofs.FileThereLemmas.{lines-named}
-use Rattle.durable.proofs.LawLemmas.{lasts_powered}
+use Rattle.durable.proofs.LawLemmas.{done_by, durable, finished_durable, lasts_powered}
 use Rattle.durable.proofs.NamedPageLemmas.{named-own}
 use Rattle.durable.proofs.RefusalLemmas.{is_on, places_none, unreadable_none}
 use Rattle.durable.proofs.ThereLemmas.{lines-fill}
@@ -48,19 +57,19 @@ byte_put at i bytes pages small among lines within none =
     touched : touches at (length bytes) (i / 64) ≡ true
     touched = grind (arith, nat_tests)
 
-pub stored_in_powered : (h stored : Machine) (name : List ℕ) (at i : ℕ) (bytes : List ℕ) → ((k : ℕ) → get_or bytes k 0 < 256) → Does h (FWrite name at bytes) stored
-    → is_among at (length bytes) i ≡ true → is_weak_line (cell_of (pages_named name stored.files) (i / 64)) ≡ false
-    → LastsPowered stored (of_file name i) (Some (slice_index bytes (i - at)))
-stored_in_powered h stored name at i bytes small stores among strong =
-    let put_is = works_done h (FWrite name at bytes) (record h { files = stored_in name at bytes h.files }) stored refl stores in
+-- what it made
+stored_is : (h stored : Machine) (name : List ℕ) (at : ℕ) (bytes : List ℕ) → Does h (FWrite name at bytes) stored
+    → (refusal h (FWrite name at bytes) ≡ None) × (stored ≡ record h { files = stored_in name at bytes h.files })
+stored_is h stored name at bytes stores = works_done h (FWrite name at bytes) (record h { files = stored_in name at bytes h.files }) stored refl stores
+
+stored_shown : (h stored : Machine) (name : List ℕ) (at i : ℕ) (bytes : List ℕ) → ((k : ℕ) → get_or bytes k 0 < 256) → Does h (FWrite name at bytes) stored
+    → is_among at (length bytes) i ≡ true → byte_at_place stored (of_file name i) ≡ Some (slice_index bytes (i - at))
+stored_shown h stored name at i bytes small stores among =
+    let put_is = stored_is h stored name at bytes stores in
     let within = within_pages (length old) at (length bytes) (not_mapped (page_answer name) _ (places_none h (FWrite name at bytes) put_is.0)) in
     let good = not_mapped _ (first_uncovered_line old at (length bytes)) (not_mapped (page_answer name) _ (unreadable_none h (FWrite name at bytes) put_is.0)) in
     let now : pages_named name stored.files ≡ change old = ap (λ m. pages_named name m.files) put_is.1 ∙ own within (named-own name change h.files) in
-    let shown : byte_at_place stored (of_file name i) ≡ Some (slice_index bytes (i - at)) =
-    ap (λ p. line_has (cell_of p (i / 64)) (i % 64)) now ∙ byte_put at i bytes old small among (lines-named name h.files stores.whole.file_lines) within good in
-    subst (LastsPowered stored (of_file name i)) shown
-    (lasts_powered stored (of_file name i) (whole-heard h (Asked (FWrite name at bytes)) stores.said stored stores.whole stores.came)
-    (ap (λ m. m.mode) put_is.1 ∙ is_on h (FWrite name at bytes) refl put_is.0) strong)
+    ap (λ p. line_has (cell_of p (i / 64)) (i % 64)) now ∙ byte_put at i bytes old small among (lines-named name h.files stores.whole.file_lines) within good
   where
     old : List Page
     old = pages_named name h.files
@@ -76,3 +85,45 @@ stored_in_powered h stored name at i bytes small stores among strong =
         → pages_named name (stored_in name at bytes h.files) ≡ change old
     own within (inl is) = is
     own within (inr none) = let empty : length old ≡ 0 = ap length none.1 in absurd (omega (arith, to, within, empty))
+
+pub stored_in_powered : (h stored : Machine) (name : List ℕ) (at i : ℕ) (bytes : List ℕ) → ((k : ℕ) → get_or bytes k 0 < 256) → Does h (FWrite name at bytes) stored
+    → is_among at (length bytes) i ≡ true → is_weak_line (cell_of (pages_named name stored.files) (i / 64)) ≡ false
+    → LastsPowered stored (of_file name i) (Some (slice_index bytes (i - at)))
+stored_in_powered h stored name at i bytes small stores among strong =
+    let put_is = stored_is h stored name at bytes stores in
+    subst (LastsPowered stored (of_file name i)) (stored_shown h stored name at i bytes small stores among)
+    (lasts_powered stored (of_file name i) (whole-heard h (Asked (FWrite name at bytes)) stores.said stored stores.whole stores.came)
+    (ap (λ m. m.mode) put_is.1 ∙ is_on h (FWrite name at bytes) refl put_is.0) strong)
+
+-- a line that was flushed shows what it had
+flushed_shown : (i byte : ℕ) (old new : List Page) → LineFlushed i old new → is_weak_line (cell_of old (i / 64)) ≡ false → line_has (cell_of old (i / 64)) (i % 64) ≡ Some byte
+    → line_has (cell_of new (i / 64)) (i % 64) ≡ Some byte
+flushed_shown i byte old new flushed strong has = ap (λ o. line_has o (i % 64)) flushed.line ∙ by_line (cell_of old (i / 64)) strong has
+  where
+    by_line : (o : Option Cell) → is_weak_line o ≡ false → line_has o (i % 64) ≡ Some byte → line_has (option_map flush_cell o) (i % 64) ≡ Some byte
+    by_line None healthy shown = shown
+    by_line (Some Bad) healthy shown = cc shown
+    by_line (Some (Kept weak words)) healthy shown = flush_shown (Kept weak words) (i % 64) refl healthy ∙ shown
+
+-- what was stored, and then made durable
+pub flushed : (h stored next : Machine) (name : List ℕ) (at i : ℕ) (bytes : List ℕ) (action : Action) → ((k : ℕ) → get_or bytes k 0 < 256) → Does h (FWrite name at bytes) stored
+    → Finishes stored action next → is_made_durable stored action (of_file name i) ≡ true → is_among at (length bytes) i ≡ true
+    → is_weak_line (cell_of (pages_named name stored.files) (i / 64)) ≡ false → Lasts next (of_file name i) (Some (slice_index bytes (i - at)))
+flushed h stored next name at i bytes action small stores does covered among strong =
+    let came = done_by stored next action (of_file name i) does covered in
+    let has = stored_shown h stored name at i bytes small stores among in
+    let shown : byte_at_place next (of_file name i) ≡ Some (slice_index bytes (i - at)) =
+    elim (file_renewed stored action next name i covered came.none came.to) as (λ _. byte_at_place next (of_file name i) ≡ Some (slice_index bytes (i - at))) [
+      | inl made ↦ flushed_shown i (slice_index bytes (i - at)) (pages_named name stored.files) (pages_named name next.files) made strong has
+      | inr cleared ↦ cc (ap (λ o. line_has o (i % 64)) cleared.bad, has)
+    ] in
+    subst (Lasts next (of_file name i)) shown (finished_durable stored next action (of_file name i) does covered)
+
+-- a line that is cleared has zeros
+pub cleared_in_file : (h next : Machine) (name : List ℕ) (offset i : ℕ) → Does h (ClearFile name offset) next → i / 64 ≡ offset / 64 → Lasts next (of_file name i) (Some 0)
+cleared_in_file h next name offset i does same =
+    let done = works_done h (ClearFile name offset) (record h { files = marked_in clear_cell name offset h.files }) next refl does in
+    let is : byte_at_place next (of_file name i) ≡ Some 0 =
+    ap (λ m. byte_at_place m (of_file name i)) done.1 ∙ ap (λ o. line_has o (i % 64)) (file-cleared name offset i h.files same (was_bad_in h name offset done.0)).zeros
+    ∙ zero_shown (i % 64) (omega arith) in
+    subst (Lasts next (of_file name i)) is (durable h next (ClearFile name offset) (of_file name i) does (in_line name name i (offset / 64) refl same))

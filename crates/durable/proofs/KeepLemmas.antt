@@ -1,8 +1,7 @@
 -- What a step keeps: the byte at a place that it spares.
-use Rattle.std.proofs.Common.{◌≡◌, ◌⊎◌, inl, inr, ℕ, ◌/◌, ◌%◌, true, false, Option, Some, None, List, refl, sym, ap, subst, ◌∙◌, arith}
+use Rattle.std.proofs.Common.{◌≡◌, ◌⊎◌, inl, inr, ℕ, ◌/◌, ◌%◌, true, Option, Some, None, List, refl, sym, ap, subst, ◌∙◌, arith}
 use Rattle.std.proofs.lemmas.Bool.{both_ways, eq-eqb, eqb-false}
 use Rattle.std.proofs.lemmas.Bool.Decides.{nat_tests}
-use Rattle.std.proofs.lemmas.Option.{same_Some}
 use Rattle.line_words.specs.declared.interruption.Interruption.{Interruption}
 use Rattle.line_words.specs.declared.interruption.Interruption.TheVariants.{Failed, PowerLost as Lost}
 use Rattle.machine_host.specs.Interrupted.{interrupted_answer}
@@ -11,7 +10,6 @@ use Rattle.nvm_model.specs.Cell.{touches}
 use Rattle.nvm_model.specs.Page.{Page}
 use Rattle.nvm_model.specs.Storage.{Block}
 use Rattle.reply_text.specs.Answer.{Answer}
-use Rattle.reply_text.specs.Answer.Answer.{Done}
 use Rattle.script_text.specs.Action.{Action}
 use Rattle.script_text.specs.Action.Action.{VStore, VSync, VPSync, VDiscard, VDiscardIf, PoisonBlock, PoisonVolume, WeakenVolume, ClearVolume}
 use Rattle.machine_host.specs.declared.mode.Mode.TheVariants.{On, Off}
@@ -26,32 +24,26 @@ use Rattle.pm_volume.specs.Presence.{presence_read}
 use Rattle.pm_volume.specs.Refusals.{physical_offset}
 use Rattle.durable.specs.Place.{Place, block_has, byte_at_place}
 use Rattle.durable.specs.Place.Place.{of_volume, of_blocks, of_file}
-use Rattle.durable.specs.Touching.{changes, holds, is_begun, made_durable, poisons, touched_lines_at, weakens}
-use Rattle.durable.specs.Durable.{BringsBytes, HasNothing}
-use Rattle.durable.proofs.StepKinds.{Alters, Remounts, Returns, Step, TouchesNothing, blocks_after, volume_after}
+use Rattle.durable.specs.Touching.{is_begun, touched_lines_at}
+use Rattle.durable.specs.Durable.{BringsBytes, HasNothing, IsDone}
+use Rattle.durable.proofs.StepKinds.{Alters, Remounts, Returns, Step, TouchesNothing, blocks_after, files_made, volume_after}
 use Rattle.durable.proofs.StepKinds.Step.{idles, alters, stops, returns, remounts, empties}
 use Rattle.durable.proofs.LineLemmas.{HasOrLost, MayBe}
+use Rattle.durable.proofs.SparedLemmas.{SparedBy, SparesPlace}
 use Rattle.durable.proofs.VolumeLemmas.{VolumeKeeps, byte-kept, keeps-clear, keeps-lose, keeps-weaken, keeps-persist, keeps-stored, keeps-may_store, keeps-may_sync, keeps-discard, keeps-may_discard, keeps-read}
 use Rattle.durable.proofs.BlockLemmas.{has-lost, nth-spared, nth-left}
-use Rattle.durable.proofs.FileKeepLemmas.{FileKeeps, file_altered, file_left, file_read}
-
--- An action that spares the place: it doesn't change it, stores bytes, and makes its line weak or lost only where it may be.
-pub record SparesPlace (since : MayBe) (geo : Geometry) (action : Action) (x : Place) : Type 0 where
-  pub change : changes action x ≡ false
-  pub brings : BringsBytes action
-  pub poison : poisons action x ≡ true → since.lost ≡ true
-  pub weaken : weakens action x ≡ true → since.weak ≡ true
-  pub cover : holds (made_durable geo action) x ≡ true → since.weak ≡ true → since.lost ≡ true
-
--- the one that is interrupted, if there is one, does
-abbrev pub SparedBy : MayBe → Geometry → Option Action → Place → Type 0
-SparedBy since geo None x = Unit {0}
-SparedBy since geo (Some action) x = SparesPlace since geo action x
+use Rattle.durable.proofs.FlushedFileLemmas.{FileKeeps}
+use Rattle.durable.proofs.FileKeepLemmas.{file_altered, file_left, file_read}
 
 -- a command that was stopped was begun
 pub stop_begun : (by : Interruption) → is_begun (interrupted_answer by) ≡ true
 stop_begun Failed = refl
 stop_begun Lost = refl
+
+-- and so was one that was done
+pub done_begun : (answer : Answer) → IsDone answer → is_begun answer ≡ true
+done_begun answer (inl is) = ap is_begun is
+done_begun answer (inr is) = ap is_begun is.2
 
 module _ (since : MayBe) where
   -- the place has this byte, whatever a cut leaves
@@ -143,14 +135,7 @@ module _ (since : MayBe) where
       subst (λ bs. HasOrLost since.lost (block_has (nth bs (i / 512)) (i % 512)) v) {x = blocks_after action h.blocks} (sym to.blocks)
       (altered_blocks h.geometry action i v h.blocks spared keeps)
   altered_place h action next (of_file name i) v to spared keeps =
-      subst (λ fs. FileKeeps since fs name i v) {x = (meaning action).files h.mappings h.files} (sym to.files) (file_altered since action name i v h.mappings h.files spared.change spared.brings keeps)
-
-  -- the interrupted action spares a byte of a file
-  spares_file : (geo : Geometry) (o : Option Action) (name : List ℕ) (i : ℕ) → SparedBy since geo o (of_file name i) → (action : Action) → o ≡ Some action
-      → (changes action (of_file name i) ≡ false) × BringsBytes action
-  spares_file geo None name i spared action is = cc is
-  spares_file geo (Some one) name i spared action is =
-      subst (λ a. (changes a (of_file name i) ≡ false) × BringsBytes a) (same_Some one action is) (spared.change, spared.brings)
+      subst (λ fs. FileKeeps since fs name i v) {x = files_made h.mappings action h.files} (sym to.files) (file_altered since h.geometry action name i v h.mappings h.files spared keeps)
 
   returned_place : (h next : Machine) (x : Place) (v : Option ℕ) → since.cut ≡ true → Returns h next → SparedBy since h.geometry h.interrupted x → PlaceKeeps h x v → PlaceKeeps next x v
   returned_place h next (of_volume i) v cuts back spared keeps =
@@ -163,19 +148,19 @@ module _ (since : MayBe) where
   returned_place h next (of_file name i) v cuts back spared keeps =
       subst (λ fs. FileKeeps since fs name i v) (sym back.files)
       (file_read since back.choice h.geometry back.image name i v back.may.files_left cuts back.may.files
-      (file_left since h.mappings h.interrupted name i v h.files back.may.files_left (spares_file h.geometry h.interrupted name i spared) back.may.may_files keeps))
+      (file_left since h.geometry h.mappings h.interrupted name i v h.files back.may.files_left spared back.may.may_files keeps))
 
   remounted_place : (h next : Machine) (x : Place) (v : Option ℕ) → Remounts h next → SparedBy since h.geometry h.interrupted x → PlaceKeeps h x v → PlaceKeeps next x v
   remounted_place h next (of_volume i) v back spared keeps = volume_left h.geometry h.interrupted i v h.volume next.volume spared keeps back.volume
   remounted_place h next (of_blocks i) v back spared keeps =
       subst (λ b. HasOrLost since.lost (block_has b (i % 512)) v) (sym (blocks_left h.geometry h.interrupted i h.blocks next.blocks spared back.blocks)) keeps
   remounted_place h next (of_file name i) v back spared keeps =
-      file_left since h.mappings h.interrupted name i v h.files next.files (spares_file h.geometry h.interrupted name i spared) back.files keeps
+      file_left since h.geometry h.mappings h.interrupted name i v h.files next.files spared back.files keeps
 
   -- an action that does nothing to any place, or was begun
   spared_when : (geo : Geometry) (action : Action) (x : Place) (answer : Answer) → BringsBytes action → (is_begun answer ≡ true → SparesPlace since geo action x)
-      → (answer ≡ Done) ⊎ TouchesNothing action → SparesPlace since geo action x
-  spared_when geo action x answer small spares (inl done) = spares (ap is_begun done)
+      → IsDone answer ⊎ TouchesNothing action → SparesPlace since geo action x
+  spared_when geo action x answer small spares (inl done) = spares (done_begun answer done)
   spared_when geo action x answer small spares (inr none) = record {
     change = none.change x;
     brings = small;

@@ -1,18 +1,12 @@
 -- What was made durable stays: by induction over a run.
-use Rattle.std.proofs.Common.{◌≡◌, ◌⊎◌, inl, inr, ℕ, ◌/◌, ◌%◌, Bool, true, false, cond, Option, Some, None, option_map, List, [], ◌∷◌, ◌++◌, slice_index_or, refl, sym, ap, subst, ◌∙◌, arith}
-use Rattle.std.proofs.lemmas.Bool.{both_ways, eqb-true}
+use Rattle.std.proofs.Common.{◌≡◌, ◌⊎◌, inl, inr, ℕ, Bool, true, false, Option, None, List, [], ◌∷◌, ◌++◌, refl, sym, ap, subst, ◌∙◌}
+use Rattle.std.proofs.lemmas.Bool.{both_ways}
 use Rattle.line_words.specs.declared.interruption.Interruption.{Interruption}
 use Rattle.line_words.specs.declared.interruption.Interruption.TheVariants.{Failed, PowerLost as Lost}
-use Rattle.nvm_model.specs.Cell.{Cell, clear_cell, flush_cell, persist_cell, touches, zero_cell}
-use Rattle.nvm_model.specs.Cell.Cell.{Bad, Kept}
-use Rattle.nvm_model.specs.Page.{Page, cell_of, change_line, persist}
-use Rattle.nvm_model.proofs.MediaLemmas.{cell_of-changed}
-use Rattle.scrub.specs.Refusals.{line_refusal}
-use Rattle.nvm_model.proofs.PageLemmas.{cell_of-persist, presence_of-persist}
 use Rattle.reply_text.specs.Answer.{Answer}
 use Rattle.reply_text.specs.Answer.Answer.{Done}
 use Rattle.script_text.specs.Action.{Action}
-use Rattle.script_text.specs.Action.Action.{VSync, VPSync, ClearVolume, PoisonMeta, Cut, CutIn, FailIn, Restart, Recover}
+use Rattle.script_text.specs.Action.Action.{PoisonMeta, Cut, CutIn, FailIn, Restart, Recover}
 use Rattle.script_text.specs.Script.{Input}
 use Rattle.script_text.specs.Script.Input.{Skipped, Malformed, Asked}
 use Rattle.machine_host.specs.Machine.{Machine}
@@ -20,27 +14,27 @@ use Rattle.word_tables.specs.declared.geometry.Geometry.{Geometry}
 use Rattle.machine_host.specs.Commands.{meaning, refusal}
 use Rattle.machine_host.specs.Interrupted.{interrupted_answer}
 use Rattle.machine_host.specs.declared.needs.Needs.TheVariants.{Usable}
-use Rattle.machine_host.specs.OnVolume.{persist_at}
-use Rattle.pm_volume.specs.Refusals.{physical_offset}
 use Rattle.machine_host.specs.Run.{Hears, Run, Transcript, followed_by}
 use Rattle.machine_host.specs.declared.mode.Mode.TheVariants.{On, Off}
 use Rattle.std.specs.Prelude.{◌≢◌}
 use Rattle.machine_host.specs.OnPages.{pages_named}
 use Rattle.durable.proofs.FileThereLemmas.{lines-named}
 use Rattle.durable.proofs.PowerLemmas.{powered_first, powered_heard, powered_rest}
-use Rattle.durable.specs.Place.{Place, byte_at_place, line_has}
-use Rattle.durable.specs.Place.{is_line_present, is_weak_at}
+use Rattle.durable.specs.Place.{Place, byte_at_place}
+use Rattle.durable.specs.Place.{is_weak_at}
 use Rattle.durable.specs.Place.Place.{of_volume, of_blocks, of_file}
-use Rattle.durable.specs.Touching.{changes, holds, is_begun, is_made_durable, made_durable, poisons, touched_lines_at, weakens}
-use Rattle.durable.specs.Durable.{BringBytes, BringsBytes, Does, HasNothing, HaveLines, IsComplete, IsDurable, IsLineThere, Lasts, LastsPowered, NoneBegun, Remains, Spares, StaysPowered}
+use Rattle.durable.specs.Touching.{changes, holds, is_begun, is_made_durable, may_be_made_durable, may_make_durable, poisons, weakens}
+use Rattle.durable.specs.Durable.{BringBytes, BringsBytes, Does, Finishes, HasNothing, IsComplete, IsDone, IsDurable, Lasts, LastsPowered, NoneBegun, Remains, Spares, StaysPowered}
 use Rattle.durable.proofs.StepKinds.{Alters, CoversNothing, Step}
 use Rattle.durable.proofs.StepLemmas.{geometry_run, geometry_step, nothing_run, step_of}
 use Rattle.durable.proofs.StepKinds.Step.{idles, alters, stops, returns, remounts, empties}
-use Rattle.durable.proofs.LineLemmas.{HasOrLost, LineKeeps, MayBe, line_keeps-flushed}
-use Rattle.durable.proofs.VolumeLemmas.{VolumeKeeps, absent-kept, there-kept}
-use Rattle.durable.proofs.KeepLemmas.{Keeps, PlaceKeeps, SparedBy, SparesPlace, keeps-step, keeps_byte}
+use Rattle.durable.proofs.LineLemmas.{HasOrLost, MayBe}
+use Rattle.durable.proofs.VolumeLemmas.{there-kept}
+use Rattle.durable.proofs.SparedLemmas.{SparedBy, SparesPlace}
+use Rattle.durable.proofs.KeepLemmas.{Keeps, PlaceKeeps, keeps-step, keeps_byte}
+use Rattle.durable.proofs.CoverLemmas.{covered_place}
 use Rattle.durable.proofs.ReadLemmas.{has}
-use Rattle.durable.proofs.RefusalLemmas.{is_on, is_refused, line_none, places_none, refused_told, within_none}
+use Rattle.durable.proofs.RefusalLemmas.{is_on, is_refused, refused_told}
 use Rattle.durable.proofs.WholeLemmas.{whole-heard, whole-run}
 
 -- the answer of a first command, and those of the rest
@@ -74,37 +68,43 @@ pub stop_done : (by : Interruption) → Done ≡ interrupted_answer by → ⊥
 stop_done Failed is = cc is
 stop_done Lost is = cc is
 
+-- an answer that tells that a command was done is no refusal, and of none that was stopped
+done_allowed : (answer : Answer) → IsDone answer → is_refused answer ≡ false
+done_allowed answer (inl is) = ap is_refused is
+done_allowed answer (inr is) = ap is_refused is.2
+
+not_stopped : (by : Interruption) → IsDone (interrupted_answer by) → ⊥
+not_stopped by (inl is) = stop_done by (sym is)
+not_stopped Failed (inr is) = let at = is.2 in cc at
+not_stopped Lost (inr is) = let at = is.2 in cc at
+
 -- a command that leaves something else and was done was not refused, and was done by changing
 pub record Came (h : Machine) (action : Action) (next : Machine) : Type 0 where
   pub none : refusal h action ≡ None
   pub to : Alters h action next
 
-came_by : (h : Machine) (action : Action) (answer : Answer) (next : Machine) → (CoversNothing h action → ⊥) → answer ≡ Done → Step h action answer next → Came h action next
-came_by h action answer next some done (idles (inl why) to) = absurd (both_ways (is_refused answer) (ap is_refused done) (refused_told h action answer why))
+came_by : (h : Machine) (action : Action) (answer : Answer) (next : Machine) → (CoversNothing h action → ⊥) → IsDone answer → Step h action answer next → Came h action next
+came_by h action answer next some done (idles (inl why) to) = absurd (both_ways (is_refused answer) (done_allowed answer done) (refused_told h action answer why))
 came_by h action answer next some done (idles (inr none) to) = absurd (some none)
-came_by h action answer next some done (stops by is to) = absurd (stop_done by (sym done ∙ is))
+came_by h action answer next some done (stops by is to) = absurd (not_stopped by (subst IsDone is done))
 came_by h action answer next some done (returns none back) = absurd (some none)
 came_by h action answer next some done (remounts none back) = absurd (some none)
 came_by h action answer next some done (empties none to) = absurd (some none)
 came_by h action answer next some done (alters begun none to) = record { none = none; to = to }
 
-pub came_of : (h next : Machine) (action : Action) → Does h action next → (CoversNothing h action → ⊥) → Came h action next
+pub came_of : (h next : Machine) (action : Action) → Finishes h action next → (CoversNothing h action → ⊥) → Came h action next
 came_of h next action does some =
     let taken = step_of h action does.said next does.came in
-    let done : taken.answer ≡ Done = cc (taken.answers, does.done) in came_by h action taken.answer next some done taken.step
+    let told : does.done.0 ≡ taken.answer = cc (taken.answers, does.done.1) in
+    came_by h action taken.answer next some (subst IsDone told does.done.2) taken.step
+
+-- a command that was answered `ok`
+pub finishes : (h next : Machine) (action : Action) → Does h action next → Finishes h action next
+finishes h next action does = record { whole = does.whole; said = does.said; came = does.came; done = (Done, does.done, inl refl) }
 
 -- so where it covers a place
-pub done_by : (h next : Machine) (action : Action) (x : Place) → Does h action next → is_made_durable h action x ≡ true → Came h action next
+pub done_by : (h next : Machine) (action : Action) (x : Place) → Finishes h action next → is_made_durable h action x ≡ true → Came h action next
 done_by h next action x does covered = came_of h next action does (λ none. both_ways _ (none.bytes x) covered)
-
--- a line that is cleared was bad
-pub was_bad : (h : Machine) (offset : ℕ) → refusal h (ClearVolume offset) ≡ None → cell_of h.volume (offset / 64) ≡ Some Bad
-was_bad h offset none = by_line (cell_of h.volume (offset / 64)) (within_none _ _ (line_none _ (places_none h (ClearVolume offset) none))).1
-  where
-    by_line : (o : Option Cell) → line_refusal o ≡ None → o ≡ Some Bad
-    by_line None is = cc is
-    by_line (Some Bad) is = refl
-    by_line (Some (Kept weak words)) is = cc is
 
 -- no command does so to the place, or it may
 abbrev pub SparesOr : (Action → Place → Bool) → Type 0 → Place → List Input → List Answer → Type 0
@@ -126,7 +126,7 @@ not_done false answer only begun = refl
 abbrev pub Allowed : MayBe → Geometry → Place → List Input → List Answer → Type 0
 Allowed since geo x inputs answers =
     Spares changes x inputs answers × SparesOr poisons (since.lost ≡ true) x inputs answers × SparesOr weakens (since.weak ≡ true) x inputs answers
-    × SparesOr (λ action y. holds (made_durable geo action) y) (since.weak ≡ true → since.lost ≡ true) x inputs answers
+    × SparesOr (λ action y. holds (may_make_durable geo action) y) (since.weak ≡ true → since.lost ≡ true) x inputs answers
 
 module _ (since : MayBe) where
   -- of a first command, and of the rest
@@ -138,7 +138,7 @@ module _ (since : MayBe) where
       let poison = may-asked poisons (since.lost ≡ true) action inputs first answer answers x is all.1 in
       let weaken = may-asked weakens (since.weak ≡ true) action inputs first answer answers x is all.2 in
       let cover =
-      may-asked (λ action y. holds (made_durable geo action) y) (since.weak ≡ true → since.lost ≡ true) action inputs first answer answers x is all.3 in (
+      may-asked (λ action y. holds (may_make_durable geo action) y) (since.weak ≡ true → since.lost ≡ true) action inputs first answer answers x is all.3 in (
         λ begun.
             record {
               change = not_done (changes action x) answer change.0 begun;
@@ -204,64 +204,12 @@ module _ (since : MayBe) where
   byte_or h x v (inl keeps) = inl (keeps_byte since h x v keeps)
   byte_or h x v (inr nothing) = inr nothing
 
-  -- what a sync left of a line that it touches
-  synced_line : (start len i : ℕ) (pages : List Page) → touches start len (i / 64) ≡ true → HaveLines pages
-      → VolumeKeeps since (persist start len pages) i (line_has (cell_of (persist start len pages) (i / 64)) (i % 64))
-  synced_line start len i pages touched lines = by_page (is_line_present pages (i / 64)) refl
-    where
-      by_cell : (o : Option Cell) → IsLineThere o
-          → LineKeeps since (option_map (persist_cell start len (i / 64)) o) (i % 64) (line_has (option_map (persist_cell start len (i / 64)) o) (i % 64))
-      by_cell None none = absurd none
-      by_cell (Some cell) size =
-          subst (λ b. LineKeeps since (Some (cond b (flush_cell cell) cell)) (i % 64) (line_has (Some (cond b (flush_cell cell) cell)) (i % 64))) (sym touched)
-          (line_keeps-flushed since cell (i % 64) (omega arith) size)
-
-      by_page : (b : Bool) → is_line_present pages (i / 64) ≡ b → VolumeKeeps since (persist start len pages) i (line_has (cell_of (persist start len pages) (i / 64)) (i % 64))
-      by_page true there =
-          inr (subst (λ o. LineKeeps since o (i % 64) (line_has o (i % 64))) (sym (cell_of-persist start len pages (i / 64))) (by_cell (cell_of pages (i / 64)) (lines (i / 64) there)))
-      by_page false absent =
-          absent-kept since (persist start len pages) i (ap (λ bs. slice_index_or bs (i / 64 / 64) false) (presence_of-persist start len pages) ∙ absent)
-
-  -- the same where a span is synced that may be none
-  synced_at : (o : Option ℕ) (len i : ℕ) (pages : List Page) → HaveLines pages → (touched_lines_at o len).volume i ≡ true
-      → VolumeKeeps since (persist_at o len pages) i (line_has (cell_of (persist_at o len pages) (i / 64)) (i % 64))
-  synced_at None len i pages lines covered = cc covered
-  synced_at (Some start) len i pages lines covered = synced_line start len i pages covered lines
-
-  -- and what a clear left of one that was bad
-  cleared_line : (n i : ℕ) (pages : List Page) → i / 64 ≡ n → cell_of pages n ≡ Some Bad
-      → VolumeKeeps since (change_line clear_cell n pages) i (line_has (cell_of (change_line clear_cell n pages) (i / 64)) (i % 64))
-  cleared_line n i pages same bad =
-      let zeros : cell_of (change_line clear_cell n pages) (i / 64) ≡ Some zero_cell =
-      ap (cell_of (change_line clear_cell n pages)) same ∙ cell_of-changed clear_cell n pages ∙ ap (option_map clear_cell) bad in
-      inr (subst (λ o. LineKeeps since o (i % 64) (line_has o (i % 64))) (sym zeros) (line_keeps-flushed since zero_cell (i % 64) (omega arith) refl))
-
-  no_file : (o : Option ℕ) (len : ℕ) (name : List ℕ) (i : ℕ) → (touched_lines_at o len).files name i ≡ true → ⊥
-  no_file None len name i covered = cc covered
-  no_file (Some start) len name i covered = cc covered
-
-  -- A command that covers the place was done: each value of its word has the byte.
-  covered_place : (h : Machine) (action : Action) (next : Machine) (x : Place) → IsComplete h → is_made_durable h action x ≡ true → refusal h action ≡ None → Alters h action next
-      → PlaceKeeps since next x (byte_at_place next x)
-  covered_place h action next (of_blocks i) whole covered none to = inl refl
-  covered_place h (VSync offset len) next (of_volume i) whole covered none to =
-      subst (λ p. VolumeKeeps since p i (line_has (cell_of p (i / 64)) (i % 64))) (sym to.volume) (synced_at (Some offset) len i h.volume whole.lines covered)
-  covered_place h (VPSync address len) next (of_volume i) whole covered none to =
-      subst (λ p. VolumeKeeps since p i (line_has (cell_of p (i / 64)) (i % 64))) (sym to.volume)
-      (synced_at (physical_offset h.geometry address len) len i h.volume whole.lines covered)
-  covered_place h (ClearVolume offset) next (of_volume i) whole covered none to =
-      subst (λ p. VolumeKeeps since p i (line_has (cell_of p (i / 64)) (i % 64))) (sym to.volume)
-      (cleared_line (offset / 64) i h.volume (eqb-true (i / 64) (offset / 64) covered) (was_bad h offset none))
-  covered_place h action next (of_volume i) whole covered none to = cc covered
-  covered_place h (VPSync address len) next (of_file name i) whole covered none to = absurd (no_file (physical_offset h.geometry address len) len name i covered)
-  covered_place h action next (of_file name i) whole covered none to = cc covered
-
-  made : (h next : Machine) (action : Action) (x : Place) → Does h action next → is_made_durable h action x ≡ true → Keeps since next x (byte_at_place next x)
+  made : (h next : Machine) (action : Action) (x : Place) → Finishes h action next → is_made_durable h action x ≡ true → Keeps since next x (byte_at_place next x)
   made h next action x does covered =
       let came = done_by h next action x does covered in
       let free = came.to.interrupted ∙ does.whole.settled (is_on h action (covers_usable h action x covered) came.none) in
       record {
-        place = covered_place h action next x does.whole covered came.none came.to;
+        place = covered_place since h action next x does.whole covered came.none came.to;
         spared = subst (λ o. SparedBy since next.geometry o x) (sym free) tt;
         settled = λ on. free;
       }
@@ -294,12 +242,12 @@ remains cut h x v whole keeps inputs said later bytes run power = record {
 }
   where
     by_harm : Spares changes x inputs said.answers → Spares poisons x inputs said.answers
-        → Spares weakens x inputs said.answers ⊎ Spares (is_made_durable later) x inputs said.answers → HasOrLost false (byte_at_place later x) v ⊎ HasNothing later
+        → Spares weakens x inputs said.answers ⊎ Spares (may_be_made_durable later) x inputs said.answers → HasOrLost false (byte_at_place later x) v ⊎ HasNothing later
     by_harm spares poison (inl weaken) =
         byte_or (unharmed_since cut) later x v
         (keeps-run (unharmed_since cut) inputs h later said x v bytes run power (spares, inl poison, inl weaken, inr (λ weak. cc weak)) (inl (keeps false false)))
     by_harm spares poison (inr cover) =
-        let synced = subst (λ g. Spares (λ action y. holds (made_durable g action) y) x inputs said.answers) (geometry_run inputs h later said run) cover in
+        let synced = subst (λ g. Spares (λ action y. holds (may_make_durable g action) y) x inputs said.answers) (geometry_run inputs h later said run) cover in
         byte_or (weak_since cut) later x v
         (keeps-run (weak_since cut) inputs h later said x v bytes run power (spares, inl poison, inr refl, inl synced) (inl (keeps true false)))
 
@@ -325,6 +273,9 @@ lasts_powered h x whole on strong inputs said later bytes run powered =
     })
     inputs said later bytes run (inr (λ off. cc (on, off), powered))
 
-pub durable : (h next : Machine) (action : Action) (x : Place) → Does h action next → is_made_durable h action x ≡ true → IsDurable next x
-durable h next action x does covered =
+pub finished_durable : (h next : Machine) (action : Action) (x : Place) → Finishes h action next → is_made_durable h action x ≡ true → IsDurable next x
+finished_durable h next action x does covered =
     lasts next x (byte_at_place next x) (whole-heard h (Asked action) does.said next does.whole does.came) (λ since. made since h next action x does covered)
+
+pub durable : (h next : Machine) (action : Action) (x : Place) → Does h action next → is_made_durable h action x ≡ true → IsDurable next x
+durable h next action x does covered = finished_durable h next action x (finishes h next action does) covered

@@ -6,9 +6,11 @@ use Rattle.std.specs.Int.{byte_at}
 use Rattle.line_device.specs.History.{latest, newest}
 use Rattle.line_device.specs.Medium.{word_stored}
 use Rattle.line_device.specs.Panel.{Image}
+use Rattle.line_device.proofs.HistoryLemmas.{newest-latest}
 use Rattle.line_device.specs.declared.line.Choice.{Choice}
 use Rattle.nvm_model.specs.Numbered.{is_among, list_from, map_from}
-use Rattle.nvm_model.specs.Cell.{Cell, KeepsCell, covers, flush_cell, persist_cell, put_cell, read_cell, touches, zero_cell}
+use Rattle.nvm_model.specs.Page.{is_bad_cell}
+use Rattle.nvm_model.specs.Cell.{Cell, KeepsCell, cell_byte, covers, flush_cell, put_cell, read_cell, zero_cell}
 use Rattle.nvm_model.specs.Cell.Cell.{Bad, Kept}
 use Rattle.nvm_model.specs.Interrupted.{MayPut}
 use Rattle.nvm_model.proofs.NumberedLemmas.{slice_get-list_from, slice_get-map_from}
@@ -26,6 +28,18 @@ byte_at-zero (suc k) = ap (λ n. n % 256) (zero-div (256 ^ suc k))
 
 pub zero_shown : (i : ℕ) → i < 64 → line_has (Some zero_cell) i ≡ Some 0
 zero_shown i lt = ap (λ h. Some (byte_at (i % 8) (newest h))) (get_or-replicate 8 (i / 8) (0 ∷ []) [] (omega arith)) ∙ ap Some (byte_at-zero (i % 8))
+
+-- a line that was made durable shows what it had, unless it is lost
+get_or-latest : (words : List (List ℕ)) (w : ℕ) → slice_index_or (map latest words) w [] ≡ latest (slice_index_or words w [])
+get_or-latest [] w = refl
+get_or-latest (h ∷ words) zero = refl
+get_or-latest (h ∷ words) (suc w) = get_or-latest words w
+
+pub flush_shown : (cell : Cell) (k : ℕ) → is_bad_cell (Some cell) ≡ false → is_weak_line (Some cell) ≡ false → line_has (Some (flush_cell cell)) k ≡ Some (cell_byte cell k)
+flush_shown Bad k good strong = cc good
+flush_shown (Kept true words) k good strong = cc strong
+flush_shown (Kept false words) k good strong =
+    ap (λ h. Some (byte_at (k % 8) (newest h))) (get_or-latest words (k / 8)) ∙ ap (λ v. Some (byte_at (k % 8) v)) (newest-latest (slice_index_or words (k / 8) []))
 
 -- what is there is this, or it was lost, where it may be
 abbrev pub HasOrLost : Bool → Option ℕ → Option ℕ → Type 0
@@ -76,26 +90,20 @@ module _ (since : MayBe) where
         },
       )
 
-  -- a sync keeps it
-  pub line_keeps-persist : (start len n i : ℕ) (v : Option ℕ) (cell : Cell) → (touches start len n ≡ true → since.weak ≡ true → since.lost ≡ true) → LineKeeps (Some cell) i v
-      → LineKeeps (Some (persist_cell start len n cell)) i v
-  line_keeps-persist start len n i v cell loses keeps = by_test (touches start len n) refl
-    where
-      flushed : (c : Cell) → touches start len n ≡ true → LineKeeps (Some c) i v → LineKeeps (Some (flush_cell c)) i v
-      flushed Bad touched k = k
-      flushed (Kept true words) touched k = inr (loses touched (k.0 refl))
-      flushed (Kept false words) touched k = (
-        λ weak. cc weak,
-        record {
-          history = latest k.1.history;
-          there = slice_get-map latest words (i / 8) ∙ ap (option_map latest) k.1.there;
-          word = word_keeps-flushed since.cut k.1.history (i % 8) v k.1.word;
-        },
-      )
-
-      by_test : (b : Bool) → touches start len n ≡ b → LineKeeps (Some (cond b (flush_cell cell) cell)) i v
-      by_test true is = flushed cell is keeps
-      by_test false is = keeps
+  -- a flush keeps it, whether it touches the line or not
+  pub line_keeps-flush : (touched : Bool) (i : ℕ) (v : Option ℕ) (cell : Cell) → (touched ≡ true → since.weak ≡ true → since.lost ≡ true) → LineKeeps (Some cell) i v
+      → LineKeeps (Some (cond touched (flush_cell cell) cell)) i v
+  line_keeps-flush false i v cell loses keeps = keeps
+  line_keeps-flush true i v Bad loses keeps = keeps
+  line_keeps-flush true i v (Kept true words) loses keeps = inr (loses refl (keeps.0 refl))
+  line_keeps-flush true i v (Kept false words) loses keeps = (
+    λ weak. cc weak,
+    record {
+      history = latest keeps.1.history;
+      there = slice_get-map latest words (i / 8) ∙ ap (option_map latest) keeps.1.there;
+      word = word_keeps-flushed since.cut keeps.1.history (i % 8) v keeps.1.word;
+    },
+  )
 
   -- bytes that don't reach the byte don't cover its line
   not_covered : (at len i : ℕ) → is_among at len i ≡ false → covers at len (i / 64) ≡ true → ⊥

@@ -1,39 +1,42 @@
 -- What is lost, and that it stays lost.
-use Rattle.std.proofs.Common.{◌≡◌, inl, inr, ℕ, ◌+◌, ◌*◌, ◌/◌, ◌%◌, ◌≤◌, true, false, cond, nat_le, nat_lt, Option, Some, None, option_map, List, slice_index_or, refl, sym, ap, subst, ◌∙◌, arith}
+use Rattle.std.proofs.Common.{◌≡◌, inl, inr, ℕ, ◌+◌, ◌*◌, ◌/◌, ◌%◌, ◌≤◌, true, false, nat_le, nat_lt, Option, Some, None, option_map, List, slice_index_or, refl, sym, ap, subst, ◌∙◌, arith}
 use Rattle.std.specs.Prelude.{slice_index}
 use Rattle.std.proofs.lemmas.Bool.{both_ways, eqb-true, or_parts}
 use Rattle.std.proofs.lemmas.Bool.Decides.{nat_tests}
 use Rattle.nvm_model.specs.Blocks.{lose, lose_at, lose_line, nth}
-use Rattle.nvm_model.specs.Cell.{Cell, flush_cell, lose_cell, persist_cell, touches}
+use Rattle.nvm_model.specs.Cell.{Cell, flush_cell, lose_cell}
 use Rattle.nvm_model.specs.Cell.Cell.{Bad, Kept}
 use Rattle.nvm_model.specs.Page.{Page, cell_of, change_line, persist}
 use Rattle.nvm_model.specs.Storage.{Block}
 use Rattle.nvm_model.specs.Storage.Block.{Absent, Scarred, Data}
 use Rattle.nvm_model.proofs.LostLemmas.{nth-lost}
 use Rattle.nvm_model.proofs.MediaLemmas.{cell_of-changed}
-use Rattle.nvm_model.proofs.PageLemmas.{cell_of-persist}
 use Rattle.scrub.specs.Refusals.{cell_refusal, unit_refusal}
 use Rattle.reply_text.specs.Answer.{Answer}
 use Rattle.reply_text.specs.Answer.Answer.{Done}
 use Rattle.script_text.specs.Action.{Action}
-use Rattle.script_text.specs.Action.Action.{PoisonBlock, PoisonVolume, VSync, VPSync, ClearVolume}
+use Rattle.script_text.specs.Action.Action.{PoisonBlock, PoisonFile, PoisonVolume, VSync, VPSync, Sync, Flush, FlushVerify, DeepFlush, ClearVolume}
 use Rattle.machine_host.specs.declared.mode.Mode.TheVariants.{On}
 use Rattle.machine_host.specs.Machine.{Machine}
 use Rattle.machine_host.specs.Machine.Fate.{Gives}
 use Rattle.machine_host.specs.Commands.{meaning, refusal, unless_refused}
+use Rattle.machine_host.specs.OnFileErrors.{marked_in}
 use Rattle.machine_host.specs.OnPages.{pages_named}
 use Rattle.machine_host.specs.OnVolume.{persist_at}
 use Rattle.machine_host.specs.Run.{Takes}
 use Rattle.pm_volume.specs.Refusals.{physical_offset}
-use Rattle.durable.specs.Place.{Place, block_has, byte_at_place, is_weak_line, line_has}
+use Rattle.durable.specs.Place.{Place, block_has, byte_at_place, is_weak_at, is_weak_line, line_has}
 use Rattle.durable.specs.Place.Place.{of_volume, of_blocks, of_file}
 use Rattle.durable.specs.Touching.{is_made_durable, touched_lines_at}
-use Rattle.durable.specs.Durable.{Does, IsComplete, Lasts}
+use Rattle.durable.specs.Durable.{Does, Finishes, IsComplete, Lasts}
 use Rattle.durable.proofs.StepKinds.{volume_after}
-use Rattle.durable.proofs.KeepLemmas.{PlaceKeeps, SparedBy}
+use Rattle.durable.proofs.FileLineLemmas.{LineFlushed, named-marked, persist-flushed}
+use Rattle.durable.proofs.SparedLemmas.{SparedBy}
+use Rattle.durable.proofs.KeepLemmas.{PlaceKeeps}
+use Rattle.durable.proofs.CoverLemmas.{file_renewed, may_cover, was_bad}
 use Rattle.durable.proofs.LineLemmas.{MayBe, lost-kept}
 use Rattle.durable.proofs.BlockLemmas.{lost_there}
-use Rattle.durable.proofs.LawLemmas.{done_by, lasts, was_bad}
+use Rattle.durable.proofs.LawLemmas.{done_by, lasts}
 use Rattle.durable.proofs.RefusalLemmas.{is_refused, line_none, places_none, refused_told, within_none}
 
 pub stays_lost : (h : Machine) (x : Place) → IsComplete h → h.mode ≡ On → byte_at_place h x ≡ None → Lasts h x None
@@ -59,6 +62,11 @@ gives_done h action to next gives does = by_refusal (refusal h action) refl does
         absurd (both_ways (is_refused answer) (ap is_refused same) (refused_told h action answer is))
     by_refusal None is took = let t = subst (λ f. Takes h action f does.said next) gives took in (is, t.1)
 
+-- a line that is there is lost
+lost_line : (o : Option Cell) (k : ℕ) → cell_refusal o ≡ None → line_has (option_map lose_cell o) k ≡ None
+lost_line None k none = cc none
+lost_line (Some cell) k none = refl
+
 pub poisoned : (h next : Machine) (offset i : ℕ) → Does h (PoisonVolume offset) next → i / 64 ≡ offset / 64 → byte_at_place next (of_volume i) ≡ None
 poisoned h next offset i does same =
     let done = gives_done h (PoisonVolume offset) (record h { volume = change_line lose_cell (offset / 64) h.volume }) next refl does in
@@ -66,11 +74,7 @@ poisoned h next offset i does same =
     ap (λ m. line_has (cell_of m.volume (i / 64)) (i % 64)) done.1
     ∙ ap (λ n. line_has (cell_of (change_line lose_cell (offset / 64) h.volume) n) (i % 64)) same
     ∙ ap (λ o. line_has o (i % 64)) (cell_of-changed lose_cell (offset / 64) h.volume)
-    ∙ by_line (cell_of h.volume (offset / 64)) there
-  where
-    by_line : (o : Option Cell) → cell_refusal o ≡ None → line_has (option_map lose_cell o) (i % 64) ≡ None
-    by_line None none = cc none
-    by_line (Some cell) none = refl
+    ∙ lost_line (cell_of h.volume (offset / 64)) (i % 64) there
 
 pub poisoned_block : (h next : Machine) (block line i : ℕ) → Does h (PoisonBlock block line) next → i / 64 ≡ 8 * block + line → byte_at_place next (of_blocks i) ≡ None
 poisoned_block h next block line i does same =
@@ -91,36 +95,52 @@ poisoned_block h next block line i does same =
     by_block which (Data lines) none =
         ap (option_map (λ bytes. slice_index bytes (i % 512 % 64))) (ap (λ k. slice_index_or (lose_at line lines) k None) which ∙ lost_there line lines)
 
--- a weak line that was synced
-worn_line : (start len i : ℕ) (pages : List Page) → touches start len (i / 64) ≡ true → is_weak_line (cell_of pages (i / 64)) ≡ true
-    → line_has (cell_of (persist start len pages) (i / 64)) (i % 64) ≡ None
-worn_line start len i pages touched weak =
-    ap (λ o. line_has o (i % 64)) (cell_of-persist start len pages (i / 64)) ∙ by_line (cell_of pages (i / 64)) weak
-  where
-    flushed : (cell : Cell) → is_weak_line (Some cell) ≡ true → line_has (Some (flush_cell cell)) (i % 64) ≡ None
-    flushed Bad is = refl
-    flushed (Kept true words) is = refl
-    flushed (Kept false words) is = cc is
+pub poisoned_in_file : (h next : Machine) (name : List ℕ) (offset i : ℕ) → Does h (PoisonFile name offset) next → i / 64 ≡ offset / 64 → byte_at_place next (of_file name i) ≡ None
+poisoned_in_file h next name offset i does same =
+    let done = gives_done h (PoisonFile name offset) (record h { files = marked_in lose_cell name offset h.files }) next refl does in
+    let there = (within_none _ (cell_refusal (cell_of (pages_named name h.files) (offset / 64))) (line_none _ (places_none h (PoisonFile name offset) done.0))).1 in
+    ap (λ m. line_has (cell_of (pages_named name m.files) (i / 64)) (i % 64)) done.1
+    ∙ ap (λ n. line_has (cell_of (pages_named name (marked_in lose_cell name offset h.files)) n) (i % 64)) same
+    ∙ ap (λ o. line_has o (i % 64)) (named-marked lose_cell name offset h.files)
+    ∙ lost_line (cell_of (pages_named name h.files) (offset / 64)) (i % 64) there
 
-    by_line : (o : Option Cell) → is_weak_line o ≡ true → line_has (option_map (persist_cell start len (i / 64)) o) (i % 64) ≡ None
+-- a weak line that was flushed
+worn_line : (i : ℕ) (old new : List Page) → LineFlushed i old new → is_weak_line (cell_of old (i / 64)) ≡ true → line_has (cell_of new (i / 64)) (i % 64) ≡ None
+worn_line i old new flushed weak = ap (λ o. line_has o (i % 64)) flushed.line ∙ by_line (cell_of old (i / 64)) weak
+  where
+    by_line : (o : Option Cell) → is_weak_line o ≡ true → line_has (option_map flush_cell o) (i % 64) ≡ None
     by_line None is = cc is
-    by_line (Some cell) is = ap (λ t. line_has (Some (cond t (flush_cell cell) cell)) (i % 64)) touched ∙ flushed cell is
+    by_line (Some Bad) is = refl
+    by_line (Some (Kept true words)) is = refl
+    by_line (Some (Kept false words)) is = cc is
 
 worn_at : (o : Option ℕ) (len i : ℕ) (pages : List Page) → (touched_lines_at o len).volume i ≡ true → is_weak_line (cell_of pages (i / 64)) ≡ true
     → line_has (cell_of (persist_at o len pages) (i / 64)) (i % 64) ≡ None
 worn_at None len i pages covered weak = cc covered
-worn_at (Some start) len i pages covered weak = worn_line start len i pages covered weak
+worn_at (Some start) len i pages covered weak = worn_line i pages (persist start len pages) (persist-flushed start len i pages covered) weak
 
-pub worn_out : (h next : Machine) (action : Action) (i : ℕ) → Does h action next → is_made_durable h action (of_volume i) ≡ true
-    → is_weak_line (cell_of h.volume (i / 64)) ≡ true → byte_at_place next (of_volume i) ≡ None
-worn_out h next action i does covered weak = let came = done_by h next action (of_volume i) does covered in by_action action covered came.none came.to.volume
-  where
-    by_action : (action : Action) → is_made_durable h action (of_volume i) ≡ true → refusal h action ≡ None → next.volume ≡ volume_after h.geometry action h.volume
-        → byte_at_place next (of_volume i) ≡ None
-    by_action (VSync offset len) covered none to = ap (λ p. line_has (cell_of p (i / 64)) (i % 64)) to ∙ worn_line offset len i h.volume covered weak
-    by_action (VPSync address len) covered none to =
-        ap (λ p. line_has (cell_of p (i / 64)) (i % 64)) to ∙ worn_at (physical_offset h.geometry address len) len i h.volume covered weak
-    by_action (ClearVolume offset) covered none to =
-        absurd (both_ways (is_weak_line (cell_of h.volume (i / 64)))
-        (ap (λ n. is_weak_line (cell_of h.volume n)) (eqb-true (i / 64) (offset / 64) covered) ∙ ap is_weak_line (was_bad h offset none)) weak)
-    by_action action covered none to = cc covered
+worn_in_volume : (h next : Machine) (action : Action) (i : ℕ) → is_made_durable h action (of_volume i) ≡ true → is_weak_line (cell_of h.volume (i / 64)) ≡ true
+    → refusal h action ≡ None → next.volume ≡ volume_after h.geometry action h.volume → byte_at_place next (of_volume i) ≡ None
+worn_in_volume h next (VSync offset len) i covered weak none to =
+    ap (λ p. line_has (cell_of p (i / 64)) (i % 64)) to ∙ worn_at (Some offset) len i h.volume covered weak
+worn_in_volume h next (VPSync address len) i covered weak none to =
+    ap (λ p. line_has (cell_of p (i / 64)) (i % 64)) to ∙ worn_at (physical_offset h.geometry address len) len i h.volume covered weak
+worn_in_volume h next (ClearVolume offset) i covered weak none to =
+    absurd (both_ways (is_weak_line (cell_of h.volume (i / 64)))
+    (ap (λ n. is_weak_line (cell_of h.volume n)) (eqb-true (i / 64) (offset / 64) covered) ∙ ap is_weak_line (was_bad h offset none)) weak)
+worn_in_volume h next (Sync handle offset len) i covered weak none to = let no = may_cover h (Sync handle offset len) (of_volume i) covered in cc no
+worn_in_volume h next (Flush handle spans) i covered weak none to = let no = may_cover h (Flush handle spans) (of_volume i) covered in cc no
+worn_in_volume h next (FlushVerify handle spans) i covered weak none to = let no = may_cover h (FlushVerify handle spans) (of_volume i) covered in cc no
+worn_in_volume h next (DeepFlush handle spans) i covered weak none to = let no = may_cover h (DeepFlush handle spans) (of_volume i) covered in cc no
+worn_in_volume h next action i covered weak none to = cc covered
+
+pub worn_out : (h next : Machine) (action : Action) (x : Place) → Finishes h action next → is_made_durable h action x ≡ true → is_weak_at h x ≡ true → byte_at_place next x ≡ None
+worn_out h next action (of_volume i) does covered weak =
+    let came = done_by h next action (of_volume i) does covered in worn_in_volume h next action i covered weak came.none came.to.volume
+worn_out h next action (of_blocks i) does covered weak = cc weak
+worn_out h next action (of_file name i) does covered weak =
+    let came = done_by h next action (of_file name i) does covered in
+    elim (file_renewed h action next name i covered came.none came.to) as (λ _. byte_at_place next (of_file name i) ≡ None) [
+      | inl flushed ↦ worn_line i (pages_named name h.files) (pages_named name next.files) flushed weak
+      | inr cleared ↦ absurd (both_ways (is_weak_line (cell_of (pages_named name h.files) (i / 64))) (ap is_weak_line cleared.bad) weak)
+    ]

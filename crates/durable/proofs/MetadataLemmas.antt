@@ -11,9 +11,16 @@ use Rattle.line_words.specs.declared.interruption.Interruption.{Interruption}
 use Rattle.line_words.specs.declared.interruption.Interruption.TheVariants.{Failed, PowerLost as Lost}
 use Rattle.machine_host.specs.Interrupted.{interrupted_answer}
 use Rattle.machine_host.specs.OnVolume.{yes_or_no}
+use Rattle.machine_host.specs.declared.look.Look.{Look}
+use Rattle.machine_host.specs.declared.look.Look.TheVariants.{Once, Again}
+use Rattle.machine_host.specs.OnFlushes.{flushed_answer}
+use Rattle.machine_host.specs.OnPages.{pages_named}
+use Rattle.nvm_base.specs.declared.units.Span.{Span}
+use Rattle.nvm_model.specs.Page.{Page}
+use Rattle.nvm_model.specs.Touched.{next_bad_touched, persist_spans}
 use Rattle.machine_host.specs.declared.mode.Mode.TheVariants.{Stopped}
 use Rattle.script_text.specs.Action.{Action}
-use Rattle.script_text.specs.Action.Action.{BExists, VRanges, VExists, ListFiles, Load, Map, PoisonBlock, PoisonVolume, PoisonMeta, WeakenVolume, Cut, CutIn, FailIn, Restart, Recover, Store, Unmap}
+use Rattle.script_text.specs.Action.Action.{BExists, VRanges, VExists, ListFiles, Load, Map, Sync, Flush, FlushVerify, DeepFlush, CheckFile, PoisonBlock, PoisonVolume, PoisonFile, PoisonMeta, WeakenFile, WeakenVolume, Cut, CutIn, FailIn, Restart, Recover, Store, Unmap}
 use Rattle.script_text.specs.Script.{Input}
 use Rattle.script_text.specs.Script.Input.{Skipped, Malformed, Asked}
 use Rattle.machine_host.specs.Machine.{Machine, Fate}
@@ -27,8 +34,8 @@ use Rattle.machine_host.specs.Run.{Hears, Run, Takes, Transcript}
 use Rattle.durable.specs.Place.{Place}
 use Rattle.durable.specs.Place.Place.{of_volume, of_blocks, of_file}
 use Rattle.durable.specs.Touching.{is_begun, unmounts}
-use Rattle.durable.specs.Durable.{HasNothing, Spares}
-use Rattle.durable.proofs.HandleLemmas.{of_load, of_map, of_store}
+use Rattle.durable.specs.Durable.{HasNothing, IsDone, Spares}
+use Rattle.durable.proofs.HandleLemmas.{flush_done, of_flush, of_load, of_map, of_store}
 use Rattle.durable.proofs.RefusalLemmas.{is_refused, refused_told}
 
 -- a command that made a line of metadata bad
@@ -60,9 +67,17 @@ marks h (Map name span kind) = of_map (MarksAt h (Map name span kind)) h name sp
 marks h (Unmap handle) = inl refl
 marks h (Load handle offset len) = of_load (MarksAt h (Load handle offset len)) h handle offset len (inl refl) (λ name place. refl) (λ m. inl refl)
 marks h (Store handle offset bytes) = of_store (MarksAt h (Store handle offset bytes)) h handle offset bytes (inl refl) (λ name place. refl) (inl refl)
+marks h (Sync handle offset len) =
+    of_flush (MarksAt h (Sync handle offset len)) h Once handle (record { start = offset; len = len } ∷ []) (inl refl) (λ name moved. refl)
+marks h (Flush handle spans) = of_flush (MarksAt h (Flush handle spans)) h Once handle spans (inl refl) (λ name moved. refl)
+marks h (FlushVerify handle spans) = of_flush (MarksAt h (FlushVerify handle spans)) h Again handle spans (inl refl) (λ name moved. refl)
+marks h (DeepFlush handle spans) = of_flush (MarksAt h (DeepFlush handle spans)) h Once handle spans (inl refl) (λ name moved. refl)
+marks h (CheckFile name offset len) = inl refl
 marks h (PoisonBlock block line) = inl refl
 marks h (PoisonVolume offset) = inl refl
+marks h (PoisonFile name offset) = inl refl
 marks h (PoisonMeta line) = inr (record { line = line; is = refl; done = refl; metadata = refl })
+marks h (WeakenFile name offset) = inl refl
 marks h (WeakenVolume offset) = inl refl
 marks h (Restart choice) = tt
 marks h Recover = tt
@@ -206,6 +221,14 @@ yes_or_no-stop : (there : Bool) (line : ℕ) → yes_or_no there ≢ StoppedMeta
 yes_or_no-stop true line is = cc is
 yes_or_no-stop false line is = cc is
 
+-- nor one that was done
+done-stop : (answer : Answer) → IsDone answer → (line : ℕ) → answer ≢ StoppedMeta line
+done-stop answer (inl done) line is = cc (done, is)
+done-stop answer (inr done) line is = cc (done.2, is)
+
+flush-stop : (look : Look) (name : List ℕ) (spans : List Span) (pages : List Page) (line : ℕ) → flushed_answer look name spans pages ≢ StoppedMeta line
+flush-stop look name spans pages = done-stop (flushed_answer look name spans pages) (flush_done look name (next_bad_touched spans (persist_spans spans pages) 0))
+
 no_stop : (h : Machine) (action : Action) → NoStop ((meaning action).comes h)
 no_stop h (BExists block) = yes_or_no-stop _
 no_stop h (VExists page) = yes_or_no-stop _
@@ -217,6 +240,11 @@ no_stop h Recover = tt
 no_stop h (Map name span kind) = of_map NoStop h name span kind (λ line is. cc is) (λ line is. cc is)
 no_stop h (Load handle offset len) = of_load NoStop h handle offset len (λ line is. cc is) (λ name place line is. cc is) (λ m line is. cc is)
 no_stop h (Store handle offset bytes) = of_store NoStop h handle offset bytes (λ line is. cc is) (λ name place line is. cc is) (λ line is. cc is)
+no_stop h (Sync handle offset len) =
+    of_flush NoStop h Once handle (record { start = offset; len = len } ∷ []) (λ line is. cc is) (λ name moved. flush-stop Once name moved (pages_named name h.files))
+no_stop h (Flush handle spans) = of_flush NoStop h Once handle spans (λ line is. cc is) (λ name moved. flush-stop Once name moved (pages_named name h.files))
+no_stop h (FlushVerify handle spans) = of_flush NoStop h Again handle spans (λ line is. cc is) (λ name moved. flush-stop Again name moved (pages_named name h.files))
+no_stop h (DeepFlush handle spans) = of_flush NoStop h Once handle spans (λ line is. cc is) (λ name moved. flush-stop Once name moved (pages_named name h.files))
 no_stop h action = λ line is. cc is
 
 stop-interrupted : (by : Interruption) (line : ℕ) → interrupted_answer by ≢ StoppedMeta line

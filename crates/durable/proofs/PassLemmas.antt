@@ -8,7 +8,7 @@ use Rattle.machine_host.specs.Machine.{Machine}
 use Rattle.machine_host.specs.Run.{Run, Transcript, followed_by, silence}
 use Rattle.durable.specs.Place.{Place}
 use Rattle.durable.specs.Durable.{BringBytes, IsComplete, KeepsThrough, Passes}
-use Rattle.durable.proofs.LawLemmas.{durable}
+use Rattle.durable.proofs.LawLemmas.{finished_durable}
 use Rattle.durable.proofs.WholeLemmas.{whole-run}
 
 pub pass : (before : List Input) (h end : Machine) (action : Action) (after : List Input) (said : Transcript) → Run h (before ++ Asked action ∷ after) said end
@@ -46,7 +46,7 @@ keeps_through h end before after action said x whole bytes run =
     record {
       passes = passes;
       keeps = λ covered done.
-          durable passes.here passes.next action x
+          finished_durable passes.here passes.next action x
           (record { whole = whole-run before h passes.here passes.early whole passes.run; said = passes.middle; came = passes.came; done = done }) covered after passes.late end bytes
           passes.rest;
     }

@@ -7,9 +7,10 @@ use Rattle.line_words.specs.declared.interruption.Interruption.TheVariants.{Fail
 use Rattle.word_tables.specs.declared.geometry.Geometry.{Geometry}
 use Rattle.reply_text.specs.Answer.{Answer}
 use Rattle.script_text.specs.Action.{Action}
-use Rattle.script_text.specs.Action.Action.{Cut, Load, Map, Recover, Restart, Store}
+use Rattle.script_text.specs.Action.Action.{Cut, DeepFlush, Flush, FlushVerify, Load, Map, Recover, Restart, Store, Sync}
 use Rattle.script_text.specs.Script.{Input}
 use Rattle.script_text.specs.Script.Input.{Skipped, Malformed, Asked}
+use Rattle.machine_host.specs.declared.look.Look.TheVariants.{Once, Again}
 use Rattle.machine_host.specs.declared.mode.Mode.TheVariants.{Off}
 use Rattle.machine_host.specs.Machine.{Machine, Fate}
 use Rattle.machine_host.specs.Machine.Fate.{Gives, Works, Orders, Cuts, Restarts, Recovers}
@@ -20,7 +21,7 @@ use Rattle.machine_host.specs.Recovering.{RecoversTo}
 use Rattle.machine_host.specs.Lines.{bad_metadata}
 use Rattle.machine_host.specs.Run.{Hears, Takes, Transcript, followed_by}
 use Rattle.durable.specs.Durable.{LostNone, StaysPowered}
-use Rattle.durable.proofs.HandleLemmas.{of_load, of_map, of_store}
+use Rattle.durable.proofs.HandleLemmas.{of_flush, of_load, of_map, of_store}
 
 -- the parts of a run that stays powered
 lost_first : (one other : List Answer) → LostNone (one ++ other) → LostNone one
@@ -57,6 +58,10 @@ keeps_mode h Recover = tt
 keeps_mode h (Map name span kind) = of_map (KeepsMode h) h name span kind refl refl
 keeps_mode h (Load handle offset len) = of_load (KeepsMode h) h handle offset len refl (λ name place. refl) (λ m. refl)
 keeps_mode h (Store handle offset bytes) = of_store (KeepsMode h) h handle offset bytes refl (λ name place. refl) refl
+keeps_mode h (Sync handle offset len) = of_flush (KeepsMode h) h Once handle (record { start = offset; len = len } ∷ []) refl (λ name moved. refl)
+keeps_mode h (Flush handle spans) = of_flush (KeepsMode h) h Once handle spans refl (λ name moved. refl)
+keeps_mode h (FlushVerify handle spans) = of_flush (KeepsMode h) h Again handle spans refl (λ name moved. refl)
+keeps_mode h (DeepFlush handle spans) = of_flush (KeepsMode h) h Once handle spans refl (λ name moved. refl)
 keeps_mode h action = refl
 
 -- an interruption that took no power

@@ -1,5 +1,6 @@
 -- What a refusal is answered, and what is known where there is none.
 use Rattle.std.proofs.Common.{◌≡◌, ◌+◌, ◌*◌, ℕ, length, Bool, true, false, cond, Option, Some, None, option_map, option_and_then, List, [], ◌∷◌, refl, ◌∙◌, sym, ap, if◌then◌else◌}
+use Rattle.nvm_base.specs.declared.units.Span.{Span}
 use Rattle.nvm_model.specs.Blocks.{Obstacle, first_there, first_obstacle}
 use Rattle.nvm_model.specs.Blocks.Obstacle.{scar, bad_line}
 use Rattle.block_device.specs.Refusals.{Refusal}
@@ -14,6 +15,8 @@ use Rattle.reply_text.specs.Answer.Answer.{Done, DoneBad, Bytes, Ranges, Files, 
 use Rattle.reply_text.specs.declared.reply.Why.TheVariants as because
 use Rattle.script_text.specs.Action.{Action}
 use Rattle.script_text.specs.Action.Action.{BRead, BWrite, BAtomic, BMulti, BDiscard, BDiscardIf, BExists, BScar, VLoad, VStore, VSync, VRanges, VPSync, VDiscard, VDiscardIf, VExists, Create, Delete, Rename, Resize, ListFiles, FRead, FWrite, Map, Unmap, Load, Store, Sync, Flush, FlushVerify, DeepFlush, CheckFile, PoisonBlock, PoisonVolume, PoisonFile, PoisonMeta, WeakenFile, WeakenVolume, ClearFile, ClearVolume, Cut, CutIn, FailIn, Restart, Recover}
+use Rattle.machine_host.specs.declared.look.Look.{Look}
+use Rattle.machine_host.specs.declared.look.Look.TheVariants.{Once, Again}
 use Rattle.machine_host.specs.declared.mode.Mode.{Mode}
 use Rattle.machine_host.specs.declared.mode.Mode.TheVariants.{On, Off, Unsettled, Stopped}
 use Rattle.machine_host.specs.Machine.{Machine}
@@ -26,6 +29,7 @@ use Rattle.machine_host.specs.OnMedia.{line_answer}
 use Rattle.machine_host.specs.OnBlocks.{refusal_answer}
 use Rattle.machine_host.specs.OnVolume.{volume_answer}
 use Rattle.machine_host.specs.OnFiles.{if_exists, if_mapped, if_missing}
+use Rattle.machine_host.specs.OnFlushes.{all_moved, flush_file, flush_through, flush_with, nothing_done, spans_refusal}
 use Rattle.machine_host.specs.OnMappings.{if_full_of_mappings, load_through, read_copy, store_through, within_mapping, write_copy}
 use Rattle.machine_host.specs.OnPages.{fread, fwrite, page_answer, pages_named}
 use Rattle.nvm_model.specs.Mappings.{is_full, is_mapped, is_shared, mapping_of}
@@ -193,6 +197,27 @@ if_there_unmapped h name =
     refuses_first (if_missing name h.files) (if_mapped name h.mappings) (refuses_unless because.Missing (has_file file_name name h.files))
     (refuses_where because.Mapped (is_mapped name h.mappings))
 
+refuses_poison : (name : List ℕ) (o : Option ℕ) → Refuses (option_map (λ n. PoisonedFile name (64 * n)) o)
+refuses_poison name None = tt
+refuses_poison name (Some n) = refl
+
+-- a flush, and a command on a line of a file
+flush_reasons : (h : Machine) (look : Look) (handle : ℕ) (spans : List Span) → RefusingReasons ((flush_with look handle spans).reasons h)
+flush_reasons h look handle spans = by_mapping (mapping_of handle h.mappings)
+  where
+    by_kind : (m : Mapping) (shared : Bool)
+        → RefusingReasons ((within_mapping (option_map Refused (spans_refusal m.len spans)) (if shared then flush_file look m.name (all_moved m.start spans) else nothing_done)).reasons h)
+    by_kind m true = record { named = tt; places = refuses_why _; full = tt; unreadable = refuses_poison m.name _ }
+    by_kind m false = record { named = tt; places = refuses_why _; full = tt; unreadable = tt }
+
+    by_mapping : (o : Option Mapping) → RefusingReasons (elim o [ None ↦ record no_reasons { named = Some (Refused because.Handle) } | Some m ↦ (flush_through look spans m).reasons h ])
+    by_mapping None = record { named = refl; places = tt; full = tt; unreadable = tt }
+    by_mapping (Some m) = by_kind m (is_shared m.kind)
+
+file_line_reasons : (h : Machine) (name : List ℕ) (o : Option ScrubRefusal)
+    → RefusingReasons (record no_reasons { named = if_missing name h.files; places = option_map line_answer o })
+file_line_reasons h name o = record { named = refuses_unless because.Missing (has_file file_name name h.files); places = refuses_line o; full = tt; unreadable = tt }
+
 refusing_reasons : (h : Machine) (action : Action) → RefusingReasons ((meaning action).reasons h)
 refusing_reasons h (BRead block count) =
     record { named = tt; places = refuses_why _; full = tt; unreadable = refuses_obstacle (first_obstacle h.blocks block count) }
@@ -262,10 +287,18 @@ refusing_reasons h (Store handle offset bytes) = by_mapping (mapping_of handle h
     by_mapping : (o : Option Mapping) → RefusingReasons (elim o [ None ↦ record no_reasons { named = Some (Refused because.Handle) } | Some m ↦ (store_through handle offset bytes m).reasons h ])
     by_mapping None = record { named = refl; places = tt; full = tt; unreadable = tt }
     by_mapping (Some m) = by_kind m (is_shared m.kind)
+refusing_reasons h (Sync handle offset len) = flush_reasons h Once handle (record { start = offset; len = len } ∷ [])
+refusing_reasons h (Flush handle spans) = flush_reasons h Once handle spans
+refusing_reasons h (FlushVerify handle spans) = flush_reasons h Again handle spans
+refusing_reasons h (DeepFlush handle spans) = flush_reasons h Once handle spans
+refusing_reasons h (CheckFile name offset len) = record { named = refuses_unless because.Missing _; places = refuses_why _; full = tt; unreadable = tt }
 refusing_reasons h (PoisonBlock block line) = line_reasons _
 refusing_reasons h (PoisonVolume offset) = line_reasons _
+refusing_reasons h (PoisonFile name offset) = file_line_reasons h name _
 refusing_reasons h (PoisonMeta line) = why_reasons _
+refusing_reasons h (WeakenFile name offset) = file_line_reasons h name _
 refusing_reasons h (WeakenVolume offset) = line_reasons _
+refusing_reasons h (ClearFile name offset) = file_line_reasons h name _
 refusing_reasons h (ClearVolume offset) = line_reasons _
 refusing_reasons h Cut = why_reasons None
 refusing_reasons h (CutIn calls) = why_reasons _

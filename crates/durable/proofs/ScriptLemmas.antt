@@ -16,8 +16,8 @@ use Rattle.nvm_base.specs.Names.{name_of}
 use Rattle.nvm_base.specs.declared.files.Kind.{Kind}
 use Rattle.script_text.specs.Action.{Action}
 use Rattle.script_text.specs.Action.Action.{BRead, BWrite, BAtomic, BMulti, BDiscard, BDiscardIf, BExists, BScar, VLoad, VStore, VSync, VRanges, VPSync, VDiscard, VDiscardIf, VExists, Create, Delete, Rename, Resize, ListFiles, FRead, FWrite, Map, Unmap, Load, Store, Sync, Flush, FlushVerify, DeepFlush, CheckFile, PoisonBlock, PoisonVolume, PoisonFile, PoisonMeta, WeakenFile, WeakenVolume, ClearFile, ClearVolume, CutIn, FailIn, Restart, Recover}
-use Rattle.script_text.specs.Operands.{bare_action, data_action, fitting, in_volume_action, kind_action, kind_of, name_action, named_action, names_action, number_action, numbered_action, of_both, of_data, ranges_action, ranges_of, sized_action, span_action, spans_action, spans_of}
-use Rattle.script_text.specs.Script.{Input, asked, command_action, cut_action, fail_action, files_action, inputs, inputs_of, is_comment, line_input, lines_of, media_action, plain_action, poison_action, power_action, restart_action, volume_action, words_input, words_of, map_action, mapped_action, storing_action}
+use Rattle.script_text.specs.Operands.{bare_action, data_action, fitting, placed_action, kind_action, kind_of, name_action, named_action, names_action, number_action, numbered_action, of_both, of_data, ranges_action, ranges_of, sized_action, span_action, spans_action, spans_of}
+use Rattle.script_text.specs.Script.{Input, asked, command_action, cut_action, fail_action, files_action, inputs, inputs_of, is_comment, line_input, lines_of, media_action, plain_action, poison_action, power_action, restart_action, volume_action, words_input, words_of, map_action, mapped_action, flushing_action, storing_action}
 use Rattle.script_text.specs.Script.Input.{Skipped, Malformed, Asked}
 use Rattle.durable.specs.Durable.{BringBytes, BringsBytes}
 
@@ -216,9 +216,9 @@ brings-shown name words =
     brings-numbered (λ len. kind_action (Map name (record { start = start; len = len }))) rest
     (λ len last. brings-kind (Map name (record { start = start; len = len })) last (λ kind. tt)))
 
-brings-spans : (words : List (List ℕ)) → Brings (spans_action BScar words)
-brings-spans [] = tt
-brings-spans (x ∷ words) = brings-map BScar (spans_of (x ∷ words)) (λ spans. tt)
+brings-spans : (make : List Span → Action) (words : List (List ℕ)) → ((spans : List Span) → BringsBytes (make spans)) → Brings (spans_action make words)
+brings-spans make [] each = tt
+brings-spans make (x ∷ words) each = brings-map make (spans_of (x ∷ words)) each
 
 brings-ranges : (words : List (List ℕ)) → Brings (ranges_action BMulti words)
 brings-ranges [] = tt
@@ -243,16 +243,20 @@ brings-restart (x ∷ words) =
     (brings-cond (bytes_eq x (codes "all")) (bare_action (Restart Lasts) words) _ (brings-bare (Restart Lasts) words tt)
     (brings-cond (bytes_eq x (codes "seed")) (number_action (λ n. Restart (Seed n)) words) None (brings-number (λ n. Restart (Seed n)) words (λ n. tt)) tt))
 
-brings-in_volume : (make : ℕ → Action) (words : List (List ℕ)) → ((a : ℕ) → BringsBytes (make a)) → Brings (in_volume_action make words)
-brings-in_volume make [] each = tt
-brings-in_volume make (x ∷ words) each = brings-cond (bytes_eq x (codes "volume")) (number_action make words) None (brings-number make words each) tt
+brings-placed : (in_file : List ℕ → ℕ → Action) (in_volume : ℕ → Action) (words : List (List ℕ)) → ((a : List ℕ) (b : ℕ) → BringsBytes (in_file a b))
+    → ((a : ℕ) → BringsBytes (in_volume a)) → Brings (placed_action in_file in_volume words)
+brings-placed in_file in_volume [] file volume = tt
+brings-placed in_file in_volume (x ∷ words) file volume =
+    brings-cond (bytes_eq x (codes "file")) (sized_action in_file words) _ (brings-sized in_file words file)
+    (brings-cond (bytes_eq x (codes "volume")) (number_action in_volume words) None (brings-number in_volume words volume) tt)
 
 brings-poison : (words : List (List ℕ)) → Brings (poison_action words)
 brings-poison [] = tt
 brings-poison (x ∷ words) =
     brings-cond (bytes_eq x (codes "block")) (span_action PoisonBlock words) _ (brings-span PoisonBlock words (λ a b. tt))
+    (brings-cond (bytes_eq x (codes "file")) (sized_action PoisonFile words) _ (brings-sized PoisonFile words (λ a b. tt))
     (brings-cond (bytes_eq x (codes "volume")) (number_action PoisonVolume words) _ (brings-number PoisonVolume words (λ a. tt))
-    (brings-cond (bytes_eq x (codes "meta")) (number_action PoisonMeta words) None (brings-number PoisonMeta words (λ a. tt)) tt))
+    (brings-cond (bytes_eq x (codes "meta")) (number_action PoisonMeta words) None (brings-number PoisonMeta words (λ a. tt)) tt)))
 
 brings-power : (name : List ℕ) (words : List (List ℕ)) → Brings (power_action name words)
 brings-power name words =
@@ -264,15 +268,19 @@ brings-power name words =
 brings-media : (name : List ℕ) (words : List (List ℕ)) → Brings (media_action name words)
 brings-media name words =
     brings-cond (bytes_eq name (codes "poison")) (poison_action words) _ (brings-poison words)
-    (brings-cond (bytes_eq name (codes "weaken")) (in_volume_action WeakenVolume words) _ (brings-in_volume WeakenVolume words (λ a. tt))
-    (brings-cond (bytes_eq name (codes "clear")) (in_volume_action ClearVolume words) _ (brings-in_volume ClearVolume words (λ a. tt)) (brings-power name words)))
+    (brings-cond (bytes_eq name (codes "weaken")) (placed_action WeakenFile WeakenVolume words) _ (brings-placed WeakenFile WeakenVolume words (λ a b. tt) (λ a. tt))
+    (brings-cond (bytes_eq name (codes "clear")) (placed_action ClearFile ClearVolume words) _ (brings-placed ClearFile ClearVolume words (λ a b. tt) (λ a. tt))
+    (brings-cond (bytes_eq name (codes "check")) (named_action (λ file. span_action (CheckFile file)) words) _
+    (brings-named (λ file. span_action (CheckFile file)) words (λ file rest. brings-span (CheckFile file) rest (λ a b. tt))) (brings-power name words))))
 
 brings-mapped : (name : List ℕ) (words : List (List ℕ)) → Brings (mapped_action name words)
 brings-mapped name words =
     brings-cond (bytes_eq name (codes "map")) (named_action map_action words) _ (brings-named map_action words brings-shown)
     (brings-cond (bytes_eq name (codes "unmap")) (number_action Unmap words) _ (brings-number Unmap words (λ a. tt))
     (brings-cond (bytes_eq name (codes "load")) (numbered_action (λ handle. span_action (Load handle)) words) _
-    (brings-numbered (λ handle. span_action (Load handle)) words (λ handle rest. brings-span (Load handle) rest (λ a b. tt))) (brings-media name words)))
+    (brings-numbered (λ handle. span_action (Load handle)) words (λ handle rest. brings-span (Load handle) rest (λ a b. tt)))
+    (brings-cond (bytes_eq name (codes "sync")) (numbered_action (λ handle. span_action (Sync handle)) words) _
+    (brings-numbered (λ handle. span_action (Sync handle)) words (λ handle rest. brings-span (Sync handle) rest (λ a b. tt))) (brings-media name words))))
 
 brings-files : (name : List ℕ) (words : List (List ℕ)) → Brings (files_action name words)
 brings-files name words =
@@ -301,17 +309,26 @@ brings-plain name words =
     (brings-cond (bytes_eq name (codes "bdiscardif")) (span_action BDiscardIf words) _ (brings-span BDiscardIf words (λ a b. tt))
     (brings-cond (bytes_eq name (codes "bexists")) (number_action BExists words) _ (brings-number BExists words (λ a. tt)) (brings-volume name words))))
 
+brings-flushing : (name : List ℕ) (words : List (List ℕ)) → Brings (flushing_action name words)
+brings-flushing name words =
+    brings-cond (bytes_eq name (codes "flush")) (numbered_action (λ handle. spans_action (Flush handle)) words) _
+    (brings-numbered (λ handle. spans_action (Flush handle)) words (λ handle rest. brings-spans (Flush handle) rest (λ spans. tt)))
+    (brings-cond (bytes_eq name (codes "flushv")) (numbered_action (λ handle. spans_action (FlushVerify handle)) words) _
+    (brings-numbered (λ handle. spans_action (FlushVerify handle)) words (λ handle rest. brings-spans (FlushVerify handle) rest (λ spans. tt)))
+    (brings-cond (bytes_eq name (codes "deepflush")) (numbered_action (λ handle. spans_action (DeepFlush handle)) words) _
+    (brings-numbered (λ handle. spans_action (DeepFlush handle)) words (λ handle rest. brings-spans (DeepFlush handle) rest (λ spans. tt))) (brings-plain name words)))
+
 brings-storing : (name : List ℕ) (words : List (List ℕ)) → Brings (storing_action name words)
 brings-storing name words =
     brings-cond (bytes_eq name (codes "store")) (numbered_action (λ handle. data_action (Store handle)) words) _
-    (brings-numbered (λ handle. data_action (Store handle)) words (λ handle rest. brings-data (Store handle) rest (λ a bytes small. small))) (brings-plain name words)
+    (brings-numbered (λ handle. data_action (Store handle)) words (λ handle rest. brings-data (Store handle) rest (λ a bytes small. small))) (brings-flushing name words)
 
 brings-command : (name : List ℕ) (words : List (List ℕ)) → Brings (command_action name words)
 unfolding command_action
 brings-command name words =
     brings-cond (bytes_eq name (codes "bwrite")) (data_action BWrite words) _ (brings-data BWrite words (λ a bytes small. tt))
     (brings-cond (bytes_eq name (codes "vstore")) (data_action VStore words) _ (brings-data VStore words (λ a bytes small. small))
-    (brings-cond (bytes_eq name (codes "bscar")) (spans_action BScar words) _ (brings-spans words)
+    (brings-cond (bytes_eq name (codes "bscar")) (spans_action BScar words) _ (brings-spans BScar words (λ spans. tt))
     (brings-cond (bytes_eq name (codes "batomic")) (data_action BAtomic words) _ (brings-data BAtomic words (λ a bytes small. tt))
     (brings-cond (bytes_eq name (codes "bmulti")) (ranges_action BMulti words) _ (brings-ranges words)
     (brings-cond (bytes_eq name (codes "fwrite")) (named_action (λ file. data_action (FWrite file)) words) _

@@ -9,24 +9,24 @@ use Rattle.word_tables.specs.Layout.{volume_line}
 use Rattle.nvm_model.specs.Blocks.{lose}
 use Rattle.nvm_model.specs.Cell.{lose_cell, weaken_cell}
 use Rattle.nvm_model.specs.Page.{Page, change_line, read_pages}
-use Rattle.nvm_model.specs.Storage.{Block}
+use Rattle.nvm_model.specs.Storage.{Block, File, Mapping}
 use Rattle.block_device.specs.Reading.{blocks_read}
 use Rattle.pm_volume.specs.Presence.{presence_read}
 use Rattle.file_journal.specs.Standing.{files_read}
 use Rattle.reply_text.specs.Answer.{Answer}
-use Rattle.reply_text.specs.Answer.Answer.{Done}
 use Rattle.script_text.specs.Action.{Action}
-use Rattle.script_text.specs.Action.Action.{PoisonBlock, PoisonVolume, WeakenVolume}
+use Rattle.script_text.specs.Action.Action.{PoisonBlock, PoisonFile, PoisonVolume, WeakenFile, WeakenVolume}
 use Rattle.machine_host.specs.declared.mode.Mode.TheVariants.{On, Off, Stopped}
 use Rattle.machine_host.specs.declared.needs.Needs.TheVariants.{Usable}
 use Rattle.machine_host.specs.Machine.{Machine}
 use Rattle.machine_host.specs.Commands.{MayLeaveBlocks, MayLeaveFiles, MayLeaveVolume, meaning, refusal}
 use Rattle.machine_host.specs.Interrupted.{interrupted_answer}
+use Rattle.machine_host.specs.OnFileErrors.{marked_in}
 use Rattle.machine_host.specs.Restarting.{MayLeaveStorage}
 use Rattle.durable.specs.Place.{Place}
-use Rattle.durable.specs.Touching.{changes, holds, is_made_durable, made_durable, poisons, weakens}
+use Rattle.durable.specs.Touching.{changes, holds, is_made_durable, may_make_durable, poisons, weakens}
 use Rattle.durable.specs.Files.{changes_files}
-use Rattle.durable.specs.Durable.{HasNothing}
+use Rattle.durable.specs.Durable.{HasNothing, IsDone}
 
 -- it leaves blocks, volume, files and mappings, and what is interrupted
 pub record Idles (h next : Machine) : Type 0 where
@@ -40,7 +40,7 @@ pub record Idles (h next : Machine) : Type 0 where
   pub mode : next.mode ≡ On → h.mode ≡ On
   pub stopped : next.mode ≡ Stopped → h.mode ≡ Stopped
 
--- what a command makes of blocks and volume
+-- what a command makes of blocks, volume and files
 abbrev pub blocks_after : Action → List Block → List Block
 blocks_after (PoisonBlock block line) blocks = lose block line blocks
 blocks_after action blocks = (meaning action).blocks blocks
@@ -50,12 +50,17 @@ volume_after geo (PoisonVolume offset) pages = change_line lose_cell (offset / 6
 volume_after geo (WeakenVolume offset) pages = change_line weaken_cell (offset / 64) pages
 volume_after geo action pages = (meaning action).volume geo pages
 
+abbrev pub files_made : List Mapping → Action → List File → List File
+files_made mappings (PoisonFile name offset) files = marked_in lose_cell name offset files
+files_made mappings (WeakenFile name offset) files = marked_in weaken_cell name offset files
+files_made mappings action files = (meaning action).files mappings files
+
 -- it is done
 pub record Alters (h : Machine) (action : Action) (next : Machine) : Type 0 where
   pub geometry : next.geometry ≡ h.geometry
   pub blocks : next.blocks ≡ blocks_after action h.blocks
   pub volume : next.volume ≡ volume_after h.geometry action h.volume
-  pub files : next.files ≡ (meaning action).files h.mappings h.files
+  pub files : next.files ≡ files_made h.mappings action h.files
   pub interrupted : next.interrupted ≡ h.interrupted
   pub mode : next.mode ≡ h.mode
   pub needs : (meaning action).needs ≡ Usable
@@ -111,12 +116,12 @@ pub record TouchesNothing (action : Action) : Type 0 where
   pub change : (x : Place) → changes action x ≡ false
   pub poison : (x : Place) → poisons action x ≡ false
   pub weaken : (x : Place) → weakens action x ≡ false
-  pub cover : (geo : Geometry) (x : Place) → holds (made_durable geo action) x ≡ false
+  pub cover : (geo : Geometry) (x : Place) → holds (may_make_durable geo action) x ≡ false
   pub files : changes_files action ≡ false
 
 pub data Step (h : Machine) (action : Action) (answer : Answer) (next : Machine) : Type 0 where
   idles : (refusal h action ≡ Some answer) ⊎ CoversNothing h action → Idles h next → Step h action answer next
-  alters : (answer ≡ Done) ⊎ TouchesNothing action → refusal h action ≡ None → Alters h action next → Step h action answer next
+  alters : IsDone answer ⊎ TouchesNothing action → refusal h action ≡ None → Alters h action next → Step h action answer next
   stops : (by : Interruption) → answer ≡ interrupted_answer by → Stops h action next → Step h action answer next
   returns : CoversNothing h action → Returns h next → Step h action answer next
   remounts : CoversNothing h action → Remounts h next → Step h action answer next

@@ -18,7 +18,7 @@ use Rattle.machine_host.specs.Recovering.{RecoversTo}
 use Rattle.machine_host.specs.Run.{Ends, Hears, Run, Takes, Transcript}
 use Rattle.script_text.specs.Script.{Input}
 use Rattle.script_text.specs.Script.Input.{Skipped, Malformed, Asked}
-use Rattle.durable.specs.Durable.{HasNothing}
+use Rattle.durable.specs.Durable.{HasNothing, IsDone}
 use Rattle.durable.proofs.RefusalLemmas.{is_off, is_on}
 use Rattle.durable.proofs.StepKinds.{Alters, CoversNothing, Idles, Stops, Step, TouchesNothing}
 use Rattle.durable.proofs.StepKinds.Step.{idles, alters, stops, returns, remounts, empties}
@@ -62,10 +62,10 @@ altered_at h action to next done is = record {
   needs = done.needs;
 }
 
-ended : (h : Machine) (action : Action) (good : Answer) (to : Machine) (answer : Answer) (next : Machine) → refusal h action ≡ None → (good ≡ Done) ⊎ TouchesNothing action → Alters h action to
+ended : (h : Machine) (action : Action) (good : Answer) (to : Machine) (answer : Answer) (next : Machine) → refusal h action ≡ None → IsDone good ⊎ TouchesNothing action → Alters h action to
     → Ends good to (while_interrupted h action) answer next → Step h action answer next
 ended h action good to answer next none begun done (inl end) =
-    alters (elim begun as (λ _. (answer ≡ Done) ⊎ TouchesNothing action) [ inl is ↦ inl (end.0 ∙ is) | inr none ↦ inr none ]) none (altered_at h action to next done end.1)
+    alters (elim begun as (λ _. IsDone answer ⊎ TouchesNothing action) [ inl is ↦ inl (subst IsDone (sym end.0) is) | inr none ↦ inr none ]) none (altered_at h action to next done end.1)
 ended h action good to answer next none begun done (inr end) = stops end.0 end.1 (record {
   geometry = ap (λ m. m.geometry) end.2.state;
   blocks = ap (λ m. m.blocks) end.2.state;

@@ -12,15 +12,22 @@ use Rattle.nvm_model.specs.Storage.{Mapping}
 use Rattle.machine_host.specs.Machine.Fate.{Gives, Works, Orders, Cuts, Restarts, Recovers}
 use Rattle.machine_host.specs.Commands.{meaning}
 use Rattle.machine_host.specs.OnMedia.{with_line}
+use Rattle.machine_host.specs.declared.look.Look.{Look}
+use Rattle.machine_host.specs.declared.look.Look.TheVariants.{Once, Again}
+use Rattle.machine_host.specs.OnFlushes.{all_moved, flush_file, flush_through, flush_with, nothing_done}
+use Rattle.nvm_base.specs.declared.units.Span.{Span}
 use Rattle.durable.specs.Place.{Place}
 use Rattle.durable.specs.Place.Place.{of_volume, of_blocks, of_file}
-use Rattle.durable.specs.Touching.{holds, nothing}
-use Rattle.durable.proofs.StepKinds.{Alters, CoversNothing, Idles, TouchesNothing, blocks_after, volume_after}
+use Rattle.durable.specs.Durable.{IsDone}
+use Rattle.durable.specs.Files.{changes_files}
+use Rattle.durable.specs.Touching.{flushed_by, flushed_lines, holds, made_durable, nothing}
+use Rattle.durable.proofs.HandleLemmas.{flush_done}
+use Rattle.durable.proofs.StepKinds.{Alters, CoversNothing, Idles, TouchesNothing, blocks_after, files_made, volume_after}
 
 -- what comes of a command that is not refused
 abbrev pub Suits : Machine → Action → Fate → Type 0
-Suits h action (Gives good to) = (CoversNothing h action × Idles h to) ⊎ (((good ≡ Done) ⊎ TouchesNothing action) × Alters h action to)
-Suits h action (Works good to) = ((good ≡ Done) ⊎ TouchesNothing action) × Alters h action to
+Suits h action (Gives good to) = (CoversNothing h action × Idles h to) ⊎ ((IsDone good ⊎ TouchesNothing action) × Alters h action to)
+Suits h action (Works good to) = (IsDone good ⊎ TouchesNothing action) × Alters h action to
 Suits h action (Orders order to) = CoversNothing h action × Idles h to
 Suits h action (Cuts to) = CoversNothing h action × Idles h to
 Suits h action (Restarts choice) = CoversNothing h action × ((meaning action).needs ≡ Unpowered)
@@ -45,7 +52,7 @@ same h = record {
 }
 
 works : (h to : Machine) (action : Action) → to.geometry ≡ h.geometry → to.blocks ≡ blocks_after action h.blocks → to.volume ≡ volume_after h.geometry action h.volume
-    → to.files ≡ (meaning action).files h.mappings h.files → to.interrupted ≡ h.interrupted → to.mode ≡ h.mode → (meaning action).needs ≡ Usable → Alters h action to
+    → to.files ≡ files_made h.mappings action h.files → to.interrupted ≡ h.interrupted → to.mode ≡ h.mode → (meaning action).needs ≡ Usable → Alters h action to
 works h to action geometry blocks volume files interrupted mode needs =
     record { geometry = geometry; blocks = blocks; volume = volume; files = files; interrupted = interrupted; mode = mode; needs = needs }
 
@@ -73,30 +80,52 @@ with_line-some line (next ∷ lines) is = by_order (nat_lt line next) (line == n
     by_order false true is = cc is
     by_order false false is = cc is
 
+-- a flush, which each of four commands is
+flush_suits : (h : Machine) (action : Action) (look : Look) (handle : ℕ) (spans : List Span) → made_durable h.geometry h.mappings action ≡ flushed_by spans (mapping_of handle h.mappings)
+    → changes_files action ≡ false → h.blocks ≡ blocks_after action h.blocks → h.volume ≡ volume_after h.geometry action h.volume
+    → (flush_with look handle spans).files h.mappings h.files ≡ files_made h.mappings action h.files → (meaning action).needs ≡ Usable
+    → Suits h action ((flush_with look handle spans).comes h)
+flush_suits h action look handle spans region stay blocks volume files needs = by_mapping (mapping_of handle h.mappings) refl
+  where
+    covers : (o : Option Mapping) → mapping_of handle h.mappings ≡ o → flushed_by spans o ≡ nothing → CoversNothing h action
+    covers o is none = record { bytes = λ x. ap (λ r. holds r x) (region ∙ ap (flushed_by spans) is ∙ none) ∙ nowhere x; files = stay }
+
+    by_kind : (m : Mapping) → mapping_of handle h.mappings ≡ Some m → (shared : Bool) → is_shared m.kind ≡ shared
+        → Suits h action ((if shared then flush_file look m.name (all_moved m.start spans) else nothing_done).comes h)
+    by_kind m is true at =
+        let made = sym (ap (λ (o : Option Mapping). elim o [ None ↦ h.files | Some n ↦ (flush_through look spans n).files h.mappings h.files ]) is
+        ∙ ap (λ b. (if b then flush_file look m.name (all_moved m.start spans) else nothing_done).files h.mappings h.files) at) in
+        (inl (flush_done look m.name _), works h _ action refl blocks volume (made ∙ files) refl refl needs)
+    by_kind m is false at = inl (covers (Some m) is (ap (λ b. if b then flushed_lines m.name (all_moved m.start spans) else nothing) at), same h)
+
+    by_mapping : (o : Option Mapping) → mapping_of handle h.mappings ≡ o → Suits h action (elim o [ None ↦ Gives Done h | Some m ↦ (flush_through look spans m).comes h ])
+    by_mapping None is = inl (covers None is refl, same h)
+    by_mapping (Some m) is = by_kind m is (is_shared m.kind) refl
+
 pub suits : (h : Machine) (action : Action) → Suits h action ((meaning action).comes h)
 suits h (BRead block count) = (inr (record { change = nowhere; poison = nowhere; weaken = nowhere; cover = λ geo. nowhere; files = refl }), works h h (BRead block count) refl refl refl refl refl refl refl)
-suits h (BWrite block bytes) = (inl refl, works h _ (BWrite block bytes) refl refl refl refl refl refl refl)
-suits h (BAtomic block bytes) = (inl refl, works h _ (BAtomic block bytes) refl refl refl refl refl refl refl)
-suits h (BMulti ranges bytes) = (inl refl, works h _ (BMulti ranges bytes) refl refl refl refl refl refl refl)
-suits h (BDiscard block count) = (inl refl, works h _ (BDiscard block count) refl refl refl refl refl refl refl)
-suits h (BDiscardIf block count) = (inl refl, works h _ (BDiscardIf block count) refl refl refl refl refl refl refl)
+suits h (BWrite block bytes) = (inl (inl refl), works h _ (BWrite block bytes) refl refl refl refl refl refl refl)
+suits h (BAtomic block bytes) = (inl (inl refl), works h _ (BAtomic block bytes) refl refl refl refl refl refl refl)
+suits h (BMulti ranges bytes) = (inl (inl refl), works h _ (BMulti ranges bytes) refl refl refl refl refl refl refl)
+suits h (BDiscard block count) = (inl (inl refl), works h _ (BDiscard block count) refl refl refl refl refl refl refl)
+suits h (BDiscardIf block count) = (inl (inl refl), works h _ (BDiscardIf block count) refl refl refl refl refl refl refl)
 suits h (BExists block) = inl (record { bytes = nowhere; files = refl }, same h)
-suits h (BScar ranges) = (inl refl, works h _ (BScar ranges) refl refl refl refl refl refl refl)
+suits h (BScar ranges) = (inl (inl refl), works h _ (BScar ranges) refl refl refl refl refl refl refl)
 suits h (VLoad offset len) = (inr (record { change = nowhere; poison = nowhere; weaken = nowhere; cover = λ geo. nowhere; files = refl }), works h h (VLoad offset len) refl refl refl refl refl refl refl)
-suits h (VStore offset bytes) = (inl refl, works h _ (VStore offset bytes) refl refl refl refl refl refl refl)
-suits h (VSync offset len) = (inl refl, works h _ (VSync offset len) refl refl refl refl refl refl refl)
+suits h (VStore offset bytes) = (inl (inl refl), works h _ (VStore offset bytes) refl refl refl refl refl refl refl)
+suits h (VSync offset len) = (inl (inl refl), works h _ (VSync offset len) refl refl refl refl refl refl refl)
 suits h VRanges = inl (record { bytes = nowhere; files = refl }, same h)
-suits h (VPSync address len) = (inl refl, works h _ (VPSync address len) refl refl refl refl refl refl refl)
-suits h (VDiscard page count) = (inl refl, works h _ (VDiscard page count) refl refl refl refl refl refl refl)
-suits h (VDiscardIf page count) = (inl refl, works h _ (VDiscardIf page count) refl refl refl refl refl refl refl)
+suits h (VPSync address len) = (inl (inl refl), works h _ (VPSync address len) refl refl refl refl refl refl refl)
+suits h (VDiscard page count) = (inl (inl refl), works h _ (VDiscard page count) refl refl refl refl refl refl refl)
+suits h (VDiscardIf page count) = (inl (inl refl), works h _ (VDiscardIf page count) refl refl refl refl refl refl refl)
 suits h (VExists page) = inl (record { bytes = nowhere; files = refl }, same h)
-suits h (Create name pages) = (inl refl, works h _ (Create name pages) refl refl refl refl refl refl refl)
-suits h (Delete name) = (inl refl, works h _ (Delete name) refl refl refl refl refl refl refl)
-suits h (Rename name to) = (inl refl, works h _ (Rename name to) refl refl refl refl refl refl refl)
-suits h (Resize name pages) = (inl refl, works h _ (Resize name pages) refl refl refl refl refl refl refl)
+suits h (Create name pages) = (inl (inl refl), works h _ (Create name pages) refl refl refl refl refl refl refl)
+suits h (Delete name) = (inl (inl refl), works h _ (Delete name) refl refl refl refl refl refl refl)
+suits h (Rename name to) = (inl (inl refl), works h _ (Rename name to) refl refl refl refl refl refl refl)
+suits h (Resize name pages) = (inl (inl refl), works h _ (Resize name pages) refl refl refl refl refl refl refl)
 suits h ListFiles = inl (record { bytes = nowhere; files = refl }, same h)
 suits h (FRead name offset len) = (inr (record { change = nowhere; poison = nowhere; weaken = nowhere; cover = λ geo. nowhere; files = refl }), works h h (FRead name offset len) refl refl refl refl refl refl refl)
-suits h (FWrite name offset bytes) = (inl refl, works h _ (FWrite name offset bytes) refl refl refl refl refl refl refl)
+suits h (FWrite name offset bytes) = (inl (inl refl), works h _ (FWrite name offset bytes) refl refl refl refl refl refl refl)
 suits h (Map name span kind) = by_kind (is_shared kind)
   where
     to : Machine
@@ -108,7 +137,7 @@ suits h (Map name span kind) = by_kind (is_shared kind)
     by_kind : (shared : Bool) → Suits h (Map name span kind) (if shared then Gives (Handle h.next_handle) to else Works (Handle h.next_handle) to)
     by_kind true = inr (inr touches, works h to (Map name span kind) refl refl refl refl refl refl refl)
     by_kind false = (inr touches, works h to (Map name span kind) refl refl refl refl refl refl refl)
-suits h (Unmap handle) = inr (inl refl, works h _ (Unmap handle) refl refl refl refl refl refl refl)
+suits h (Unmap handle) = inr (inl (inl refl), works h _ (Unmap handle) refl refl refl refl refl refl refl)
 suits h (Load handle offset len) = by_mapping (mapping_of handle h.mappings) refl
   where
     touches : TouchesNothing (Load handle offset len)
@@ -143,14 +172,21 @@ suits h (Store handle offset bytes) = by_mapping (mapping_of handle h.mappings) 
 
     by_kind : (m : Mapping) → mapping_of handle h.mappings ≡ Some m → (shared : Bool) → is_shared m.kind ≡ shared
         → Suits h (Store handle offset bytes) ((if shared then fwrite m.name (m.start + offset) bytes else write_copy handle offset bytes).comes h)
-    by_kind m is true at = (inl refl, works h _ (Store handle offset bytes) refl refl refl (files_are m is true at) refl refl refl)
-    by_kind m is false at = inr (inl refl, works h _ (Store handle offset bytes) refl refl refl (files_are m is false at) refl refl refl)
+    by_kind m is true at = (inl (inl refl), works h _ (Store handle offset bytes) refl refl refl (files_are m is true at) refl refl refl)
+    by_kind m is false at = inr (inl (inl refl), works h _ (Store handle offset bytes) refl refl refl (files_are m is false at) refl refl refl)
 
     by_mapping : (o : Option Mapping) → mapping_of handle h.mappings ≡ o → Suits h (Store handle offset bytes) (elim o [ None ↦ Gives Done h | Some m ↦ (store_through handle offset bytes m).comes h ])
     by_mapping None is = inl (none, same h)
     by_mapping (Some m) is = by_kind m is (is_shared m.kind) refl
-suits h (PoisonBlock block line) = inr (inl refl, works h _ (PoisonBlock block line) refl refl refl refl refl refl refl)
-suits h (PoisonVolume offset) = inr (inl refl, works h _ (PoisonVolume offset) refl refl refl refl refl refl refl)
+suits h (Sync handle offset len) =
+    flush_suits h (Sync handle offset len) Once handle (record { start = offset; len = len } ∷ []) refl refl refl refl refl refl
+suits h (Flush handle spans) = flush_suits h (Flush handle spans) Once handle spans refl refl refl refl refl refl
+suits h (FlushVerify handle spans) = flush_suits h (FlushVerify handle spans) Again handle spans refl refl refl refl refl refl
+suits h (DeepFlush handle spans) = flush_suits h (DeepFlush handle spans) Once handle spans refl refl refl refl refl refl
+suits h (CheckFile name offset len) = inl (record { bytes = nowhere; files = refl }, same h)
+suits h (PoisonBlock block line) = inr (inl (inl refl), works h _ (PoisonBlock block line) refl refl refl refl refl refl refl)
+suits h (PoisonVolume offset) = inr (inl (inl refl), works h _ (PoisonVolume offset) refl refl refl refl refl refl refl)
+suits h (PoisonFile name offset) = inr (inl (inl refl), works h _ (PoisonFile name offset) refl refl refl refl refl refl refl)
 suits h (PoisonMeta line) = inl (
   record { bytes = nowhere; files = refl },
   record {
@@ -165,8 +201,10 @@ suits h (PoisonMeta line) = inl (
     stopped = λ is. is;
   },
 )
-suits h (WeakenVolume offset) = inr (inl refl, works h _ (WeakenVolume offset) refl refl refl refl refl refl refl)
-suits h (ClearVolume offset) = (inl refl, works h _ (ClearVolume offset) refl refl refl refl refl refl refl)
+suits h (WeakenFile name offset) = inr (inl (inl refl), works h _ (WeakenFile name offset) refl refl refl refl refl refl refl)
+suits h (WeakenVolume offset) = inr (inl (inl refl), works h _ (WeakenVolume offset) refl refl refl refl refl refl refl)
+suits h (ClearFile name offset) = (inl (inl refl), works h _ (ClearFile name offset) refl refl refl refl refl refl refl)
+suits h (ClearVolume offset) = (inl (inl refl), works h _ (ClearVolume offset) refl refl refl refl refl refl refl)
 suits h Cut =
     (record { bytes = nowhere; files = refl }, record { geometry = refl; blocks = refl; volume = refl; files = refl; mappings = refl; interrupted = refl; metadata = λ bad. bad; mode = λ on. cc on; stopped = λ is. cc is })
 suits h (CutIn calls) = (record { bytes = nowhere; files = refl }, armed h _ refl refl refl refl refl refl refl refl)

@@ -1,19 +1,22 @@
 -- Pages that are there have their lines, whatever is done to them.
-use Rattle.std.proofs.Common.{◌≡◌, inl, inr, ℕ, zero, suc, ◌+◌, ◌*◌, ◌/◌, ◌%◌, ◌==◌, Bool, true, false, cond, Option, Some, None, option_map, List, [], ◌∷◌, length, replicate, slice_get, slice_index_or, refl, sym, ap, subst, ◌∙◌, arith}
+use Rattle.std.proofs.Common.{◌≡◌, ◌⊎◌, inl, inr, ℕ, zero, suc, ◌+◌, ◌*◌, ◌/◌, ◌%◌, ◌==◌, Bool, true, false, cond, Option, Some, None, option_map, List, [], ◌∷◌, length, replicate, slice_get, slice_index_or, refl, sym, ap, subst, ◌∙◌, arith}
 use Rattle.std.proofs.lemmas.List.{length-map}
+use Rattle.nvm_base.specs.declared.units.Span.{Span}
 use Rattle.line_device.specs.History.{latest}
 use Rattle.line_device.specs.Medium.{word_stored}
 use Rattle.line_device.specs.Panel.{Image}
 use Rattle.word_tables.specs.declared.geometry.Geometry.{Geometry}
 use Rattle.nvm_model.specs.Numbered.{AreMixed, is_among, list_from, map_from}
-use Rattle.nvm_model.specs.Interrupted.{Became, LineByLine, MayPersist, MayPut}
-use Rattle.nvm_model.specs.Cell.{Cell, clear_cell, covers, flush_cell, lose_cell, persist_cell, put_cell, touches, weaken_cell, zero_cell}
+use Rattle.nvm_model.specs.Interrupted.{Became, LineByLine, MayPersist, MayPersistTouched, MayPut, MaySyncAll}
+use Rattle.nvm_model.specs.Cell.{Cell, clear_cell, covers, flush_cell, lose_cell, put_cell, touches, weaken_cell, zero_cell}
 use Rattle.nvm_model.specs.Cell.Cell.{Bad, Kept}
-use Rattle.nvm_model.specs.Page.{Page, at_line, cell_in, cell_of, change_line, discard, discard_page, fill, fill_page, is_present, persist, put, read_pages, touches_page}
+use Rattle.nvm_model.specs.Page.{Page, at_line, cell_in, cell_of, change_line, discard, discard_page, fill, fill_page, is_present, persist, presence_of, put, read_pages, touches_page}
 use Rattle.nvm_model.specs.Page.Page.{Absent as Missing, Present}
+use Rattle.nvm_model.specs.Touched.{persist_spans, touches_any}
 use Rattle.nvm_model.proofs.NumberedLemmas.{length-list_from, length-map_from, slice_get-map_from}
 use Rattle.nvm_model.proofs.PageLemmas.{cell_of-persist, cell_of-put, cell_of-read_pages, presence_of-persist, presence_of-put, presence_of-read_pages}
 use Rattle.nvm_model.proofs.MediaLemmas.{cell_of-change, presence_of-change}
+use Rattle.nvm_model.proofs.SeveralLemmas.{cell_of-spans, presence_of-spans}
 use Rattle.script_text.specs.Action.{Action}
 use Rattle.script_text.specs.Action.Action.{VStore, VSync, VPSync, VDiscard, VDiscardIf, PoisonVolume, WeakenVolume, ClearVolume}
 use Rattle.machine_host.specs.Commands.{LeavesVolume, MayLeaveVolume, meaning}
@@ -25,18 +28,11 @@ use Rattle.durable.specs.Durable.{HaveLines, IsLineThere}
 use Rattle.durable.proofs.PresenceLemmas.{has_lines, line_in, page_present, zero_at}
 use Rattle.durable.proofs.StepKinds.{volume_after}
 
-there-persist : (start len n : ℕ) (o : Option Cell) → IsLineThere o → IsLineThere (option_map (persist_cell start len n) o)
-there-persist start len n None there = there
-there-persist start len n (Some cell) there = by_test (touches start len n)
-  where
-    flushed : (c : Cell) → IsLineThere (Some c) → IsLineThere (Some (flush_cell c))
-    flushed Bad size = tt
-    flushed (Kept true words) size = tt
-    flushed (Kept false words) size = length-map words latest ∙ size
-
-    by_test : (b : Bool) → IsLineThere (Some (cond b (flush_cell cell) cell))
-    by_test true = flushed cell there
-    by_test false = there
+there-flush : (touched : Bool) (cell : Cell) → IsLineThere (Some cell) → IsLineThere (Some (cond touched (flush_cell cell) cell))
+there-flush false cell size = size
+there-flush true Bad size = tt
+there-flush true (Kept true words) size = tt
+there-flush true (Kept false words) size = length-map words latest ∙ size
 
 there-put : (at n : ℕ) (bytes : List ℕ) (o : Option Cell) → IsLineThere o → IsLineThere (option_map (put_cell at bytes n) o)
 there-put at n bytes None there = there
@@ -88,10 +84,22 @@ lines-discard first count pages whole = by_pages (discard_page first count) page
         by_test true none = cc none
         by_test false there = was there
 
+-- pages of which the same are there, and each line is flushed where this tells it
+lines-flush : (touched : ℕ → Bool) (pages new : List Page) → presence_of new ≡ presence_of pages
+    → ((n : ℕ) → cell_of new n ≡ option_map (λ cell. cond (touched n) (flush_cell cell) cell) (cell_of pages n)) → HaveLines pages → HaveLines new
+lines-flush touched pages new same line whole n there =
+    subst IsLineThere (sym (line n)) (by_cell (cell_of pages n) (whole n (ap (λ bs. slice_index_or bs (n / 64) false) (sym same) ∙ there)))
+  where
+    by_cell : (o : Option Cell) → IsLineThere o → IsLineThere (option_map (λ cell. cond (touched n) (flush_cell cell) cell) o)
+    by_cell None none = none
+    by_cell (Some cell) size = there-flush (touched n) cell size
+
 lines-persist : (start len : ℕ) (pages : List Page) → HaveLines pages → HaveLines (persist start len pages)
-lines-persist start len pages whole n there =
-    subst IsLineThere (sym (cell_of-persist start len pages n))
-    (there-persist start len n (cell_of pages n) (whole n (ap (λ bs. slice_index_or bs (n / 64) false) (sym (presence_of-persist start len pages)) ∙ there)))
+lines-persist start len pages whole =
+    lines-flush (touches start len) pages (persist start len pages) (presence_of-persist start len pages) (cell_of-persist start len pages) whole
+
+pub lines-spans : (spans : List Span) (pages : List Page) → HaveLines pages → HaveLines (persist_spans spans pages)
+lines-spans spans pages whole = lines-flush (touches_any spans) pages (persist_spans spans pages) (presence_of-spans spans pages) (cell_of-spans spans pages) whole
 
 pub lines-put : (at : ℕ) (bytes : List ℕ) (pages : List Page) → HaveLines pages → HaveLines (put at bytes pages)
 lines-put at bytes pages whole n there =
@@ -118,7 +126,7 @@ lines-read place image there n present =
     by_mark true = tt
     by_mark false = length-list_from (λ p. image.word p ∷ []) (8 * place n) 8
 
-lines-change : (f : Cell → Cell) (n : ℕ) (pages : List Page) → ((cell : Cell) → IsLineThere (Some cell) → IsLineThere (Some (f cell))) → HaveLines pages
+pub lines-change : (f : Cell → Cell) (n : ℕ) (pages : List Page) → ((cell : Cell) → IsLineThere (Some cell) → IsLineThere (Some (f cell))) → HaveLines pages
     → HaveLines (change_line f n pages)
 lines-change f n pages each whole k there =
     subst IsLineThere (sym (cell_of-change f n pages k))
@@ -132,11 +140,11 @@ lines-change f n pages each whole k there =
     by_cell None none = absurd none
     by_cell (Some cell) has = by_test (k == n) cell has
 
-there-weaken : (cell : Cell) → IsLineThere (Some cell) → IsLineThere (Some (weaken_cell cell))
+pub there-weaken : (cell : Cell) → IsLineThere (Some cell) → IsLineThere (Some (weaken_cell cell))
 there-weaken Bad has = tt
 there-weaken (Kept weak words) has = has
 
-there-clear : (cell : Cell) → IsLineThere (Some cell) → IsLineThere (Some (clear_cell cell))
+pub there-clear : (cell : Cell) → IsLineThere (Some cell) → IsLineThere (Some (clear_cell cell))
 there-clear Bad has = refl
 there-clear (Kept weak words) has = has
 
@@ -173,10 +181,13 @@ there-may_put at bytes n Bad (Kept mark mixed) there (inr may) = may.1.1.length
 there-may_put at bytes n (Kept weak words) Bad there may = tt
 there-may_put at bytes n (Kept weak words) (Kept mark mixed) there may = may.1.length ∙ there
 
-there-may_persist : (start len n : ℕ) (cell c : Cell) → IsLineThere (Some cell) → MayPersist start len n cell c → IsLineThere (Some c)
-there-may_persist start len n cell c there (inl is) = subst (λ o. IsLineThere (Some o)) {x = cell} (sym is) there
-there-may_persist start len n cell c there (inr is) =
-    subst (λ o. IsLineThere (Some o)) {x = persist_cell start len n cell} (sym is) (there-persist start len n (Some cell) there)
+there-may_flush : (touched : Bool) (cell c : Cell) → IsLineThere (Some cell) → (c ≡ cell) ⊎ (c ≡ cond touched (flush_cell cell) cell) → IsLineThere (Some c)
+there-may_flush touched cell c there (inl is) = subst (λ o. IsLineThere (Some o)) {x = cell} (sym is) there
+there-may_flush touched cell c there (inr is) =
+    subst (λ o. IsLineThere (Some o)) {x = cond touched (flush_cell cell) cell} (sym is) (there-flush touched cell there)
+
+pub lines-may_spans : (spans : List Span) (pages new : List Page) → HaveLines pages → MaySyncAll spans pages new → HaveLines new
+lines-may_spans spans pages new whole lines = by_lines (MayPersistTouched spans) pages new (λ n cell c there may. there-may_flush (touches_any spans n) cell c there may) whole lines
 
 lines-mixed : (pages to left : List Page) → HaveLines pages → HaveLines to → AreMixed Page pages to left → HaveLines left
 lines-mixed pages to left whole made may n there = elim (may.each (n / 64)) as (λ _. IsLineThere (cell_of left n)) [ inl is ↦ taken pages whole is | inr is ↦ taken to made is ]
@@ -190,7 +201,7 @@ lines-leaves Unchanged pages to new whole made is = subst HaveLines {x = pages} 
 lines-leaves (PartStored offset bytes) pages to new whole made (inl is) = subst HaveLines {x = pages} (sym is) whole
 lines-leaves (PartStored offset bytes) pages to new whole made (inr lines) =
     by_lines (MayPut offset bytes) (fill offset (length bytes) pages) new (there-may_put offset bytes) (lines-fill offset (length bytes) pages whole) lines
-lines-leaves (PartSynced offset len) pages to new whole made lines = by_lines (MayPersist offset len) pages new (there-may_persist offset len) whole lines
+lines-leaves (PartSynced offset len) pages to new whole made lines = by_lines (MayPersist offset len) pages new (λ n cell c there may. there-may_flush (touches offset len n) cell c there may) whole lines
 lines-leaves AllOrNone pages to new whole made (inl is) = subst HaveLines {x = pages} (sym is) whole
 lines-leaves AllOrNone pages to new whole made (inr is) = subst HaveLines {x = to} (sym is) made
 lines-leaves PageByPage pages to new whole made may = lines-mixed pages to new whole made may

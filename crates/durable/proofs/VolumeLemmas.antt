@@ -3,20 +3,23 @@ use Rattle.std.proofs.Common.{◌≡◌, ◌⊎◌, inl, inr, ℕ, ◌+◌, ◌/
 use Rattle.std.proofs.lemmas.Option.{slice_get-map}
 use Rattle.line_device.specs.Panel.{Image}
 use Rattle.line_device.specs.declared.line.Choice.{Choice}
+use Rattle.nvm_base.specs.declared.units.Span.{Span}
 use Rattle.nvm_model.specs.Numbered.{AreMixed, is_among}
-use Rattle.nvm_model.specs.Cell.{Cell, clear_cell, lose_cell, weaken_cell, persist_cell, put_cell, touches, zero_cell}
+use Rattle.nvm_model.specs.Cell.{Cell, clear_cell, flush_cell, lose_cell, weaken_cell, put_cell, touches, zero_cell}
 use Rattle.nvm_model.specs.Cell.Cell.{Bad, Kept}
-use Rattle.nvm_model.specs.Interrupted.{Became, LineByLine, MayPersist, MayPut, MayStore, MaySync}
+use Rattle.nvm_model.specs.Interrupted.{Became, LineByLine, MayPersist, MayPersistTouched, MayPut, MayStore, MaySync, MaySyncAll}
 use Rattle.nvm_model.specs.Page.{Page, KeepsPages, change_line, cell_in, cell_of, discard, discard_page, fill, fill_page, is_present, persist, presence_of, put, read_pages, touches_page}
 use Rattle.nvm_model.specs.Page.Page.{Absent, Present}
+use Rattle.nvm_model.specs.Touched.{persist_spans, touches_any}
 use Rattle.nvm_model.proofs.NumberedLemmas.{slice_get-map_from}
+use Rattle.nvm_model.proofs.SeveralLemmas.{cell_of-spans, presence_of-spans}
 use Rattle.nvm_model.proofs.MediaLemmas.{cell_of-changed, cell_of-unchanged, presence_of-change}
 use Rattle.std.proofs.lemmas.Bool.{cases_eq}
 use Rattle.nvm_model.proofs.PageLemmas.{cell_of-fill, cell_of-persist, cell_of-put, cell_of-read_pages, presence_of-persist, presence_of-put, presence_of-read_pages}
 use Rattle.durable.specs.Place.{is_line_present, is_weak_line, line_has}
 use Rattle.durable.specs.Durable.{HaveLines, IsLineThere}
 use Rattle.durable.proofs.PresenceLemmas.{has_lines, line_in, page_present, zero_at}
-use Rattle.durable.proofs.LineLemmas.{HasOrLost, LineKeeps, MayBe, line_has-kept, line_keeps-may_put, line_keeps-persist, line_keeps-put, line_keeps-read, line_keeps-there, line_keeps-zero}
+use Rattle.durable.proofs.LineLemmas.{HasOrLost, LineKeeps, MayBe, line_has-kept, line_keeps-flush, line_keeps-may_put, line_keeps-put, line_keeps-read, line_keeps-there, line_keeps-zero}
 
 module _ (since : MayBe) where
   -- the page of the byte is absent, where it reads as 0
@@ -60,14 +63,24 @@ module _ (since : MayBe) where
   kept_line None i v keeps = absurd keeps
   kept_line (Some cell) i v keeps = record { cell = cell; is = refl; keeps = keeps }
 
+  -- pages of which the line is flushed, where it is touched
+  keeps-flush : (touched : Bool) (i : ℕ) (v : Option ℕ) (pages new : List Page) → (touched ≡ true → since.weak ≡ true → since.lost ≡ true) → presence_of new ≡ presence_of pages
+      → cell_of new (i / 64) ≡ option_map (λ cell. cond touched (flush_cell cell) cell) (cell_of pages (i / 64)) → VolumeKeeps pages i v → VolumeKeeps new i v
+  keeps-flush touched i v pages new loses there line (inl keeps) = inl (absent_as i v pages new there keeps)
+  keeps-flush touched i v pages new loses there line (inr keeps) =
+      let old = kept_line (cell_of pages (i / 64)) (i % 64) v keeps in
+      inr (subst (λ o. LineKeeps since o (i % 64) v) (sym (line ∙ ap (option_map (λ cell. cond touched (flush_cell cell) cell)) old.is))
+      (line_keeps-flush since touched (i % 64) v old.cell loses old.keeps))
+
   pub keeps-persist : (start len i : ℕ) (v : Option ℕ) (pages : List Page) → (touches start len (i / 64) ≡ true → since.weak ≡ true → since.lost ≡ true)
       → VolumeKeeps pages i v → VolumeKeeps (persist start len pages) i v
-  keeps-persist start len i v pages loses (inl keeps) = inl (absent_as i v pages (persist start len pages) (presence_of-persist start len pages) keeps)
-  keeps-persist start len i v pages loses (inr keeps) =
-      let line = kept_line (cell_of pages (i / 64)) (i % 64) v keeps in
-      inr (subst (λ o. LineKeeps since o (i % 64) v)
-      (sym (cell_of-persist start len pages (i / 64) ∙ ap (option_map (persist_cell start len (i / 64))) line.is))
-      (line_keeps-persist since start len (i / 64) (i % 64) v line.cell loses line.keeps))
+  keeps-persist start len i v pages loses keeps =
+      keeps-flush (touches start len (i / 64)) i v pages (persist start len pages) loses (presence_of-persist start len pages) (cell_of-persist start len pages (i / 64)) keeps
+
+  pub keeps-spans : (spans : List Span) (i : ℕ) (v : Option ℕ) (pages : List Page) → (touches_any spans (i / 64) ≡ true → since.weak ≡ true → since.lost ≡ true)
+      → VolumeKeeps pages i v → VolumeKeeps (persist_spans spans pages) i v
+  keeps-spans spans i v pages loses keeps =
+      keeps-flush (touches_any spans (i / 64)) i v pages (persist_spans spans pages) loses (presence_of-spans spans pages) (cell_of-spans spans pages (i / 64)) keeps
 
   -- and what any page has, while no cut may come
   pub there-kept : (pages : List Page) (i : ℕ) → since.cut ≡ false → (is_weak_line (cell_of pages (i / 64)) ≡ true → since.weak ≡ true) → HaveLines pages
@@ -155,14 +168,22 @@ module _ (since : MayBe) where
       by_lines (MayPut at bytes) i v (fill at (length bytes) pages) left (λ cell c line may. line_keeps-may_put since at i v bytes cell c small out line may)
       (keeps-fill at (length bytes) i v pages keeps) lines
 
+  -- a line that is as before, or flushed where it is touched
+  may_flush : (touched : Bool) (k : ℕ) (v : Option ℕ) (cell c : Cell) → (touched ≡ true → since.weak ≡ true → since.lost ≡ true) → LineKeeps since (Some cell) k v
+      → (c ≡ cell) ⊎ (c ≡ cond touched (flush_cell cell) cell) → LineKeeps since (Some c) k v
+  may_flush touched k v cell c loses line (inl is) = subst (λ o. LineKeeps since (Some o) k v) {x = cell} (sym is) line
+  may_flush touched k v cell c loses line (inr is) =
+      subst (λ o. LineKeeps since (Some o) k v) {x = cond touched (flush_cell cell) cell} (sym is) (line_keeps-flush since touched k v cell loses line)
+
   pub keeps-may_sync : (start len i : ℕ) (v : Option ℕ) (pages left : List Page) → (touches start len (i / 64) ≡ true → since.weak ≡ true → since.lost ≡ true)
       → VolumeKeeps pages i v → MaySync start len pages left → VolumeKeeps left i v
-  keeps-may_sync start len i v pages left loses keeps lines = by_lines (MayPersist start len) i v pages left synced keeps lines
-    where
-      synced : (cell c : Cell) → LineKeeps since (Some cell) (i % 64) v → MayPersist start len (i / 64) cell c → LineKeeps since (Some c) (i % 64) v
-      synced cell c line (inl is) = subst (λ o. LineKeeps since (Some o) (i % 64) v) {x = cell} (sym is) line
-      synced cell c line (inr is) =
-          subst (λ o. LineKeeps since (Some o) (i % 64) v) {x = persist_cell start len (i / 64) cell} (sym is) (line_keeps-persist since start len (i / 64) (i % 64) v cell loses line)
+  keeps-may_sync start len i v pages left loses keeps lines =
+      by_lines (MayPersist start len) i v pages left (λ cell c line may. may_flush (touches start len (i / 64)) (i % 64) v cell c loses line may) keeps lines
+
+  pub keeps-may_spans : (spans : List Span) (i : ℕ) (v : Option ℕ) (pages left : List Page) → (touches_any spans (i / 64) ≡ true → since.weak ≡ true → since.lost ≡ true)
+      → VolumeKeeps pages i v → MaySyncAll spans pages left → VolumeKeeps left i v
+  keeps-may_spans spans i v pages left loses keeps lines =
+      by_lines (MayPersistTouched spans) i v pages left (λ cell c line may. may_flush (touches_any spans (i / 64)) (i % 64) v cell c loses line may) keeps lines
 
   -- a single line that is changed, but for one that holds the byte
   pub keeps-change : (f : Cell → Cell) (n i : ℕ) (v : Option ℕ) (pages : List Page)

@@ -38,7 +38,7 @@ use Rattle.durable.proofs.EightLemmas.{eight-altered, eight-left, eight-read}
 use Rattle.durable.proofs.ThereLemmas.{lines-altered, lines-left, lines-read}
 use Rattle.durable.proofs.FileThereLemmas.{lines-files_altered, lines-files_left, lines-files_read}
 use Rattle.durable.proofs.RefusalLemmas.{is_on}
-use Rattle.durable.proofs.StepKinds.{Alters, Remounts, Returns, Step, blocks_after, volume_after}
+use Rattle.durable.proofs.StepKinds.{Alters, Remounts, Returns, Step, blocks_after, files_made, volume_after}
 use Rattle.durable.proofs.StepLemmas.{nothing_idle, nothing_stopped, step_of}
 use Rattle.durable.proofs.StepKinds.Step.{idles, alters, stops, returns, remounts, empties}
 
@@ -172,7 +172,7 @@ whole-altered h action next whole on to =
       });
       eight = subst HaveEightLines {x = blocks_after action h.blocks} (sym to.blocks) (eight-altered action h.blocks whole.eight);
       lines = subst HaveLines {x = volume_after h.geometry action h.volume} (sym to.volume) (lines-altered h.geometry action h.volume whole.lines);
-      file_lines = subst AllHaveLines {x = (meaning action).files h.mappings h.files} (sym to.files) (lines-files_altered action h.mappings h.files whole.file_lines);
+      file_lines = subst AllHaveLines {x = files_made h.mappings action h.files} (sym to.files) (lines-files_altered action h.mappings h.files whole.file_lines);
       settled = λ at. to.interrupted ∙ whole.settled on;
       stopped = λ at. cc (at, to.mode, on);
     }

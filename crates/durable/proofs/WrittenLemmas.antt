@@ -1,14 +1,11 @@
 -- What was written is what lasts.
-use Rattle.std.proofs.Common.{◌≡◌, inl, inr, ℕ, zero, suc, not, ◌&&◌, ◌||◌, ◌==◌, ◌+◌, ◌-◌, ◌*◌, ◌/◌, ◌%◌, ◌<◌, ◌≤◌, Bool, true, false, cond, Option, Some, None, option_map, option_and_then, List, [], ◌∷◌, length, map, replicate, get_or, nat_lt, slice_get, slice_index_or, refl, sym, ap, subst, ◌∙◌, arith}
+use Rattle.std.proofs.Common.{◌≡◌, inl, inr, ℕ, not, ◌&&◌, ◌||◌, ◌==◌, ◌+◌, ◌-◌, ◌*◌, ◌/◌, ◌%◌, ◌<◌, ◌≤◌, Bool, true, false, cond, Option, Some, None, option_map, option_and_then, List, [], ◌∷◌, length, replicate, get_or, nat_lt, slice_get, slice_index_or, refl, sym, ap, subst, ◌∙◌, arith}
 use Rattle.std.specs.Prelude.{slice_index}
 use Rattle.std.proofs.lemmas.Bool.{both_ways, eq-eqb, eqb-false}
 use Rattle.std.proofs.lemmas.Bool.Decides.{nat_tests}
 use Rattle.std.proofs.lemmas.Option.{get_or_from_slice_get, slice_get-get_or}
-use Rattle.std.specs.Int.{byte_at}
-use Rattle.line_device.specs.History.{latest, newest}
 use Rattle.line_device.specs.Medium.{word_stored}
 use Rattle.line_device.proofs.WordLemmas.{byte_over-in}
-use Rattle.line_device.proofs.HistoryLemmas.{newest-latest}
 use Rattle.nvm_model.specs.Blocks.{data_from, first_there, nth, write, write_block}
 use Rattle.nvm_model.specs.Cell.{Cell, TakesPut, cell_byte, clear_cell, zero_cell, covers as holds_line, flush_cell, persist_cell, put_cell, touches}
 use Rattle.nvm_model.specs.Cell.Cell.{Bad, Kept}
@@ -46,8 +43,9 @@ use Rattle.durable.specs.Durable.{Does, HaveLines, IsLineThere, Lasts, LastsPowe
 use Rattle.script_text.specs.Script.Input.{Asked}
 use Rattle.durable.proofs.PresenceLemmas.{has_lines, line_in, page_present, zero_at}
 use Rattle.durable.proofs.RefusalLemmas.{is_on, is_refused, places_none, refused_told, unreadable_none}
-use Rattle.durable.proofs.LawLemmas.{durable, lasts_powered, stop_done, was_bad}
-use Rattle.durable.proofs.LineLemmas.{zero_shown}
+use Rattle.durable.proofs.CoverLemmas.{was_bad}
+use Rattle.durable.proofs.LawLemmas.{durable, lasts_powered, stop_done}
+use Rattle.durable.proofs.LineLemmas.{flush_shown, zero_shown}
 use Rattle.durable.proofs.ThereLemmas.{lines-fill}
 use Rattle.durable.proofs.WholeLemmas.{counted_on, whole-heard}
 
@@ -137,18 +135,6 @@ written_together h next block i bytes does among =
     let is : byte_at_place next (of_blocks i) ≡ Some (slice_index bytes (i - 512 * block)) =
     ap (λ m. byte_at_place m (of_blocks i)) done.1 ∙ written_byte block i bytes h.blocks among (omega (arith, fits, (counted_on h does.whole (is_on h (BAtomic block bytes) refl done.0)).blocks)) in
     subst (Lasts next (of_blocks i)) is (durable h next (BAtomic block bytes) (of_blocks i) does (or_true _ among))
-
--- a line that was made durable shows what it had, unless it is lost
-get_or-latest : (words : List (List ℕ)) (w : ℕ) → slice_index_or (map latest words) w [] ≡ latest (slice_index_or words w [])
-get_or-latest [] w = refl
-get_or-latest (h ∷ words) zero = refl
-get_or-latest (h ∷ words) (suc w) = get_or-latest words w
-
-flush_shown : (cell : Cell) (k : ℕ) → is_bad_cell (Some cell) ≡ false → is_weak_line (Some cell) ≡ false → line_has (Some (flush_cell cell)) k ≡ Some (cell_byte cell k)
-flush_shown Bad k good strong = cc good
-flush_shown (Kept true words) k good strong = cc strong
-flush_shown (Kept false words) k good strong =
-    ap (λ h. Some (byte_at (k % 8) (newest h))) (get_or-latest words (k / 8)) ∙ ap (λ v. Some (byte_at (k % 8) v)) (newest-latest (slice_index_or words (k / 8) []))
 
 -- a byte that was stored in a line that takes it
 put_byte : (at i : ℕ) (bytes : List ℕ) (pages : List Page) (cell : Cell) → ((k : ℕ) → get_or bytes k 0 < 256) → is_among at (length bytes) i ≡ true

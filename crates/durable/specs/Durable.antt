@@ -8,7 +8,7 @@ use Rattle.nvm_model.specs.Page.{Page, cell_of}
 use Rattle.nvm_model.specs.Storage.{Block, File}
 use Rattle.nvm_model.specs.Storage.Block.{Absent, Scarred, Data}
 use Rattle.reply_text.specs.Answer.{Answer}
-use Rattle.reply_text.specs.Answer.Answer.{Done, Bytes, PowerLost}
+use Rattle.reply_text.specs.Answer.Answer.{Done, Bytes, PowerLost, VerifyFile}
 use Rattle.script_text.specs.Action.{Action}
 use Rattle.script_text.specs.Action.Action.{BRead, BWrite, BAtomic, BMulti, BDiscard, BDiscardIf, BExists, BScar, VLoad, VStore, VSync, VRanges, VPSync, VDiscard, VDiscardIf, VExists, Create, Delete, Rename, Resize, ListFiles, FRead, FWrite, Map, Unmap, Load, Store, Sync, Flush, FlushVerify, DeepFlush, CheckFile, PoisonBlock, PoisonVolume, PoisonFile, PoisonMeta, WeakenFile, WeakenVolume, ClearFile, ClearVolume, Cut, CutIn, FailIn, Restart, Recover}
 use Rattle.script_text.specs.Script.{Input}
@@ -18,7 +18,7 @@ use Rattle.machine_host.specs.Machine.{Machine}
 use Rattle.machine_host.specs.Run.{Transcript, Hears, Run}
 use Rattle.durable.specs.Place.{Place, byte_at_place, is_line_present}
 use Rattle.durable.specs.Place.Place.{of_volume, of_blocks, of_file}
-use Rattle.durable.specs.Touching.{changes, is_begun, is_made_durable, poisons, weakens}
+use Rattle.durable.specs.Touching.{changes, is_begun, is_made_durable, may_be_made_durable, poisons, weakens}
 
 -- a line of the volume is there: it is bad, or has its eight words
 abbrev pub IsLineThere : Option Cell → Type 0
@@ -96,10 +96,18 @@ BringsBytes (Map name span kind) = Unit {0}
 BringsBytes (Unmap handle) = Unit {0}
 BringsBytes (Load handle offset len) = Unit {0}
 BringsBytes (Store handle offset bytes) = (k : ℕ) → slice_index bytes k < 256
+BringsBytes (Sync handle offset len) = Unit {0}
+BringsBytes (Flush handle spans) = Unit {0}
+BringsBytes (FlushVerify handle spans) = Unit {0}
+BringsBytes (DeepFlush handle spans) = Unit {0}
+BringsBytes (CheckFile name offset len) = Unit {0}
 BringsBytes (PoisonBlock block line) = Unit {0}
 BringsBytes (PoisonVolume offset) = Unit {0}
+BringsBytes (PoisonFile name offset) = Unit {0}
 BringsBytes (PoisonMeta line) = Unit {0}
+BringsBytes (WeakenFile name offset) = Unit {0}
 BringsBytes (WeakenVolume offset) = Unit {0}
+BringsBytes (ClearFile name offset) = Unit {0}
 BringsBytes (ClearVolume offset) = Unit {0}
 BringsBytes Cut = Unit {0}
 BringsBytes (CutIn calls) = Unit {0}
@@ -147,11 +155,12 @@ pub record Has (h : Machine) (x : Place) (byte : Option ℕ) : Type 0 where
   pub shown : IfSome byte (Reads h x)
 
 -- What these inputs, answered so, left of a byte that none of them changed: the place has it still, or was lost, or nothing is
--- there. It was not lost where none poisoned its line, and none made the line weak or none made it durable.
+-- there. It was not lost where none poisoned its line, and none made the line weak or none may have made it durable: which file a
+-- later handle is of, the states between tell, so any flush may have.
 pub record Remains (inputs : List Input) (answers : List Answer) (later : Machine) (x : Place) (byte : Option ℕ) : Type 0 where
   pub has : Spares changes x inputs answers → Has later x byte
   pub unharmed : Spares changes x inputs answers → Spares poisons x inputs answers
-      → Spares weakens x inputs answers ⊎ Spares (is_made_durable later) x inputs answers → (byte_at_place later x ≡ byte) ⊎ HasNothing later
+      → Spares weakens x inputs answers ⊎ Spares (may_be_made_durable later) x inputs answers → (byte_at_place later x ≡ byte) ⊎ HasNothing later
 
 -- so it is in every later state of every run, whatever is cut, fails, and is restarted or recovered
 abbrev pub Lasts : Machine → Place → Option ℕ → Type 0
@@ -184,6 +193,21 @@ pub record Does (h : Machine) (action : Action) (next : Machine) : Type 0 where
   pub came : Hears h (Asked action) said next
   pub done : said.answers ≡ Done ∷ []
 
+-- The answer tells that a command was done; a flush that looks again may tell in place of `ok` which line it lost.
+abbrev pub IsDone : Answer → Type 0
+IsDone answer = (answer ≡ Done) ⊎ ((name : List ℕ) × (offset : ℕ) × (answer ≡ VerifyFile name offset))
+
+-- that is all that was answered
+abbrev pub AreDone : List Answer → Type 0
+AreDone answers = (answer : Answer) × (answers ≡ answer ∷ []) × IsDone answer
+
+-- a command was done in h and led to this state
+pub record Finishes (h : Machine) (action : Action) (next : Machine) : Type 0 where
+  pub whole : IsComplete h
+  pub said : Transcript
+  pub came : Hears h (Asked action) said next
+  pub done : AreDone said.answers
+
 -- A run over some inputs, a command and others, as it comes to the command.
 pub record Passes (h : Machine) (before : List Input) (action : Action) (after : List Input) (said : Transcript) (end : Machine) : Type 0 where
   pub early : Transcript
@@ -199,5 +223,5 @@ pub record Passes (h : Machine) (before : List Input) (action : Action) (after :
 -- where the command made the place durable and was done, the rest left of its byte what it leaves of a durable one
 pub record KeepsThrough (h : Machine) (before : List Input) (action : Action) (after : List Input) (said : Transcript) (end : Machine) (x : Place) : Type 0 where
   pub passes : Passes h before action after said end
-  pub keeps : is_made_durable passes.here action x ≡ true → passes.middle.answers ≡ Done ∷ []
+  pub keeps : is_made_durable passes.here action x ≡ true → AreDone passes.middle.answers
       → Remains after passes.late.answers end x (byte_at_place passes.next x)

@@ -1,10 +1,13 @@
 -- Which bytes a command makes durable, which it changes, of which it makes the line bad or weak, and which it keeps from mounts.
-use Rattle.std.specs.Prelude.{◌+◌, ◌*◌, ◌/◌, ◌==◌, ◌&&◌, ◌||◌, ℕ, Bool, true, false, List, Option, Some, None, length}
+use Rattle.std.specs.Prelude.{◌+◌, ◌*◌, ◌/◌, ◌==◌, ◌&&◌, ◌||◌, ℕ, Bool, true, false, List, [], ◌∷◌, Option, Some, None, length, if◌then◌else◌}
 use Rattle.std.specs.List.{list_any}
 use Rattle.std.specs.Str.{bytes_eq}
 use Rattle.nvm_base.specs.declared.units.Span.{Span}
 use Rattle.nvm_model.specs.Cell.{touches}
+use Rattle.nvm_model.specs.Mappings.{is_shared, mapping_of}
 use Rattle.nvm_model.specs.Numbered.{is_among}
+use Rattle.nvm_model.specs.Storage.{Mapping}
+use Rattle.nvm_model.specs.Touched.{touches_any}
 use Rattle.block_device.specs.Refusals.{block_spans}
 use Rattle.pm_volume.specs.Refusals.{physical_offset}
 use Rattle.reply_text.specs.Answer.{Answer}
@@ -12,6 +15,7 @@ use Rattle.reply_text.specs.Answer.Answer.{Done, DoneBad, Bytes, Ranges, Files, 
 use Rattle.script_text.specs.Action.{Action}
 use Rattle.script_text.specs.Action.Action.{BRead, BWrite, BAtomic, BMulti, BDiscard, BDiscardIf, BExists, BScar, VLoad, VStore, VSync, VRanges, VPSync, VDiscard, VDiscardIf, VExists, Create, Delete, Rename, Resize, ListFiles, FRead, FWrite, Map, Unmap, Load, Store, Sync, Flush, FlushVerify, DeepFlush, CheckFile, PoisonBlock, PoisonVolume, PoisonFile, PoisonMeta, WeakenFile, WeakenVolume, ClearFile, ClearVolume, Cut, CutIn, FailIn, Restart, Recover}
 use Rattle.machine_host.specs.OnBlocks.{blocks_from}
+use Rattle.machine_host.specs.OnFlushes.{all_moved}
 use Rattle.machine_host.specs.Machine.{Machine}
 use Rattle.word_tables.specs.declared.geometry.Geometry.{Geometry}
 use Rattle.durable.specs.Place.{Place}
@@ -54,12 +58,15 @@ file_bytes file offset len = record nothing { files = λ name i. bytes_eq file n
 abbrev pub all_files : Region
 all_files = record nothing { files = λ name i. true }
 
--- all bytes of a line of the volume, or of the blocks
+-- all bytes of a line of the volume, of the blocks, or of the file of a name
 abbrev pub line_of_volume : ℕ → Region
 line_of_volume n = record nothing { volume = λ i. i / 64 == n }
 
 abbrev pub line_of_blocks : ℕ → Region
 line_of_blocks n = record nothing { blocks = λ i. i / 64 == n }
+
+abbrev pub line_of_file : List ℕ → ℕ → Region
+line_of_file file n = record nothing { files = λ name i. bytes_eq file name && (i / 64 == n) }
 
 -- all bytes of the lines that a span of the volume touches
 abbrev pub touched_lines : ℕ → ℕ → Region
@@ -70,50 +77,80 @@ abbrev pub touched_lines_at : Option ℕ → ℕ → Region
 touched_lines_at None len = nothing
 touched_lines_at (Some offset) len = touched_lines offset len
 
+-- all bytes of the lines that one or more spans of a file touch
+abbrev pub flushed_lines : List ℕ → List Span → Region
+flushed_lines file spans = record nothing { files = λ name i. bytes_eq file name && touches_any spans (i / 64) }
+
+-- the same of spans of a mapping that shows its file; nothing where it is a copy, or there is none
+abbrev pub flushed_by : List Span → Option Mapping → Region
+flushed_by spans None = nothing
+flushed_by spans (Some m) = if is_shared m.kind then flushed_lines m.name (all_moved m.start spans) else nothing
+
+-- and of the mapping that has a handle
+abbrev pub flushed_through : List Mapping → ℕ → List Span → Region
+flushed_through mappings handle spans = flushed_by spans (mapping_of handle mappings)
+
 abbrev pub holds : Region → Place → Bool
 holds region (of_volume i) = region.volume i
 holds region (of_blocks i) = region.blocks i
 holds region (of_file name i) = region.files name i
 
--- what is durable once a command is done on storage of these sizes: the blocks that it writes, the lines that it syncs, and one that it clears
-abbrev pub made_durable : Geometry → Action → Region
-made_durable geo (BRead block count) = nothing
-made_durable geo (BWrite block bytes) = spanned (blocks_from block (length bytes / 512))
-made_durable geo (BAtomic block bytes) = spanned (blocks_from block (length bytes / 512))
-made_durable geo (BMulti ranges bytes) = spanned (block_spans ranges)
-made_durable geo (BDiscard block count) = nothing
-made_durable geo (BDiscardIf block count) = nothing
-made_durable geo (BExists block) = nothing
-made_durable geo (BScar ranges) = nothing
-made_durable geo (VLoad offset len) = nothing
-made_durable geo (VStore offset bytes) = nothing
-made_durable geo (VSync offset len) = touched_lines offset len
-made_durable geo VRanges = nothing
-made_durable geo (VPSync address len) = touched_lines_at (physical_offset geo address len) len
-made_durable geo (VDiscard page count) = nothing
-made_durable geo (VDiscardIf page count) = nothing
-made_durable geo (VExists page) = nothing
-made_durable geo (Create name pages) = nothing
-made_durable geo (Delete name) = nothing
-made_durable geo (Rename name to) = nothing
-made_durable geo (Resize name pages) = nothing
-made_durable geo ListFiles = nothing
-made_durable geo (FRead name offset len) = nothing
-made_durable geo (FWrite name offset bytes) = nothing
-made_durable geo (Map name span kind) = nothing
-made_durable geo (Unmap handle) = nothing
-made_durable geo (Load handle offset len) = nothing
-made_durable geo (Store handle offset bytes) = nothing
-made_durable geo (PoisonBlock block line) = nothing
-made_durable geo (PoisonVolume offset) = nothing
-made_durable geo (PoisonMeta line) = nothing
-made_durable geo (WeakenVolume offset) = nothing
-made_durable geo (ClearVolume offset) = line_of_volume (offset / 64)
-made_durable geo Cut = nothing
-made_durable geo (CutIn calls) = nothing
-made_durable geo (FailIn calls) = nothing
-made_durable geo (Restart choice) = nothing
-made_durable geo Recover = nothing
+-- What is durable once a command is done on storage of these sizes: the blocks that it writes, the lines that it syncs, one that it
+-- clears, and those that it flushes through a handle, of which this region is told.
+abbrev pub covered_by : (ℕ → List Span → Region) → Geometry → Action → Region
+covered_by flushed geo (BRead block count) = nothing
+covered_by flushed geo (BWrite block bytes) = spanned (blocks_from block (length bytes / 512))
+covered_by flushed geo (BAtomic block bytes) = spanned (blocks_from block (length bytes / 512))
+covered_by flushed geo (BMulti ranges bytes) = spanned (block_spans ranges)
+covered_by flushed geo (BDiscard block count) = nothing
+covered_by flushed geo (BDiscardIf block count) = nothing
+covered_by flushed geo (BExists block) = nothing
+covered_by flushed geo (BScar ranges) = nothing
+covered_by flushed geo (VLoad offset len) = nothing
+covered_by flushed geo (VStore offset bytes) = nothing
+covered_by flushed geo (VSync offset len) = touched_lines offset len
+covered_by flushed geo VRanges = nothing
+covered_by flushed geo (VPSync address len) = touched_lines_at (physical_offset geo address len) len
+covered_by flushed geo (VDiscard page count) = nothing
+covered_by flushed geo (VDiscardIf page count) = nothing
+covered_by flushed geo (VExists page) = nothing
+covered_by flushed geo (Create name pages) = nothing
+covered_by flushed geo (Delete name) = nothing
+covered_by flushed geo (Rename name to) = nothing
+covered_by flushed geo (Resize name pages) = nothing
+covered_by flushed geo ListFiles = nothing
+covered_by flushed geo (FRead name offset len) = nothing
+covered_by flushed geo (FWrite name offset bytes) = nothing
+covered_by flushed geo (Map name span kind) = nothing
+covered_by flushed geo (Unmap handle) = nothing
+covered_by flushed geo (Load handle offset len) = nothing
+covered_by flushed geo (Store handle offset bytes) = nothing
+covered_by flushed geo (Sync handle offset len) = flushed handle (record { start = offset; len = len } ∷ [])
+covered_by flushed geo (Flush handle spans) = flushed handle spans
+covered_by flushed geo (FlushVerify handle spans) = flushed handle spans
+covered_by flushed geo (DeepFlush handle spans) = flushed handle spans
+covered_by flushed geo (CheckFile name offset len) = nothing
+covered_by flushed geo (PoisonBlock block line) = nothing
+covered_by flushed geo (PoisonVolume offset) = nothing
+covered_by flushed geo (PoisonFile name offset) = nothing
+covered_by flushed geo (PoisonMeta line) = nothing
+covered_by flushed geo (WeakenFile name offset) = nothing
+covered_by flushed geo (WeakenVolume offset) = nothing
+covered_by flushed geo (ClearFile name offset) = line_of_file name (offset / 64)
+covered_by flushed geo (ClearVolume offset) = line_of_volume (offset / 64)
+covered_by flushed geo Cut = nothing
+covered_by flushed geo (CutIn calls) = nothing
+covered_by flushed geo (FailIn calls) = nothing
+covered_by flushed geo (Restart choice) = nothing
+covered_by flushed geo Recover = nothing
+
+-- so where the mappings are these
+abbrev pub made_durable : Geometry → List Mapping → Action → Region
+made_durable geo mappings action = covered_by (flushed_through mappings) geo action
+
+-- An upper bound where they are not known: a flush through any handle counts for all bytes of all files.
+abbrev pub may_make_durable : Geometry → Action → Region
+may_make_durable geo action = covered_by (λ handle spans. all_files) geo action
 
 -- what a command writes, discards, scars, stores or clears; and all of a file that it makes, renames, resizes or deletes
 abbrev pub region_changed : Action → Region
@@ -144,10 +181,18 @@ region_changed (Map name span kind) = nothing
 region_changed (Unmap handle) = nothing
 region_changed (Load handle offset len) = nothing
 region_changed (Store handle offset bytes) = all_files
+region_changed (Sync handle offset len) = nothing
+region_changed (Flush handle spans) = nothing
+region_changed (FlushVerify handle spans) = nothing
+region_changed (DeepFlush handle spans) = nothing
+region_changed (CheckFile name offset len) = nothing
 region_changed (PoisonBlock block line) = nothing
 region_changed (PoisonVolume offset) = nothing
+region_changed (PoisonFile name offset) = nothing
 region_changed (PoisonMeta line) = nothing
+region_changed (WeakenFile name offset) = nothing
 region_changed (WeakenVolume offset) = nothing
+region_changed (ClearFile name offset) = line_of_file name (offset / 64)
 region_changed (ClearVolume offset) = line_of_volume (offset / 64)
 region_changed Cut = nothing
 region_changed (CutIn calls) = nothing
@@ -194,10 +239,18 @@ harm_done (Map name span kind) = no_harm
 harm_done (Unmap handle) = no_harm
 harm_done (Load handle offset len) = no_harm
 harm_done (Store handle offset bytes) = no_harm
+harm_done (Sync handle offset len) = no_harm
+harm_done (Flush handle spans) = no_harm
+harm_done (FlushVerify handle spans) = no_harm
+harm_done (DeepFlush handle spans) = no_harm
+harm_done (CheckFile name offset len) = no_harm
 harm_done (PoisonBlock block line) = record no_harm { poisoned = line_of_blocks (8 * block + line) }
 harm_done (PoisonVolume offset) = record no_harm { poisoned = line_of_volume (offset / 64) }
+harm_done (PoisonFile name offset) = record no_harm { poisoned = line_of_file name (offset / 64) }
 harm_done (PoisonMeta line) = record no_harm { unmounted = everything }
+harm_done (WeakenFile name offset) = record no_harm { weakened = line_of_file name (offset / 64) }
 harm_done (WeakenVolume offset) = record no_harm { weakened = line_of_volume (offset / 64) }
+harm_done (ClearFile name offset) = no_harm
 harm_done (ClearVolume offset) = no_harm
 harm_done Cut = no_harm
 harm_done (CutIn calls) = no_harm
@@ -206,7 +259,10 @@ harm_done (Restart choice) = no_harm
 harm_done Recover = no_harm
 
 abbrev pub is_made_durable : Machine → Action → Place → Bool
-is_made_durable h action x = holds (made_durable h.geometry action) x
+is_made_durable h action x = holds (made_durable h.geometry h.mappings action) x
+
+abbrev pub may_be_made_durable : Machine → Action → Place → Bool
+may_be_made_durable h action x = holds (may_make_durable h.geometry action) x
 
 abbrev pub changes : Action → Place → Bool
 changes action x = holds (region_changed action) x
@@ -220,7 +276,7 @@ weakens action x = holds (harm_done action).weakened x
 abbrev pub unmounts : Action → Place → Bool
 unmounts action x = holds (harm_done action).unmounted x
 
--- a command that was answered so was begun: it was done, or stopped on the way
+-- a command that was answered so was begun: it was done, a flush also where it lost a line, or stopped on the way
 abbrev pub is_begun : Answer → Bool
 is_begun Done = true
 is_begun (DoneBad n) = false
@@ -237,7 +293,7 @@ is_begun (Scarred block) = false
 is_begun (PoisonedBlock block line) = false
 is_begun (PoisonedVolume offset) = false
 is_begun (PoisonedFile name offset) = false
-is_begun (VerifyFile name offset) = false
+is_begun (VerifyFile name offset) = true
 is_begun DeviceFailed = true
 is_begun PowerLost = true
 is_begun (Stopped line) = false

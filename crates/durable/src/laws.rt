@@ -1,10 +1,11 @@
 // Laws of whole runs, each a function without a body.
-ghost use Rattle.std.specs.Prelude.{◌≡◌, ◌+◌, ◌-◌, ◌*◌, ◌/◌, ℕ, true, false, List, [], ◌∷◌, ◌++◌, length, slice_index, Some, None};
+ghost use Rattle.std.specs.Prelude.{◌≡◌, ◌≢◌, ◌+◌, ◌-◌, ◌*◌, ◌/◌, ℕ, true, false, List, [], ◌∷◌, ◌++◌, length, slice_index, Some, None};
 ghost use Rattle.word_tables.specs.declared.geometry.Geometry.{Geometry};
 ghost use Rattle.std.specs.List.{Contains};
-ghost use Rattle.durable.specs.Touching.{is_made_durable, unmounts};
+ghost use Rattle.durable.specs.Touching.{is_made_durable, may_be_made_durable, unmounts};
 ghost use Rattle.nvm_base.specs.declared.files.FileEntry.{FileEntry};
-ghost use Rattle.reply_text.specs.Answer.Answer.{Files, RefusedMeta, Stopped as StoppedMeta};
+ghost use Rattle.nvm_base.specs.declared.units.Span.{Span};
+ghost use Rattle.reply_text.specs.Answer.Answer.{Files, RefusedMeta, Stopped as StoppedMeta, VerifyFile};
 ghost use Rattle.nvm_model.specs.Cell.{covers, touches};
 ghost use Rattle.nvm_model.specs.Numbered.{is_among};
 ghost use Rattle.nvm_model.specs.Page.{cell_of, touches_absent};
@@ -13,7 +14,7 @@ ghost use Rattle.word_tables.specs.Layout.{volume_line};
 ghost use Rattle.pm_volume.specs.Presence.{presence_read};
 ghost use Rattle.pm_volume.specs.Refusals.{physical_offset};
 ghost use Rattle.script_text.specs.Action.{Action};
-ghost use Rattle.script_text.specs.Action.Action.{BRead, BWrite, BAtomic, VLoad, VStore, VSync, VPSync, FRead, FWrite, PoisonBlock, PoisonVolume, ClearVolume, Cut, Restart, ListFiles};
+ghost use Rattle.script_text.specs.Action.Action.{BRead, BWrite, BAtomic, VLoad, VStore, VSync, VPSync, FRead, FWrite, FlushVerify, PoisonBlock, PoisonFile, PoisonVolume, ClearFile, ClearVolume, Cut, Restart, ListFiles};
 ghost use Rattle.script_text.specs.Script.{Input, inputs};
 ghost use Rattle.script_text.specs.Script.Input.{Asked};
 ghost use Rattle.line_device.specs.declared.line.Choice.TheVariants.{Firsts};
@@ -28,21 +29,23 @@ ghost use Rattle.machine_host.specs.Run.{Hears, Transcript, Run};
 ghost use Rattle.durable.specs.Place.{Place, byte_at_place, is_weak_at, is_weak_line};
 ghost use Rattle.durable.specs.Naming.{Names, NamesLine, NamesLineOf, NamesObstacle, refused_before};
 ghost use Rattle.durable.specs.Place.Place.{of_volume, of_blocks, of_file};
-ghost use Rattle.durable.specs.Durable.{BringBytes, BringsBytes, Does, HasNothing, IsDurable, IsComplete, KeepsThrough, Lasts, LastsPowered, Spares};
+ghost use Rattle.durable.specs.Durable.{BringBytes, BringsBytes, Does, Finishes, HasNothing, IsDurable, IsComplete, KeepsThrough, Lasts, LastsPowered, Spares};
 ghost use Rattle.durable.specs.Files.{BreaksOff, FilesLast, FilesSettle, FilesThrough, LeavesFiles, changes_files, files_after, files_listed};
 
-/// A command that covers a byte was answered `ok`: in every later state, whatever is cut, fails, and is restarted or recovered,
-/// the byte is the same or its line is lost, until a command that changes it is begun; or nothing is there, since metadata is bad.
-/// It isn't lost where no command poisons its line, and none makes the line weak or none syncs it.
+/// A command that covers a byte of the blocks, the volume or a file was done, a flush also where it lost a line: in every later state,
+/// whatever is cut, fails, and is restarted or recovered, the byte is the same or its line is lost, until a command that changes it is
+/// begun; or nothing is there, since metadata is bad. It isn't lost where no command poisons its line, and none makes the line weak or
+/// none may sync it.
 pub fn what_was_made_durable_stays()
-    ensures stays { (h next : Machine) (action : Action) (x : Place) → Does h action next → is_made_durable h action x ≡ true → IsDurable next x }
+    ensures stays { (h next : Machine) (action : Action) (x : Place) → Finishes h action next → is_made_durable h action x ≡ true → IsDurable next x }
+    ensures bounded { (h : Machine) (action : Action) (x : Place) → is_made_durable h action x ≡ true → may_be_made_durable h action x ≡ true }
     ensures whole { (h end : Machine) (before after : List Input) (action : Action) (said : Transcript) (x : Place) → IsComplete h
         → BringBytes after → Run h (before ++ Asked action ∷ after) said end → KeepsThrough h before action after said end x }
     ensures scripts { (script : List ℕ) → BringBytes (inputs script) }
 {}
 
-/// The bytes that were written are the ones that last: those of a write of blocks, those of a store that is synced, but in a
-/// weak line, and the zeros of a line that is cleared.
+/// The bytes that were written are the ones that last: those of a write of blocks, those of a store to the volume or in a file that
+/// is then made durable, but in a weak line, and the zeros of a line that is cleared.
 pub fn what_was_written_lasts()
     ensures write { (h next : Machine) (block i : ℕ) (bytes : List ℕ) → Does h (BWrite block bytes) next
         → is_among block (length bytes / 512) (i / 512) ≡ true
@@ -63,6 +66,12 @@ pub fn what_was_written_lasts()
         → Lasts next (of_volume i) (Some (slice_index bytes (i - offset))) }
     ensures cleared { (h next : Machine) (offset i : ℕ) → Does h (ClearVolume offset) next → i / 64 ≡ offset / 64
         → Lasts next (of_volume i) (Some 0) }
+    ensures flushed { (h stored next : Machine) (name : List ℕ) (offset i : ℕ) (bytes : List ℕ) (action : Action) → BringsBytes (FWrite name offset bytes)
+        → Does h (FWrite name offset bytes) stored → Finishes stored action next → is_made_durable stored action (of_file name i) ≡ true
+        → is_among offset (length bytes) i ≡ true → is_weak_line (cell_of (pages_named name stored.files) (i / 64)) ≡ false
+        → Lasts next (of_file name i) (Some (slice_index bytes (i - offset))) }
+    ensures cleared_in_file { (h next : Machine) (name : List ℕ) (offset i : ℕ) → Does h (ClearFile name offset) next → i / 64 ≡ offset / 64
+        → Lasts next (of_file name i) (Some 0) }
 {}
 
 /// While the power stays on, whatever calls fail and however often the storage is recovered, a byte is the one that was last
@@ -79,15 +88,23 @@ pub fn what_is_there_stays_while_powered()
         → LastsPowered stored (of_file name i) (Some (slice_index bytes (i - offset))) }
 {}
 
-/// A line that is poisoned is lost at once, and so is one that was weak when it was synced, though the answer is `ok`. What is
-/// lost stays lost, whatever is cut, fails, and is restarted or recovered, until a command that changes it is begun.
+/// A line that is poisoned is lost at once, and so is one that was weak when it was synced or flushed, though the answer is `ok`.
+/// A flush that looks again names a line that is lost, and is answered `ok` only where it leaves none lost. What is lost stays lost,
+/// whatever is cut, fails, and is restarted or recovered, until a command that changes it is begun.
 pub fn what_is_lost_stays_lost()
     ensures poisoned { (h next : Machine) (offset i : ℕ) → Does h (PoisonVolume offset) next → i / 64 ≡ offset / 64
         → byte_at_place next (of_volume i) ≡ None }
+    ensures poisoned_in_file { (h next : Machine) (name : List ℕ) (offset i : ℕ) → Does h (PoisonFile name offset) next → i / 64 ≡ offset / 64
+        → byte_at_place next (of_file name i) ≡ None }
     ensures of_a_block { (h next : Machine) (block line i : ℕ) → Does h (PoisonBlock block line) next → i / 64 ≡ 8 * block + line
         → byte_at_place next (of_blocks i) ≡ None }
-    ensures worn_out { (h next : Machine) (action : Action) (i : ℕ) → Does h action next → is_made_durable h action (of_volume i) ≡ true
-        → is_weak_line (cell_of h.volume (i / 64)) ≡ true → byte_at_place next (of_volume i) ≡ None }
+    ensures worn_out { (h next : Machine) (action : Action) (x : Place) → Finishes h action next → is_made_durable h action x ≡ true
+        → is_weak_at h x ≡ true → byte_at_place next x ≡ None }
+    ensures verified { (h next : Machine) (handle offset i : ℕ) (spans : List Span) (name : List ℕ) (said : Transcript)
+        → Hears h (Asked (FlushVerify handle spans)) said next → said.answers ≡ VerifyFile name offset ∷ [] → i / 64 ≡ offset / 64
+        → byte_at_place next (of_file name i) ≡ None }
+    ensures none_lost { (h next : Machine) (handle i : ℕ) (spans : List Span) (name : List ℕ) → Does h (FlushVerify handle spans) next
+        → is_made_durable h (FlushVerify handle spans) (of_file name i) ≡ true → byte_at_place next (of_file name i) ≢ None }
     ensures stays { (h : Machine) (x : Place) → IsComplete h → h.mode ≡ On → byte_at_place h x ≡ None → Lasts h x None }
 {}
 

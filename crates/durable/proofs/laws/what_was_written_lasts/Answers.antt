@@ -1,3 +1,4 @@
+use Rattle.durable.proofs.FileWrittenLemmas.{cleared_in_file, flushed}
 use Rattle.durable.proofs.WrittenLemmas.{cleared, synced, synced_by_address, written, written_together}
 use Rattle.durable.proofs.laws.what_was_written_lasts.Goals as goal
 
@@ -15,3 +16,9 @@ returns-clause-by_address c = synced_by_address
 
 pub returns-clause-cleared : goal.returns-clause-cleared
 returns-clause-cleared c = cleared
+
+pub returns-clause-flushed : goal.returns-clause-flushed
+returns-clause-flushed c = flushed
+
+pub returns-clause-cleared_in_file : goal.returns-clause-cleared_in_file
+returns-clause-cleared_in_file c = cleared_in_file

@@ -1,0 +1,166 @@
+-- What a command that made a place durable left of it.
+use Rattle.std.proofs.Common.{◌≡◌, ◌⊎◌, inl, inr, ℕ, ◌/◌, ◌%◌, Bool, true, false, Option, Some, None, option_map, List, [], ◌∷◌, slice_index_or, refl, sym, ap, subst, ◌∙◌, arith, if◌then◌else◌}
+use Rattle.std.proofs.lemmas.Bool.{and_parts, eqb-true}
+use Rattle.std.proofs.lemmas.Slice.Eq.{bytes_eq-Decides}
+use Rattle.nvm_base.specs.declared.units.Span.{Span}
+use Rattle.nvm_model.specs.Cell.{Cell, clear_cell, flush_cell, zero_cell}
+use Rattle.nvm_model.specs.Cell.Cell.{Bad, Kept}
+use Rattle.nvm_model.specs.Mappings.{is_shared, mapping_of}
+use Rattle.nvm_model.specs.Page.{Page, cell_of, change_line, persist}
+use Rattle.nvm_model.specs.Storage.{File, Mapping}
+use Rattle.nvm_model.proofs.MediaLemmas.{cell_of-changed}
+use Rattle.scrub.specs.Refusals.{line_refusal}
+use Rattle.pm_volume.specs.Refusals.{physical_offset}
+use Rattle.script_text.specs.Action.{Action}
+use Rattle.script_text.specs.Action.Action.{VSync, VPSync, Sync, Flush, FlushVerify, DeepFlush, ClearFile, ClearVolume}
+use Rattle.machine_host.specs.declared.look.Look.TheVariants.{Once, Again}
+use Rattle.machine_host.specs.Machine.{Machine}
+use Rattle.machine_host.specs.Commands.{refusal}
+use Rattle.machine_host.specs.OnFileErrors.{marked_in}
+use Rattle.machine_host.specs.OnFlushes.{all_moved}
+use Rattle.machine_host.specs.OnPages.{pages_named}
+use Rattle.machine_host.specs.OnVolume.{persist_at}
+use Rattle.durable.specs.Place.{Place, byte_at_place, is_line_present, line_has}
+use Rattle.durable.specs.Place.Place.{of_volume, of_blocks, of_file}
+use Rattle.durable.specs.Touching.{all_files, flushed_by, flushed_lines, flushed_through, holds, is_made_durable, may_be_made_durable, nothing, touched_lines_at}
+use Rattle.durable.specs.Durable.{HaveLines, IsComplete, IsLineThere}
+use Rattle.durable.proofs.StepKinds.{Alters, files_made}
+use Rattle.durable.proofs.LineLemmas.{LineKeeps, MayBe, line_keeps-flushed}
+use Rattle.durable.proofs.VolumeLemmas.{VolumeKeeps, absent-kept}
+use Rattle.durable.proofs.FileLineLemmas.{LineFlushed, named-marked, persist-flushed, through-flushed}
+use Rattle.durable.proofs.FileThereLemmas.{lines-named}
+use Rattle.durable.proofs.KeepLemmas.{PlaceKeeps}
+use Rattle.durable.proofs.RefusalLemmas.{line_none, places_none, within_none}
+
+-- a line that is cleared was bad
+cleared_bad : (o : Option Cell) → line_refusal o ≡ None → o ≡ Some Bad
+cleared_bad None is = cc is
+cleared_bad (Some Bad) is = refl
+cleared_bad (Some (Kept weak words)) is = cc is
+
+pub was_bad : (h : Machine) (offset : ℕ) → refusal h (ClearVolume offset) ≡ None → cell_of h.volume (offset / 64) ≡ Some Bad
+was_bad h offset none = cleared_bad _ (within_none _ _ (line_none _ (places_none h (ClearVolume offset) none))).1
+
+pub was_bad_in : (h : Machine) (name : List ℕ) (offset : ℕ) → refusal h (ClearFile name offset) ≡ None → cell_of (pages_named name h.files) (offset / 64) ≡ Some Bad
+was_bad_in h name offset none = cleared_bad _ (within_none _ _ (line_none _ (places_none h (ClearFile name offset) none))).1
+
+-- a sync by addresses covers bytes of the volume alone
+pub no_file : (o : Option ℕ) (len : ℕ) (name : List ℕ) (i : ℕ) → (touched_lines_at o len).files name i ≡ true → ⊥
+no_file None len name i covered = cc covered
+no_file (Some start) len name i covered = cc covered
+
+-- a flush covers bytes of files alone
+flush_files : (mappings : List Mapping) (handle : ℕ) (spans : List Span) (x : Place) → holds (flushed_through mappings handle spans) x ≡ true → holds all_files x ≡ true
+flush_files mappings handle spans x = by_mapping (mapping_of handle mappings) x
+  where
+    of_none : (x : Place) → holds nothing x ≡ true → holds all_files x ≡ true
+    of_none (of_volume i) is = is
+    of_none (of_blocks i) is = is
+    of_none (of_file name i) is = refl
+
+    of_lines : (text : List ℕ) (moved : List Span) (x : Place) → holds (flushed_lines text moved) x ≡ true → holds all_files x ≡ true
+    of_lines text moved (of_volume i) is = is
+    of_lines text moved (of_blocks i) is = is
+    of_lines text moved (of_file name i) is = refl
+
+    by_kind : (m : Mapping) (shared : Bool) (x : Place) → holds (if shared then flushed_lines m.name (all_moved m.start spans) else nothing) x ≡ true → holds all_files x ≡ true
+    by_kind m true x is = of_lines m.name (all_moved m.start spans) x is
+    by_kind m false x is = of_none x is
+
+    by_mapping : (o : Option Mapping) (x : Place) → holds (flushed_by spans o) x ≡ true → holds all_files x ≡ true
+    by_mapping None x is = of_none x is
+    by_mapping (Some m) x is = by_kind m (is_shared m.kind) x is
+
+-- so what a command makes durable is of what it may make durable
+pub may_cover : (h : Machine) (action : Action) (x : Place) → is_made_durable h action x ≡ true → may_be_made_durable h action x ≡ true
+may_cover h (Sync handle offset len) x covered = flush_files h.mappings handle (record { start = offset; len = len } ∷ []) x covered
+may_cover h (Flush handle spans) x covered = flush_files h.mappings handle spans x covered
+may_cover h (FlushVerify handle spans) x covered = flush_files h.mappings handle spans x covered
+may_cover h (DeepFlush handle spans) x covered = flush_files h.mappings handle spans x covered
+may_cover h action x covered = covered
+
+-- a bad line that is zeros now
+pub record LineCleared (i : ℕ) (old new : List Page) : Type 0 where
+  pub bad : cell_of old (i / 64) ≡ Some Bad
+  pub zeros : cell_of new (i / 64) ≡ Some zero_cell
+
+pub file-cleared : (name : List ℕ) (offset i : ℕ) (files : List File) → i / 64 ≡ offset / 64 → cell_of (pages_named name files) (offset / 64) ≡ Some Bad
+    → LineCleared i (pages_named name files) (pages_named name (marked_in clear_cell name offset files))
+file-cleared name offset i files at bad = record {
+  bad = ap (cell_of (pages_named name files)) at ∙ bad;
+  zeros = ap (cell_of (pages_named name (marked_in clear_cell name offset files))) at ∙ named-marked clear_cell name offset files ∙ ap (option_map clear_cell) bad;
+}
+
+-- A command that covers a byte of a file was done: its line is flushed, or cleared.
+abbrev pub IsRenewed : ℕ → List Page → List Page → Type 0
+IsRenewed i old new = LineFlushed i old new ⊎ LineCleared i old new
+
+made_renewed : (h : Machine) (action : Action) (name : List ℕ) (i : ℕ) → is_made_durable h action (of_file name i) ≡ true → refusal h action ≡ None
+    → IsRenewed i (pages_named name h.files) (pages_named name (files_made h.mappings action h.files))
+made_renewed h (Sync handle offset len) name i covered none =
+    inl (through-flushed Once handle (record { start = offset; len = len } ∷ []) h.mappings h.files name i covered)
+made_renewed h (Flush handle spans) name i covered none = inl (through-flushed Once handle spans h.mappings h.files name i covered)
+made_renewed h (FlushVerify handle spans) name i covered none = inl (through-flushed Again handle spans h.mappings h.files name i covered)
+made_renewed h (DeepFlush handle spans) name i covered none = inl (through-flushed Once handle spans h.mappings h.files name i covered)
+made_renewed h (ClearFile text offset) name i covered none =
+    let both = and_parts _ _ covered in
+    subst (λ t. IsRenewed i (pages_named t h.files) (pages_named t (marked_in clear_cell text offset h.files))) ((bytes_eq-Decides text name).0 both.0)
+    (inr (file-cleared text offset i h.files (eqb-true (i / 64) (offset / 64) both.1) (was_bad_in h text offset none)))
+made_renewed h (VPSync address len) name i covered none = absurd (no_file (physical_offset h.geometry address len) len name i covered)
+made_renewed h action name i covered none = cc covered
+
+pub file_renewed : (h : Machine) (action : Action) (next : Machine) (name : List ℕ) (i : ℕ) → is_made_durable h action (of_file name i) ≡ true → refusal h action ≡ None
+    → Alters h action next → IsRenewed i (pages_named name h.files) (pages_named name next.files)
+file_renewed h action next name i covered none to =
+    subst (λ fs. IsRenewed i (pages_named name h.files) (pages_named name fs)) (sym to.files) (made_renewed h action name i covered none)
+
+module _ (since : MayBe) where
+  -- what the line of the byte has is kept
+  abbrev ShownKept : List Page → ℕ → Type 0
+  ShownKept pages i = VolumeKeeps since pages i (line_has (cell_of pages (i / 64)) (i % 64))
+
+  -- so where it was flushed
+  flushed_line : (i : ℕ) (old new : List Page) → LineFlushed i old new → HaveLines old → ShownKept new i
+  flushed_line i old new flushed lines = by_page (is_line_present old (i / 64)) refl
+    where
+      by_cell : (o : Option Cell) → IsLineThere o → LineKeeps since (option_map flush_cell o) (i % 64) (line_has (option_map flush_cell o) (i % 64))
+      by_cell None none = absurd none
+      by_cell (Some cell) size = line_keeps-flushed since cell (i % 64) (omega arith) size
+
+      by_page : (b : Bool) → is_line_present old (i / 64) ≡ b → ShownKept new i
+      by_page true there = inr (subst (λ o. LineKeeps since o (i % 64) (line_has o (i % 64))) (sym flushed.line) (by_cell (cell_of old (i / 64)) (lines (i / 64) there)))
+      by_page false absent = absent-kept since new i (ap (λ bs. slice_index_or bs (i / 64 / 64) false) flushed.there ∙ absent)
+
+  -- the same where a span is synced that may be none
+  synced_at : (o : Option ℕ) (len i : ℕ) (pages : List Page) → HaveLines pages → (touched_lines_at o len).volume i ≡ true → ShownKept (persist_at o len pages) i
+  synced_at None len i pages lines covered = cc covered
+  synced_at (Some start) len i pages lines covered = flushed_line i pages (persist start len pages) (persist-flushed start len i pages covered) lines
+
+  -- and where it has zeros
+  zero_line : (i : ℕ) (pages : List Page) → cell_of pages (i / 64) ≡ Some zero_cell → ShownKept pages i
+  zero_line i pages zeros = inr (subst (λ o. LineKeeps since o (i % 64) (line_has o (i % 64))) (sym zeros) (line_keeps-flushed since zero_cell (i % 64) (omega arith) refl))
+
+  cleared_line : (n i : ℕ) (pages : List Page) → i / 64 ≡ n → cell_of pages n ≡ Some Bad → ShownKept (change_line clear_cell n pages) i
+  cleared_line n i pages same bad =
+      zero_line i (change_line clear_cell n pages) (ap (cell_of (change_line clear_cell n pages)) same ∙ cell_of-changed clear_cell n pages ∙ ap (option_map clear_cell) bad)
+
+  -- A command that covers the place was done: each value of its word has the byte.
+  pub covered_place : (h : Machine) (action : Action) (next : Machine) (x : Place) → IsComplete h → is_made_durable h action x ≡ true → refusal h action ≡ None → Alters h action next
+      → PlaceKeeps since next x (byte_at_place next x)
+  covered_place h action next (of_blocks i) whole covered none to = inl refl
+  covered_place h (VSync offset len) next (of_volume i) whole covered none to = subst (λ p. ShownKept p i) (sym to.volume) (synced_at (Some offset) len i h.volume whole.lines covered)
+  covered_place h (VPSync address len) next (of_volume i) whole covered none to =
+      subst (λ p. ShownKept p i) (sym to.volume) (synced_at (physical_offset h.geometry address len) len i h.volume whole.lines covered)
+  covered_place h (ClearVolume offset) next (of_volume i) whole covered none to =
+      subst (λ p. ShownKept p i) (sym to.volume) (cleared_line (offset / 64) i h.volume (eqb-true (i / 64) (offset / 64) covered) (was_bad h offset none))
+  covered_place h (Sync handle offset len) next (of_volume i) whole covered none to =
+      let no = flush_files h.mappings handle (record { start = offset; len = len } ∷ []) (of_volume i) covered in cc no
+  covered_place h (Flush handle spans) next (of_volume i) whole covered none to = let no = flush_files h.mappings handle spans (of_volume i) covered in cc no
+  covered_place h (FlushVerify handle spans) next (of_volume i) whole covered none to = let no = flush_files h.mappings handle spans (of_volume i) covered in cc no
+  covered_place h (DeepFlush handle spans) next (of_volume i) whole covered none to = let no = flush_files h.mappings handle spans (of_volume i) covered in cc no
+  covered_place h action next (of_volume i) whole covered none to = cc covered
+  covered_place h action next (of_file name i) whole covered none to =
+      elim (file_renewed h action next name i covered none to) as (λ _. ShownKept (pages_named name next.files) i) [
+        | inl flushed ↦ flushed_line i (pages_named name h.files) (pages_named name next.files) flushed (lines-named name h.files whole.file_lines)
+        | inr cleared ↦ zero_line i (pages_named name next.files) cleared.zeros
+      ]
