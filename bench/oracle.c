@@ -3,7 +3,8 @@
  *
  * The commands on the volume, their media errors, `cut` and `restart`, over a plain simulator of the module's lines: of each
  * word the values that may be left, sixteen at most. It has no logs, tables or counts, so each page is there from its first store
- * on. At most 16 pages, so that there are never more than 1,024 dirty lines.
+ * on. At most 16 pages, so that there are never more than 1,024 dirty lines. A file is taken for the volume, and any handle for one
+ * mapping of all of it, for a measure of what a store, a flush and a load through a mapping cost.
  * A second implementation, whose replies the program's are compared with and whose instructions they are measured against.
  * It is written after docs/formats.md and docs/model.md, and reads its own words without a look at their limits.
  */
@@ -335,6 +336,29 @@ static void command(const struct word *w, size_t k)
 			return;
 		}
 	}
+	if (is(w[0], "create") && k == 3) {
+		say("ok");
+		return;
+	}
+	if (is(w[0], "map") && k == 5) {
+		say("handle 0");
+		return;
+	}
+	if (k == 4 && number(w[2], &offset)) {
+		if (is(w[0], "store") && (len = bytes(w[3]))) {
+			vstore(offset, len);
+			return;
+		}
+		if ((is(w[0], "flush") || is(w[0], "sync")) && number(w[3], &len)) {
+			vsync(offset, len);
+			return;
+		}
+		if (is(w[0], "load") && number(w[3], &len)) {
+			if (!is_off() && !is_outside(offset, len) && !is_poisoned(offset, len, 0))
+				say_data(last + offset, len);
+			return;
+		}
+	}
 	if (k == 3 && is(w[1], "volume") && number(w[2], &offset)
 	    && (is(w[0], "poison") || is(w[0], "weaken") || is(w[0], "clear"))) {
 		befall(w[0], offset);
@@ -359,7 +383,7 @@ static void command(const struct word *w, size_t k)
 
 static void line(const uint8_t *p, size_t n)
 {
-	struct word w[4];
+	struct word w[6];
 	size_t k = 0, i = 0;
 
 	if (n > MOST) {
@@ -368,7 +392,7 @@ static void line(const uint8_t *p, size_t n)
 	}
 	if (n && p[n - 1] == '\r')
 		n--;
-	while (k < 4) {
+	while (k < 6) {
 		while (i < n && (p[i] == ' ' || p[i] == '\t'))
 			i++;
 		if (i == n)
