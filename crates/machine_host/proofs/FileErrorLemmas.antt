@@ -1,10 +1,9 @@
 -- What media errors of files come to.
-use Rattle.std.proofs.Common.{◌≡◌, ◌⊎◌, inr, ◌*◌, ◌/◌, ◌+◌, ◌<◌, ◌≤◌, ◌∙◌, ℕ, Bool, true, IsTrue, Option, Some, None, option_map, Result, Ok, Err, OnOk, List, [], ◌∷◌, length, min, refl, sym, ap, subst, arith, if◌then◌else◌}
+use Rattle.std.proofs.Common.{◌≡◌, ◌⊎◌, inr, ◌/◌, ◌≤◌, ◌∙◌, ℕ, true, IsTrue, Option, Some, None, option_map, Result, Ok, Err, OnOk, List, refl, sym, ap, subst, arith, if◌then◌else◌}
 use Rattle.std.specs.Prelude.{IfErr}
 use Rattle.line_device.specs.Device.{Device}
-use Rattle.line_device.specs.Medium.{WritesBack}
 use Rattle.line_device.specs.Panel.{Runs}
-use Rattle.line_words.specs.Told.{Told, Answers, OnRefused, OnWorked, is_done, outcome_by}
+use Rattle.line_words.specs.Told.{Told, Answers, OnRefused, OnWorked, outcome_by}
 use Rattle.word_tables.specs.Layout.{meta_lines}
 use Rattle.inode_table.specs.Slots.{inode_of}
 use Rattle.inode_table.proofs.SlotLemmas.{found_is_named}
@@ -17,9 +16,8 @@ use Rattle.nvm_model.specs.Storage.{File}
 use Rattle.page_lines.specs.Turns.{WritesBackOthers}
 use Rattle.page_lines.proofs.OthersLemmas.{others-wider}
 use Rattle.file_journal.specs.Area.{IsOfFiles}
-use Rattle.file_journal.specs.Object.{JournalState}
 use Rattle.file_journal.specs.Standing.{EachReadsFiles, FilesStand}
-use Rattle.file_journal.specs.Tables.{AreTables, known_units}
+use Rattle.file_journal.specs.Tables.{AreTables}
 use Rattle.file_journal.proofs.FileLineLemmas.{page_line_behind}
 use Rattle.file_pages.specs.Object.{IsFileAt, KeepsMarks, PagesServe}
 use Rattle.file_pages.proofs.FoundLemmas.{FoundFile, file-found}
@@ -47,7 +45,7 @@ use Rattle.machine_host.specs.OnPages.{pages_named}
 use Rattle.machine_host.specs.Responding.{Answered}
 use Rattle.machine_host.specs.Stands.{Comes, HostServes, HostState, Stands}
 use Rattle.machine_host.proofs.CallLemmas.{on_refused-then}
-use Rattle.machine_host.proofs.FilePageCallLemmas.{AreReady, LeavesOthers, PagesCalled, pages_after, work_answered}
+use Rattle.machine_host.proofs.FilePageCallLemmas.{AreReady, LeavesOthers, PagesCalled, work_answered}
 use Rattle.machine_host.proofs.FilePageFateLemmas.{pages_are}
 use Rattle.machine_host.proofs.FilePageLemmas.{file_seen, held_now, journal_now, named_seen, right_now}
 use Rattle.machine_host.proofs.LineLemmas.{line_printable, quiet_line, refused_same, same_serves, scrub_part, short_after}

@@ -1,5 +1,5 @@
 -- What comes of a flush through a shared mapping, by what the pages of its file refuse.
-use Rattle.std.proofs.Common.{◌≡◌, ◌+◌, ◌*◌, ◌==◌, ◌||◌, ◌<◌, ◌≤◌, ◌∙◌, ℕ, Bool, true, false, cond, Option, Some, None, option_map, List, [], ◌∷◌, length, map, nat_lt, if◌then◌else◌, refl, sym, ap, ap₂, subst, arith}
+use Rattle.std.proofs.Common.{◌≡◌, ◌+◌, ◌*◌, ◌==◌, ◌||◌, ◌≤◌, ◌∙◌, ℕ, Bool, true, false, Option, Some, None, option_map, List, [], ◌∷◌, length, nat_lt, if◌then◌else◌, refl, sym, ap, ap₂, subst, arith}
 use Rattle.std.proofs.lemmas.Bool.{le-ltb, or_from, or_parts}
 use Rattle.std.proofs.lemmas.Bool.Decides.{nat_tests}
 use Rattle.std.proofs.lemmas.List.{length-map}
@@ -9,9 +9,9 @@ use Rattle.nvm_base.specs.declared.units.Span.{Span}
 use Rattle.nvm_model.specs.Blocks.{first_there}
 use Rattle.nvm_model.specs.Mappings.{is_shared, mapping_of}
 use Rattle.nvm_model.specs.Page.{Page}
-use Rattle.nvm_model.specs.Storage.{File, Mapping}
+use Rattle.nvm_model.specs.Storage.{Mapping}
 use Rattle.nvm_model.specs.Touched.{next_bad_touched}
-use Rattle.flush_engine.specs.Refusals.{FlushRefusal, extents_refusal, flush_refusal, limit_refusal, poison_refusal, refused_if}
+use Rattle.flush_engine.specs.Refusals.{flush_refusal, limit_refusal, poison_refusal, refused_if}
 use Rattle.flush_engine.specs.Refusals.FlushRefusal.{Length, Limit, Range}
 use Rattle.reply_text.specs.declared.reply.Why.{Why}
 use Rattle.reply_text.specs.declared.reply.Why.TheVariants as because

@@ -1,5 +1,5 @@
 -- What flushes through mappings come to.
-use Rattle.std.proofs.Common.{◌≡◌, ◌+◌, ◌*◌, ◌<◌, ◌≤◌, ◌∙◌, ℕ, zero, suc, Bool, true, IsTrue, Option, Some, None, Result, Ok, Err, OnOk, List, [], ◌∷◌, length, refl, sym, ap, subst, arith}
+use Rattle.std.proofs.Common.{◌≡◌, ◌+◌, ◌*◌, ◌≤◌, ◌∙◌, ℕ, zero, suc, true, Option, Some, None, Result, Ok, Err, OnOk, List, [], ◌∷◌, length, refl, sym, ap, subst, arith}
 use Rattle.std.proofs.lemmas.List.Sums.{sum_by-cons}
 use Rattle.std.proofs.lemmas.Option.{same_Some}
 use Rattle.line_device.specs.Device.{Device}
@@ -16,8 +16,7 @@ use Rattle.nvm_model.specs.Files.{OneFileLeft, on_pages}
 use Rattle.nvm_model.specs.Interrupted.{MaySyncAll}
 use Rattle.nvm_model.specs.Listing.{change_file, file_name}
 use Rattle.nvm_model.specs.Mappings.{is_shared, mapping_of}
-use Rattle.nvm_model.specs.Page.{Page}
-use Rattle.nvm_model.specs.Storage.{Block, File, Mapping}
+use Rattle.nvm_model.specs.Storage.{File, Mapping}
 use Rattle.nvm_model.specs.Touched.{next_bad_touched, persist_spans}
 use Rattle.page_lines.specs.Placed.{one_there, there_among}
 use Rattle.page_lines.specs.Turns.{WritesBackOthers}
@@ -35,7 +34,7 @@ use Rattle.flush_engine.specs.Spans.{lines_in}
 use Rattle.flush_engine.specs.declared.fault.FlushFault.{FlushFault}
 use Rattle.flush_engine.specs.declared.fault.FlushFault.TheVariants as fault
 use Rattle.reply_text.specs.Answer.{Answer, IsPrintable}
-use Rattle.reply_text.specs.Answer.Answer.{Done, VerifyFile}
+use Rattle.reply_text.specs.Answer.Answer.{VerifyFile}
 use Rattle.reply_text.specs.Room.{most_of}
 use Rattle.script_text.specs.Action.{Action}
 use Rattle.machine_host.specs.declared.look.Look.{Look}
@@ -47,7 +46,7 @@ use Rattle.machine_host.specs.Faults.{answer_after, flush_answer, mode_after, ve
 use Rattle.machine_host.specs.Interrupted.{stop_in}
 use Rattle.machine_host.specs.Machine.{Machine}
 use Rattle.machine_host.specs.Meaning.{Meaning}
-use Rattle.machine_host.specs.Meaning.FilesLeft.{SyncedInPart, Unchanged}
+use Rattle.machine_host.specs.Meaning.FilesLeft.{Unchanged}
 use Rattle.machine_host.specs.OnFlushes.{all_moved, flush_through, flush_with, flushed_answer, lines_touched_by, second_look, spans_refusal, synced_in}
 use Rattle.machine_host.specs.OnPages.{pages_named}
 use Rattle.machine_host.specs.Responding.{Answered}

@@ -2,7 +2,6 @@
 use Rattle.std.proofs.Common.{◌≡◌, Result, Ok, Err, refl}
 use Rattle.std.specs.Prelude.{IfErr, MatchResult}
 use Rattle.line_device.specs.Device.{Device}
-use Rattle.line_device.specs.Medium.{WritesBack}
 use Rattle.scrub.specs.Refusals.{weaken_says}
 use Rattle.scrub.specs.declared.fault.WeakenFault.{WeakenFault}
 use Rattle.scrub.specs.declared.fault.WeakenFault.TheVariants as fault
