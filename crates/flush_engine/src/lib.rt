@@ -8,8 +8,6 @@ mod fault;
 mod finding;
 mod flushing;
 mod syncing;
-#[cfg(test)]
-mod tests;
 mod verifying;
 
 pub use fault::FlushFault;

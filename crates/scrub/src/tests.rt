@@ -14,10 +14,8 @@ use std::test::Fail;
 use word_tables::Geometry;
 
 mod blocks;
-mod clears;
 mod file_lines;
 mod files;
-mod made;
 
 const SMALL: Geometry = Geometry {
     blocks: 8,
