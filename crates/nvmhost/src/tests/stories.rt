@@ -12,7 +12,7 @@ const TO_ALL_KINDS: &str =
     "ok\nok\npower lost\nok\nrefused device\nok bad 0\nok\nok\nrefused device\nok\nok bad 0\ndata 11*512\nok\ndata aa*4,00*4\nrefused meta 9\nok\nrefused device\nstopped meta 9\nok\nrefused meta 3\nok\nstopped meta 3\nok\n";
 
 /// Lines to draw from, with cuts, failures and media errors.
-pub static LINES: [&str; 54] = [
+pub static LINES: [&str; 66] = [
     "bwrite 0 11*1024\n",
     "batomic 1 22*1024\n",
     "bmulti 0 33*512 3 44*512\n",
@@ -47,6 +47,18 @@ pub static LINES: [&str; 54] = [
     "fread a 0 4\n",
     "fread b 60 16\n",
     "fread c 4088 16\n",
+    "map a 0 4096 shared\n",
+    "map b 4000 200 shared\n",
+    "store 0 10 07*70\n",
+    "flush 0 0 64 60 70\n",
+    "flushv 0 0 100\n",
+    "sync 1 0 200\n",
+    "load 0 0 80\n",
+    "unmap 0\n",
+    "check b 0 4096\n",
+    "poison file b 64\n",
+    "weaken file b 0\n",
+    "clear file b 64\n",
     "poison volume 64\n",
     "poison block 0 3\n",
     "weaken volume 0\n",
@@ -74,7 +86,7 @@ pub const LAST_LINES: &str =
     "restart all\nrecover\npoison meta 9\nbread 0 1\nvload 0 8\nbscar 0 1\ncut\nrestart all\npoison meta 5\nbread 0 1\n";
 
 /// Each script with its replies.
-pub static STORIES: [(&str, &str); 45] = [
+pub static STORIES: [(&str, &str); 47] = [
     // What is not synced may be lost, or kept.
     (
         "vstore 0 07*8\ncut\nrestart none\nvload 0 8\n",
@@ -259,6 +271,15 @@ pub static STORIES: [(&str, &str); 45] = [
     (
         "create a 1\nfwrite a 0 ff*8\ncut\nrestart all\nfread a 0 8\n",
         "ok\nok\nok\nok bad 0\ndata ff*8\n",
+    ),
+    // Or made durable through a mapping, which a cut ends; a line that wears out is told by the flush that looks again.
+    (
+        "create a 1\nmap a 0 4096 shared\nstore 0 0 ff*8\nsync 0 0 1\ncut\nrestart none\nfread a 0 8\nload 0 0 8\n",
+        "ok\nhandle 0\nok\nok\nok\nok bad 0\ndata ff*8\nrefused handle\n",
+    ),
+    (
+        "create a 1\nfwrite a 0 00*4096\nmap a 0 4096 shared\nweaken file a 0\nstore 0 0 09*8\nflushv 0 0 8 64 8\nload 0 0 8\nload 0 64 1\ncheck a 0 4096\n",
+        "ok\nok\nhandle 0\nok\nok\nverify file a 0 64\npoison file a 0 64\ndata 00\nbad 1 0\n",
     ),
     // Bad metadata stops changes of them, and the list once the device is mounted anew.
     (
