@@ -53,6 +53,7 @@ module _ (h : Machine) (a b : Action) (alike : IsAs h a b) (answer : Answer) (ho
       volume = stands.volume;
       files = stands.files;
       mappings = stands.mappings;
+      events = stands.events;
       device = record {
         metadata = stands.device.metadata;
         blocks = λ good.

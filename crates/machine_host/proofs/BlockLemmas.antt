@@ -179,7 +179,7 @@ module _ (host : HostState) (s : BlocksState) (action : Action) (calls persists 
       → OnOk r (Stands (host_after host s On) new (record h { blocks = f h.blocks }))
   stands_called (Ok x) c ok =
       let now : blocks_of s new.medium ≡ f h.blocks = ok ∙ ap f (stands.blocks on) in
-      stands_done host (host_after host s On) old new h action stands on calls persists few few_persists refl refl (f h.blocks) h.volume h.files refl c.runs (metadata_beside c) (
+      stands_done host (host_after host s On) old new h action stands on calls persists few few_persists refl refl refl (f h.blocks) h.volume h.files refl c.runs (metadata_beside c) (
         λ good.
             subst (λ g. EachReads g new.medium (λ bs. bs ≡ f h.blocks)) stands.geometry
             (each_reads-then host.geometry new.medium (λ bs. bs ≡ blocks_of s new.medium) (λ bs. bs ≡ f h.blocks) (λ bs e. e ∙ now)

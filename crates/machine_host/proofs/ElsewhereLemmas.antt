@@ -28,9 +28,10 @@ use Rattle.file_journal.specs.Tables.{AreTables, known_units}
 use Rattle.machine_host.specs.declared.mode.Mode.{Mode}
 use Rattle.machine_host.specs.declared.mode.Mode.TheVariants.{On, Stopped}
 use Rattle.machine_host.specs.declared.held.HeldFiles.{HeldFiles}
-use Rattle.machine_host.specs.Stands.{AreMounted, EachMapping, HostServes, HostState, is_powered, IsOnFile}
-use Rattle.machine_host.proofs.FilesAsideLemmas.{journal_serves_elsewhere}
+use Rattle.machine_host.specs.Stands.{AreMounted, EachMapping, HasRoom, HostServes, HostState, is_powered, IsOnFile}
+use Rattle.machine_host.proofs.FilesAsideLemmas.{files_stand_elsewhere, journal_serves_elsewhere}
 use Rattle.machine_host.proofs.LayoutLemmas.{layout-write_back, same_bad, stays_bad}
+use Rattle.machine_host.proofs.RoomLemmas.{room_still}
 
 -- no line of the volume is the blocks'
 pub volume_apart : (geo : Geometry) (n : ℕ) → IsValid geo → IsOfVolume geo n → IsBlockLine geo n → ⊥
@@ -117,6 +118,10 @@ module _ (geo : Geometry) (b : BlocksState) (v : VolumeState) (f : HeldFiles) (o
   journal_serves_on : ((line : ℕ) → IsOfFiles geo line → LineKept old new line) → JournalServes f.pages.journal new
   journal_serves_on kept = journal_serves_elsewhere geo old new kept f.pages.journal mounted.journal_geometry (strong_of f.pages.journal.geo mounted.journal_geometry) count mounted.journal_serves
 
+  room_on : ((line : ℕ) → IsOfFiles geo line → LineKept old new line) → HasRoom f new
+  room_on kept =
+      room_still f f old new (λ files stand. files_stand_elsewhere geo old new kept f.pages.journal files mounted.journal_geometry mounted.journal_right stand) (omega arith) mounted.room
+
   -- on the blocks
   pub mounted-blocks : (s : BlocksState) → ((line : ℕ) → IsOfVolume geo line → LineKept old new line) → ((line : ℕ) → IsOfFiles geo line → LineKept old new line)
       → s.geo ≡ b.geo → IsTrue s.settled → BlocksServe s new → AreMounted geo s v f new
@@ -134,6 +139,7 @@ module _ (geo : Geometry) (b : BlocksState) (v : VolumeState) (f : HeldFiles) (o
     journal_held = mounted.journal_held;
     pages_settled = mounted.pages_settled;
     mapped = mounted.mapped;
+    room = room_on files;
   }
 
   -- on the volume
@@ -153,14 +159,15 @@ module _ (geo : Geometry) (b : BlocksState) (v : VolumeState) (f : HeldFiles) (o
     journal_held = mounted.journal_held;
     pages_settled = mounted.pages_settled;
     mapped = mounted.mapped;
+    room = room_on files;
   }
 
   -- on files
   pub mounted-files : (q : HeldFiles) → ((n : ℕ) → IsBlockLine geo n → Stays old new n) → ((line : ℕ) → IsOfVolume geo line → LineKept old new line)
       → q.pages.journal.geo ≡ f.pages.journal.geo → IsTrue q.pages.journal.settled → IsTrue q.pages.settled → JournalServes q.pages.journal new → AreTables geo.fpages q.pages.journal.tables
       → known_units q.pages.journal.tables.pages q.pages.journal.free ≡ known_units f.pages.journal.tables.pages f.pages.journal.free
-      → EachMapping (IsOnFile q.pages.journal.tables.files) q.mappings.mappings → AreMounted geo b v q new
-  mounted-files q blocks volume same journal pages serves right held mapped = record {
+      → EachMapping (IsOnFile q.pages.journal.tables.files) q.mappings.mappings → HasRoom q new → AreMounted geo b v q new
+  mounted-files q blocks volume same journal pages serves right held mapped room = record {
     geometry = mounted.geometry;
     settled = mounted.settled;
     serves = blocks_serve_on blocks;
@@ -174,6 +181,7 @@ module _ (geo : Geometry) (b : BlocksState) (v : VolumeState) (f : HeldFiles) (o
     journal_held = held ∙ mounted.journal_held;
     pages_settled = pages;
     mapped = mapped;
+    room = room;
   }
 
 -- and where all lines are only written back

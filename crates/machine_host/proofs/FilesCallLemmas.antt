@@ -54,7 +54,7 @@ use Rattle.machine_host.specs.Lines.{HasLayout, MetadataStands, bad_metadata}
 use Rattle.machine_host.specs.Meaning.{Reasons, metadata_refusal}
 use Rattle.machine_host.specs.OnFiles.{changing_files, journal_answer}
 use Rattle.machine_host.specs.Responding.{Answered}
-use Rattle.machine_host.specs.Stands.{AreMounted, Comes, EachMapping, HostServes, HostState, IsOnFile, Stands}
+use Rattle.machine_host.specs.Stands.{AreMounted, Comes, EachMapping, HostServes, HostState, IsOnFile, Stands, HasRoom}
 use Rattle.machine_host.proofs.CallLemmas.{IsPart, comes_of_call, on_refused-then, printable_after, serves_of_call}
 use Rattle.machine_host.proofs.ElsewhereLemmas.{mounted-files}
 use Rattle.machine_host.proofs.FilesAsideLemmas.{files_not_blocks, files_not_volume, first_not_files}
@@ -64,6 +64,7 @@ use Rattle.machine_host.proofs.RefusalLemmas.{meta_refused}
 use Rattle.machine_host.proofs.StepLemmas.{DeviceLeft, blocks_still, pages_still, stands_done}
 use Rattle.machine_host.proofs.MappedLemmas.{Spares, still_on}
 use Rattle.machine_host.proofs.VolumeCallLemmas.{short_after}
+use Rattle.machine_host.proofs.RoomLemmas.{Thins, room_then}
 
 -- What a call that changes files says, whichever it is: it leaves these tables, or those before it.
 pub record FilesCalled (host : HostState) (s : JournalState) (r : Result (Unit {0}) JournalFault) (why : Option JournalRefusal) (to : Tables) (words : ℕ) (old new : Device) : Type 0 where
@@ -159,11 +160,11 @@ module _ (host : HostState) (old new : Device) (on : host.mode ≡ On) (serves :
   layout_changed = layout-outside host.geometry old.medium new.medium serves.layout (IsOf (file_area host.files.pages.journal.geo)) first_words outside
 
   mounted_changed : (s : JournalState) → s.geo ≡ host.files.pages.journal.geo → IsTrue s.settled → JournalServes s new.medium → AreTables host.files.pages.journal.geo.fpages s.tables → KeepsUnits 0 host.files.pages.journal s
-      → EachMapping (IsOnFile s.tables.files) host.files.mappings.mappings → AreMounted host.geometry host.blocks host.volume (record host.files { pages = record host.files.pages { journal = s } }) new.medium
-  mounted_changed s same settled served right units mapped =
+      → EachMapping (IsOnFile s.tables.files) host.files.mappings.mappings → HasRoom (record host.files { pages = record host.files.pages { journal = s } }) new.medium → AreMounted host.geometry host.blocks host.volume (record host.files { pages = record host.files.pages { journal = s } }) new.medium
+  mounted_changed s same settled served right units mapped room =
       mounted-files host.geometry host.blocks host.volume host.files old.medium new.medium serves.layout.valid layout_changed.strong outside.count mounted
       (record host.files { pages = record host.files.pages { journal = s } }) blocks_stay volume_stays same settled mounted.pages_settled served (subst (λ g. AreTables g.fpages s.tables) mounted.journal_geometry right)
-      (omega (arith, units.known)) mapped
+      (omega (arith, units.known)) mapped room
 
   -- the blocks can be read still
   readable_changed : bad_metadata host.geometry new.medium.is_bad ≡ [] → AreReadable host.geometry new.medium
@@ -174,7 +175,8 @@ module _ (host : HostState) (old new : Device) (on : host.mode ≡ On) (serves :
 module _ (host : HostState) (s : JournalState) (r : Result (Unit {0}) JournalFault) (why : Option JournalRefusal) (to : Tables) (words : ℕ) (f : List File → List File) (old new : Device)
     (on : host.mode ≡ On) (serves : HostServes host old) (call : FilesCalled host s r why to words old new)
     (becomes : AreTables host.files.pages.journal.geo.fpages host.files.pages.journal.tables → why ≡ None → Becomes host.files.pages.journal.geo host.files.pages.journal.tables to f)
-    (spares : AreTables host.files.pages.journal.geo.fpages host.files.pages.journal.tables → why ≡ None → Spares f (files_of_device host.files.pages.journal old.medium) host.files.mappings.mappings) where
+    (spares : AreTables host.files.pages.journal.geo.fpages host.files.pages.journal.tables → why ≡ None → Spares f (files_of_device host.files.pages.journal old.medium) host.files.mappings.mappings)
+    (thins : Thins f) where
   became : why ≡ None → Becomes host.files.pages.journal.geo host.files.pages.journal.tables to f
   became = becomes (right_was host old new on serves call.outside)
 
@@ -185,6 +187,13 @@ module _ (host : HostState) (s : JournalState) (r : Result (Unit {0}) JournalFau
       still_on j old.medium to f right (became none).right ((became none).keeps old.medium (files_of_device j old.medium) (device_files-stand j.geo old.medium j.tables)) host.files.mappings.mappings
       (serves.mounted on).mapped (spares right none)
 
+  -- what the journal stands for after the call
+  stands_for : why ≡ None → s.tables ≡ to → (files : List File) → FilesStand host.files.pages.journal.geo old.medium host.files.pages.journal.tables files → FilesStand s.geo new.medium s.tables (f files)
+  stands_for none is files stand =
+      let j = host.files.pages.journal in
+      let kept = files-kept j.geo old.medium new.medium j.tables files (right_was host old new on serves call.outside) (pages_stay host old new on serves call.outside) stand in
+      subst (λ g. FilesStand g new.medium s.tables (f files)) (sym call.object.0) (subst (λ t. FilesStand j.geo new.medium t (f files)) (sym is) ((became none).keeps new.medium files kept))
+
   mounted_ok : OnOk r (AreMounted host.geometry host.blocks host.volume (record host.files { pages = record host.files.pages { journal = s } }) new.medium)
   mounted_ok = by_result r call.refused call.object.1 call.ok call.units
     where
@@ -194,6 +203,8 @@ module _ (host : HostState) (s : JournalState) (r : Result (Unit {0}) JournalFau
           mounted_changed host old new on serves call.outside s call.object.0 settled (call.serves settled)
           (subst (AreTables host.files.pages.journal.geo.fpages) (sym is) (became (worked_none journal_says why (Ok x) answers)).right) units
           (subst (λ (now : Tables). EachMapping (IsOnFile now.files) host.files.mappings.mappings) (sym is) (still_mapped (worked_none journal_says why (Ok x) answers)))
+          (room_then host.files (record host.files { pages = record host.files.pages { journal = s } }) old.medium new.medium f thins
+          (λ files stand. stands_for (worked_none journal_says why (Ok x) answers) is files stand) (omega arith) (serves.mounted on).room)
       by_result (Err e) answers settled is units = tt
 
   same_host : OnRefused journal_says r ((journal_after host s host.mode ≡ host) × (new ≡ old))
@@ -217,12 +228,9 @@ module _ (host : HostState) (s : JournalState) (r : Result (Unit {0}) JournalFau
             → Runs (commit_calls words) (commit_persists words) (outcome_by journal_says q) old.panel new.panel → OnOk q (Stands (journal_after host s On) new (record h { files = f h.files }))
         by_result (Ok x) answers settled is runs =
             let became_ = became (worked_none journal_says why (Ok x) answers) in
-            let was = files-kept host.files.pages.journal.geo old.medium new.medium host.files.pages.journal.tables h.files (right_was host old new on serves call.outside) (pages_stay host old new on serves call.outside) (stands.files on) in
             let right : AreTables s.geo.fpages s.tables = subst (λ g. AreTables g.fpages s.tables) (sym call.object.0) (subst (AreTables host.files.pages.journal.geo.fpages) (sym is) became_.right) in
-            let now : FilesStand s.geo new.medium s.tables (f h.files) =
-            subst (λ g. FilesStand g new.medium s.tables (f h.files)) (sym call.object.0)
-            (subst (λ t. FilesStand host.files.pages.journal.geo new.medium t (f h.files)) (sym is) (became_.keeps new.medium h.files was)) in
-            stands_done host (journal_after host s On) old new h action stands on (commit_calls words) (commit_persists words) few few_persists refl refl h.blocks h.volume (f h.files) refl runs metadata_changed
+            let now = stands_for (worked_none journal_says why (Ok x) answers) is h.files (stands.files on) in
+            stands_done host (journal_after host s On) old new h action stands on (commit_calls words) (commit_persists words) few few_persists refl refl refl h.blocks h.volume (f h.files) refl runs metadata_changed
             (blocks_still host old new h stands serves on (blocks_stay host old new on serves call.outside)) (pages_still host old new h stands serves on (volume_stays host old new on serves call.outside))
             (λ good. subst (λ g. EachReadsFiles g new.medium (λ x. x ≡ f h.files)) (call.object.0 ∙ geo_is) (served_files s new.medium (f h.files) right (call.serves settled) now), now)
         by_result (Err e) answers settled is runs = tt
@@ -283,7 +291,7 @@ module _ (now host after : HostState) (s : JournalState) (r : Result (Unit {0}) 
     (inside : host ≡ now) (state : after ≡ journal_after host s (mode_after journal_says r)) (on : now.mode ≡ On) (serves : HostServes now old)
     (call : FilesCalled host s r why to words old new) (becomes : AreTables host.files.pages.journal.geo.fpages host.files.pages.journal.tables → why ≡ None → Becomes host.files.pages.journal.geo host.files.pages.journal.tables to f)
     (spares : AreTables host.files.pages.journal.geo.fpages host.files.pages.journal.tables → why ≡ None → Spares f (files_of_device host.files.pages.journal old.medium) host.files.mappings.mappings)
-    (action : Action) (reasons : Machine → Reasons) (row : meaning action ≡ changing_files reasons f words) where
+    (thins : Thins f) (action : Action) (reasons : Machine → Reasons) (row : meaning action ≡ changing_files reasons f words) where
   on_inside : host.mode ≡ On
   on_inside = ap (λ k. k.mode) inside ∙ on
 
@@ -294,8 +302,8 @@ module _ (now host after : HostState) (s : JournalState) (r : Result (Unit {0}) 
   change_serves =
       subst (λ k. HostServes k new) (sym state)
       (serves_of_call journal_says journal_answer files_part host (journal_after host s) old new on_inside (λ m. refl) (λ m. refl) (commit_calls words) (commit_persists words) r serves_inside
-      (same_host host s r why to words f old new on_inside serves_inside call becomes spares) (layout_changed host old new on_inside serves_inside call.outside)
-      (readable_changed host old new on_inside serves_inside call.outside) (mounted_ok host s r why to words f old new on_inside serves_inside call becomes spares) call.runs)
+      (same_host host s r why to words f old new on_inside serves_inside call becomes spares thins) (layout_changed host old new on_inside serves_inside call.outside)
+      (readable_changed host old new on_inside serves_inside call.outside) (mounted_ok host s r why to words f old new on_inside serves_inside call becomes spares thins) call.runs)
 
   change_comes : (h : Machine) (answer : Answer) → Stands now old h → fate h action ≡ unless_refused h (option_map journal_answer why) (Works Done (record h { files = f h.files }))
       → answer ≡ answer_after journal_says journal_answer Done r → Comes h action (fate h action) answer after old new
@@ -307,9 +315,9 @@ module _ (now host after : HostState) (s : JournalState) (r : Result (Unit {0}) 
       (subst (λ k. Comes h action (fate h action) (answer_after journal_says journal_answer Done r) k old new) (sym state)
       (subst (λ fate. Comes h action fate (answer_after journal_says journal_answer Done r) (journal_after host s (mode_after journal_says r)) old new) (sym fate_is)
       (comes_of_call journal_says journal_answer files_part host (journal_after host s) old new on_inside (λ m. refl) (λ m. refl) (commit_calls words) (commit_persists words) action h stands_inside few few_persists
-      r Done why (record h { files = f h.files }) refl call.refused (same_host host s r why to words f old new on_inside serves_inside call becomes spares)
-      (stands_ok host s r why to words f old new on_inside serves_inside call becomes spares h stands_inside action few few_persists)
-      (left_changed host s r why to words f old new on_inside serves_inside call becomes spares h stands_inside action reasons row) call.runs)))
+      r Done why (record h { files = f h.files }) refl call.refused (same_host host s r why to words f old new on_inside serves_inside call becomes spares thins)
+      (stands_ok host s r why to words f old new on_inside serves_inside call becomes spares thins h stands_inside action few few_persists)
+      (left_changed host s r why to words f old new on_inside serves_inside call becomes spares thins h stands_inside action reasons row) call.runs)))
 
   pub change_answered : (answer : Answer) → ((h : Machine) → Stands now old h → fate h action ≡ unless_refused h (option_map journal_answer why) (Works Done (record h { files = f h.files })))
       → answer ≡ answer_after journal_says journal_answer Done r → Answered action answer now after old new

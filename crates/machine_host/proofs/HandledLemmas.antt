@@ -27,6 +27,7 @@ use Rattle.machine_host.specs.Stands.{Comes, EachMapping, HostServes, HostState,
 use Rattle.machine_host.proofs.ExistsLemmas.{same_state}
 use Rattle.machine_host.proofs.RefusalLemmas.{fate_usable, first_assoc}
 use Rattle.machine_host.proofs.TellingLemmas.{tells_nothing}
+use Rattle.machine_host.proofs.RoomLemmas.{room_still}
 
 -- A command that is refused for what it names or for its places.
 pub refused_answered : (now : HostState) (d : Device) (action : Action) (answer : Answer) → now.mode ≡ On → HostServes now d → (meaning action).needs ≡ Usable → stop_in answer ≡ None → IsPrintable answer
@@ -54,6 +55,7 @@ stands_mapped host d h ms none stands = record {
   volume = stands.volume;
   files = stands.files;
   mappings = λ _. refl;
+  events = stands.events;
   device = record {
     metadata = stands.device.metadata;
     blocks = stands.device.blocks;
@@ -90,6 +92,7 @@ serves_mapped host d ms serves mapped = record {
     journal_held = was.journal_held;
     pages_settled = was.pages_settled;
     mapped = mapped on;
+    room = room_still host.files (record host.files { mappings = ms }) d.medium d.medium (λ files stand. stand) (omega arith) was.room;
   };
   stopped = serves.stopped;
 }

@@ -7,6 +7,7 @@ pub mod LayoutLemmas
 pub mod BadLineLemmas
 pub mod ReadingLemmas
 pub mod FilesAsideLemmas
+pub mod RoomLemmas
 pub mod ElsewhereLemmas
 pub mod StepLemmas
 pub mod CallLemmas

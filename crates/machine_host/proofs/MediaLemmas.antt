@@ -12,7 +12,7 @@ use Rattle.line_words.specs.Told.Told.{Refuses, Stops, Starves}
 use Rattle.word_tables.specs.declared.geometry.Geometry.{Geometry}
 use Rattle.word_tables.specs.Layout.{meta_lines}
 use Rattle.nvm_model.specs.Page.{Page}
-use Rattle.nvm_model.specs.Storage.{Block, File}
+use Rattle.nvm_model.specs.Storage.{Block, File, Event}
 use Rattle.block_device.specs.Area.{IsBlockLine}
 use Rattle.block_device.specs.Images.{EachReads}
 use Rattle.block_device.specs.Object.{BlocksServe, HasGoodMetadata, blocks_of}
@@ -42,7 +42,7 @@ use Rattle.machine_host.specs.Interrupted.{stop_in}
 use Rattle.machine_host.specs.Lines.{HasLayout, MetadataStands}
 use Rattle.machine_host.specs.Run.{answered}
 use Rattle.machine_host.specs.Telling.{Tells}
-use Rattle.machine_host.specs.Stands.{HostState, HostServes, AreMounted, Stands, Comes}
+use Rattle.machine_host.specs.Stands.{HostState, HostServes, AreMounted, Stands, Comes, HasRoom}
 use Rattle.machine_host.proofs.BadLineLemmas.{good_lines}
 use Rattle.machine_host.proofs.MountedLemmas.{readable_served}
 use Rattle.machine_host.proofs.ElsewhereLemmas.{mounted-blocks, mounted-files, mounted-volume, volume_apart}
@@ -50,6 +50,9 @@ use Rattle.machine_host.proofs.FilesAsideLemmas.{files_not_blocks, files_not_vol
 use Rattle.machine_host.proofs.LayoutLemmas.{layout-kept, metadata-then, stays_of_kept}
 use Rattle.machine_host.proofs.StepLemmas.{blocks_still, files_still, pages_still, stands_done}
 use Rattle.machine_host.proofs.TellingLemmas.{tells_nothing}
+use Rattle.nvm_base.specs.Stock.{Stock}
+use Rattle.machine_host.specs.declared.held.HeldFiles.{HeldFiles}
+use Rattle.machine_host.proofs.RoomLemmas.{telling}
 
 -- the call was refused, and nothing stopped it
 abbrev pub IsRefusal : {R : Type 0} → Told R → Type 0
@@ -70,10 +73,10 @@ kept-but lines old new line apart x = record {
 }
 
 -- A mark is made, or refused for its line.
-pub comes_of_marking : {E R : Type 0} (says : E → Told R) (answer : R → Answer) → ((w : R) → stop_in (answer w) ≡ None) → (host : HostState) (old new : Device) (h to : Machine) (action : Action) (r : Result (Unit {0}) E) (why : Option R)
-    → Stands host old h → new.panel ≡ old.panel → Answers says why r → IfErr r (λ f. IsRefusal (says f)) → OnRefused says r (new ≡ old) → OnOk r (Stands host new to)
-    → Comes h action (unless_refused h (option_map answer why) (Gives Done to)) (answer_after says answer Done r) host old new
-comes_of_marking says answer quiet host old new h to action (Ok x) None stands panel refused told untouched ok = record {
+pub comes_of_marking : {E R : Type 0} (says : E → Told R) (answer : R → Answer) → ((w : R) → stop_in (answer w) ≡ None) → (after : HostState) (old new : Device) (h to : Machine) (action : Action) (r : Result (Unit {0}) E) (why : Option R)
+    → new.panel ≡ old.panel → Answers says why r → IfErr r (λ f. IsRefusal (says f)) → OnRefused says r (new ≡ old) → OnRefused says r (Stands after old h) → OnOk r (Stands after new to)
+    → Comes h action (unless_refused h (option_map answer why) (Gives Done to)) (answer_after says answer Done r) after old new
+comes_of_marking says answer quiet after old new h to action (Ok x) None panel refused told untouched kept ok = record {
   said = answered Done;
   next = to;
   answers = refl;
@@ -81,24 +84,24 @@ comes_of_marking says answer quiet host old new h to action (Ok x) None stands p
   tells = subst (λ p. Tells (answered Done) old.panel p) (sym panel) (tells_nothing Done refl old.panel);
   stands = ok;
 }
-comes_of_marking says answer quiet host old new h to action (Ok x) (Some w) stands panel refused told untouched ok = absurd refused
-comes_of_marking {R = R} says answer quiet host old new h to action (Err f) why stands panel refused told untouched ok =
-    by_told (says f) told why (answers_told says f why refused) (λ none. untouched (λ e. none e))
+comes_of_marking says answer quiet after old new h to action (Ok x) (Some w) panel refused told untouched kept ok = absurd refused
+comes_of_marking {R = R} says answer quiet after old new h to action (Err f) why panel refused told untouched kept ok =
+    by_told (says f) told why (answers_told says f why refused) (λ none. untouched (λ e. none e)) (λ none. kept (λ e. none e))
   where
-    by_told : (t : Told R) → IsRefusal t → (why : Option R) → refusal_of t ≡ why → ((refusal_of t ≡ None → ⊥) → new ≡ old)
-        → Comes h action (unless_refused h (option_map answer why) (Gives Done to)) (told_answer answer t) host old new
-    by_told (Refuses w) is why reason same =
-        subst (λ d. Comes h action (unless_refused h (option_map answer why) (Gives Done to)) (answer w) host old d) (sym (same (λ e. cc e)))
-        (subst (λ o. Comes h action (unless_refused h (option_map answer o) (Gives Done to)) (answer w) host old old) reason (record {
+    by_told : (t : Told R) → IsRefusal t → (why : Option R) → refusal_of t ≡ why → ((refusal_of t ≡ None → ⊥) → new ≡ old) → ((refusal_of t ≡ None → ⊥) → Stands after old h)
+        → Comes h action (unless_refused h (option_map answer why) (Gives Done to)) (told_answer answer t) after old new
+    by_told (Refuses w) is why reason same stands =
+        subst (λ d. Comes h action (unless_refused h (option_map answer why) (Gives Done to)) (answer w) after old d) (sym (same (λ e. cc e)))
+        (subst (λ o. Comes h action (unless_refused h (option_map answer o) (Gives Done to)) (answer w) after old old) reason (record {
           said = answered (answer w);
           next = h;
           answers = refl;
           takes = (refl, refl);
           tells = tells_nothing (answer w) (quiet w) old.panel;
-          stands = stands;
+          stands = stands (λ e. cc e);
         }))
-    by_told (Stops by) is why reason same = absurd is
-    by_told Starves is why reason same = absurd is
+    by_told (Stops by) is why reason same stands = absurd is
+    by_told Starves is why reason same stands = absurd is
 
 -- Lines behind the metadata were marked, while the host was on.
 module _ (host : HostState) (old new : Device) (serves : HostServes host old) (on : host.mode ≡ modes.On) (panel : new.panel ≡ old.panel)
@@ -118,8 +121,8 @@ module _ (host : HostState) (old new : Device) (serves : HostServes host old) (o
   strong_marked : (n : ℕ) → n < meta_lines geo → new.medium.is_weak n ≡ false
   strong_marked n below = (metadata_line n below).weak ∙ serves.layout.strong n below
 
-  goes_on : AreMounted geo host.blocks host.volume host.files new.medium → HostServes host new
-  goes_on now = record {
+  goes_on : (f : HeldFiles) → AreMounted geo host.blocks host.volume f new.medium → HostServes (record host { files = f }) new
+  goes_on f now = record {
     layout = layout_marked;
     readable = λ none. readable_served geo host.blocks new.medium now.geometry now.serves (good_lines geo new.medium none);
     power = ap (λ p. p.power) panel ∙ serves.power;
@@ -145,7 +148,7 @@ module _ (host : HostState) (old new : Device) (serves : HostServes host old) (o
 
     pub blocks_marked_serve : HostServes host new
     blocks_marked_serve =
-        goes_on (mounted-blocks geo host.blocks host.volume host.files old.medium new.medium serves.layout.valid strong_marked x.count mounted
+        goes_on host.files (mounted-blocks geo host.blocks host.volume host.files old.medium new.medium serves.layout.valid strong_marked x.count mounted
         host.blocks volume_line_kept file_line_kept refl mounted.settled served)
 
     pub blocks_marked : (h : Machine) (action : Action) (f : List Block → List Block) → Stands host old h → blocks_of host.blocks new.medium ≡ f (blocks_of host.blocks old.medium)
@@ -157,7 +160,7 @@ module _ (host : HostState) (old new : Device) (serves : HostServes host old) (o
         let good = subst (λ g. HasGoodMetadata g new.medium) (sym (mounted.geometry ∙ stands.geometry)) (good_lines h.geometry new.medium (metadata.bad ∙ none)) in
         subst (λ g. EachReads g new.medium (λ bs. bs ≡ f h.blocks)) (mounted.geometry ∙ stands.geometry)
         (subst (λ to. EachReads host.blocks.geo new.medium (λ bs. bs ≡ to)) seen (served_reads host.blocks new.medium good served)) in
-        stands_done host host old new h action stands on 0 0 (omega arith) (omega arith) refl refl (f h.blocks) h.volume h.files on nothing_run metadata (reads, seen)
+        stands_done host host old new h action stands on 0 0 (omega arith) (omega arith) refl refl refl (f h.blocks) h.volume h.files on nothing_run metadata (reads, seen)
         (pages_still host old new h stands serves on volume_line_kept) (files_still host old new h stands serves on file_line_kept)
 
   -- lines of the volume
@@ -170,14 +173,14 @@ module _ (host : HostState) (old new : Device) (serves : HostServes host old) (o
 
     pub volume_marked_serves : HostServes host new
     volume_marked_serves =
-        goes_on (mounted-volume geo host.blocks host.volume host.files old.medium new.medium serves.layout.valid strong_marked x.count mounted
+        goes_on host.files (mounted-volume geo host.blocks host.volume host.files old.medium new.medium serves.layout.valid strong_marked x.count mounted
         host.volume block_line_stays file_line_stays refl mounted.volume_settled served)
 
     pub volume_marked : (h : Machine) (action : Action) (pages : List Page) → Stands host old h → VolumeHolds host.volume new.medium pages → Stands host new (record h { volume = pages })
     volume_marked h action pages stands holds =
         let each : EachReadsPages h.geometry new.medium (λ x. x ≡ pages) =
         subst (λ g. EachReadsPages g new.medium (λ x. x ≡ pages)) (mounted.volume_geometry ∙ stands.geometry) (served_pages host.volume new.medium pages served holds) in
-        stands_done host host old new h action stands on 0 0 (omega arith) (omega arith) refl refl h.blocks pages h.files on nothing_run (metadata_marked h stands)
+        stands_done host host old new h action stands on 0 0 (omega arith) (omega arith) refl refl refl h.blocks pages h.files on nothing_run (metadata_marked h stands)
         (blocks_still host old new h stands serves on block_line_stays) (λ none. each, holds) (files_still host old new h stands serves on file_line_stays)
 
   -- lines of files
@@ -188,10 +191,10 @@ module _ (host : HostState) (old new : Device) (serves : HostServes host old) (o
     volume_stays : (n : ℕ) → IsOfVolume geo n → LineKept old.medium new.medium n
     volume_stays n of = kept-but lines old.medium new.medium n (λ at. files_not_volume geo n serves.layout.valid (apart n at) of) x
 
-    pub files_marked_serve : HostServes host new
-    files_marked_serve =
-        goes_on (mounted-files geo host.blocks host.volume host.files old.medium new.medium serves.layout.valid strong_marked x.count mounted
-        host.files block_stays volume_stays refl mounted.journal_settled mounted.pages_settled served mounted.journal_right refl mounted.mapped)
+    pub files_marked_serve : (e : Stock Event) → HasRoom (record host.files { events = e }) new.medium → HostServes (telling e host) new
+    files_marked_serve e room =
+        goes_on (record host.files { events = e }) (mounted-files geo host.blocks host.volume host.files old.medium new.medium serves.layout.valid strong_marked x.count mounted
+        (record host.files { events = e }) block_stays volume_stays refl mounted.journal_settled mounted.pages_settled served mounted.journal_right refl mounted.mapped room)
 
     pub files_marked : (h : Machine) (action : Action) (files : List File) → Stands host old h → FilesStand host.files.pages.journal.geo new.medium host.files.pages.journal.tables files
         → Stands host new (record h { files = files })
@@ -200,5 +203,5 @@ module _ (host : HostState) (old new : Device) (serves : HostServes host old) (o
         subst (λ g. AreTables g.fpages host.files.pages.journal.tables) (sym mounted.journal_geometry) mounted.journal_right in
         let each : EachReadsFiles h.geometry new.medium (λ x. x ≡ files) =
         subst (λ g. EachReadsFiles g new.medium (λ x. x ≡ files)) (mounted.journal_geometry ∙ stands.geometry) (served_files host.files.pages.journal new.medium files right served stand) in
-        stands_done host host old new h action stands on 0 0 (omega arith) (omega arith) refl refl h.blocks h.volume files on nothing_run (metadata_marked h stands)
+        stands_done host host old new h action stands on 0 0 (omega arith) (omega arith) refl refl refl h.blocks h.volume files on nothing_run (metadata_marked h stands)
         (blocks_still host old new h stands serves on block_stays) (pages_still host old new h stands serves on volume_stays) (λ none. each, stand)

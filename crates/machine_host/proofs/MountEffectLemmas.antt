@@ -17,7 +17,7 @@ use Rattle.pm_volume.specs.Area.{volume_area}
 use Rattle.pm_volume.specs.Object.{VolumeState, VolumeServes}
 use Rattle.pm_volume.specs.Presence.{presence_read}
 use Rattle.file_journal.specs.Area.{file_area}
-use Rattle.file_journal.specs.Object.{JournalServes, JournalState}
+use Rattle.file_journal.specs.Object.{JournalServes}
 use Rattle.file_journal.specs.Reading.{tables_read}
 use Rattle.file_journal.specs.Tables.{known_units}
 use Rattle.recovery.specs.Findings.{geometry_told, early_finding, inspection_finding, first_finding}
@@ -27,6 +27,11 @@ use Rattle.machine_host.specs.Lines.{HasLayout, bad_metadata}
 use Rattle.machine_host.proofs.BadLineLemmas.{bad_early, bad_found, good_lines}
 use Rattle.machine_host.proofs.LayoutLemmas.{IsGood, is_good, layout-outside, layout-write_back, same_bad}
 use Rattle.machine_host.proofs.MountLemmas.{first_not_area, is_told}
+use Rattle.nvm_base.specs.Stock.{Stock}
+use Rattle.nvm_model.specs.Storage.{Event, File}
+use Rattle.file_pages.specs.Object.{PagesState}
+use Rattle.nvm_model.specs.Events.{restart_events, weak_file_lines}
+use Rattle.file_journal.specs.Standing.{FilesStand}
 
 -- what a mount does, as its clauses say it
 pub record IsMount (old new : Device) : Type 0 where
@@ -37,7 +42,7 @@ pub record IsMount (old new : Device) : Type 0 where
   pub files : EachImage (file_area (geometry_told old.medium)) new.medium (IsReached (file_area (geometry_told old.medium)) old.medium)
 
 -- what it gives where it is done
-pub record Gives (old new : Device) (s : BlocksState) (v : VolumeState) (j : JournalState) : Type 0 where
+pub record Gives (old new : Device) (s : BlocksState) (v : VolumeState) (p : PagesState) (e : Stock Event) : Type 0 where
   pub geometry : s.geo ≡ geometry_told old.medium
   pub settled : IsTrue s.settled
   pub serves : HasDurableBlocks old.medium → BlocksServe s new.medium
@@ -46,11 +51,14 @@ pub record Gives (old new : Device) (s : BlocksState) (v : VolumeState) (j : Jou
   pub present : v.present ≡ presence_read (geometry_told old.medium) (last_image old.medium)
   pub volume_settled : IsTrue v.settled
   pub volume_serves : VolumeServes v new.medium
-  pub journal_geometry : j.geo ≡ geometry_told old.medium
-  pub tables : j.tables ≡ tables_read (geometry_told old.medium) (last_image old.medium)
-  pub journal_settled : IsTrue j.settled
-  pub journal_serves : JournalServes j new.medium
-  pub journal_held : known_units j.tables.pages j.free ≡ (geometry_told old.medium).fpages
+  pub journal_geometry : p.journal.geo ≡ geometry_told old.medium
+  pub tables : p.journal.tables ≡ tables_read (geometry_told old.medium) (last_image old.medium)
+  pub journal_settled : IsTrue p.journal.settled
+  pub journal_serves : JournalServes p.journal new.medium
+  pub journal_held : known_units p.journal.tables.pages p.journal.free ≡ (geometry_told old.medium).fpages
+  pub pages_settled : IsTrue p.settled
+  pub events : (files : List File) → FilesStand p.journal.geo new.medium p.journal.tables files → e.items ≡ restart_events files
+  pub room : (files : List File) → FilesStand p.journal.geo new.medium p.journal.tables files → weak_file_lines files ≤ e.spare
 
 -- a mount of lines with the host's layout
 module _ (geo : Geometry) (old new : Device) (layout : HasLayout geo old.medium) (sound : IsSound old.medium) (x : IsMount old new) where

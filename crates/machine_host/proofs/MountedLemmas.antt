@@ -41,12 +41,13 @@ use Rattle.machine_host.proofs.BadLineLemmas.{good_lines}
 use Rattle.machine_host.proofs.LayoutLemmas.{IsGood, is_good, none_bad}
 use Rattle.machine_host.proofs.MountLemmas.{durable_flushed, first_place, found_map}
 use Rattle.machine_host.proofs.ReadingLemmas.{bad_shown, read_whole}
+use Rattle.nvm_model.specs.Events.{restart_events}
 
 -- Once all storage is mounted, host and device stand for it.
 pub stands_mounted : (host : HostState) (d : Device) (pages : List Page) (files : List File) → host.mode ≡ modes.On → HostServes host d → MetadataStands host.geometry d.medium []
     → VolumeHolds host.volume d.medium pages → FilesStand host.files.pages.journal.geo d.medium host.files.pages.journal.tables files → host.files.mappings ≡ no_mappings
-    → Stands host d (record (holding host.geometry (blocks_of host.blocks d.medium) pages files) { cut_armed = d.panel.cut_armed; fail_armed = d.panel.fail_armed })
-stands_mounted host d pages files on serves metadata holds stand none =
+    → host.files.events.items ≡ restart_events files → Stands host d (record (holding host.geometry (blocks_of host.blocks d.medium) pages files) { cut_armed = d.panel.cut_armed; fail_armed = d.panel.fail_armed })
+stands_mounted host d pages files on serves metadata holds stand none told =
     let mounted = serves.mounted on in
     let good = subst (λ g. HasGoodMetadata g d.medium) (sym mounted.geometry) (good_lines host.geometry d.medium metadata.bad) in
     record {
@@ -56,6 +57,7 @@ stands_mounted host d pages files on serves metadata holds stand none =
       volume = λ _. holds;
       files = λ _. stand;
       mappings = λ _. none;
+      events = λ _. told;
       device = record {
         metadata = metadata;
         blocks = λ _. subst (λ g. EachReads g d.medium (λ bs. bs ≡ blocks_of host.blocks d.medium)) mounted.geometry (served_reads host.blocks d.medium good mounted.serves);
@@ -117,8 +119,9 @@ pub stands_found : (host : HostState) (old new : Device) (image : Image) → IsS
     → host.volume.present ≡ presence_read (geometry_told old.medium) (last_image old.medium) → host.files.pages.journal.tables ≡ tables_read (geometry_told old.medium) (last_image old.medium)
     → WritesBackOutside (IsOfLogs (geometry_told old.medium)) old.medium new.medium
     → MetadataStands host.geometry new.medium [] → HostServes host new → host.files.mappings ≡ no_mappings
+    → ((files : List File) → FilesStand host.files.pages.journal.geo new.medium host.files.pages.journal.tables files → host.files.events.items ≡ restart_events files)
     → Stands host new (record (reading (geometry_told old.medium) image) { cut_armed = new.panel.cut_armed; fail_armed = new.panel.fail_armed })
-stands_found host old new image sound flushed none shows sizes on blocks present tables outside metadata serves unmapped =
+stands_found host old new image sound flushed none shows sizes on blocks present tables outside metadata serves unmapped told =
     let m = old.medium in
     let geo = geometry_told m in
     let layout = layout_found m flushed none in
@@ -133,4 +136,4 @@ stands_found host old new image sound flushed none shows sizes on blocks present
     subst (λ k. Stands host new (record k { cut_armed = new.panel.cut_armed; fail_armed = new.panel.fail_armed })) (sym (read_whole geo image shown))
     (subst (λ bs. Stands host new (record (holding geo bs pages files) { cut_armed = new.panel.cut_armed; fail_armed = new.panel.fail_armed })) read
     (subst (λ g. Stands host new (record (holding g (blocks_of host.blocks new.medium) pages files) { cut_armed = new.panel.cut_armed; fail_armed = new.panel.fail_armed })) sizes
-    (stands_mounted host new pages files on serves metadata holds stand unmapped)))
+    (stands_mounted host new pages files on serves metadata holds stand unmapped (told files stand))))

@@ -39,6 +39,8 @@ use Rattle.machine_host.proofs.RefusalLemmas.{always_allowed, line_right}
 use Rattle.machine_host.proofs.StepLemmas.{comes_placed}
 use Rattle.machine_host.proofs.TellingLemmas.{tells_nothing}
 use Rattle.machine_host.proofs.VolumeLemmas.{volume_behind}
+use Rattle.nvm_model.specs.Storage.{File}
+use Rattle.machine_host.proofs.RoomLemmas.{room_still}
 
 -- with one more line some are bad
 some_bad : (line : ℕ) (lines : List ℕ) → with_line line lines ≢ []
@@ -76,6 +78,13 @@ module _ (host : HostState) (old new : Device) (line : ℕ) (serves : HostServes
       by_line true = refl
       by_line false = strong
 
+  still_stand : AreMounted host.geometry host.blocks host.volume host.files old.medium → (files : List File) → FilesStand host.files.pages.journal.geo old.medium host.files.pages.journal.tables files
+      → FilesStand host.files.pages.journal.geo new.medium host.files.pages.journal.tables files
+  still_stand mounted files stand =
+      let j = host.files.pages.journal in
+      files-kept j.geo old.medium new.medium j.tables files (subst (λ g. AreTables g.fpages j.tables) (sym mounted.journal_geometry) mounted.journal_right)
+      (λ n has. behind_kept n (subst (λ g. meta_lines g ≤ n) mounted.journal_geometry (page_line_behind j.geo n has))) stand
+
   still_mounted : AreMounted host.geometry host.blocks host.volume host.files old.medium → AreMounted host.geometry host.blocks host.volume host.files new.medium
   still_mounted mounted = record {
     geometry = mounted.geometry;
@@ -91,6 +100,7 @@ module _ (host : HostState) (old new : Device) (line : ℕ) (serves : HostServes
     journal_held = mounted.journal_held;
     pages_settled = mounted.pages_settled;
     mapped = mounted.mapped;
+    room = room_still host.files host.files old.medium new.medium (still_stand mounted) (omega arith) mounted.room;
   }
 
   serves_poisoned : HostServes host new
@@ -124,11 +134,7 @@ module _ (host : HostState) (old new : Device) (line : ℕ) (serves : HostServes
         }
 
     files_same : host.mode ≡ modes.On → FilesStand host.files.pages.journal.geo new.medium host.files.pages.journal.tables h.files
-    files_same on =
-        let mounted = serves.mounted on in
-        let j = host.files.pages.journal in
-        files-kept j.geo old.medium new.medium j.tables h.files (subst (λ g. AreTables g.fpages j.tables) (sym mounted.journal_geometry) mounted.journal_right)
-        (λ n has. behind_kept n (subst (λ g. meta_lines g ≤ n) mounted.journal_geometry (page_line_behind j.geo n has))) (stands.files on)
+    files_same on = still_stand (serves.mounted on) h.files (stands.files on)
 
     stands_poisoned : Stands host new (record h { bad_meta = with_line line h.bad_meta })
     stands_poisoned = record {
@@ -138,6 +144,7 @@ module _ (host : HostState) (old new : Device) (line : ℕ) (serves : HostServes
       volume = volume_same;
       files = files_same;
       mappings = stands.mappings;
+      events = stands.events;
       device = record {
         metadata = metadata-poisoned h.geometry line old.medium new.medium (subst (λ g. line < meta_lines g) stands.geometry within) w h.bad_meta stands.device.metadata;
         blocks = λ none. absurd (some_bad line h.bad_meta none);

@@ -27,7 +27,6 @@ use Rattle.pm_volume.specs.Object.{VolumeState, VolumeHolds}
 use Rattle.pm_volume.specs.Presence.{presence_read}
 use Rattle.pm_volume.proofs.StandingLemmas.{each_pages-reached, each_pages-then, pages-kept, presence_read-replays, served_pages}
 use Rattle.file_journal.specs.Area.{file_area}
-use Rattle.file_journal.specs.Object.{JournalState}
 use Rattle.file_journal.specs.Reading.{tables_read}
 use Rattle.file_journal.specs.Standing.{EachReadsFiles, FilesStand, ReadsFiles}
 use Rattle.file_journal.specs.Tables.{AreTables, Tables}
@@ -57,6 +56,10 @@ use Rattle.machine_host.proofs.MountEffectLemmas.{Gives, IsMount, durable_mount,
 use Rattle.machine_host.proofs.LayoutLemmas.{IsGood, metadata-then, stays_bad}
 use Rattle.machine_host.proofs.MountLemmas.{IsTold, file_image-last, found_tables, is_told, nothing_wrong_there, volume_image-last}
 use Rattle.machine_host.proofs.TellingLemmas.{interrupts, never_on, never_stops, power_struck, struck, tells_interrupted, tells_work}
+use Rattle.nvm_base.specs.Stock.{Stock}
+use Rattle.nvm_model.specs.Storage.{Event}
+use Rattle.file_pages.specs.Object.{PagesState}
+use Rattle.machine_host.proofs.RoomLemmas.{room_of}
 
 -- What it comes to in a state that host and device stand for: it ran through, or was interrupted.
 pub record MountsTo (h : Machine) (answer : Answer) (after : HostState) (old new : Device) : Type 0 where
@@ -89,9 +92,9 @@ module _ (host : HostState) (old new : Device) (serves : HostServes host old) (u
   }
 
   -- the mount was done
-  module _ (runs : Runs mount_calls mount_persists went old.panel new.panel) (found : first_finding old.medium ≡ None) (s : BlocksState) (v : VolumeState) (j : JournalState) (given : Gives old new s v j) where
+  module _ (runs : Runs mount_calls mount_persists went old.panel new.panel) (found : first_finding old.medium ≡ None) (s : BlocksState) (v : VolumeState) (p : PagesState) (e : Stock Event) (given : Gives old new s v p e) where
     abbrev pub taken : HostState
-    taken = record { geometry = host.geometry; mode = modes.On; blocks = s; volume = v; files = just_mounted j }
+    taken = record { geometry = host.geometry; mode = modes.On; blocks = s; volume = v; files = just_mounted p e }
 
     none : bad_metadata host.geometry old.medium.is_bad ≡ []
     none = none_found host.geometry old new serves.layout sound x found
@@ -102,8 +105,8 @@ module _ (host : HostState) (old new : Device) (serves : HostServes host old) (u
     told : IsTold host.geometry old.medium
     told = is_told host.geometry old.medium good sound
 
-    right : AreTables host.geometry.fpages j.tables
-    right = subst (λ g. AreTables g.fpages j.tables) told.sizes (subst (AreTables (geometry_told old.medium).fpages) (sym given.tables) (found_tables old.medium found))
+    right : AreTables host.geometry.fpages p.journal.tables
+    right = subst (λ g. AreTables g.fpages p.journal.tables) told.sizes (subst (AreTables (geometry_told old.medium).fpages) (sym given.tables) (found_tables old.medium found))
 
     served : BlocksServe s new.medium
     served = given.serves (durable_mount host.geometry old new serves.layout sound x serves.readable none)
@@ -125,8 +128,9 @@ module _ (host : HostState) (old new : Device) (serves : HostServes host old) (u
         journal_serves = given.journal_serves;
         journal_right = right;
         journal_held = given.journal_held ∙ ap (λ g. g.fpages) told.sizes;
-        pages_settled = refl;
+        pages_settled = given.pages_settled;
         mapped = tt;
+        room = room_of (just_mounted p e) new.medium given.room;
       };
       stopped = λ stop. cc stop;
     }
@@ -174,6 +178,7 @@ module _ (host : HostState) (old new : Device) (serves : HostServes host old) (u
       volume = λ on. absurd (off on);
       files = λ on. absurd (off on);
       mappings = λ on. absurd (off on);
+      events = λ on. absurd (off on);
       device = record {
         metadata = metadata;
         blocks = blocks_kept;
@@ -254,6 +259,7 @@ module _ (host : HostState) (old new : Device) (serves : HostServes host old) (u
                 volume = λ on. cc on;
                 files = λ on. cc;
                 mappings = λ on. cc on;
+                events = λ on. cc on;
                 device = record {
                   metadata = subst (MetadataStands geo new.medium) is metadata;
                   blocks = λ none. cc none;
@@ -278,7 +284,7 @@ module _ (host : HostState) (old new : Device) (serves : HostServes host old) (u
         }
 
       -- A mount that was done brings the host into mode On.
-      module _ (found : first_finding old.medium ≡ None) (s : BlocksState) (v : VolumeState) (j : JournalState) (given : Gives old new s v j) where
+      module _ (found : first_finding old.medium ≡ None) (s : BlocksState) (v : VolumeState) (p : PagesState) (e : Stock Event) (given : Gives old new s v p e) where
         good_meta : h.bad_meta ≡ []
         good_meta = sym stands.device.metadata.bad ∙ none_found geo old new was sound x found
 
@@ -306,12 +312,12 @@ module _ (host : HostState) (old new : Device) (serves : HostServes host old) (u
         files_last = stands.device.files good_meta (last_image old.medium) (file_image-last geo old.medium sound (good_of geo old new was sound x (none_of good_meta)))
 
         -- and the journal for its files
-        stands_for : FilesStand j.geo new.medium j.tables files_last.files
+        stands_for : FilesStand p.journal.geo new.medium p.journal.tables files_last.files
         stands_for =
             let t = files_last.tables in
             let tables = given.tables ∙ ap (λ g. tables_read g (last_image old.medium)) told_now.sizes
             ∙ tables_read-replays geo (last_image old.medium) files_last.word t files_last.replays files_last.holds files_last.right in
-            subst (λ g. FilesStand g new.medium j.tables files_last.files) (sym (given.journal_geometry ∙ told_now.sizes))
+            subst (λ g. FilesStand g new.medium p.journal.tables files_last.files) (sym (given.journal_geometry ∙ told_now.sizes))
             (subst (λ (x : Tables). FilesStand geo new.medium x files_last.files) (sym tables)
             (files-kept geo old.medium new.medium t files_last.files files_last.right
             (file_pages_kept geo old.medium new.medium was.valid (outside_of geo old new was sound x (none_of good_meta))) files_last.stand))
@@ -319,9 +325,9 @@ module _ (host : HostState) (old new : Device) (serves : HostServes host old) (u
         seen : blocks_of s new.medium ≡ blocks_read geo old.medium.is_bad (last_image old.medium)
         seen = given.blocks ∙ ap (λ g. blocks_read g old.medium.is_bad (last_image old.medium)) told_now.sizes
 
-        pub done_up : BroughtUp h (taken runs found s v j given) new
+        pub done_up : BroughtUp h (taken runs found s v p e given) new
         done_up =
-            let mounted = (serves_taken runs found s v j given).mounted refl in
+            let mounted = (serves_taken runs found s v p e given).mounted refl in
             let next : Machine = record (holding geo (blocks_of s new.medium) pages_last.pages files_last.files) { cut_armed = h.cut_armed; fail_armed = h.fail_armed } in
             record {
               next = next;
@@ -334,6 +340,7 @@ module _ (host : HostState) (old new : Device) (serves : HostServes host old) (u
                 volume = λ _. holds;
                 files = λ _. stands_for;
                 mappings = λ _. refl;
+                events = λ _. given.events files_last.files stands_for;
                 device = record {
                   metadata = subst (MetadataStands geo new.medium) good_meta metadata;
                   blocks = λ _.
@@ -342,7 +349,7 @@ module _ (host : HostState) (old new : Device) (serves : HostServes host old) (u
                   volume = λ _. subst (λ g. EachReadsPages g new.medium (λ pages. pages ≡ pages_last.pages)) (given.volume_geometry ∙ told_now.sizes) (served_pages v new.medium pages_last.pages given.volume_serves holds);
                   files = λ _.
                       subst (λ g. EachReadsFiles g new.medium (λ files. files ≡ files_last.files)) (given.journal_geometry ∙ told_now.sizes)
-                      (served_files j new.medium files_last.files (subst (λ g. AreTables g.fpages j.tables) (sym mounted.journal_geometry) mounted.journal_right) given.journal_serves stands_for);
+                      (served_files p.journal new.medium files_last.files (subst (λ g. AreTables g.fpages p.journal.tables) (sym mounted.journal_geometry) mounted.journal_right) given.journal_serves stands_for);
                   power = power_stays;
                   cut_armed = cut_stays;
                   fail_armed = fail_stays;
@@ -352,7 +359,7 @@ module _ (host : HostState) (old new : Device) (serves : HostServes host old) (u
               };
             }
 
-        pub mounts_done : (answer : Answer) → CountsBad s v j new.medium answer → MountsTo h answer (taken runs found s v j given) old new
+        pub mounts_done : (answer : Answer) → CountsBad s v p.journal new.medium answer → MountsTo h answer (taken runs found s v p e given) old new
         unfolding done_up
         mounts_done answer counts = record {
           next = done_up.next;

@@ -9,7 +9,6 @@ use Rattle.line_words.specs.declared.interruption.Interruption.{Interruption}
 use Rattle.line_words.specs.declared.interruption.Interruption.TheVariants.{Failed, PowerLost as Lost}
 use Rattle.pm_volume.specs.Object.{VolumeState}
 use Rattle.block_device.specs.Object.{BlocksState}
-use Rattle.file_journal.specs.Object.{JournalState}
 use Rattle.recovery.specs.Findings.{first_finding}
 use Rattle.recovery.specs.Mounting.{Finds, mount_outcome}
 use Rattle.recovery.specs.declared.Mounted.{Mounted}
@@ -42,6 +41,9 @@ use Rattle.machine_host.proofs.RefusalLemmas.{fate_placed}
 use Rattle.machine_host.proofs.MountEffectLemmas.{Gives, IsMount}
 use Rattle.machine_host.proofs.RemountLemmas.{MountsTo, kept_unmounted, mounts_bad, mounts_done, mounts_stopped, never_wrong, serves_taken, serves_unmounted}
 use Rattle.machine_host.proofs.RestartLemmas.{keeps, serves_back, stands_back}
+use Rattle.nvm_base.specs.Stock.{Stock}
+use Rattle.nvm_model.specs.Storage.{Event}
+use Rattle.file_pages.specs.Object.{PagesState}
 
 -- What a mount is answered: that in each state it comes to, in few bytes, and the host may go on.
 pub record MountAnswered (host after : HostState) (answer : Answer) (old new : Device) : Type 0 where
@@ -58,13 +60,13 @@ module _ (host : HostState) (old new : Device) (serves : HostServes host old) (u
   on = serves.power ∙ ap is_powered unsettled
 
   -- it was done
-  pub mount_done : (s : BlocksState) (v : VolumeState) (j : JournalState) (answer : Answer) → Runs mount_calls mount_persists went old.panel new.panel → first_finding old.medium ≡ None → Gives old new s v j → CountsBad s v j new.medium answer
-      → MountAnswered host (record { geometry = host.geometry; mode = modes.On; blocks = s; volume = v; files = just_mounted j }) answer old new
-  mount_done s v j answer runs found given counts = record {
-    step = λ h stands. mounts_done host old new serves unsettled sound x h stands runs found s v j given answer counts;
+  pub mount_done : (s : BlocksState) (v : VolumeState) (p : PagesState) (e : Stock Event) (answer : Answer) → Runs mount_calls mount_persists went old.panel new.panel → first_finding old.medium ≡ None → Gives old new s v p e → CountsBad s v p.journal new.medium answer
+      → MountAnswered host (record { geometry = host.geometry; mode = modes.On; blocks = s; volume = v; files = just_mounted p e }) answer old new
+  mount_done s v p e answer runs found given counts = record {
+    step = λ h stands. mounts_done host old new serves unsettled sound x h stands runs found s v p e given answer counts;
     printable = subst IsPrintable (sym counts.told) tt;
     room = subst (λ a. most_of a ≤ 72) (sym counts.told) (omega arith);
-    serves = serves_taken host old new serves unsettled sound x runs found s v j given;
+    serves = serves_taken host old new serves unsettled sound x runs found s v p e given;
   }
 
   -- it was not, but had memory

@@ -99,6 +99,7 @@ module _ (host : HostState) (choice : Choice) (old mid : Device) (start : Start)
               volume = λ on. cc on;
               files = λ on. cc;
               mappings = λ on. cc on;
+              events = λ on. cc on;
               device = record {
                 metadata = subst (MetadataStands geo mid.medium) good metadata;
                 blocks = λ _.
@@ -122,6 +123,7 @@ module _ (host : HostState) (choice : Choice) (old mid : Device) (start : Start)
               volume = λ on. cc on;
               files = λ on. cc;
               mappings = λ on. cc on;
+              events = λ on. cc on;
               device = record {
                 metadata = subst (MetadataStands geo mid.medium) bad metadata;
                 blocks = λ none. cc none;

@@ -10,7 +10,6 @@ use Rattle.line_device.specs.declared.line.Choice.TheVariants.{Lasts}
 use Rattle.word_log.specs.Mount.Finding.{bad_line}
 use Rattle.block_device.specs.Object.{BlocksState}
 use Rattle.pm_volume.specs.Object.{VolumeState}
-use Rattle.file_journal.specs.Object.{JournalState}
 use Rattle.recovery.specs.Findings.{first_finding}
 use Rattle.nvm_base.specs.declared.units.LineNo.{LineNo}
 use Rattle.recovery.specs.Mounting.{Finds, mount_outcome}
@@ -33,6 +32,9 @@ use Rattle.machine_host.proofs.MountEffectLemmas.{Gives, IsMount}
 use Rattle.machine_host.proofs.RemountLemmas.{BroughtUp, done_up, kept_unmounted, serves_taken, serves_unmounted, stopped_up}
 use Rattle.machine_host.proofs.RestartLemmas.{keeps, serves_waited, stands_back}
 use Rattle.machine_host.proofs.StepLemmas.{stands_ordered}
+use Rattle.nvm_base.specs.Stock.{Stock}
+use Rattle.nvm_model.specs.Storage.{Event}
+use Rattle.file_pages.specs.Object.{PagesState}
 
 -- what was not armed is not armed later
 pub stays_off : (old new : Bool) → old ≡ false → (IsTrue new → IsTrue old) → new ≡ false
@@ -80,12 +82,12 @@ module _ (host : HostState) (old new : Device) (serves : HostServes host old) (u
   }
 
   -- it was done
-  pub settled_taken : (after : HostState) (s : BlocksState) (v : VolumeState) (j : JournalState) → first_finding old.medium ≡ None → Gives old new s v j
-      → after ≡ record host { mode = modes.On; blocks = s; volume = v; files = just_mounted j } → IsSettled host after old new
-  settled_taken after s v j found given is =
+  pub settled_taken : (after : HostState) (s : BlocksState) (v : VolumeState) (p : PagesState) (e : Stock Event) → first_finding old.medium ≡ None → Gives old new s v p e
+      → after ≡ record host { mode = modes.On; blocks = s; volume = v; files = just_mounted p e } → IsSettled host after old new
+  settled_taken after s v p e found given is =
       subst (λ k. IsSettled host k old new) (sym is) (
         refl,
-        λ h stands. settled_up _ h stands (serves_taken host old new serves unsettled sound x runs found s v j given) (done_up host old new serves unsettled sound x h stands runs found s v j given),
+        λ h stands. settled_up _ h stands (serves_taken host old new serves unsettled sound x runs found s v p e given) (done_up host old new serves unsettled sound x h stands runs found s v p e given),
       )
 
   -- a line of metadata is bad

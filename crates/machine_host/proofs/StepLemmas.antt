@@ -10,7 +10,7 @@ use Rattle.line_device.specs.Device.{Device}
 use Rattle.line_words.specs.declared.interruption.Interruption.{Interruption}
 use Rattle.line_words.specs.Ending.{ended}
 use Rattle.nvm_model.specs.Page.{Page}
-use Rattle.nvm_model.specs.Storage.{Block, File}
+use Rattle.nvm_model.specs.Storage.{Block, File, Event}
 use Rattle.block_device.specs.Area.{IsBlockLine}
 use Rattle.block_device.specs.Object.{blocks_of}
 use Rattle.block_device.specs.Images.{EachReads}
@@ -45,6 +45,7 @@ use Rattle.machine_host.proofs.FilesAsideLemmas.{files_elsewhere, files_stand_el
 use Rattle.machine_host.proofs.LayoutLemmas.{layout-write_back, metadata-then, stays_of_kept}
 use Rattle.machine_host.proofs.RefusalLemmas.{early_first, early_plain, fate_placed}
 use Rattle.machine_host.proofs.TellingLemmas.{interrupts, never_on, never_stops, power_struck, struck, tells_interrupted, tells_nothing, tells_work}
+use Rattle.nvm_base.specs.Stock.{Stock}
 
 -- what a device stands for of the state: these blocks, pages and files
 abbrev pub BlocksAre : HostState → Device → Machine → List Block → Type 0
@@ -135,10 +136,10 @@ module _ (host after : HostState) (old new : Device) (h : Machine) (action : Act
     stands = now;
   }
 
-  -- the state after it, where blocks, pages and files are these, and the mappings as they were
-  pub stands_done : after.files.mappings ≡ host.files.mappings → (bs : List Block) (pages : List Page) (files : List File) → after.mode ≡ modes.On → Runs calls persists went old.panel new.panel → MetadataStands h.geometry new.medium h.bad_meta
+  -- the state after it, where blocks, pages and files are these, and mappings and events as they were
+  pub stands_done : after.files.mappings ≡ host.files.mappings → after.files.events ≡ host.files.events → (bs : List Block) (pages : List Page) (files : List File) → after.mode ≡ modes.On → Runs calls persists went old.panel new.panel → MetadataStands h.geometry new.medium h.bad_meta
       → BlocksAre after new h bs → PagesAre after new h pages → FilesAre after new h files → Stands after new (record h { blocks = bs; volume = pages; files = files })
-  stands_done maps bs pages files mode runs metadata blocks_are pages_are files_are =
+  stands_done maps events bs pages files mode runs metadata blocks_are pages_are files_are =
       let whole = stands.device.whole (sym stands.mode ∙ on) in
       record {
         geometry = same ∙ stands.geometry;
@@ -147,6 +148,7 @@ module _ (host after : HostState) (old new : Device) (h : Machine) (action : Act
         volume = λ _. pages_are.1;
         files = λ _. files_are.1;
         mappings = λ _. maps ∙ stands.mappings on;
+        events = λ _. ap (λ (e : Stock Event). e.items) events ∙ stands.events on;
         device = record {
           metadata = metadata;
           blocks = λ good. subst (λ interrupted. EachReads h.geometry new.medium (MayLeaveBlocks interrupted bs)) (sym whole) (blocks_are.0 good);
@@ -180,6 +182,7 @@ module _ (host after : HostState) (old new : Device) (h : Machine) (action : Act
       volume = λ is_on. absurd (never_on by (sym mode ∙ is_on));
       files = λ is_on. absurd (never_on by (sym mode ∙ is_on));
       mappings = λ is_on. absurd (never_on by (sym mode ∙ is_on));
+      events = λ is_on. absurd (never_on by (sym mode ∙ is_on));
       device = record {
         metadata = left.metadata;
         blocks = left.blocks;
@@ -210,6 +213,7 @@ written_back host old new h next stands serves write_back is power cut fail mode
       volume = λ on. pages.1 (stands.mode ∙ mode on);
       files = λ on. listed.1 (stands.mode ∙ mode on);
       mappings = λ on. stands.mappings (stands.mode ∙ mode on);
+      events = λ on. stands.events (stands.mode ∙ mode on);
       device = record {
         metadata = metadata-then h.geometry old.medium new.medium h.bad_meta (layout-write_back h.geometry old.medium new.medium stands.device.metadata.layout write_back) (λ n below. write_back.bad n) stands.device.metadata;
         blocks = kept.0;
@@ -334,7 +338,7 @@ on_err-with P (Err e) p q = (p, q)
 -- where all is as it was, a command that ran out of memory leaves what it may
 pub leaves_all : (starved : Starved) (host : HostState) (d : Device) → LeavesStarved starved host host d d
 leaves_all Untouched host d = (refl, refl)
-leaves_all WrittenBack host d = (refl, write_back-refl d.medium, refl)
+leaves_all WrittenBack host d = (record { events = host.files.events; host = refl; items = refl; spare = omega arith }, write_back-refl d.medium, refl)
 leaves_all (Unmounted choice) host d = inl (refl, inl refl)
 leaves_all Unrecovered host d = record { same = refl; opens = opens-none d.panel; stands = λ h stands. stands }
 

@@ -160,7 +160,7 @@ module _ {E R : Type 0} (says : E → Told R) (host : HostState) (s : VolumeStat
   stands_worked : {T : Type 0} {may : List Page → List Page → Type 0} (r : Result T E) (pages : List Page) → VolumeCalled says host s r may calls persists old new → OnOk r (VolumeHolds s new.medium pages)
       → OnOk r (Stands (volume_after host s On) new (record h { volume = pages }))
   stands_worked (Ok x) pages c holds =
-      stands_done host (volume_after host s On) old new h action stands on calls persists few few_persists refl refl h.blocks pages h.files refl c.runs (metadata_after c.outside c.marks)
+      stands_done host (volume_after host s On) old new h action stands on calls persists few few_persists refl refl refl h.blocks pages h.files refl c.runs (metadata_after c.outside c.marks)
       (blocks_after c.outside)
       (λ good. subst (λ g. EachReadsPages g new.medium (λ x. x ≡ pages)) (c.sizes ∙ geo_is) (served_pages s new.medium pages (c.serves c.settled) holds), holds)
       (files_after c.outside)

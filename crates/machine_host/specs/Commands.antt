@@ -27,6 +27,7 @@ use Rattle.machine_host.specs.OnPages as on_file_pages
 use Rattle.machine_host.specs.OnMappings as on_mappings
 use Rattle.machine_host.specs.OnFlushes as on_flushes
 use Rattle.machine_host.specs.OnMedia as on_media
+use Rattle.machine_host.specs.OnEvents as on_events
 use Rattle.machine_host.specs.OnFileErrors as on_file_errors
 use Rattle.machine_host.specs.OnPower as on_power
 
@@ -62,6 +63,7 @@ meaning (Sync handle offset len) = on_flushes.sync handle offset len
 meaning (Flush handle spans) = on_flushes.flush handle spans
 meaning (FlushVerify handle spans) = on_flushes.flush_verify handle spans
 meaning (DeepFlush handle spans) = on_flushes.deep_flush handle spans
+meaning NextEvent = on_events.next_event
 meaning (CheckFile name offset len) = on_file_errors.check_file name offset len
 meaning (PoisonBlock block line) = on_media.poison_block block line
 meaning (PoisonVolume offset) = on_media.poison_volume offset

@@ -1,5 +1,5 @@
 -- How faults of the layers below are answered, and what want of memory leaves.
-use Rattle.std.specs.Prelude.{◌≡◌, ◌⊎◌, ◌+◌, ℕ, List, Result, Ok, Err}
+use Rattle.std.specs.Prelude.{◌≡◌, ◌≤◌, ◌⊎◌, ◌+◌, ℕ, List, Result, Ok, Err}
 use Rattle.line_device.specs.Medium.{Medium, WritesBack}
 use Rattle.line_device.specs.Panel.{Start}
 use Rattle.line_device.specs.Device.{Device, Restarted, Waited}
@@ -17,7 +17,8 @@ use Rattle.reply_text.specs.Answer.Answer.{DeviceFailed, Done, DoneBad, PoisonFi
 use Rattle.nvm_model.specs.Blocks.{bad_block_lines}
 use Rattle.nvm_model.specs.Files.{bad_file_lines}
 use Rattle.nvm_model.specs.Page.{Page, bad_lines}
-use Rattle.nvm_model.specs.Storage.{File}
+use Rattle.nvm_base.specs.Stock.{Stock}
+use Rattle.nvm_model.specs.Storage.{Event, File}
 use Rattle.block_device.specs.Object.{BlocksState, blocks_of}
 use Rattle.file_journal.specs.Object.{JournalState}
 use Rattle.file_journal.specs.Standing.{FilesStand}
@@ -70,10 +71,17 @@ pub record LeftUnrecovered (host after : HostState) (old new : Device) : Type 0 
   pub opens : Opens old.panel new.panel
   pub stands : (h : Machine) → Stands host old h → Stands host new h
 
+-- The host is as it was, but for more room for events.
+pub record IsRoomier (host after : HostState) : Type 0 where
+  pub events : Stock Event
+  pub host : after ≡ record host { files = record host.files { events = events } }
+  pub items : events.items ≡ host.files.events.items
+  pub spare : host.files.events.spare ≤ events.spare
+
 -- What a command that ran out of memory leaves of host and device, by its row.
 abbrev pub LeavesStarved : Starved → HostState → HostState → Device → Device → Type 0
 LeavesStarved Untouched host after old new = (after ≡ host) × (new ≡ old)
-LeavesStarved WrittenBack host after old new = (after ≡ host) × WritesBack old.medium new.medium × (new.panel ≡ old.panel)
+LeavesStarved WrittenBack host after old new = IsRoomier host after × WritesBack old.medium new.medium × (new.panel ≡ old.panel)
 LeavesStarved (Unmounted choice) host after old new = (after ≡ host) × ((new ≡ old) ⊎ Waited old new) ⊎ LeftUnmounted choice host after old new
 LeavesStarved Unrecovered host after old new = LeftUnrecovered host after old new
 

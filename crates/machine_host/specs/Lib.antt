@@ -7,7 +7,9 @@ pub mod OnVolume
 pub mod OnFiles
 pub mod OnPages
 pub mod OnMappings
+pub mod OnEvents
 pub mod OnFlushes
+pub mod Flushing
 pub mod OnMedia
 pub mod OnFileErrors
 pub mod OnPower

@@ -1,5 +1,5 @@
 -- Media errors of files: lines that go bad or weak, bad lines that are made good again, and those that are told.
-use Rattle.std.specs.Prelude.{◌+◌, ◌*◌, ◌/◌, ℕ, List, [], ◌∷◌, length, min, option_map}
+use Rattle.std.specs.Prelude.{◌+◌, ◌*◌, ◌/◌, ◌++◌, ℕ, List, [], ◌∷◌, length, min, option_map}
 use Rattle.nvm_base.specs.declared.units.Span.{Span}
 use Rattle.nvm_model.specs.Cell.{Cell, clear_cell, lose_cell, weaken_cell}
 use Rattle.nvm_model.specs.Events.{offsets_of}
@@ -10,11 +10,13 @@ use Rattle.nvm_model.specs.Storage.{File}
 use Rattle.nvm_model.specs.Touched.{bad_touched}
 use Rattle.scrub.specs.Refusals.{file_clear_refusal, file_refusal}
 use Rattle.reply_text.specs.Answer.Answer.{BadLines, Done, Refused}
+use Rattle.machine_host.specs.Machine.{Machine}
 use Rattle.machine_host.specs.Machine.Fate.{Gives, Works}
 use Rattle.machine_host.specs.Meaning.{Meaning, anywhere, no_reasons, quiet, span_refusal}
 use Rattle.machine_host.specs.Meaning.FilesLeft.{OldOrNew}
 use Rattle.machine_host.specs.Meaning.Starved.{WrittenBack}
 use Rattle.machine_host.specs.declared.needs.Needs.TheVariants.{Usable}
+use Rattle.machine_host.specs.OnEvents.{taken_events}
 use Rattle.machine_host.specs.OnFiles.{if_missing}
 use Rattle.machine_host.specs.OnMedia.{line_answer}
 use Rattle.machine_host.specs.OnPages.{pages_named}
@@ -32,8 +34,15 @@ marking_file mark name offset = record (quiet Usable anywhere (λ h. Gives Done 
   };
 }
 
+-- the state with a line lost, and an event of it
+abbrev pub with_poisoned : List ℕ → ℕ → Machine → Machine
+with_poisoned name offset h = record h {
+  files = marked_in lose_cell name offset h.files;
+  events = h.events ++ taken_events h.mappings name (offset / 64) (pages_named name h.files);
+}
+
 abbrev pub poison_file : List ℕ → ℕ → Meaning
-poison_file name offset = marking_file lose_cell name offset
+poison_file name offset = record (marking_file lose_cell name offset) { comes = λ h. Gives Done (with_poisoned name offset h) }
 
 abbrev pub weaken_file : List ℕ → ℕ → Meaning
 weaken_file name offset = record (marking_file weaken_cell name offset) { starved = WrittenBack }

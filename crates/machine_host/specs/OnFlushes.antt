@@ -1,5 +1,5 @@
 -- The commands that make bytes of mapped files durable. Through a private mapping they do nothing.
-use Rattle.std.specs.Prelude.{◌+◌, ◌*◌, ◌==◌, ◌||◌, ℕ, List, [], ◌∷◌, length, map, nat_lt, sum_by, Option, Some, None, option_map, if◌then◌else◌}
+use Rattle.std.specs.Prelude.{◌+◌, ◌*◌, ◌==◌, ◌||◌, ◌++◌, ℕ, List, [], ◌∷◌, length, map, nat_lt, sum_by, Option, Some, None, option_map, if◌then◌else◌}
 use Rattle.std.specs.List.{list_any}
 use Rattle.nvm_base.specs.Units.{units_of}
 use Rattle.nvm_base.specs.declared.units.Span.{Span}
@@ -15,12 +15,14 @@ use Rattle.reply_text.specs.declared.reply.Why.TheVariants as because
 use Rattle.reply_text.specs.Answer.{Answer}
 use Rattle.reply_text.specs.Answer.Answer.{Done, PoisonFile, Refused, VerifyFile}
 use Rattle.machine_host.specs.Costs.{lines_persisted}
+use Rattle.machine_host.specs.Machine.{Machine}
 use Rattle.machine_host.specs.Machine.Fate.{Gives, Works}
 use Rattle.machine_host.specs.Meaning.{Meaning, anywhere, no_reasons, quiet}
 use Rattle.machine_host.specs.Meaning.FilesLeft.{SyncedInPart}
 use Rattle.machine_host.specs.declared.look.Look.{Look}
 use Rattle.machine_host.specs.declared.look.Look.TheVariants.{Once, Again}
 use Rattle.machine_host.specs.declared.needs.Needs.TheVariants.{Usable}
+use Rattle.machine_host.specs.OnEvents.{lost_events}
 use Rattle.machine_host.specs.OnMappings.{by_handle, within_mapping}
 use Rattle.machine_host.specs.OnPages.{pages_named}
 
@@ -55,10 +57,17 @@ second_look Again name (Some n) = VerifyFile name (64 * n)
 abbrev pub flushed_answer : Look → List ℕ → List Span → List Page → Answer
 flushed_answer look name spans pages = second_look look name (next_bad_touched spans (persist_spans spans pages) 0)
 
+-- the state with them durable, and an event for each line that was lost by that
+abbrev pub with_synced : List ℕ → List Span → Machine → Machine
+with_synced name spans h = record h {
+  files = synced_in name spans h.files;
+  events = h.events ++ lost_events h.mappings name spans (pages_named name h.files);
+}
+
 -- a bad line that a span touches refuses all of it
 abbrev pub flush_file : Look → List ℕ → List Span → Meaning
 flush_file look name spans =
-    record (quiet Usable anywhere (λ h. Works (flushed_answer look name spans (pages_named name h.files)) (record h { files = synced_in name spans h.files }))) {
+    record (quiet Usable anywhere (λ h. Works (flushed_answer look name spans (pages_named name h.files)) (with_synced name spans h))) {
       reasons = λ h. record no_reasons { unreadable = option_map (λ n. PoisonFile name (64 * n)) (next_bad_touched spans (pages_named name h.files) 0) };
       files = λ mappings. synced_in name spans;
       files_left = λ mappings. SyncedInPart name spans;

@@ -5,6 +5,7 @@ use Rattle.line_device.specs.declared.line.Choice.{Choice}
 use Rattle.word_tables.specs.declared.geometry.Geometry.{Geometry}
 use Rattle.word_tables.specs.Layout.{total_lines, volume_line}
 use Rattle.pm_volume.specs.Presence.{presence_read}
+use Rattle.nvm_model.specs.Events.{restart_events}
 use Rattle.nvm_model.specs.Page.{Page, presence_of, read_pages, KeepsPages}
 use Rattle.nvm_model.specs.Storage.{Block, File}
 use Rattle.block_device.specs.Reading.{blocks_read}
@@ -16,7 +17,7 @@ use Rattle.machine_host.specs.Machine.{Machine, bad_of}
 use Rattle.machine_host.specs.Commands.{MayLeaveBlocks, MayLeaveFiles, MayLeaveVolume}
 use Rattle.machine_host.specs.Lines.{bad_metadata}
 
--- the state at rest of these blocks, pages and files
+-- the state at rest of these blocks, pages and files, in which each bad line of a file is an event
 abbrev pub holding : Geometry → List Block → List Page → List File → Machine
 holding geometry blocks pages files = record {
   geometry = geometry;
@@ -25,7 +26,7 @@ holding geometry blocks pages files = record {
   files = files;
   mappings = [];
   next_handle = 0;
-  events = [];
+  events = restart_events files;
   bad_meta = [];
   mode = modes.On;
   interrupted = None;

@@ -17,11 +17,14 @@ use Rattle.machine_host.specs.Commands.{MayLeaveBlocks, MayLeaveFiles, MayLeaveV
 use Rattle.machine_host.specs.Run.{Transcript, Takes}
 use Rattle.machine_host.specs.Telling.{Tells}
 use Rattle.machine_host.specs.Lines.{HasLayout, MetadataStands, bad_metadata}
-use Rattle.file_journal.specs.Object.{JournalServes, JournalState}
+use Rattle.file_journal.specs.Object.{JournalServes}
 use Rattle.file_journal.specs.Standing.{EachReadsFiles, FilesStand}
 use Rattle.file_journal.specs.Tables.{AreTables, known_units}
 use Rattle.inode_table.specs.Slots.{inode_of, pages_at}
-use Rattle.nvm_model.specs.Storage.{Mapping}
+use Rattle.nvm_base.specs.Stock.{Stock}
+use Rattle.nvm_model.specs.Events.{weak_file_lines}
+use Rattle.nvm_model.specs.Storage.{Event, File, Mapping}
+use Rattle.file_pages.specs.Object.{PagesState}
 use Rattle.mappings.specs.Object.{MappingsState}
 use Rattle.pm_volume.specs.Images.{EachReadsPages}
 use Rattle.pm_volume.specs.Object.{VolumeState, VolumeHolds, VolumeServes}
@@ -46,8 +49,8 @@ abbrev pub no_mappings : MappingsState
 no_mappings = record { mappings = []; next = 0 }
 
 -- files as they were just mounted
-abbrev pub just_mounted : JournalState → HeldFiles
-just_mounted j = record { pages = record { journal = j; settled = true }; mappings = no_mappings }
+abbrev pub just_mounted : PagesState → Stock Event → HeldFiles
+just_mounted pages events = record { pages = pages; mappings = no_mappings; events = events }
 
 -- the mappings of a state, and its next handle
 abbrev pub mappings_of : Machine → MappingsState
@@ -64,7 +67,14 @@ abbrev pub EachMapping : (Mapping → Type 0) → List Mapping → Type 0
 EachMapping P [] = Unit {0}
 EachMapping P (m ∷ ms) = P m × EachMapping P ms
 
--- the mounted blocks, volume and files are those of the device, ready for the next call, and each mapping is on a file
+-- There is room for an event of each weak line of the files, all of which a flush may lose.
+pub record HasRoom (f : HeldFiles) (m : Medium) : Type 0 where
+  pub files : List File
+  pub stand : FilesStand f.pages.journal.geo m f.pages.journal.tables files
+  pub enough : weak_file_lines files ≤ f.events.spare
+
+-- The mounted blocks, volume and files are those of the device, ready for the next call, each mapping is on a file, and there is
+-- room for events.
 pub record AreMounted (geo : Geometry) (b : BlocksState) (v : VolumeState) (f : HeldFiles) (m : Medium) : Type 0 where
   pub geometry : b.geo ≡ geo
   pub settled : IsTrue b.settled
@@ -79,6 +89,7 @@ pub record AreMounted (geo : Geometry) (b : BlocksState) (v : VolumeState) (f : 
   pub journal_held : known_units f.pages.journal.tables.pages f.pages.journal.free ≡ geo.fpages
   pub pages_settled : IsTrue f.pages.settled
   pub mapped : EachMapping (IsOnFile f.pages.journal.tables.files) f.mappings.mappings
+  pub room : HasRoom f m
 
 -- The host may command the device: it has the lines of the host's sizes, and blocks can be read in each image, where no line of
 -- metadata is bad. Its power is off exactly in mode Off, in mode On all storage is mounted, and in mode Stopped a line of
@@ -95,7 +106,7 @@ abbrev pub IsFlushed : Medium → Type 0
 IsFlushed m = (p : ℕ) → p / 8 < m.count → IsOnly (last_image m p) (m.history p)
 
 -- The device stands for the state: its metadata, its blocks, pages and files in each image, where no line of metadata is bad, and
--- what is armed. Where an action was interrupted, they are as it may have left them. What is not built yet is not there.
+-- what is armed. Where an action was interrupted, they are as it may have left them.
 pub record DeviceStands (d : Device) (h : Machine) : Type 0 where
   pub metadata : MetadataStands h.geometry d.medium h.bad_meta
   pub blocks : h.bad_meta ≡ [] → EachReads h.geometry d.medium (MayLeaveBlocks h.interrupted h.blocks)
@@ -107,7 +118,7 @@ pub record DeviceStands (d : Device) (h : Machine) : Type 0 where
   pub whole : h.mode ≡ modes.On → h.interrupted ≡ None
   pub stopped : h.mode ≡ modes.Stopped → h.bad_meta ≢ []
 
--- and the host is in its mode, and sees its blocks, pages, files and mappings
+-- and the host is in its mode, and sees its blocks, pages, files, mappings and events
 pub record Stands (host : HostState) (d : Device) (h : Machine) : Type 0 where
   pub geometry : host.geometry ≡ h.geometry
   pub mode : host.mode ≡ h.mode
@@ -115,6 +126,7 @@ pub record Stands (host : HostState) (d : Device) (h : Machine) : Type 0 where
   pub volume : host.mode ≡ modes.On → VolumeHolds host.volume d.medium h.volume
   pub files : host.mode ≡ modes.On → FilesStand host.files.pages.journal.geo d.medium host.files.pages.journal.tables h.files
   pub mappings : host.mode ≡ modes.On → host.files.mappings ≡ mappings_of h
+  pub events : host.mode ≡ modes.On → host.files.events.items ≡ h.events
   pub device : DeviceStands d h
 
 -- The command came to this in h: the device tells what was said, and stands for the state after.

@@ -1,6 +1,7 @@
 // The host: it refuses a command, or performs it on the device and answers it by one line.
 mod blocks;
 mod commands;
+mod events;
 mod file_errors;
 mod files;
 mod flushing;
@@ -112,7 +113,7 @@ impl Host {
             mode: Mode::On,
             blocks: mounted.blocks,
             volume: mounted.volume,
-            files: HeldFiles::of(alloc, mounted.journal),
+            files: HeldFiles::of(alloc, mounted.files, mounted.events),
         })
     }
 

@@ -1,7 +1,7 @@
 -- How large what a line asks for can be.
 use Rattle.std.proofs.Common.{◌≡◌, ℕ, Bool, true, false, List, [], ◌∷◌, Option, Some, None, Result, Ok, Err, if◌then◌else◌, IfOk, IfSome, refl, subst}
 use Rattle.script_text.specs.Action.{Action, action_of}
-use Rattle.script_text.specs.Action.Action.{BRead, BWrite, BDiscard, BDiscardIf, BExists, BAtomic, BScar, VLoad, VStore, VSync, VRanges, VPSync, VDiscard, VDiscardIf, VExists, Create, Delete, Rename, Resize, ListFiles, FRead, FWrite, Map, Unmap, Load, Store, Sync, Flush, FlushVerify, DeepFlush, CheckFile, PoisonBlock, PoisonVolume, PoisonFile, PoisonMeta, WeakenFile, WeakenVolume, ClearFile, ClearVolume, Cut, CutIn, FailIn, Restart, Recover}
+use Rattle.script_text.specs.Action.Action.{BRead, BWrite, BDiscard, BDiscardIf, BExists, BAtomic, BScar, VLoad, VStore, VSync, VRanges, VPSync, VDiscard, VDiscardIf, VExists, Create, Delete, Rename, Resize, ListFiles, FRead, FWrite, Map, Unmap, Load, Store, Sync, Flush, FlushVerify, DeepFlush, NextEvent, CheckFile, PoisonBlock, PoisonVolume, PoisonFile, PoisonMeta, WeakenFile, WeakenVolume, ClearFile, ClearVolume, Cut, CutIn, FailIn, Restart, Recover}
 use Rattle.script_text.specs.Operands.{span_action, data_action, spans_action}
 use Rattle.script_text.specs.Script.{cut_action, fail_action, restart_action, poison_action, map_action, power_action, media_action, mapped_action, files_action, volume_action, plain_action, flushing_action, storing_action, command_action, is_comment, asked, words_input}
 use Rattle.script_text.specs.Script.Input.{Skipped, Asked}
@@ -58,7 +58,8 @@ mapped_action-bounds name words =
     Keeps-cond _ _ _ (named_action-bounds map_action map_action-bounds words)
     (Keeps-cond _ _ _ (number_action-bounds Unmap (λ a p. p) words)
     (Keeps-cond _ _ _ (numbered_action-bounds (λ h. span_action (Load h)) (λ h rest good. span_action-bounds (Load h) (λ a b p q. (good, p, q)) rest) words)
-    (Keeps-cond _ _ _ (numbered_action-bounds (λ h. span_action (Sync h)) (λ h rest good. span_action-bounds (Sync h) (λ a b p q. (good, p, q)) rest) words) (media_action-bounds name words))))
+    (Keeps-cond _ _ _ (numbered_action-bounds (λ h. span_action (Sync h)) (λ h rest good. span_action-bounds (Sync h) (λ a b p q. (good, p, q)) rest) words)
+    (Keeps-cond _ _ _ (bare_action-bounds NextEvent tt words) (media_action-bounds name words)))))
 
 files_action-bounds : (name : List ℕ) (words : List (List ℕ)) → Keeps (files_action name words)
 files_action-bounds name words =

@@ -38,6 +38,7 @@ pub data Action : Type 0 where
   Flush : ℕ → List Span → Action
   FlushVerify : ℕ → List Span → Action
   DeepFlush : ℕ → List Span → Action
+  NextEvent : Action
   CheckFile : List ℕ → ℕ → ℕ → Action
   PoisonBlock : ℕ → ℕ → Action
   PoisonVolume : ℕ → Action
@@ -86,6 +87,7 @@ action_of (command.Sync handle offset len) = Sync handle offset len
 action_of (command.Flush handle spans) = Flush handle spans.items
 action_of (command.FlushVerify handle spans) = FlushVerify handle spans.items
 action_of (command.DeepFlush handle spans) = DeepFlush handle spans.items
+action_of command.NextEvent = NextEvent
 action_of (command.CheckFile name offset len) = CheckFile name offset len
 action_of (command.PoisonBlock block line) = PoisonBlock block line
 action_of (command.PoisonVolume offset) = PoisonVolume offset

@@ -1,6 +1,6 @@
--- Worked lines on flushes of mappings, and on bad and weak lines of files.
+-- Worked lines on flushes of mappings, on events, and on bad and weak lines of files.
 use Rattle.std.specs.Prelude.{◌≡◌, [], ◌∷◌, codes}
-use Rattle.script_text.specs.Action.Action.{Sync, Flush, FlushVerify, DeepFlush, CheckFile, PoisonFile, WeakenFile, ClearFile}
+use Rattle.script_text.specs.Action.Action.{Sync, Flush, FlushVerify, DeepFlush, NextEvent, CheckFile, PoisonFile, WeakenFile, ClearFile}
 use Rattle.script_text.specs.Rows.{range}
 use Rattle.script_text.specs.Script.{line_input}
 use Rattle.script_text.specs.Script.Input.{Malformed, Asked}
@@ -19,6 +19,8 @@ pub record FlushRows : Type 0 where
   pub look_at_half_a_span : line_input (codes "flushv 7 0") ≡ Malformed
   pub span_flushed_deep : line_input (codes "deepflush 7 0 64") ≡ Asked (DeepFlush 7 (range 0 64 ∷ []))
   pub deep_flush_of_no_span : line_input (codes "deepflush 7") ≡ Malformed
+  pub event_taken : line_input (codes "event") ≡ Asked NextEvent
+  pub event_and_a_number : line_input (codes "event 1") ≡ Malformed
   pub file_checked : line_input (codes "check log 0 65536") ≡ Asked (CheckFile (codes "log") 0 65536)
   pub file_checked_without_a_length : line_input (codes "check log 0") ≡ Malformed
   pub line_of_a_file_poisoned : line_input (codes "poison file log 64") ≡ Asked (PoisonFile (codes "log") 64)

@@ -9,7 +9,7 @@ use Rattle.script_text.specs.declared.command.Command.{Command}
 use Rattle.script_text.specs.declared.parsing.LineFault.{LineFault}
 use Rattle.script_text.specs.declared.parsing.LineFault.TheVariants.{Syntax, Memory}
 use Rattle.script_text.specs.Action.{Action, action_of}
-use Rattle.script_text.specs.Action.Action.{BRead, BWrite, BDiscard, BDiscardIf, BExists, BScar, BAtomic, BMulti, VLoad, VStore, VSync, VRanges, VPSync, VDiscard, VDiscardIf, VExists, Create, Delete, Rename, Resize, ListFiles, FRead, FWrite, Map, Unmap, Load, Store, Sync, Flush, FlushVerify, DeepFlush, CheckFile, PoisonBlock, PoisonVolume, PoisonFile, PoisonMeta, WeakenFile, WeakenVolume, ClearFile, ClearVolume, Cut, CutIn, FailIn, Restart, Recover}
+use Rattle.script_text.specs.Action.Action.{BRead, BWrite, BDiscard, BDiscardIf, BExists, BScar, BAtomic, BMulti, VLoad, VStore, VSync, VRanges, VPSync, VDiscard, VDiscardIf, VExists, Create, Delete, Rename, Resize, ListFiles, FRead, FWrite, Map, Unmap, Load, Store, Sync, Flush, FlushVerify, DeepFlush, NextEvent, CheckFile, PoisonBlock, PoisonVolume, PoisonFile, PoisonMeta, WeakenFile, WeakenVolume, ClearFile, ClearVolume, Cut, CutIn, FailIn, Restart, Recover}
 use Rattle.std.specs.Borrow.{Bor}
 use Rattle.script_text.specs.Operands.{fitting, ranges_of, spans_of, with_range}
 use Rattle.script_text.specs.Script.{Input, words_of}
@@ -98,6 +98,7 @@ InBounds (Sync handle offset len) = (handle < 2 ^ 32) × (offset < 2 ^ 32) × (l
 InBounds (Flush handle spans) = (handle < 2 ^ 32) × (0 < length spans) × All IsSmall spans
 InBounds (FlushVerify handle spans) = (handle < 2 ^ 32) × (0 < length spans) × All IsSmall spans
 InBounds (DeepFlush handle spans) = (handle < 2 ^ 32) × (0 < length spans) × All IsSmall spans
+InBounds NextEvent = Unit {0}
 InBounds (CheckFile name offset len) = (is_name name ≡ true) × (offset < 2 ^ 32) × (len < 2 ^ 32)
 InBounds (PoisonBlock block line) = (block < 2 ^ 32) × (line < 2 ^ 32)
 InBounds (PoisonVolume offset) = offset < 2 ^ 32

@@ -5,7 +5,7 @@ use Rattle.std.specs.Str.{bytes_eq}
 use Rattle.std.specs.Io.BufRead.{strip_last}
 use Rattle.line_device.specs.declared.line.Choice.TheVariants.{Firsts, Lasts, Seed}
 use Rattle.script_text.specs.Action.{Action}
-use Rattle.script_text.specs.Action.Action.{BRead, BWrite, BDiscard, BDiscardIf, BExists, BScar, BAtomic, BMulti, VLoad, VStore, VSync, VRanges, VPSync, VDiscard, VDiscardIf, VExists, Create, Delete, Rename, Resize, ListFiles, FRead, FWrite, Map, Unmap, Load, Store, Sync, Flush, FlushVerify, DeepFlush, CheckFile, PoisonBlock, PoisonVolume, PoisonFile, PoisonMeta, WeakenFile, WeakenVolume, ClearFile, ClearVolume, Cut, CutIn, FailIn, Restart, Recover}
+use Rattle.script_text.specs.Action.Action.{BRead, BWrite, BDiscard, BDiscardIf, BExists, BScar, BAtomic, BMulti, VLoad, VStore, VSync, VRanges, VPSync, VDiscard, VDiscardIf, VExists, Create, Delete, Rename, Resize, ListFiles, FRead, FWrite, Map, Unmap, Load, Store, Sync, Flush, FlushVerify, DeepFlush, NextEvent, CheckFile, PoisonBlock, PoisonVolume, PoisonFile, PoisonMeta, WeakenFile, WeakenVolume, ClearFile, ClearVolume, Cut, CutIn, FailIn, Restart, Recover}
 use Rattle.script_text.specs.Operands.{bare_action, number_action, span_action, name_action, names_action, sized_action, data_action, named_action, numbered_action, kind_action, spans_action, ranges_action, placed_action}
 
 -- a line: nothing to do, no command, or what it asks for
@@ -76,7 +76,8 @@ mapped_action name words =
     if bytes_eq name (codes "map") then named_action map_action words
     else (if bytes_eq name (codes "unmap") then number_action Unmap words
     else (if bytes_eq name (codes "load") then numbered_action (λ handle. span_action (Load handle)) words
-    else (if bytes_eq name (codes "sync") then numbered_action (λ handle. span_action (Sync handle)) words else media_action name words)))
+    else (if bytes_eq name (codes "sync") then numbered_action (λ handle. span_action (Sync handle)) words
+    else (if bytes_eq name (codes "event") then bare_action NextEvent words else media_action name words))))
 
 abbrev pub files_action : List ℕ → List (List ℕ) → Option Action
 files_action name words =

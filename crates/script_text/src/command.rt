@@ -134,6 +134,8 @@ pub enum Command {
         handle: u64,
         spans: Spans,
     },
+    /// The oldest event is taken.
+    NextEvent,
     /// The bad lines of a span of the file.
     CheckFile {
         name: Name,

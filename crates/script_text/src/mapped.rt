@@ -67,6 +67,8 @@ pub(crate) fn read_mapped(name: &[u8], words: &[u8]) -> Option<Command>
             offset,
             len,
         })
+    } else if name == b"event".as_slice() {
+        read_bare(Command::NextEvent, words)
     } else {
         read_media(name, words)
     }

@@ -12,7 +12,7 @@ pub fn worked_mapped_lines()
     ensures { MappedRows }
 {}
 
-/// What the worked lines on flushes and on bad and weak lines of files ask for.
+/// What the worked lines on flushes, events and bad lines of files ask for.
 pub fn worked_flush_lines()
     ensures { FlushRows }
 {}

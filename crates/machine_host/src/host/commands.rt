@@ -31,6 +31,7 @@ pub fn longest_reply(command: &Command) -> u64
         Command::CheckFile { len, .. } => 72 + 21 * (*len / LINE + 2).min(MOST_LINES),
         Command::VRanges => 133,
         Command::List => 64 + 54 * INODES,
+        Command::NextEvent => 128,
         Command::BWrite { .. }
         | Command::BAtomic { .. }
         | Command::BMulti { .. }
@@ -144,6 +145,7 @@ impl Host {
             Command::FlushVerify { handle, spans } => {
                 Ok(self.flush(device, *handle, spans.as_slice(), Look::Again))
             }
+            Command::NextEvent => Ok(self.next_event(device)),
             Command::CheckFile { name, offset, len } => {
                 let span = Span {
                     start: *offset,
@@ -153,7 +155,7 @@ impl Host {
             }
             Command::PoisonBlock { block, line } => Ok(self.poison_block(device, *block, *line)),
             Command::PoisonVolume { offset } => Ok(self.poison_volume(device, *offset)),
-            Command::PoisonFile { name, offset } => Ok(self.poison_file(device, name, *offset)),
+            Command::PoisonFile { name, offset } => self.poison_file(device, name, *offset),
             Command::PoisonMeta { line } => Ok(self.poison_meta(device, *line)),
             Command::WeakenFile { name, offset } => self.weaken_file(device, name, *offset),
             Command::WeakenVolume { offset } => self.weaken_volume(device, *offset),

@@ -1,10 +1,14 @@
 // Commands that make bytes of mapped files durable.
-ghost use Rattle.std.specs.Prelude.{◌≡◌, ◌+◌, ◌*◌, ◌==◌, ◌<◌, ◌≤◌, ◌^◌, All, None, Some, length, nat_lt, option_map, take};
+ghost use Rattle.std.specs.Prelude.{◌≡◌, ◌+◌, ◌*◌, ◌==◌, ◌<◌, ◌≤◌, ◌^◌, All, IsTrue, None, OnErr, OnOk, Some, length, nat_lt, option_map, take};
 ghost use Rattle.std.specs.List.{list_any};
 ghost use Rattle.nvm_base.specs.declared.files.Kind.TheVariants.{Shared};
 ghost use Rattle.nvm_base.specs.declared.units.Span.{Span as Bytes};
 ghost use Rattle.nvm_model.specs.Mappings.{mapping_of};
 ghost use Rattle.mappings.specs.Object.{info_of};
+ghost use Rattle.inode_table.specs.Slots.{pages_at};
+ghost use Rattle.file_journal.specs.Object.{JournalServes};
+ghost use Rattle.file_pages.specs.Object.{PagesServe, is_settled};
+ghost use Rattle.flush_engine.specs.Spans.{IsWithin};
 ghost use Rattle.flush_engine.specs.Refusals.{flush_says, flushed};
 ghost use Rattle.script_text.specs.Action.{Action};
 ghost use Rattle.script_text.specs.Parsing.{IsSmall};
@@ -12,14 +16,16 @@ ghost use Rattle.reply_text.specs.Answer.{answer_of};
 ghost use Rattle.reply_text.specs.Answer.Answer.{Done};
 ghost use Rattle.machine_host.specs.declared.mode.Mode.TheVariants.{On};
 ghost use Rattle.machine_host.specs.Commands.{meaning};
+ghost use Rattle.machine_host.specs.Flushing.{FlushSaid, HoldsLost, LinesTold};
 ghost use Rattle.machine_host.specs.Faults.{answer_after, flush_answer, mode_after, verify_answer};
 ghost use Rattle.machine_host.specs.OnFlushes.{all_moved, flush_with, spans_refusal};
 ghost use Rattle.machine_host.specs.Responding.{Answered};
 ghost use Rattle.machine_host.specs.Stands.{HostServes};
 
 use super::Host;
+use crate::held::HeldFiles;
 use crate::look::Look;
-use file_pages::ends_past;
+use file_pages::{FilePages, ends_past};
 use flush_engine::{FlushFault, flush, flush_verify};
 use line_device::LineDevice;
 use line_words::Interruption;
@@ -81,16 +87,9 @@ impl Host {
         };
         let moved = all_moved(spans, info.span.start);
         let spans = &moved[..spans.len()];
-        match look {
-            Look::Once => {
-                let call = flush(device, &mut self.files.pages, inode, spans);
-                self.flushed(&info.name, call)
-            }
-            Look::Again => {
-                let call = flush_verify(device, &mut self.files.pages, inode, spans);
-                self.flushed(&info.name, call)
-            }
-        }
+        let call = flush_file(device, &mut self.files.pages, inode, spans, look);
+        self.files.tell_flushed(device, &info.name, inode, spans, call);
+        self.flushed(&info.name, call)
     }
 
     // What a flush of that file is answered, and the mode after it.
@@ -109,6 +108,57 @@ impl Host {
             Err(FlushFault::Device) => self.interrupt(Interruption::Failed),
             Err(FlushFault::PowerLost) => self.interrupt(Interruption::PowerLost),
         }
+    }
+}
+
+impl HeldFiles {
+    // Tells the lines that a flush lost, where it was done.
+    fn tell_flushed<D: LineDevice>(
+        &mut self,
+        device: &D,
+        name: &Name,
+        inode: u64,
+        spans: &[Span],
+        call: Result<(), FlushFault>,
+    )
+        requires serves { JournalServes self.old.pages.journal (D.state device.now).medium }
+        requires inode { inode < 64 }
+        requires within { OnOk (flushed call) (All (IsWithin (pages_at self.old.pages.journal.tables.files inode)) spans.now) }
+        requires room { OnOk (flushed call) (HoldsLost self.old (D.state device.now).medium inode spans.now) }
+        ensures done { OnOk (flushed call) (LinesTold name.now inode spans.now (D.state device.now).medium self.old self.new) }
+        ensures undone { OnErr (flushed call) (self.new ≡ self.old) }
+    {
+        match call {
+            Ok(()) | Err(FlushFault::Verify(_)) => self.tell_lost(device, name, inode, spans),
+            Err(
+                FlushFault::Range
+                | FlushFault::Length
+                | FlushFault::Limit
+                | FlushFault::Poison(_)
+                | FlushFault::Device
+                | FlushFault::PowerLost,
+            ) => {}
+        }
+    }
+}
+
+fn flush_file<D: LineDevice>(
+    device: &mut D,
+    pages: &mut FilePages,
+    inode: u64,
+    spans: &[Span],
+    look: Look,
+) -> Result<(), FlushFault>
+    requires serves { PagesServe pages.old (D.state device.old).medium }
+    requires settled { IsTrue (is_settled pages.old) }
+    requires on { IsTrue (D.state device.old).panel.power }
+    requires inode { inode < 64 }
+    ensures said { FlushSaid D.state pages.old pages.new result look inode spans.now device.old device.new }
+    ensures within { OnOk (flushed result) (All (IsWithin (pages_at pages.old.journal.tables.files inode)) spans.now) }
+{
+    match look {
+        Look::Once => flush(device, pages, inode, spans),
+        Look::Again => flush_verify(device, pages, inode, spans),
     }
 }
 

@@ -83,22 +83,22 @@ impl Host {
     fn mounted<D: LineDevice>(&mut self, device: &D, mounted: Mounted) -> Reply
         requires blocks { BlocksServe mounted.blocks (D.state device.now).medium }
         requires volume { VolumeServes mounted.volume (D.state device.now).medium }
-        requires journal { JournalServes mounted.journal (D.state device.now).medium }
-        ensures state { self.new ≡ record self.old { mode = On; blocks = mounted.blocks; volume = mounted.volume; files = just_mounted mounted.journal } }
-        ensures answer { CountsBad mounted.blocks mounted.volume mounted.journal (D.state device.now).medium (answer_of result) }
+        requires journal { JournalServes mounted.files.journal (D.state device.now).medium }
+        ensures state { self.new ≡ record self.old { mode = On; blocks = mounted.blocks; volume = mounted.volume; files = just_mounted mounted.files mounted.events } }
+        ensures answer { CountsBad mounted.blocks mounted.volume mounted.files.journal (D.state device.now).medium (answer_of result) }
     {
-        let bad = bad_count(device, &mounted.blocks, &mounted.volume, &mounted.journal);
+        let bad = bad_count(device, &mounted.blocks, &mounted.volume, mounted.files.journal());
         self.take(mounted);
         Reply::DoneBad(bad)
     }
 
     // The host takes over what was mounted.
     pub(super) fn take(&mut self, mounted: Mounted)
-        ensures { self.new ≡ record self.old { mode = On; blocks = mounted.blocks; volume = mounted.volume; files = just_mounted mounted.journal } }
+        ensures { self.new ≡ record self.old { mode = On; blocks = mounted.blocks; volume = mounted.volume; files = just_mounted mounted.files mounted.events } }
     {
         self.blocks = mounted.blocks;
         self.volume = mounted.volume;
-        self.files = HeldFiles::of(self.alloc, mounted.journal);
+        self.files = HeldFiles::of(self.alloc, mounted.files, mounted.events);
         self.mode = Mode::On;
     }
 

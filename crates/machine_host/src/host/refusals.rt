@@ -109,6 +109,7 @@ fn needs(command: &Command) -> Needs
         | Command::Flush { .. }
         | Command::FlushVerify { .. }
         | Command::DeepFlush { .. }
+        | Command::NextEvent
         | Command::CheckFile { .. }
         | Command::PoisonBlock { .. }
         | Command::PoisonVolume { .. }
@@ -167,6 +168,7 @@ fn place_refusal(geo: Geometry, command: &Command) -> Option<Why>
         | Command::Flush { .. }
         | Command::FlushVerify { .. }
         | Command::DeepFlush { .. }
+        | Command::NextEvent
         | Command::CheckFile { .. }
         | Command::PoisonBlock { .. }
         | Command::PoisonVolume { .. }

@@ -60,6 +60,7 @@ fn spans_of_a_mapping_are_flushed(rt: HostRuntime) {
         ("flushv 1 64 8 0 1", Gave::FlushVerify(1, 2)),
         ("deepflush 1 64 8", Gave::DeepFlush(1, 1)),
         ("deepflush 1 64 8 0 1", Gave::DeepFlush(1, 2)),
+        ("event", Gave::NextEvent),
     ] {
         assert_eq!(rt; parsed(rt.alloc(), line.as_bytes()), wanted, "{line}");
     }
@@ -106,7 +107,7 @@ static WRONG: [&str; 41] = [
     "flushv 4294967296 0 1",
     "deepflush 1 0",
     "deepflush 1 0 1 2 x",
-    "event",
+    "event 1",
 ];
 
 #[test]
