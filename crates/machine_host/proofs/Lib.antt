@@ -61,3 +61,6 @@ pub mod FileCheckLemmas
 mod FailureRunLemmas
 mod FileRunLemmas
 mod PageStoreRunLemmas
+mod LineSumLemmas
+mod WeakLineLemmas
+mod WeakFileLemmas
