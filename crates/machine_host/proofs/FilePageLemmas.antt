@@ -48,15 +48,18 @@ use Rattle.machine_host.specs.Meaning.{metadata_refusal, most_refusal}
 use Rattle.machine_host.specs.OnFiles.{if_missing}
 use Rattle.machine_host.specs.OnPages.{page_answer, pages_named, pages_used, stored_in}
 use Rattle.machine_host.specs.Responding.{Answered}
-use Rattle.machine_host.specs.Stands.{HostState, HostServes, Stands, Comes}
+use Rattle.machine_host.specs.Stands.{HostState, HostServes, Stands, Comes, HasRoom}
 use Rattle.machine_host.proofs.CallLemmas.{IsPart, on_refused-then}
 use Rattle.machine_host.proofs.ExistsLemmas.{same_state}
-use Rattle.machine_host.proofs.FilePageCallLemmas.{AreReady, LeavesOthers, PagesCalled, both_settled, pages_after, work_answered, work_comes, work_serves}
+use Rattle.machine_host.proofs.FilePageCallLemmas.{AreReady, LeavesOthers, PagesCalled, both_settled, pages_after, work_answered, work_comes, work_serves, told_still}
 use Rattle.machine_host.proofs.FilePageFateLemmas.{fate_fwrite, fate_misread, fate_read_within, fate_unnamed, pages_are}
 use Rattle.machine_host.proofs.FilesAsideLemmas.{files_stand_elsewhere}
 use Rattle.machine_host.proofs.FilesCallLemmas.{files_seen, journal_sizes, sees_files}
 use Rattle.machine_host.proofs.RefusalLemmas.{meta_refused}
 use Rattle.machine_host.proofs.UsedPageLemmas.{used_seen}
+use Rattle.machine_host.proofs.RoomLemmas.{Thins, room_still, room_then}
+use Rattle.machine_host.proofs.WeakFileLemmas.{change-weak}
+use Rattle.machine_host.proofs.WeakLineLemmas.{fill-weak, put-weak}
 
 -- answers of pages
 never_starves : (f : PageFault) → page_says f ≡ Starves → ⊥
@@ -107,6 +110,9 @@ module _ (now host : HostState) (old : Device) (inside : host ≡ now) (on : now
 
   pub journal_now : host.files.pages.journal.settled ≡ true
   journal_now = ap (λ k. k.files.pages.journal.settled) inside ∙ (serves.mounted on).journal_settled
+
+  pub room_now : HasRoom host.files old.medium
+  room_now = subst (λ (k : HostState). HasRoom k.files old.medium) (sym inside) (serves.mounted on).room
 
   -- What host and device show of a state that they stand for.
   module _ (name : List ℕ) (h : Machine) (stands : Stands now old h) where
@@ -166,7 +172,7 @@ on_worked (Err f) p = λ stop. p
 
 -- A read of bytes that a file has.
 module _ (now host after : HostState) (p : PagesState) (r : Result (Unit {0}) PageFault) (name : List ℕ) (inode offset len calls : ℕ) (old new : Device)
-    (inside : host ≡ now) (state : after ≡ pages_after host p (mode_after page_says r)) (on : now.mode ≡ On) (serves : HostServes now old) (here : inode_of name host.files.pages.journal.tables.files ≡ Some inode)
+    (inside : host ≡ now) (state : after ≡ pages_after host p host.files.events (mode_after page_says r)) (on : now.mode ≡ On) (serves : HostServes now old) (here : inode_of name host.files.pages.journal.tables.files ≡ Some inode)
     (few : calls ≤ (units_of 64 (record { start = offset; len = len })).len) (untouched : OnRefused page_says r ((p ≡ host.files.pages) × (new ≡ old))) (lines : WritesBack old.medium new.medium)
     (served : PagesServe p new.medium) (object : (p.journal ≡ host.files.pages.journal) × (p.settled ≡ is_done (outcome_by page_says r))) (runs : Runs calls 0 (outcome_by page_says r) old.panel new.panel) where
   -- the device stands for the same files
@@ -196,13 +202,15 @@ module _ (now host after : HostState) (p : PagesState) (r : Result (Unit {0}) Pa
   }
   ready_after (Err f) settled = tt
 
-  call : PagesCalled page_says host p r (MayLeaveFiles host.files.mappings.mappings (Some (FRead name offset len))) calls 0 old new
+  call : PagesCalled page_says host p host.files.events r (MayLeaveFiles host.files.mappings.mappings (Some (FRead name offset len))) calls 0 old new
   call = record {
-    untouched = untouched;
+    untouched = on_refused-then page_says r (λ same. ((same.0, refl), same.1)) untouched;
     images = on_worked r reads_after;
     outside = others-write_back (IsOfFiles host.files.pages.journal.geo) old.medium new.medium lines;
     marks = λ n below. lines.bad n;
     ready = ready_after r object.1;
+    room = on_ok r (room_still host.files (record host.files { pages = p }) old.medium new.medium
+        (λ files stand. subst (λ (j : JournalState). FilesStand j.geo new.medium p.journal.tables files) (sym object.0) (stand_after files stand)) (omega arith) (room_now now host old inside on serves));
     runs = runs;
   }
 
@@ -218,14 +226,15 @@ module _ (now host after : HostState) (p : PagesState) (r : Result (Unit {0}) Pa
         let seen = file_seen now host old inside on serves name h stands inode here in
         let has = named_seen now host old inside on serves name h stands (Some inode) (sym here) in
         let there = subst (λ n. offset + len ≤ 4096 * n) (sym seen.size) within in
-        work_comes page_says (page_answer name) (pages_part name) now host after p r calls 0 old new inside state on serves (FRead name offset len) (λ h stands. (few, omega arith)) leaves call
-        h (Bytes (look seen.file.pages offset len)) answer (read_refusal seen.file.pages offset len) h.files refl stands
+        work_comes page_says (page_answer name) (pages_part name) now host after p host.files.events r calls 0 old new inside state on serves (FRead name offset len) (λ h stands. (few, omega arith)) leaves call
+        h (Bytes (look seen.file.pages offset len)) answer (read_refusal seen.file.pages offset len) h.files h.events refl stands
         (fate_read_within h name seen.file (sym stands.mode ∙ on) has seen.found offset len some there most)
-        (refused h.files seen.file seen.at) (on_ok r (stand_after h.files (files_seen now host old h inside on serves stands))) (answer_is h.files seen.file seen.at);
+        (refused h.files seen.file seen.at) (on_ok r (stand_after h.files (files_seen now host old h inside on serves stands)))
+        (told_still page_says (page_answer name) (pages_part name) now host after p host.files.events r calls 0 old new inside state on serves (FRead name offset len) (λ h stands. (few, omega arith)) leaves call refl h stands) (answer_is h.files seen.file seen.at);
     printable = printable;
     room = room;
     serves =
-        work_serves page_says (page_answer name) (pages_part name) now host after p r calls 0 old new inside state on serves (FRead name offset len) (λ h stands. (few, omega arith)) leaves call;
+        work_serves page_says (page_answer name) (pages_part name) now host after p host.files.events r calls 0 old new inside state on serves (FRead name offset len) (λ h stands. (few, omega arith)) leaves call;
   }
 
 -- A store's clauses are those of a call on bytes.
@@ -238,14 +247,15 @@ pub store_called : {D : Type 0} (state : D → Device) (host : HostState) (p : P
     → (IsTrue (is_settled p) → PagesServe p (state after).medium) → OnOk r (AreTables p.journal.geo.fpages p.journal.tables)
     → OnOk r (p.journal.tables.files ≡ host.files.pages.journal.tables.files)
     → (p.journal.geo ≡ host.files.pages.journal.geo) × (is_settled p ≡ is_done (outcome_by page_says r)) → (IsTrue (is_settled p) → known_units p.journal.tables.pages p.journal.free ≡ p.journal.geo.fpages)
-    → Runs calls persists (outcome_by page_says r) (state before).panel (state after).panel
-    → PagesCalled page_says host p r (MayLeaveFiles host.files.mappings.mappings (Some (FWrite name offset bytes))) calls persists (state before) (state after)
-store_called state host p r name inode offset bytes calls persists before after right here untouched images outside marks serves tables names object held runs = record {
-  untouched = on_refused-then page_says r (λ same. (same.0, ap state same.1)) untouched;
+    → Runs calls persists (outcome_by page_says r) (state before).panel (state after).panel → OnOk r (HasRoom (record host.files { pages = p }) (state after).medium)
+    → PagesCalled page_says host p host.files.events r (MayLeaveFiles host.files.mappings.mappings (Some (FWrite name offset bytes))) calls persists (state before) (state after)
+store_called state host p r name inode offset bytes calls persists before after right here untouched images outside marks serves tables names object held runs room = record {
+  untouched = on_refused-then page_says r (λ same. ((same.0, refl), ap state same.1)) untouched;
   images = left r images;
   outside = outside;
   marks = marks;
   ready = ready r tables names object.1;
+  room = room;
   runs = runs;
 }
   where
@@ -280,10 +290,30 @@ store_called state host p r name inode offset bytes calls persists before after 
         }
     ready (Err f) tables names settled = tt
 
+-- It makes no line weak.
+pub store_room : (host : HostState) (p : PagesState) (r : Result (Unit {0}) PageFault) (name : List ℕ) (inode offset : ℕ) (bytes : List ℕ) (old new : Medium) → AreTables host.files.pages.journal.geo.fpages host.files.pages.journal.tables
+    → inode_of name host.files.pages.journal.tables.files ≡ Some inode → HasRoom host.files old → p.journal.geo ≡ host.files.pages.journal.geo
+    → OnOk r ((files : List File) (file : File) → IsFileAt host.files.pages.journal old inode files file
+    → FilesStand host.files.pages.journal.geo new p.journal.tables (change_file file_name file.name (on_pages (λ pages. put offset bytes (fill offset (length bytes) pages))) files))
+    → OnOk r (HasRoom (record host.files { pages = p }) new)
+store_room host p (Ok x) name inode offset bytes old new right here room sizes ok =
+    room_then host.files (record host.files { pages = p }) old new (stored_in name offset bytes) thin
+    (λ files stand.
+    let seen = file-found host.files.pages.journal old right name files stand inode (found_is_named name host.files.pages.journal.tables.files inode here) in
+    subst (λ g. FilesStand g new p.journal.tables (stored_in name offset bytes files)) (sym sizes)
+    (subst (λ n. FilesStand host.files.pages.journal.geo new p.journal.tables (change_file file_name n (on_pages (λ pages. put offset bytes (fill offset (length bytes) pages))) files)) seen.named (ok files seen.file seen.at)))
+    (omega arith) room
+  where
+    thin : Thins (stored_in name offset bytes)
+    thin files =
+        change-weak name (on_pages (λ pages. put offset bytes (fill offset (length bytes) pages)))
+        (λ file. let a = put-weak offset bytes (fill offset (length bytes) file.pages) in let b = fill-weak offset (length bytes) file.pages in omega (arith, a, b)) files
+store_room host p (Err f) name inode offset bytes old new right here room sizes ok = tt
+
 -- A store in a file.
 module _ (now host after : HostState) (p : PagesState) (r : Result (Unit {0}) PageFault) (name : List ℕ) (inode offset : ℕ) (bytes : List ℕ) (old new : Device)
-    (inside : host ≡ now) (state : after ≡ pages_after host p (mode_after page_says r)) (on : now.mode ≡ On) (serves : HostServes now old) (here : inode_of name host.files.pages.journal.tables.files ≡ Some inode)
-    (call : PagesCalled page_says host p r (MayLeaveFiles host.files.mappings.mappings (Some (FWrite name offset bytes))) (store_calls host.files.pages.journal inode offset (length bytes)) (fill_persists host.files.pages.journal inode offset (length bytes)) old new) where
+    (inside : host ≡ now) (state : after ≡ pages_after host p host.files.events (mode_after page_says r)) (on : now.mode ≡ On) (serves : HostServes now old) (here : inode_of name host.files.pages.journal.tables.files ≡ Some inode)
+    (call : PagesCalled page_says host p host.files.events r (MayLeaveFiles host.files.mappings.mappings (Some (FWrite name offset bytes))) (store_calls host.files.pages.journal inode offset (length bytes)) (fill_persists host.files.pages.journal inode offset (length bytes)) old new) where
   stored_leaves : LeavesOthers (FWrite name offset bytes)
   stored_leaves = record { blocks = λ old new same. same; volume = λ geo old new same. same }
 
@@ -310,7 +340,7 @@ module _ (now host after : HostState) (p : PagesState) (r : Result (Unit {0}) Pa
       → FilesStand host.files.pages.journal.geo new.medium p.journal.tables (change_file file_name file.name (on_pages (λ pages. put offset bytes (fill offset (length bytes) pages))) files))
       → answer ≡ answer_after page_says (page_answer name) Done r → Answered (FWrite name offset bytes) answer now after old new
   store_answered answer refused ok answer_is =
-      work_answered page_says (page_answer name) (pages_part name) now host after p r _ _ old new inside state on serves (FWrite name offset bytes) spent stored_leaves call answer
+      work_answered page_says (page_answer name) (pages_part name) now host after p host.files.events r _ _ old new inside state on serves (FWrite name offset bytes) spent stored_leaves call refl answer
       (λ h stands. store_refusal host.files.pages.journal old.medium (file_seen now host old inside on serves name h stands inode here).file.pages offset (length bytes))
       (λ h. stored_in name offset bytes h.files) refl
       (λ h stands.

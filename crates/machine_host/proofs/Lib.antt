@@ -9,6 +9,7 @@ pub mod ReadingLemmas
 pub mod FilesAsideLemmas
 pub mod RoomLemmas
 pub mod ElsewhereLemmas
+pub mod EventLemmas
 pub mod StepLemmas
 pub mod CallLemmas
 pub mod BlockLemmas

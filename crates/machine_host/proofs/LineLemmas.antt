@@ -48,7 +48,7 @@ use Rattle.machine_host.specs.Interrupted.{stop_in}
 use Rattle.machine_host.specs.OnMedia.{line_answer}
 use Rattle.machine_host.specs.Responding.{Answered}
 use Rattle.machine_host.specs.Stands.{HostState, HostServes, AreMounted, Stands, Comes}
-use Rattle.machine_host.proofs.CallLemmas.{IsPart, printable_told, short_told}
+use Rattle.machine_host.proofs.CallLemmas.{IsPart, printable_told, short_told, on_refused-then}
 use Rattle.machine_host.proofs.ElsewhereLemmas.{line_of_range}
 use Rattle.machine_host.proofs.MediaLemmas.{IsRefusal, answers_told, blocks_marked, blocks_marked_serve, comes_of_marking, volume_marked, volume_marked_serves}
 use Rattle.machine_host.proofs.RefusalLemmas.{fate_worked, first_alone}
@@ -154,8 +154,8 @@ module _ (host : HostState) (old new : Device) (serves : HostServes host old) (o
         ap₂ (λ n bs. block_refusal n bs block line) (ap (λ g. g.blocks) (mounted.geometry ∙ stands.geometry)) (stands.blocks on) in
         subst (λ a. Comes h (PoisonBlock block line) (fate h (PoisonBlock block line)) a host old new) (sym answer_is)
         (subst (λ f. Comes h (PoisonBlock block line) f (answer_after place_says line_answer Done r) host old new) (sym (fate_marking host old h (PoisonBlock block line) serves stands on refl refl refl refl refl))
-        (comes_of_marking place_says line_answer quiet_line host old new h (record h { blocks = lose block line h.blocks }) (PoisonBlock block line) r (block_refusal h.geometry.blocks h.blocks block line) stands panel
-        (subst (λ o. Answers place_says o r) seen refused) (if_err_all r place_refuses) untouched (stands_ok r refused ok h stands)));
+        (comes_of_marking place_says line_answer quiet_line host old new h (record h { blocks = lose block line h.blocks }) (PoisonBlock block line) r (block_refusal h.geometry.blocks h.blocks block line) panel
+        (subst (λ o. Answers place_says o r) seen refused) (if_err_all r place_refuses) untouched (on_refused-then place_says r (λ _. stands) untouched) (stands_ok r refused ok h stands)));
     printable = subst IsPrintable (sym answer_is) (line_printable place_says r);
     room = subst (λ a. most_of a ≤ 72) (sym answer_is) (short_after place_says r);
     serves = serves_by r refused untouched;
@@ -200,8 +200,8 @@ module _ (host : HostState) (old new : Device) (serves : HostServes host old) (o
         let pages = stands.volume on in
         subst (λ a. Comes h action (fate h action) a host old new) (sym answer_is)
         (subst (λ f. Comes h action f (answer_after says line_answer Done r) host old new) (sym (row h stands))
-        (comes_of_marking says line_answer quiet_line host old new h (record h { volume = change_line mark (offset / 64) h.volume }) action r (place_refusal h.geometry h.volume offset) stands panel
-        (subst (λ g. Answers says (place_refusal g h.volume offset) r) (mounted.volume_geometry ∙ stands.geometry) (refused h.volume pages)) told untouched (stands_ok r refused ok h stands)));
+        (comes_of_marking says line_answer quiet_line host old new h (record h { volume = change_line mark (offset / 64) h.volume }) action r (place_refusal h.geometry h.volume offset) panel
+        (subst (λ g. Answers says (place_refusal g h.volume offset) r) (mounted.volume_geometry ∙ stands.geometry) (refused h.volume pages)) told untouched (on_refused-then says r (λ _. stands) untouched) (stands_ok r refused ok h stands)));
     printable = subst IsPrintable (sym answer_is) (line_printable says r);
     room = subst (λ n. most_of answer ≤ n) (sym long) (subst (λ a. most_of a ≤ 72) (sym answer_is) (short_after says r));
     serves = serves_by r refused told untouched;

@@ -54,10 +54,11 @@ use Rattle.machine_host.proofs.LayoutLemmas.{layout-write_back, metadata-then, s
 use Rattle.machine_host.proofs.StepLemmas.{DeviceLeft, blocks_still, files_still, pages_still, written_back}
 use Rattle.machine_host.proofs.TellingLemmas.{tells_work}
 use Rattle.machine_host.proofs.MapToldLemmas.{MapCalled, Makes, map_called, map_part, map_told, ok_told, on_ok_at, told_same}
+use Rattle.machine_host.proofs.RoomLemmas.{room_still}
 
 -- the host in a mode after the call
 abbrev pub mapped_after : HostState → PagesState → MappingsState → Mode → HostState
-mapped_after host p ms mode = record host { mode = mode; files = record { pages = p; mappings = ms } }
+mapped_after host p ms mode = record host { mode = mode; files = record host.files { pages = p; mappings = ms } }
 
 -- one mapping more, of which that holds too
 all-more : (P : Mapping → Type 0) (ms : List Mapping) (m : Mapping) → EachMapping P ms → P m → EachMapping P (ms ++ m ∷ [])
@@ -110,6 +111,7 @@ module _ (host : HostState) (p : PagesState) (ms : MappingsState) (name : List �
           volume = now.volume;
           files = λ is. subst (λ (j : JournalState). FilesStand j.geo new.medium j.tables h.files) (sym c.object.0) (now.files is);
           mappings = now.mappings;
+          events = now.events;
           device = now.device;
         }
 
@@ -127,7 +129,7 @@ module _ (host : HostState) (p : PagesState) (ms : MappingsState) (name : List �
           mappings = h.mappings ++ new_mapping h.next_handle name span kind (elim o [ None ↦ [] | Some f ↦ f.pages ]) ∷ [];
           next_handle = h.next_handle + 1;
         } in m) (sym found) in
-        subst (λ (m : Mode). Stands (record host { mode = m; files = record { pages = p; mappings = ms } }) new (with_mapping name span kind h)) on (subst (λ (k : Machine). Stands (record host { files = record { pages = p; mappings = ms } }) new k) to now)
+        subst (λ (m : Mode). Stands (record host { mode = m; files = record host.files { pages = p; mappings = ms } }) new (with_mapping name span kind h)) on (subst (λ (k : Machine). Stands (record host { files = record host.files { pages = p; mappings = ms } }) new k) to now)
 
     -- what an interruption leaves
     left : DeviceLeft h (Map name span kind) new.medium
@@ -145,10 +147,10 @@ module _ (host : HostState) (p : PagesState) (ms : MappingsState) (name : List �
       by_result (Ok x) untouched same = tt
       by_result (Err e) untouched same = λ told.
           let here = untouched told in
-          (ap (λ q. let k : HostState = record host { files = record { pages = q; mappings = ms } } in k) here.0 ∙ ap (λ s. let k : HostState = record host { files = record host.files { mappings = s } } in k) same, here.1)
+          (ap (λ q. let k : HostState = record host { files = record host.files { pages = q; mappings = ms } } in k) here.0 ∙ ap (λ s. let k : HostState = record host { files = record host.files { mappings = s } } in k) same, here.1)
 
   -- the mapping that was made is on its file
-  mounted_more : OnOk r (AreMounted host.geometry host.blocks host.volume (record { pages = p; mappings = ms }) new.medium)
+  mounted_more : OnOk r (AreMounted host.geometry host.blocks host.volume (record host.files { pages = p; mappings = ms }) new.medium)
   mounted_more = by_result r c.object.1 c.refused c.ok
     where
       was : AreMounted host.geometry host.blocks host.volume host.files new.medium
@@ -166,12 +168,12 @@ module _ (host : HostState) (p : PagesState) (ms : MappingsState) (name : List �
       by_result : (q : Result ℕ MapFault) → p.settled ≡ is_done (outcome_by map_told q)
           → ((files : List File) → FilesStand host.files.pages.journal.geo old.medium host.files.pages.journal.tables files → Answers map_told (map_refusal host.files.mappings files name span kind) q)
           → OnOk q (Makes host ms name span kind old)
-          → OnOk q (AreMounted host.geometry host.blocks host.volume (record { pages = p; mappings = ms }) new.medium)
+          → OnOk q (AreMounted host.geometry host.blocks host.volume (record host.files { pages = p; mappings = ms }) new.medium)
       by_result (Err e) settled refused ok = tt
       by_result (Ok x) settled refused ok = by_file (file_of file_name name files) refl (refused files stand)
         where
           by_file : (o : Option File) → file_of file_name name files ≡ o → Answers {T = ℕ} map_told (found_refusal host.files.mappings o span kind) (Ok x)
-              → AreMounted host.geometry host.blocks host.volume (record { pages = p; mappings = ms }) new.medium
+              → AreMounted host.geometry host.blocks host.volume (record host.files { pages = p; mappings = ms }) new.medium
           by_file None is answers = absurd answers
           by_file (Some file) is answers =
               let m = new_mapping host.files.mappings.next name span kind file.pages in
@@ -194,6 +196,8 @@ module _ (host : HostState) (p : PagesState) (ms : MappingsState) (name : List �
                 mapped = subst (λ (s : MappingsState). EachMapping (IsOnFile p.journal.tables.files) s.mappings) (sym (ok files file stand is))
                     (subst (λ (k : JournalState). EachMapping (IsOnFile k.tables.files) (host.files.mappings.mappings ++ m ∷ [])) (sym c.object.0)
                     (all-more (IsOnFile j.tables.files) host.files.mappings.mappings m was.mapped (on-of j old.medium right files stand m among)));
+                room = room_still host.files (record host.files { pages = p; mappings = ms }) new.medium new.medium
+                    (λ files stand. subst (λ (k : JournalState). FilesStand k.geo new.medium k.tables files) (sym c.object.0) stand) (omega arith) was.room;
               }
 
   pub map_serves : HostServes (mapped_after host p ms (mode_after map_told r)) new
@@ -299,16 +303,16 @@ pub map_done : {D : Type 0} (state : D → Device) (now host : HostState) (p : P
     → x ≡ host.files.mappings.next → WritesBack (state before).medium (state after).medium → PagesServe p (state after).medium
     → (p.journal ≡ host.files.pages.journal) × (p.settled ≡ is_done (outcome_by {T = ℕ} map_says (Ok x))) → Runs (map_calls kind span) 0 (outcome_by {T = ℕ} map_says (Ok x)) (state before).panel (state after).panel
     → (is_shared kind ≡ true → outcome_by {T = ℕ} map_says (Ok x) ≡ went)
-    → Answered (Map name span kind) (Handle x) now (record host { files = record { pages = p; mappings = ms } }) (state before) (state after)
+    → Answered (Map name span kind) (Handle x) now (record host { files = record host.files { pages = p; mappings = ms } }) (state before) (state after)
 map_done state now host p ms name span kind x before after inside on serves refused ok handle lines served object runs shown =
     map_answered now host _ p ms name span kind (Ok x) (state before) (state after) inside
-    (ap (λ (m : Mode). let k : HostState = record host { mode = m; files = record { pages = p; mappings = ms } } in k) (ap (λ (k : HostState). k.mode) inside ∙ on)) on serves
+    (ap (λ (m : Mode). let k : HostState = record host { mode = m; files = record host.files { pages = p; mappings = ms } } in k) (ap (λ (k : HostState). k.mode) inside ∙ on)) on serves
     (record { refused = λ files stand. ok_told (map_refusal host.files.mappings files name span kind) x (refused files stand (λ e. cc e)); untouched = tt; ok = ok; err = tt; lines = lines; serves = served; object = object; runs = runs; shown = shown })
     (Handle x) (ap (λ n. Handle n) handle)
 
 -- and one that was not, or for which memory was wanting
 pub map_faulted : {D : Type 0} {E : Type 0} (state : D → Device) (now host after_host : HostState) (p : PagesState) (ms : MappingsState) (name : List ℕ) (span : Span) (kind : Kind) (f : MapFault) (before after : D)
-    (r : Result Reply E) → host ≡ now → after_host ≡ record host { mode = map_fault_mode host.mode f; files = record { pages = p; mappings = ms } }
+    (r : Result Reply E) → host ≡ now → after_host ≡ record host { mode = map_fault_mode host.mode f; files = record host.files { pages = p; mappings = ms } }
     → MatchResult r (λ reply. (f ≡ fault.Memory → ⊥) × (answer_of reply ≡ map_fault_answer name f)) (λ _. f ≡ fault.Memory) → now.mode ≡ On → HostServes now (state before)
     → ((files : List File) → FilesStand host.files.pages.journal.geo (state before).medium host.files.pages.journal.tables files → ◌≢◌ {A = Result ℕ MapFault} (Err f) (Err fault.Memory)
     → Answers {T = ℕ} map_says (map_refusal host.files.mappings files name span kind) (Err f))
@@ -321,13 +325,13 @@ pub map_faulted : {D : Type 0} {E : Type 0} (state : D → Device) (now host aft
 map_faulted state now host after_host p ms name span kind f before after (Err e) inside is answer on serves refused untouched memory same lines served object runs shown =
     let here = memory (ap (λ g. Err g) answer) in
     let stays : after_host ≡ now =
-    is ∙ ap (λ g. let k : HostState = record host { mode = map_fault_mode host.mode g; files = record { pages = p; mappings = ms } } in k) answer
-    ∙ ap (λ q. let k : HostState = record host { files = record { pages = q; mappings = ms } } in k) here.0
+    is ∙ ap (λ g. let k : HostState = record host { mode = map_fault_mode host.mode g; files = record host.files { pages = p; mappings = ms } } in k) answer
+    ∙ ap (λ q. let k : HostState = record host { files = record host.files { pages = q; mappings = ms } } in k) here.0
     ∙ ap (λ s. let k : HostState = record host { files = record host.files { mappings = s } } in k) same ∙ inside in
     record { leaves = (stays, ap state here.1); serves = subst (λ k. HostServes k (state after)) (sym stays) (subst (λ d. HostServes now (state d)) (sym here.1) serves) }
 map_faulted state now host after_host p ms name span kind f before after (Ok reply) inside is answer on serves refused untouched memory same lines served object runs shown =
     map_answered now host after_host p ms name span kind (Err f) (state before) (state after) inside
-    (is ∙ ap (λ m. let k : HostState = record host { mode = m; files = record { pages = p; mappings = ms } } in k) (ap (λ m. map_fault_mode m f) (ap (λ (k : HostState). k.mode) inside ∙ on) ∙ ap (told_mode On) (sym (told_same f answer.0)))) on serves
+    (is ∙ ap (λ m. let k : HostState = record host { mode = m; files = record host.files { pages = p; mappings = ms } } in k) (ap (λ m. map_fault_mode m f) (ap (λ (k : HostState). k.mode) inside ∙ on) ∙ ap (told_mode On) (sym (told_same f answer.0)))) on serves
     (map_called host p ms name span kind (Err f) (state before) (state after) (λ e. answer.0 (same_Err f fault.Memory e))
     (record {
       refused = λ files stand. refused files stand (λ e. answer.0 (same_Err f fault.Memory e));

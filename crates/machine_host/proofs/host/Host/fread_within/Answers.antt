@@ -33,7 +33,7 @@ returns-in-Ok g c =
     (there_in_most (file_place host.files.pages.journal c.args.inode) (record { start = c.args.offset; len = length c.as_mut_slice.result.now })) in
     let short = taken_short c.args.len items (c.load_into.new.out ++ drop (length c.load_into.new.out) items) size in
     read_answered now host _ c.load_into.new.self (Ok tt) name c.args.inode c.args.offset c.args.len _ (g.D.Lines.state c.args.device.now) (g.D.Lines.state c.load_into.new.dev) c.self.view_is
-    (ap (λ m. record { geometry = c.self.inside.geometry; mode = m; blocks = c.self.inside.blocks; volume = c.self.inside.volume; files = record { pages = c.load_into.new.self; mappings = c.self.inside.files.mappings } }) (ap (λ k. k.mode) c.self.view_is ∙ c.requires.on))
+    (ap (λ m. record { geometry = c.self.inside.geometry; mode = m; blocks = c.self.inside.blocks; volume = c.self.inside.volume; files = record { pages = c.load_into.new.self; mappings = c.self.inside.files.mappings; events = c.self.inside.files.events } }) (ap (λ k. k.mode) c.self.view_is ∙ c.requires.on))
     c.requires.on c.requires.serves here few tt said.lines said.serves said.object said.runs _ c.requires.some c.requires.few
     (subst (λ (k : HostState). c.args.offset + c.args.len ≤ 4096 * pages_at k.files.pages.journal.tables.files c.args.inode) (sym c.self.view_is) c.requires.within)
     (λ files file at. subst (λ n. Answers page_says (read_refusal file.pages c.args.offset n) (Ok tt)) asked (said.refused files file at))
@@ -56,7 +56,7 @@ returns-in-Err g c =
     let told = sym c.page_fault.ensures.answer in
     let short = subst (λ a. most_of a ≤ 72) told (short_told (page_answer name) (pages_part name).short (page_says c.in-Err.fault)) in
     read_answered now host _ c.load_into.new.self (Err c.in-Err.fault) name c.args.inode c.args.offset c.args.len _ (g.D.Lines.state c.args.device.now) (g.D.Lines.state c.load_into.new.dev) c.self.view_is
-    (c.page_fault.ensures.state ∙ ap (λ m. record { geometry = c.self.inside.geometry; mode = page_fault_mode m c.in-Err.fault; blocks = c.self.inside.blocks; volume = c.self.inside.volume; files = record { pages = c.load_into.new.self; mappings = c.self.inside.files.mappings } }) (ap (λ k. k.mode) c.self.view_is ∙ c.requires.on))
+    (c.page_fault.ensures.state ∙ ap (λ m. record { geometry = c.self.inside.geometry; mode = page_fault_mode m c.in-Err.fault; blocks = c.self.inside.blocks; volume = c.self.inside.volume; files = record { pages = c.load_into.new.self; mappings = c.self.inside.files.mappings; events = c.self.inside.files.events } }) (ap (λ k. k.mode) c.self.view_is ∙ c.requires.on))
     c.requires.on c.requires.serves here few
     (λ refused. let same = said.untouched refused in (same.0, ap (λ d. g.D.Lines.state d) same.2)) said.lines said.serves said.object said.runs _ c.requires.some c.requires.few
     (subst (λ (k : HostState). c.args.offset + c.args.len ≤ 4096 * pages_at k.files.pages.journal.tables.files c.args.inode) (sym c.self.view_is) c.requires.within)

@@ -3,7 +3,7 @@ use Rattle.inode_table.specs.Slots.{inode_of}
 use Rattle.file_journal.specs.Object.{JournalState}
 use Rattle.script_text.specs.Action.Action.{FWrite}
 use Rattle.machine_host.specs.Stands.{HostState}
-use Rattle.machine_host.proofs.FilePageLemmas.{missing_answered, right_now, store_answered, store_called}
+use Rattle.machine_host.proofs.FilePageLemmas.{missing_answered, right_now, room_now, store_answered, store_called, store_room}
 use Rattle.machine_host.proofs.host.Host.fwrite.Goals as goal
 
 pub returns-in-Some : goal.returns-in-Some
@@ -16,7 +16,9 @@ returns-in-Some g c =
     let here : inode_of name host.files.pages.journal.tables.files ≡ Some c.in-Some.inode = ap (λ (j : JournalState). inode_of name j.tables.files) (sym c.journal.ensures) ∙ sym c.in-Some.ensures.value in
     store_answered now host _ _ c.store-call.result name c.in-Some.inode c.args.offset c.args.bytes.now old _ c.self.view_is c.page_answer.ensures.state c.requires.on c.requires.serves here
     (store_called g.D.Lines.state host _ c.store-call.result name c.in-Some.inode c.args.offset c.args.bytes.now _ _ _ _ (right_now now host old c.self.view_is c.requires.on c.requires.serves) here
-    said.untouched said.images said.outside said.metadata said.serves said.tables said.files said.object said.held said.runs)
+    said.untouched said.images said.outside said.metadata said.serves said.tables said.files said.object said.held said.runs
+    (store_room host _ c.store-call.result name c.in-Some.inode c.args.offset c.args.bytes.now old.medium _ (right_now now host old c.self.view_is c.requires.on c.requires.serves) here
+    (room_now now host old c.self.view_is c.requires.on c.requires.serves) said.object.0 said.ok))
     _ said.refused said.ok c.page_answer.ensures.answer
 
 pub returns-in-None : goal.returns-in-None

@@ -1,14 +1,18 @@
-use Rattle.std.proofs.Common.{[], refl, ap, sym, subst, ◌∙◌}
+use Rattle.std.proofs.Common.{◌≡◌, List, [], refl, ap, sym, subst, ◌∙◌}
 use Rattle.file_journal.specs.Tables.{AreTables}
 use Rattle.recovery.specs.Findings.{geometry_told}
 use Rattle.recovery.specs.Mounting.{IsInOrder}
 use Rattle.machine_host.specs.Lines.{MetadataStands}
 use Rattle.machine_host.specs.declared.held.HeldFiles.{HeldFiles}
-use Rattle.machine_host.specs.Stands.{AreMounted}
+use Rattle.machine_host.specs.Stands.{AreMounted, just_mounted}
 use Rattle.machine_host.proofs.MountLemmas.{durable_flushed, found_tables, metadata_mounted}
 use Rattle.machine_host.proofs.MountedLemmas.{readable_served, stands_found}
 use Rattle.machine_host.proofs.BadLineLemmas.{good_lines}
 use Rattle.machine_host.proofs.host.Host.mount.Goals as goal
+use Rattle.nvm_model.specs.Events.{restart_events}
+use Rattle.nvm_model.specs.Storage.{File}
+use Rattle.file_journal.specs.Standing.{FilesStand}
+use Rattle.machine_host.proofs.RoomLemmas.{room_of}
 
 pub returns-clause-metadata : goal.returns-clause-metadata
 returns-clause-metadata g c =
@@ -38,9 +42,10 @@ returns-clause-serves g c =
         journal_settled = x.settled.2;
         journal_serves = x.journal;
         journal_held = x.held;
-        pages_settled = refl;
+        pages_settled = x.settled.3;
         mapped = tt;
-        journal_right = subst (λ geo. AreTables geo.fpages c.in_ok-mounted.mounted.journal.tables) (sym x.ok.0)
+        room = room_of (just_mounted c.in_ok-mounted.mounted.files c.in_ok-mounted.mounted.events) new x.room;
+        journal_right = subst (λ geo. AreTables geo.fpages c.in_ok-mounted.mounted.files.journal.tables) (sym x.ok.0)
             (subst (AreTables (geometry_told old).fpages) (sym x.ok.6) (found_tables old x.finds));
       });
       stopped = λ stop. cc stop;
@@ -53,3 +58,4 @@ returns-clause-stands g c = λ image shows.
     let x = c.in_ok-mounted.ensures in
     stands_found _ old new image (g.met.D.Lines.sound c.args.device.now) c.requires.flushed x.finds shows x.ok.0 refl x.ok.2 x.ok.4 (ap (λ (f : HeldFiles). f.pages.journal.tables) c.of.ensures ∙ x.ok.6) x.outside (returns-clause-metadata g c)
     (returns-clause-serves g c) (ap (λ (f : HeldFiles). f.mappings) c.of.ensures)
+    (subst (λ (f : HeldFiles). (files : List File) → FilesStand f.pages.journal.geo new.medium f.pages.journal.tables files → f.events.items ≡ restart_events files) (sym c.of.ensures) x.events)

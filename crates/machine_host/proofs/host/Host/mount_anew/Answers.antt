@@ -21,7 +21,7 @@ returns-in-Ok g c =
     let old = (g.D.Lines.state c.args.device.now) in
     let new = (g.D.Lines.state c.mount.new.dev) in
     let x = c.in-Ok.ensures in
-    let given : Gives old new c.in-Ok.mounted.blocks c.in-Ok.mounted.volume c.in-Ok.mounted.journal = record {
+    let given : Gives old new c.in-Ok.mounted.blocks c.in-Ok.mounted.volume c.in-Ok.mounted.files c.in-Ok.mounted.events = record {
       geometry = x.ok.1;
       settled = x.settled.0;
       serves = x.serves;
@@ -35,10 +35,13 @@ returns-in-Ok g c =
       journal_settled = x.settled.2;
       journal_serves = x.journal;
       journal_held = x.held ∙ ap (λ (g : Geometry). g.fpages) x.ok.0;
+      pages_settled = x.settled.3;
+      events = x.events;
+      room = x.room;
     } in
     settled_taken c.args.self.now old new c.requires.serves c.requires.unsettled c.requires.quiet (g.met.D.Lines.sound c.args.device.now)
     (record { outside = x.outside; refused = x.refused; reads = x.reads; presence = x.presence; files = x.files }) (mount_within old.medium _ old.panel new.panel x.runs)
-    c.take.new.self c.in-Ok.mounted.blocks c.in-Ok.mounted.volume c.in-Ok.mounted.journal x.finds given c.take.ensures
+    c.take.new.self c.in-Ok.mounted.blocks c.in-Ok.mounted.volume c.in-Ok.mounted.files c.in-Ok.mounted.events x.finds given c.take.ensures
 
 pub returns-in-Err : goal.returns-in-Err
 returns-in-Err g c =

@@ -25,7 +25,7 @@ returns-in-Ok g c =
     let old = (g.D.Lines.state c.args.device.now) in
     let new = (g.D.Lines.state c.mount.new.dev) in
     let x = c.in-Ok.ensures in
-    let given : Gives old new c.in-Ok.mounted.blocks c.in-Ok.mounted.volume c.in-Ok.mounted.journal = record {
+    let given : Gives old new c.in-Ok.mounted.blocks c.in-Ok.mounted.volume c.in-Ok.mounted.files c.in-Ok.mounted.events = record {
       geometry = x.ok.1;
       settled = x.settled.0;
       serves = x.serves;
@@ -39,12 +39,15 @@ returns-in-Ok g c =
       journal_settled = x.settled.2;
       journal_serves = x.journal;
       journal_held = x.held ∙ ap (λ (g : Geometry). g.fpages) x.ok.0;
+      pages_settled = x.settled.3;
+      events = x.events;
+      room = x.room;
     } in
     subst (λ k. Answered Recover (answer_of c.mounted.result) now k old new) (sym c.mounted.ensures.state)
     (recover_answered now old new c.requires.unsettled _ (answer_of c.mounted.result)
     (mount_done now old new c.requires.serves c.requires.unsettled (g.met.D.Lines.sound c.args.device.now)
     (record { outside = x.outside; refused = x.refused; reads = x.reads; presence = x.presence; files = x.files })
-    c.in-Ok.mounted.blocks c.in-Ok.mounted.volume c.in-Ok.mounted.journal (answer_of c.mounted.result) (mount_within old.medium _ old.panel new.panel x.runs) x.finds given c.mounted.ensures.answer))
+    c.in-Ok.mounted.blocks c.in-Ok.mounted.volume c.in-Ok.mounted.files c.in-Ok.mounted.events (answer_of c.mounted.result) (mount_within old.medium _ old.panel new.panel x.runs) x.finds given c.mounted.ensures.answer))
 
 pub returns-in-Err : goal.returns-in-Err
 returns-in-Err g c =

@@ -36,7 +36,7 @@ returns-in-Ok g c =
     let left = c.in_ok-restart.ensures in
     let sound_old = g.met.D.Lines.sound c.args.device.now in
     let sound = g.met.D.Lines.sound c.restart.new.self in
-    let given : Gives mid new c.in-Ok.mounted.blocks c.in-Ok.mounted.volume c.in-Ok.mounted.journal = record {
+    let given : Gives mid new c.in-Ok.mounted.blocks c.in-Ok.mounted.volume c.in-Ok.mounted.files c.in-Ok.mounted.events = record {
       geometry = x.ok.1;
       settled = x.settled.0;
       serves = x.serves;
@@ -50,12 +50,15 @@ returns-in-Ok g c =
       journal_settled = x.settled.2;
       journal_serves = x.journal;
       journal_held = x.held ∙ ap (λ (g : Geometry). g.fpages) x.ok.0;
+      pages_settled = x.settled.3;
+      events = x.events;
+      room = x.room;
     } in
     subst (λ k. Answered (Restart c.args.choice) (answer_of c.mounted.result) now k old new) (sym c.mounted.ensures.state)
     (restart_answered now c.args.choice old mid new left.0 c.requires.serves c.requires.off left.1 sound_old sound _ (answer_of c.mounted.result)
     (mount_done _ mid new (serves_back now c.args.choice old mid left.0 c.requires.serves left.1 sound_old sound) refl sound
     (record { outside = x.outside; refused = x.refused; reads = x.reads; presence = x.presence; files = x.files })
-    c.in-Ok.mounted.blocks c.in-Ok.mounted.volume c.in-Ok.mounted.journal (answer_of c.mounted.result) (mount_within mid.medium _ mid.panel new.panel x.runs) x.finds given c.mounted.ensures.answer))
+    c.in-Ok.mounted.blocks c.in-Ok.mounted.volume c.in-Ok.mounted.files c.in-Ok.mounted.events (answer_of c.mounted.result) (mount_within mid.medium _ mid.panel new.panel x.runs) x.finds given c.mounted.ensures.answer))
 
 pub returns-in-Err : goal.returns-in-Err
 returns-in-Err g c =
