@@ -117,7 +117,7 @@ files_part : IsPart journal_says journal_answer
 files_part = record { printable = printable_refusal; quiet = no_stop; short = short_refusal; fed = never_starves }
 
 -- what was not refused has no reason to be
-worked_none : {T E R : Type 0} (says : E → Told R) (why : Option R) (r : Result T E) → Answers says why r → OnWorked says r (why ≡ None)
+pub worked_none : {T E R : Type 0} (says : E → Told R) (why : Option R) (r : Result T E) → Answers says why r → OnWorked says r (why ≡ None)
 worked_none says None (Ok x) answers = refl
 worked_none says None (Err f) answers = λ stop. refl
 worked_none says (Some w) (Ok x) answers = absurd answers

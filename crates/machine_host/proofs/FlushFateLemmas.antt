@@ -1,5 +1,5 @@
 -- What comes of a flush through a shared mapping, by what the pages of its file refuse.
-use Rattle.std.proofs.Common.{◌≡◌, ◌+◌, ◌*◌, ◌==◌, ◌||◌, ◌≤◌, ◌∙◌, ℕ, Bool, true, false, Option, Some, None, option_map, List, [], ◌∷◌, length, nat_lt, if◌then◌else◌, refl, sym, ap, ap₂, subst, arith}
+use Rattle.std.proofs.Common.{◌≡◌, ◌+◌, ◌*◌, ◌==◌, ◌||◌, ◌≤◌, ◌++◌, ◌∙◌, ℕ, Bool, true, false, Option, Some, None, option_map, List, [], ◌∷◌, length, nat_lt, if◌then◌else◌, refl, sym, ap, ap₂, subst, arith}
 use Rattle.std.proofs.lemmas.Bool.{le-ltb, or_from, or_parts}
 use Rattle.std.proofs.lemmas.Bool.Decides.{nat_tests}
 use Rattle.std.proofs.lemmas.List.{length-map}
@@ -33,6 +33,7 @@ use Rattle.machine_host.specs.Stands.{Comes, HostServes, HostState, Stands}
 use Rattle.machine_host.proofs.ExistsLemmas.{same_state}
 use Rattle.machine_host.proofs.HandledLemmas.{comes_is, fate_given, reasons_are}
 use Rattle.machine_host.proofs.RefusalLemmas.{fate_usable}
+use Rattle.machine_host.specs.OnEvents.{lost_events}
 
 -- spans of a mapping are some, at most 8, have bytes, and end where it does
 pub record AreRight (size : ℕ) (spans : List Span) : Type 0 where
@@ -93,7 +94,8 @@ module _ (now : HostState) (d : Device) (on : now.mode ≡ On) (serves : HostSer
 
   -- it is the flush of its file, refused for its bad lines alone
   pub fate_flush : (h : Machine) → Stands now d h → (pages : List Page) → pages_named m.name h.files ≡ pages → m.start + m.len ≤ 4096 * length pages
-      → fate h action ≡ unless_refused h (option_map (flush_answer m.name) (flush_refusal pages to)) (Works (flushed_answer look m.name to pages) (record h { files = synced_in m.name to h.files }))
+      → fate h action ≡ unless_refused h (option_map (flush_answer m.name) (flush_refusal pages to)) (Works (flushed_answer look m.name to pages)
+      (record h { files = synced_in m.name to h.files; events = h.events ++ lost_events h.mappings m.name to pages }))
   fate_flush h stands pages named within =
       let of = flush_through look spans in
       let reasons : (meaning action).reasons h ≡ record no_reasons { unreadable = option_map (λ n. PoisonFile m.name (64 * n)) (next_bad_touched to (pages_named m.name h.files) 0) } =
@@ -101,7 +103,7 @@ module _ (now : HostState) (d : Device) (on : now.mode ≡ On) (serves : HostSer
       ∙ ap (λ (o : Option Why). let q : Reasons = record (inner.reasons h) { named = None; places = option_map Refused o } in q) right in
       fate_usable h action (ap (λ (x : Meaning). x.needs) row) (sym stands.mode ∙ on)
       ∙ ap₂ (λ (q : Reasons) c. unless_refused h (first_reason None h.bad_meta q) c) reasons (comes_is now d on serves action handle 72 of row (Some m) is h stands ∙ ap (λ (x : Meaning). x.comes h) shows)
-      ∙ ap₂ (λ (o : Option Answer) (p : List Page). unless_refused h o (Works (flushed_answer look m.name to p) (record h { files = synced_in m.name to h.files })))
+      ∙ ap₂ (λ (o : Option Answer) (p : List Page). unless_refused h o (Works (flushed_answer look m.name to p) (record h { files = synced_in m.name to h.files; events = h.events ++ lost_events h.mappings m.name to p })))
       (ap (λ p. option_map (λ n. PoisonFile m.name (64 * n)) (next_bad_touched to p 0)) named ∙ moved_refusal m.name m pages spans within (spans_right m.len spans right)) named
 
 -- through a private one nothing is to be done

@@ -1,5 +1,5 @@
 -- What flushes through mappings come to.
-use Rattle.std.proofs.Common.{◌≡◌, ◌+◌, ◌*◌, ◌≤◌, ◌∙◌, ℕ, zero, suc, true, Option, Some, None, Result, Ok, Err, OnOk, List, [], ◌∷◌, length, refl, sym, ap, subst, arith}
+use Rattle.std.proofs.Common.{◌≡◌, ◌+◌, ◌*◌, ◌≤◌, ◌++◌, ◌∙◌, ℕ, zero, suc, true, Option, Some, None, Result, Ok, Err, OnOk, List, [], ◌∷◌, length, refl, sym, ap, subst, arith, ap₂}
 use Rattle.std.proofs.lemmas.List.Sums.{sum_by-cons}
 use Rattle.std.proofs.lemmas.Option.{same_Some}
 use Rattle.line_device.specs.Device.{Device}
@@ -16,7 +16,7 @@ use Rattle.nvm_model.specs.Files.{OneFileLeft, on_pages}
 use Rattle.nvm_model.specs.Interrupted.{MaySyncAll}
 use Rattle.nvm_model.specs.Listing.{change_file, file_name}
 use Rattle.nvm_model.specs.Mappings.{is_shared, mapping_of}
-use Rattle.nvm_model.specs.Storage.{File, Mapping}
+use Rattle.nvm_model.specs.Storage.{File, Mapping, Event}
 use Rattle.nvm_model.specs.Touched.{next_bad_touched, persist_spans}
 use Rattle.page_lines.specs.Placed.{one_there, there_among}
 use Rattle.page_lines.specs.Turns.{WritesBackOthers}
@@ -27,8 +27,8 @@ use Rattle.file_journal.specs.Tables.{AreTables, known_units}
 use Rattle.file_journal.proofs.EachFilesLemmas.{each_files-then}
 use Rattle.file_pages.specs.Costs.{lines_there}
 use Rattle.file_pages.specs.Object.{IsFileAt, KeepsMarks, PagesServe, PagesState, file_place}
-use Rattle.file_pages.proofs.FoundLemmas.{file-found}
-use Rattle.flush_engine.specs.Refusals.{FlushRefusal, flush_refusal, flush_says, flushed, verified}
+use Rattle.file_pages.proofs.FoundLemmas.{file-found, FoundFile}
+use Rattle.flush_engine.specs.Refusals.{FlushRefusal, flush_refusal, flush_says, flushed, verified, extents_refusal, limit_refusal, poison_refusal}
 use Rattle.flush_engine.specs.Refusals.FlushRefusal.{Length, Limit, Poison, Range, Verify}
 use Rattle.flush_engine.specs.Spans.{lines_in}
 use Rattle.flush_engine.specs.declared.fault.FlushFault.{FlushFault}
@@ -50,17 +50,27 @@ use Rattle.machine_host.specs.Meaning.FilesLeft.{Unchanged}
 use Rattle.machine_host.specs.OnFlushes.{all_moved, flush_through, flush_with, flushed_answer, lines_touched_by, second_look, spans_refusal, synced_in}
 use Rattle.machine_host.specs.OnPages.{pages_named}
 use Rattle.machine_host.specs.Responding.{Answered}
-use Rattle.machine_host.specs.Stands.{HostServes, HostState, IsOnFile, Stands}
+use Rattle.machine_host.specs.Stands.{HostServes, HostState, IsOnFile, Stands, HasRoom}
 use Rattle.machine_host.proofs.CallLemmas.{IsPart, on_refused-then, printable_after}
 use Rattle.machine_host.proofs.FilePageCallLemmas.{AreReady, LeavesOthers, PagesCalled, pages_after, work_comes, work_serves}
 use Rattle.machine_host.proofs.FilePageFateLemmas.{pages_are}
-use Rattle.machine_host.proofs.FilePageLemmas.{file_seen, held_now, journal_now, right_now}
+use Rattle.machine_host.proofs.FilePageLemmas.{file_seen, held_now, journal_now, right_now, room_now}
 use Rattle.machine_host.proofs.FlushFateLemmas.{fate_flush, shows}
 use Rattle.machine_host.proofs.HandleCallLemmas.{Told, file_under}
 use Rattle.machine_host.proofs.HandledLemmas.{seen}
 use Rattle.machine_host.proofs.MapFateLemmas.{has-found}
 use Rattle.machine_host.proofs.MappedLemmas.{held_by}
 use Rattle.machine_host.proofs.VolumeCallLemmas.{short_after}
+use Rattle.nvm_base.specs.Stock.{Stock}
+use Rattle.std.specs.Prelude.{OnErr}
+use Rattle.line_device.specs.Medium.{Medium}
+use Rattle.nvm_model.specs.Blocks.{first_there}
+use Rattle.mappings.specs.Object.{MappingsState}
+use Rattle.machine_host.specs.declared.held.HeldFiles.{HeldFiles}
+use Rattle.machine_host.specs.Flushing.{FlushSaid, HoldsLost, LinesTold, Looked}
+use Rattle.machine_host.specs.OnEvents.{lost_events}
+use Rattle.machine_host.proofs.EventLemmas.{changed_at, weak-flushed}
+use Rattle.machine_host.proofs.FilesCallLemmas.{worked_none}
 
 -- answers of flushes
 never_starves : (f : FlushFault) → flush_says f ≡ Starves → ⊥
@@ -123,11 +133,6 @@ module _ (name : List ℕ) where
   short_verify (Err fault.Device) = omega arith
   short_verify (Err fault.PowerLost) = omega arith
 
--- what a flush says of the lines that it lost: nothing, or the lowest
-abbrev pub Looked : Look → Result (Unit {0}) FlushFault → Option ℕ → Type 0
-Looked Once r lost = flushed r ≡ r
-Looked Again r lost = OnOk (flushed r) (r ≡ verified lost)
-
 told_look : (look : Look) (name : List ℕ) (r : Result (Unit {0}) FlushFault) (lost : Option ℕ) → Looked look r lost
     → answer_after flush_says (flush_answer name) (verify_answer name r) (flushed r) ≡ answer_after flush_says (flush_answer name) (second_look look name lost) (flushed r)
 told_look Once name (Ok done) lost looked = refl
@@ -170,6 +175,10 @@ few_lines s inode (span ∷ spans) =
     let rest = few_lines s inode spans in
     let one = sum_by-cons (λ (x : Span). lines_there s inode x.start x.len) span spans in
     let other = sum_by-cons (λ (x : Span). (units_of 64 x).len) span spans in omega (arith, here, rest, one, other)
+
+both_refused : {P Q S : Type 0} (r : Result (Unit {0}) FlushFault) → (P → Q → S) → OnRefused flush_says r P → OnRefused flush_says r Q → OnRefused flush_says r S
+both_refused (Ok x) f p q = tt
+both_refused (Err e) f p q = λ none. f (p none) (q none)
 
 worked_then : {T P Q : Type 0} (r : Result T FlushFault) → (P → Q) → OnWorked flush_says r P → OnWorked flush_says r Q
 worked_then (Ok x) then_ p = then_ p
@@ -220,12 +229,13 @@ module _ (now host : HostState) (p : PagesState) (r : Result (Unit {0}) FlushFau
       persists_are : (h : Machine) → Stands now old h → (spending h action).persists ≡ lines_touched_by to
       persists_are h stands = ap (λ s. s.persists) (spends_are h stands)
 
-  -- A flush's clauses are those of a call on bytes.
+  -- A flush's clauses are those of a call on bytes, with the events after it.
   module _ {D : Type 0} (state : D → Device) (before after : D) (first : state before ≡ old) (untouched : OnRefused flush_says (flushed r) ((p ≡ host.files.pages) × (after ≡ before)))
       (images : OnWorked flush_says (flushed r) ((files : List File) (file : File) → IsFileAt host.files.pages.journal (state before).medium inode files file
       → EachReadsFiles host.files.pages.journal.geo (state after).medium (OneFileLeft file.name (MaySyncAll to) files)))
       (outside : WritesBackOthers (IsOfFiles host.files.pages.journal.geo) (state before).medium (state after).medium) (marks : KeepsMarks host.files.pages.journal.geo (state before).medium (state after).medium)
-      (served : PagesServe p (state after).medium) (object : (p.journal ≡ host.files.pages.journal) × (p.settled ≡ is_done (outcome_by flush_says r))) (runs : Runs lines lines (outcome_by flush_says r) (state before).panel (state after).panel) where
+      (served : PagesServe p (state after).medium) (object : (p.journal ≡ host.files.pages.journal) × (p.settled ≡ is_done (outcome_by flush_says r))) (runs : Runs lines lines (outcome_by flush_says r) (state before).panel (state after).panel)
+      (e : Stock Event) (same : OnRefused flush_says (flushed r) (e ≡ host.files.events)) (room : OnOk (flushed r) (HasRoom (record host.files { pages = p; events = e }) (state after).medium)) where
     right_here : AreTables host.files.pages.journal.geo.fpages host.files.pages.journal.tables
     right_here = right_now now host old inside on serves
 
@@ -249,42 +259,44 @@ module _ (now host : HostState) (p : PagesState) (r : Result (Unit {0}) FlushFau
     }
     ready_after (Err f) settled = tt
 
-    pub flush_called : PagesCalled flush_says host p (flushed r) (MayLeaveFiles host.files.mappings.mappings (Some action)) lines lines (state before) (state after)
+    pub flush_called : PagesCalled flush_says host p e (flushed r) (MayLeaveFiles host.files.mappings.mappings (Some action)) lines lines (state before) (state after)
     flush_called = record {
-      untouched = on_refused-then flush_says (flushed r) (λ same. (same.0, ap state same.1)) untouched;
+      untouched = both_refused (flushed r) (λ q x. ((q.0, x), ap state q.1)) untouched same;
       images = worked_then (flushed r) of_name images;
       outside = outside;
       marks = marks;
       ready = ready_after (flushed r) (object.1 ∙ ap is_done (sym (same_outcome r)));
+      room = room;
       runs = subst (λ (o : Outcome). Runs lines lines o (state before).panel (state after).panel) (sym (same_outcome r)) runs;
     }
 
-  module _ (after : HostState) (new : Device) (state : after ≡ pages_after host p (mode_after flush_says (flushed r)))
-      (call : PagesCalled flush_says host p (flushed r) (MayLeaveFiles host.files.mappings.mappings (Some action)) lines lines old new) (object : p.journal ≡ host.files.pages.journal) where
+  module _ (after : HostState) (e : Stock Event) (new : Device) (state : after ≡ pages_after host p e (mode_after flush_says (flushed r)))
+      (call : PagesCalled flush_says host p e (flushed r) (MayLeaveFiles host.files.mappings.mappings (Some action)) lines lines old new) (object : p.journal ≡ host.files.pages.journal) where
     pub flush_answered : (answer : Answer)
         → ((files : List File) (file : File) → IsFileAt host.files.pages.journal old.medium inode files file → Answers flush_says (flush_refusal file.pages to) (flushed r))
         → OnOk (flushed r) ((files : List File) (file : File) → IsFileAt host.files.pages.journal old.medium inode files file
         → FilesStand host.files.pages.journal.geo new.medium host.files.pages.journal.tables (change_file file_name file.name (on_pages (persist_spans to)) files))
         → ((files : List File) (file : File) → IsFileAt host.files.pages.journal old.medium inode files file → Looked look r (next_bad_touched to (persist_spans to file.pages) 0))
+        → OnOk (flushed r) ((files : List File) (file : File) → IsFileAt host.files.pages.journal old.medium inode files file → e.items ≡ host.files.events.items ++ lost_events host.files.mappings.mappings m.name to file.pages)
         → answer ≡ answer_after flush_says (flush_answer m.name) (verify_answer m.name r) (flushed r) → Answered action answer now after old new
-    flush_answered answer refused ok looked answer_is = record {
+    flush_answered answer refused ok looked told answer_is = record {
       step = λ h stands.
           let found = file_seen now host old inside on serves m.name h stands inode here in
           let among = file_under now old on serves handle m is h stands in
           let same : among.file ≡ found.file = same_Some _ _ (sym among.found ∙ found.found) in
           let whole : m.start + m.len ≤ 4096 * length found.file.pages = subst (λ (f : File). m.start + m.len ≤ 4096 * length f.pages) same among.within in
           let named : pages_named m.name h.files ≡ found.file.pages = pages_are h m.name found.file (sym stands.mode ∙ on) (has-found m.name h.files found.file found.found) found.found in
-          work_comes flush_says (flush_answer m.name) (flush_part m.name) now host after p (flushed r) lines lines old new inside state on serves action spent flush_leaves call
-          h (flushed_answer look m.name to found.file.pages) answer (flush_refusal found.file.pages to) (synced_in m.name to h.files)
+          work_comes flush_says (flush_answer m.name) (flush_part m.name) now host after p e (flushed r) lines lines old new inside state on serves action spent flush_leaves call
+          h (flushed_answer look m.name to found.file.pages) answer (flush_refusal found.file.pages to) (synced_in m.name to h.files) (h.events ++ lost_events h.mappings m.name to found.file.pages)
           (quiet_look m.name look (next_bad_touched to (persist_spans to found.file.pages) 0)) stands
           (fate_flush now old on serves action handle look spans row m is shared right h stands found.file.pages named whole)
-          (refused h.files found.file found.at) (synced (flushed r) ok h.files found.file found.at found.named)
+          (refused h.files found.file found.at) (synced (flushed r) ok h.files found.file found.at found.named) (heard (flushed r) told h stands found.file found.at)
           (answer_is ∙ told_look look m.name r (next_bad_touched to (persist_spans to found.file.pages) 0) (looked h.files found.file found.at));
       printable = subst IsPrintable (sym answer_is) (printable_after flush_says (flush_answer m.name) (flush_part m.name) (verify_answer m.name r) (printable_verify m.name r) (flushed r));
       room =
           let short = subst (λ a. most_of a ≤ 72) (sym answer_is) (short_after flush_says (flush_answer m.name) (flush_part m.name) (verify_answer m.name r) (short_verify m.name r) (flushed r)) in
           subst (λ (x : Meaning). most_of answer ≤ x.room) (sym row) short;
-      serves = work_serves flush_says (flush_answer m.name) (flush_part m.name) now host after p (flushed r) lines lines old new inside state on serves action spent flush_leaves call;
+      serves = work_serves flush_says (flush_answer m.name) (flush_part m.name) now host after p e (flushed r) lines lines old new inside state on serves action spent flush_leaves call;
     }
       where
         synced : (q : Result (Unit {0}) FlushFault)
@@ -297,37 +309,120 @@ module _ (now host : HostState) (p : PagesState) (r : Result (Unit {0}) FlushFau
             (subst (λ n. FilesStand host.files.pages.journal.geo new.medium host.files.pages.journal.tables (change_file file_name n (on_pages (persist_spans to)) files)) named (ok files file at))
         synced (Err f) ok files file at named = tt
 
--- What is said of a flush of a file, with or without a second look.
-pub record FlushSaid {D : Type 0} (state : D → Device) (host : HostState) (p : PagesState) (r : Result (Unit {0}) FlushFault) (look : Look) (inode : ℕ) (spans : List Span) (before after : D) : Type 0 where
-  pub refused : (files : List File) (file : File) → IsFileAt host.files.pages.journal (state before).medium inode files file → Answers flush_says (flush_refusal file.pages spans) (flushed r)
-  pub untouched : OnRefused flush_says (flushed r) ((p ≡ host.files.pages) × (after ≡ before))
-  pub ok : OnOk (flushed r) ((files : List File) (file : File) → IsFileAt host.files.pages.journal (state before).medium inode files file
-      → FilesStand host.files.pages.journal.geo (state after).medium host.files.pages.journal.tables (change_file file_name file.name (on_pages (persist_spans spans)) files))
-  pub looked : (files : List File) (file : File) → IsFileAt host.files.pages.journal (state before).medium inode files file → Looked look r (next_bad_touched spans (persist_spans spans file.pages) 0)
-  pub images : OnWorked flush_says (flushed r) ((files : List File) (file : File) → IsFileAt host.files.pages.journal (state before).medium inode files file
-      → EachReadsFiles host.files.pages.journal.geo (state after).medium (OneFileLeft file.name (MaySyncAll spans) files))
-  pub outside : WritesBackOthers (IsOfFiles host.files.pages.journal.geo) (state before).medium (state after).medium
-  pub marks : KeepsMarks host.files.pages.journal.geo (state before).medium (state after).medium
-  pub serves : PagesServe p (state after).medium
-  pub object : (p.journal ≡ host.files.pages.journal) × (p.settled ≡ is_done (outcome_by flush_says r))
-  pub runs : Runs (lines_in host.files.pages.journal inode spans) (lines_in host.files.pages.journal inode spans) (outcome_by flush_says r) (state before).panel (state after).panel
+        heard : (q : Result (Unit {0}) FlushFault)
+            → OnOk q ((files : List File) (file : File) → IsFileAt host.files.pages.journal old.medium inode files file → e.items ≡ host.files.events.items ++ lost_events host.files.mappings.mappings m.name to file.pages)
+            → (h : Machine) → Stands now old h → (file : File) → IsFileAt host.files.pages.journal old.medium inode h.files file → OnOk q (e.items ≡ h.events ++ lost_events h.mappings m.name to file.pages)
+        heard (Ok x) told h stands file at =
+            told h.files file at
+            ∙ ap (λ (k : HostState). k.files.events.items ++ lost_events k.files.mappings.mappings m.name to file.pages) inside
+            ∙ ap₂ (λ (es : List Event) (s : MappingsState). es ++ lost_events s.mappings m.name to file.pages) (stands.events on) (stands.mappings on)
+        heard (Err f) told h stands file at = tt
 
--- So it is answered. Of a host behind a reference: `host` is what is inside `now`, and `after_host` what the answer leaves.
-pub flush_told : {D : Type 0} (state : D → Device) (now host after_host : HostState) (p : PagesState) (r : Result (Unit {0}) FlushFault) (handle inode : ℕ) (look : Look) (spans moved : List Span) (before after : D) (answer : Answer) (info : MapInfo)
-    → host ≡ now → now.mode ≡ On → HostServes now (state before) → (told : Told now.files.mappings.mappings handle info) → info.kind ≡ Shared → None ≡ spans_refusal info.span.len spans
-    → inode_of info.name host.files.pages.journal.tables.files ≡ Some inode → moved ≡ all_moved info.span.start spans → after_host ≡ pages_after host p (mode_after flush_says (flushed r))
-    → FlushSaid state host p r look inode moved before after → answer ≡ answer_after flush_says (flush_answer info.name) (verify_answer info.name r) (flushed r)
+-- The lines that a flush lost have room, and leave the others theirs.
+module _ (host : HostState) (p : PagesState) (r : Result (Unit {0}) FlushFault) (name : List ℕ) (inode : ℕ) (spans : List Span) (old new : Medium) (right : AreTables host.files.pages.journal.geo.fpages host.files.pages.journal.tables)
+    (here : inode_of name host.files.pages.journal.tables.files ≡ Some inode) (room : HasRoom host.files old) (same : p.journal ≡ host.files.pages.journal) where
+  -- the file that has it
+  found : FoundFile host.files.pages.journal old inode name room.files
+  found = file-found host.files.pages.journal old right name room.files room.stand inode (found_is_named name host.files.pages.journal.tables.files inode here)
+
+  none_bad : (q : Result (Unit {0}) FlushFault) → Answers flush_says (flush_refusal found.file.pages spans) q → OnOk q (next_bad_touched spans found.file.pages 0 ≡ None)
+  none_bad (Ok x) answers = third (extents_refusal (length found.file.pages) spans) (limit_refusal spans) (next_bad_touched spans found.file.pages 0) (worked_none flush_says (flush_refusal found.file.pages spans) (Ok x) answers)
+    where
+      third : (a b : Option FlushRefusal) (o : Option ℕ) → first_there a (first_there b (poison_refusal o)) ≡ None → o ≡ None
+      third None None None none = refl
+      third None None (Some n) none = cc none
+      third None (Some w) o none = cc none
+      third (Some w) b o none = cc none
+  none_bad (Err f) answers = tt
+
+  at_new : FilesStand host.files.pages.journal.geo new host.files.pages.journal.tables (change_file file_name found.file.name (on_pages (persist_spans spans)) room.files)
+      → IsFileAt p.journal new inode (change_file file_name found.file.name (on_pages (persist_spans spans)) room.files) (on_pages (persist_spans spans) found.file)
+  at_new stand =
+      subst (λ (j : JournalState). IsFileAt j new inode (change_file file_name found.file.name (on_pages (persist_spans spans)) room.files) (on_pages (persist_spans spans) found.file)) (sym same)
+      (changed_at host.files.pages.journal right old inode room.files found.file found.at new (persist_spans spans) stand)
+
+  holds_lost : (q : Result (Unit {0}) FlushFault) → ((files : List File) (file : File) → IsFileAt host.files.pages.journal old inode files file → Answers flush_says (flush_refusal file.pages spans) q)
+      → OnOk q ((files : List File) (file : File) → IsFileAt host.files.pages.journal old inode files file
+      → FilesStand host.files.pages.journal.geo new host.files.pages.journal.tables (change_file file_name file.name (on_pages (persist_spans spans)) files))
+      → OnOk q (HoldsLost (record host.files { pages = p }) new inode spans)
+  holds_lost (Ok x) refused ok =
+      let weak = weak-flushed host.files.pages.journal right old inode room.files found.file found.at spans (none_bad (Ok x) (refused room.files found.file found.at)) in
+      record {
+        files = change_file file_name found.file.name (on_pages (persist_spans spans)) room.files;
+        file = on_pages (persist_spans spans) found.file;
+        at = at_new (ok room.files found.file found.at);
+        enough = omega (arith, weak, room.enough);
+      }
+  holds_lost (Err f) refused ok = tt
+
+  room_left : (f : HeldFiles) (q : Result (Unit {0}) FlushFault) → ((files : List File) (file : File) → IsFileAt host.files.pages.journal old inode files file → Answers flush_says (flush_refusal file.pages spans) q)
+      → OnOk q ((files : List File) (file : File) → IsFileAt host.files.pages.journal old inode files file
+      → FilesStand host.files.pages.journal.geo new host.files.pages.journal.tables (change_file file_name file.name (on_pages (persist_spans spans)) files))
+      → OnOk q (LinesTold name inode spans new (record host.files { pages = p }) f) → OnOk q (HasRoom (record host.files { pages = p; events = f.events }) new)
+  room_left f (Ok x) refused ok told =
+      let weak = weak-flushed host.files.pages.journal right old inode room.files found.file found.at spans (none_bad (Ok x) (refused room.files found.file found.at)) in
+      let at = at_new (ok room.files found.file found.at) in
+      let spare = told.spare _ _ at in record {
+        files = change_file file_name found.file.name (on_pages (persist_spans spans)) room.files;
+        stand = at.stand;
+        enough = omega (arith, weak, room.enough, spare);
+      }
+  room_left f (Err e) refused ok told = tt
+
+  heard_of : (f : HeldFiles) (q : Result (Unit {0}) FlushFault)
+      → OnOk q ((files : List File) (file : File) → IsFileAt host.files.pages.journal old inode files file
+      → FilesStand host.files.pages.journal.geo new host.files.pages.journal.tables (change_file file_name file.name (on_pages (persist_spans spans)) files))
+      → OnOk q (LinesTold name inode spans new (record host.files { pages = p }) f)
+      → OnOk q ((files : List File) (file : File) → IsFileAt host.files.pages.journal old inode files file → f.events.items ≡ host.files.events.items ++ lost_events host.files.mappings.mappings name spans file.pages)
+  heard_of f (Ok x) ok told = λ files file at.
+      told.events _ _
+      (subst (λ (j : JournalState). IsFileAt j new inode (change_file file_name file.name (on_pages (persist_spans spans)) files) (on_pages (persist_spans spans) file)) (sym same)
+      (changed_at host.files.pages.journal right old inode files file at new (persist_spans spans) (ok files file at)))
+  heard_of f (Err e) ok told = tt
+
+-- what the lines that were told leave of the files beside their events
+told_others : (name : List ℕ) (inode : ℕ) (spans : List Span) (m : Medium) (old new : HeldFiles) (q : Result (Unit {0}) FlushFault) → OnOk q (LinesTold name inode spans m old new) → OnErr q (new ≡ old) → new ≡ record old { events = new.events }
+told_others name inode spans m old new (Ok x) told same = told.others
+told_others name inode spans m old new (Err f) told same = same ∙ ap (λ (f : HeldFiles). record old { events = f.events }) (sym same)
+
+same_refused : (e before : Stock Event) (q : Result (Unit {0}) FlushFault) → OnErr q (e ≡ before) → OnRefused flush_says q (e ≡ before)
+same_refused e before (Ok x) same = tt
+same_refused e before (Err f) same = λ _. same
+
+err_then : {P Q : Type 0} (q : Result (Unit {0}) FlushFault) → (P → Q) → OnErr q P → OnErr q Q
+err_then (Ok x) f p = tt
+err_then (Err e) f p = f p
+
+-- So it is answered. Of a host behind a reference: `host` is what is inside `now`, `f` are its files once the lost lines were told, and `after_host` is what the answer leaves.
+pub flush_told : {D : Type 0} (state : D → Device) (now host after_host : HostState) (p : PagesState) (f : HeldFiles) (r : Result (Unit {0}) FlushFault) (handle inode : ℕ) (look : Look) (spans moved : List Span) (before after : D) (answer : Answer)
+    (info : MapInfo) → host ≡ now → now.mode ≡ On → HostServes now (state before) → (told : Told now.files.mappings.mappings handle info) → info.kind ≡ Shared → None ≡ spans_refusal info.span.len spans
+    → inode_of info.name host.files.pages.journal.tables.files ≡ Some inode → moved ≡ all_moved info.span.start spans → after_host ≡ record host { mode = mode_after flush_says (flushed r); files = f }
+    → FlushSaid state host.files.pages p r look inode moved before after
+    → OnOk (flushed r) (LinesTold info.name inode moved (state after).medium (record host.files { pages = p }) f) → OnErr (flushed r) (f ≡ record host.files { pages = p })
+    → answer ≡ answer_after flush_says (flush_answer info.name) (verify_answer info.name r) (flushed r)
     → (action : Action) → meaning action ≡ flush_with look handle spans → Answered action answer now after_host (state before) (state after)
-flush_told state now host after_host p r handle inode look spans moved before after answer info inside on serves told shared right here moved_is is said answer_is action row =
+flush_told state now host after_host p f r handle inode look spans moved before after answer info inside on serves told shared right here moved_is is said lines undone answer_is action row =
     let m = told.mapping in
     let shown : is_shared m.kind ≡ true = ap (λ (i : MapInfo). is_shared i.kind) told.same ∙ ap is_shared shared in
     let fits : spans_refusal m.len spans ≡ None = ap (λ (i : MapInfo). spans_refusal i.span.len spans) told.same ∙ sym right in
-    let found : inode_of m.name host.files.pages.journal.tables.files ≡ Some inode = ap (λ (i : MapInfo). inode_of i.name host.files.pages.journal.tables.files) told.same ∙ here in
+    let named : info.name ≡ m.name = ap (λ (i : MapInfo). i.name) (sym told.same) in
+    let found : inode_of m.name host.files.pages.journal.tables.files ≡ Some inode = ap (λ n. inode_of n host.files.pages.journal.tables.files) (sym named) ∙ here in
     let to_is : moved ≡ all_moved m.start spans = moved_is ∙ ap (λ (i : MapInfo). all_moved i.span.start spans) (sym told.same) in
-    let s = subst (λ xs. FlushSaid state host p r look inode xs before after) to_is said in
-    flush_answered now host p r action handle inode look spans m (state before) inside on serves row told.is shown fits found after_host (state after) is
-    (flush_called now host p r action handle inode look spans m (state before) inside on serves row told.is shown fits found state before after refl s.untouched s.images s.outside s.marks s.serves s.object s.runs)
-    s.object.0 answer s.refused s.ok s.looked (answer_is ∙ ap (λ (i : MapInfo). answer_after flush_says (flush_answer i.name) (verify_answer i.name r) (flushed r)) (sym told.same))
+    let s = subst (λ xs. FlushSaid state host.files.pages p r look inode xs before after) to_is said in
+    let news : OnOk (flushed r) (LinesTold m.name inode (all_moved m.start spans) (state after).medium (record host.files { pages = p }) f) =
+    subst (λ xs. OnOk (flushed r) (LinesTold m.name inode xs (state after).medium (record host.files { pages = p }) f)) to_is
+    (subst (λ n. OnOk (flushed r) (LinesTold n inode moved (state after).medium (record host.files { pages = p }) f)) named lines) in
+    let tables = right_now now host (state before) inside on serves in
+    let room = room_now now host (state before) inside on serves in
+    let to = all_moved m.start spans in
+    let files_are = told_others m.name inode to (state after).medium (record host.files { pages = p }) f (flushed r) news undone in
+    flush_answered now host p r action handle inode look spans m (state before) inside on serves row told.is shown fits found after_host f.events (state after)
+    (is ∙ ap (λ (x : HeldFiles). record host { mode = mode_after flush_says (flushed r); files = x }) files_are)
+    (flush_called now host p r action handle inode look spans m (state before) inside on serves row told.is shown fits found state before after refl s.untouched s.images s.outside s.marks s.serves s.object s.runs
+    f.events (same_refused f.events host.files.events (flushed r) (err_then (flushed r) (λ same. ap (λ (x : HeldFiles). x.events) same) undone))
+    (room_left host p r m.name inode to (state before).medium (state after).medium tables found room s.object.0 f (flushed r) s.refused s.ok news))
+    s.object.0 answer s.refused s.ok s.looked (heard_of host p r m.name inode to (state before).medium (state after).medium tables found room s.object.0 f (flushed r) s.ok news)
+    (answer_is ∙ ap (λ n. answer_after flush_says (flush_answer n) (verify_answer n r) (flushed r)) named)
 
 -- a file of a shared mapping is there
 pub mapped_found : (now : HostState) (d : Device) (handle : ℕ) (info : MapInfo) → now.mode ≡ On → HostServes now d → (told : Told now.files.mappings.mappings handle info) → None ≡ inode_of info.name now.files.pages.journal.tables.files → ⊥

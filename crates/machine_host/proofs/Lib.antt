@@ -55,6 +55,8 @@ pub mod FilePageLemmas
 pub mod LoadLemmas
 pub mod MediaLemmas
 pub mod PoisonLemmas
+mod NextEventLemmas
+mod NewsLemmas
 mod WeakenLemmas
 pub mod LineLemmas
 pub mod FileErrorLemmas

@@ -22,9 +22,9 @@ refuses (Err fault.Range) fed = tt
 refuses (Err fault.Nothing) fed = tt
 refuses (Err fault.Memory) fed = absurd (fed refl)
 
-pub weaken_responds : {E : Type 0} (action : Action) (r : Result (Unit {0}) WeakenFault) (q : Result Reply E) (now : HostState) (old new : Device)
+pub weaken_responds : {E : Type 0} (action : Action) (r : Result (Unit {0}) WeakenFault) (q : Result Reply E) (now after : HostState) (old new : Device)
     → MatchResult q (λ reply. (r ≡ Err fault.Memory → ⊥) × (answer_of reply ≡ answer_after weaken_says line_answer Done r)) (λ _. r ≡ Err fault.Memory)
-    → ((answer : Answer) → IfErr r (λ f. IsRefusal (weaken_says f)) → answer ≡ answer_after weaken_says line_answer Done r → Answered action answer now now old new)
-    → (r ≡ Err fault.Memory → Leaves action now now old new × HostServes now new) → Responds action q now now old new
-weaken_responds action r (Ok reply) now old new told answered starved = answered (answer_of reply) (refuses r told.0) told.1
-weaken_responds action r (Err e) now old new told answered starved = let left = starved told in record { leaves = left.0; serves = left.1 }
+    → ((answer : Answer) → IfErr r (λ f. IsRefusal (weaken_says f)) → answer ≡ answer_after weaken_says line_answer Done r → Answered action answer now after old new)
+    → (r ≡ Err fault.Memory → Leaves action now after old new × HostServes after new) → Responds action q now after old new
+weaken_responds action r (Ok reply) now after old new told answered starved = answered (answer_of reply) (refuses r told.0) told.1
+weaken_responds action r (Err e) now after old new told answered starved = let left = starved told in record { leaves = left.0; serves = left.1 }

@@ -34,4 +34,5 @@ pub mod FileRows
 pub mod MappingRows
 pub mod FlushRows
 pub mod FileErrorRows
+pub mod EventRows
 pub mod PageRows

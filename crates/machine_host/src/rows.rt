@@ -9,6 +9,7 @@ ghost use Rattle.machine_host.specs.PageRows.{PageRows, PageRuns};
 ghost use Rattle.machine_host.specs.MappingRows.{MappingRows};
 ghost use Rattle.machine_host.specs.FlushRows.{FlushRows};
 ghost use Rattle.machine_host.specs.FileErrorRows.{FileErrorRows};
+ghost use Rattle.machine_host.specs.EventRows.{EventRows};
 
 /// What the machine writes for the worked scripts.
 pub fn worked_scripts()
@@ -56,4 +57,9 @@ pub fn worked_flushes()
 /// What it writes for those with media errors of files.
 pub fn worked_file_errors()
     ensures errors { FileErrorRows }
+{}
+
+/// What it writes for those that are told of bad lines of files.
+pub fn worked_events()
+    ensures events { EventRows }
 {}

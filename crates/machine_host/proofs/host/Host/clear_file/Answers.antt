@@ -19,8 +19,8 @@ returns-in-Some g c =
     let here : inode_of name host.files.pages.journal.tables.files ≡ Some c.in-Some.inode = ap (λ (j : JournalState). inode_of name j.tables.files) (sym c.journal.ensures) ∙ sym c.in-Some.ensures.value in
     clear_answered c.args.self.now host _ r name c.in-Some.inode c.args.offset (g.D.Lines.state c.args.device.now) (g.D.Lines.state c.clear_file-call.new.dev) c.self.view_is
     (c.cleared.ensures.state ∙ ap (λ (k : HostState). record k { mode = mode_after scrub_says r }) (sym c.self.view_is)) c.requires.on c.requires.serves here
-    (on_refused-then scrub_says r (λ same. ap g.D.Lines.state same) said.untouched) said.images said.outside said.metadata said.serves said.runs
-    _ said.refused said.ok c.cleared.ensures.answer
+    (on_refused-then scrub_says r (λ same. ap g.D.Lines.state same) said.untouched) said.ok said.images said.outside said.metadata said.serves said.runs
+    _ said.refused c.cleared.ensures.answer
 
 pub returns-in-None : goal.returns-in-None
 returns-in-None g c =

@@ -1,4 +1,4 @@
-use Rattle.std.proofs.Common.{ap, refl, subst, sym, ◌∙◌}
+use Rattle.std.proofs.Common.{ap, refl, subst, sym, ◌∙◌, arith}
 use Rattle.nvm_model.specs.Cell.{weaken_cell}
 use Rattle.scrub.specs.Refusals.{weaken_says}
 use Rattle.script_text.specs.Action.Action.{WeakenVolume}
@@ -19,13 +19,13 @@ returns g c =
     let r = c.weaken_volume-call.result in
     let serves = subst (λ k. HostServes k old) (sym c.self.view_is) c.requires.serves in
     let on = ap (λ k. k.mode) c.self.view_is ∙ c.requires.on in
-    weaken_responds (WeakenVolume c.args.offset) r c.weakened.result c.args.self.now old new c.weakened.ensures
+    weaken_responds (WeakenVolume c.args.offset) r c.weakened.result c.args.self.now c.args.self.now old new c.weakened.ensures
     (λ answer told is.
     subst (λ k. Answered (WeakenVolume c.args.offset) answer k k old new) c.self.view_is
     (volume_line_answered host old new serves on said.panel weaken_says weaken_cell (WeakenVolume c.args.offset) c.args.offset r answer refl
     (λ h stands. fate_weaken host old h c.args.offset serves stands on) said.refused told (on_refused-then weaken_says r (λ same. ap g.D.Lines.state same) said.untouched) said.ok said.outside said.serves is))
     (λ starved.
     let written = said.memory starved in (
-      (refl, written, said.panel),
+      (record { events = c.args.self.now.files.events; host = refl; items = refl; spare = omega arith }, written, said.panel),
       serves_ordered c.args.self.now c.args.self.now.mode _ _ c.requires.serves written (ap (λ p. p.power) said.panel ∙ c.requires.serves.power) (λ on. on) (λ stop. stop),
     ))
