@@ -30,7 +30,7 @@ use Rattle.recovery.specs.declared.Mounted.{Mounted}
 use Rattle.recovery.specs.declared.replaying.Tables.{Tables}
 use Rattle.recovery.specs.Findings.{geometry_told, inspection_finding, first_finding, wrong_log, wrong_table}
 use Rattle.recovery.specs.Mounting.{Finds, HasDurableBlocks, IsInOrder, IsOfLogs}
-use Rattle.recovery.specs.Tables.{AreTables, LeavesLogs, wrong_words}
+use Rattle.recovery.specs.Tables.{AreTables, LeavesLogs, ServesFiles, wrong_words}
 use Rattle.recovery.proofs.FindingLemmas.{bad-write_back, finds_judged, three_none}
 use Rattle.recovery.proofs.LogLemmas.{logs_in_metadata}
 use Rattle.recovery.proofs.LeaveLemmas.{leaves-then, leaves-write_back}
@@ -78,16 +78,16 @@ module _ (old now : Medium) (geo : Geometry) (is : geo ≡ geometry_told old) (x
       pub mount_ok : (r : Result Mounted MountFault) → IsAtRest (block_area geo) new (replayed (block_area geo) (last_image now))
           → IfOk r (λ mounted. mounted.geo ≡ geo) → IfOk r (λ mounted. (mounted.blocks.geo ≡ geo) × (map word_of mounted.blocks.map ≡ tables.map.items))
           → IfOk r (λ mounted. (mounted.volume.geo ≡ geo) × (map presence_word mounted.volume.present ≡ tables.presence.items))
-          → IfOk r (λ mounted. (mounted.journal.geo ≡ geo) × (mounted.journal.tables ≡ reading.tables_of tables.file_words.items))
+          → IfOk r (λ mounted. (mounted.files.journal.geo ≡ geo) × (mounted.files.journal.tables ≡ reading.tables_of tables.file_words.items))
           → Finds (option_map wrong_word (wrong_words geo tables.map.items tables.presence.items tables.file_words.items)) r
           → IfOk r (λ mounted. (mounted.geo ≡ geometry_told old) × (mounted.blocks.geo ≡ geometry_told old) × (blocks_of mounted.blocks new ≡ blocks_read (geometry_told old) old.is_bad (last_image old))
           × (mounted.volume.geo ≡ geometry_told old) × (mounted.volume.present ≡ presence_read (geometry_told old) (last_image old))
-          × (mounted.journal.geo ≡ geometry_told old) × (mounted.journal.tables ≡ reading.tables_read (geometry_told old) (last_image old)))
+          × (mounted.files.journal.geo ≡ geometry_told old) × (mounted.files.journal.tables ≡ reading.tables_read (geometry_told old) (last_image old)))
       mount_ok (Err f) blocks_rest sizes made present named h = tt
       mount_ok (Ok mounted) blocks_rest sizes made present named h =
           let reads = blocks.judged_reads geo order.valid (IsOfLogs geo) (logs_in_metadata geo order.valid) now new tables.map.items (record { words = are.map; rest = blocks_rest; outside = left.outside }) (Ok mounted.blocks) made (tables_right (not_mapped wrong_word _ h)).0 in
           let there = pages.judged_pages geo now tables.presence.items are.presence (Ok mounted.volume) present in
-          let on = files.judged_tables geo now tables.file_words.items are.file_words (Ok mounted.journal) named in
+          let on = files.judged_tables geo now tables.file_words.items are.file_words (Ok mounted.files.journal) named in
           (sizes ∙ is, reads.0 ∙ is, reads.1 ∙ blocks_same, there.0 ∙ is, there.1 ∙ ap₂ presence_read is (last_image-write_back old now x), on.0 ∙ is, on.1 ∙ ap₂ reading.tables_read is (last_image-write_back old now x))
 
       -- they serve, the blocks where what the map names was durable
@@ -106,12 +106,16 @@ module _ (old now : Medium) (geo : Geometry) (is : geo ≡ geometry_told old) (x
       mount_volume (Err f) rest made = tt
       mount_volume (Ok mounted) rest made = pages.judged_serves geo order.valid now new (IsOfLogs geo) tables.presence.items (record { words = are.presence; rest = rest; outside = left.outside }) (Ok mounted.volume) order.count order.strong made
 
+      -- the device is the one of the files of the words that were read
+      pub mount_files : IsAtRest (file_area geo) new (replayed (file_area geo) (last_image now)) → ServesFiles geo new tables.file_words.items
+      mount_files rest s sizes named right =
+          files.judged_serves geo now new (IsOfLogs geo) tables.file_words.items (record { words = are.file_words; rest = rest; outside = left.outside }) (Ok s) order.count order.strong (sizes, named) right
+
       pub mount_journal : (r : Result Mounted MountFault) → IsAtRest (file_area geo) new (replayed (file_area geo) (last_image now))
-          → IfOk r (λ mounted. (mounted.journal.geo ≡ geo) × (mounted.journal.tables ≡ reading.tables_of tables.file_words.items))
-          → Finds (option_map wrong_word (wrong_words geo tables.map.items tables.presence.items tables.file_words.items)) r → IfOk r (λ mounted. JournalServes mounted.journal new)
+          → IfOk r (λ mounted. (mounted.files.journal.geo ≡ geo) × (mounted.files.journal.tables ≡ reading.tables_of tables.file_words.items))
+          → Finds (option_map wrong_word (wrong_words geo tables.map.items tables.presence.items tables.file_words.items)) r → IfOk r (λ mounted. JournalServes mounted.files.journal new)
       mount_journal (Err f) rest made h = tt
-      mount_journal (Ok mounted) rest made h =
-          files.judged_serves geo now new (IsOfLogs geo) tables.file_words.items (record { words = are.file_words; rest = rest; outside = left.outside }) (Ok mounted.journal) order.count order.strong made (tables_right (not_mapped wrong_word _ h)).1
+      mount_journal (Ok mounted) rest made h = mount_files rest mounted.files.journal made.0 made.1 (tables_right (not_mapped wrong_word _ h)).1
 
 -- what is mounted can be used, where what the map names is durable
 pub usable : (old new : Medium) (r : Result Mounted MountFault) → HasDurableBlocks old → (HasDurableBlocks old → IfOk r (λ mounted. BlocksServe mounted.blocks new)) → IfOk r (λ mounted. IsTrue mounted.blocks.settled → BlocksServe mounted.blocks new)

@@ -1,5 +1,5 @@
 -- The logs of a device, and the words of the tables that they keep.
-use Rattle.std.specs.Prelude.{◌≡◌, ℕ, true, List, length, Option}
+use Rattle.std.specs.Prelude.{◌≡◌, ℕ, true, List, length, Option, None}
 use Rattle.line_device.specs.Medium.{Medium, WritesBack, last_image}
 use Rattle.line_words.specs.Words.{WritesBackOutside}
 use Rattle.word_tables.specs.declared.geometry.Geometry.{Geometry}
@@ -12,6 +12,7 @@ use Rattle.block_device.specs.Mounting.{wrong_map_word}
 use Rattle.pm_volume.specs.Area.{volume_area}
 use Rattle.pm_volume.specs.Presence.{wrong_page_word}
 use Rattle.file_journal.specs.Area.{file_area}
+use Rattle.file_journal.specs.Object.{JournalServes, JournalState}
 use Rattle.file_journal.specs.Reading as files
 use Rattle.recovery.specs.declared.replaying.Tables.{Tables}
 use Rattle.recovery.specs.Mounting.{IsOfLogs}
@@ -33,6 +34,11 @@ pub record AreTables (geo : Geometry) (word : ℕ → ℕ) (tables : Tables) : T
   pub presence : AreHomeWords (volume_area geo) (replayed (volume_area geo) word) tables.presence.items
   pub files : tables.file_log ≡ record { area = file_area geo; settled = true }
   pub file_words : AreHomeWords (file_area geo) (replayed (file_area geo) word) tables.file_words.items
+
+-- the device is the one whose journal has the tables of these words, where none of them is wrong
+abbrev pub ServesFiles : Geometry → Medium → List ℕ → Type 0
+ServesFiles geo m words =
+    (s : JournalState) → s.geo ≡ geo → s.tables ≡ files.tables_of words → files.wrong_table geo words ≡ None → JournalServes s m
 
 -- the place of the first wrong word of a block map, or else of presence words, or else of inodes and page tables
 abbrev pub wrong_words : Geometry → List ℕ → List ℕ → List ℕ → Option ℕ

@@ -2,6 +2,7 @@ ghost use Rattle.std.specs.Prelude.{◌≡◌};
 
 use line_words::Interruption;
 use nvm_base::LineNo;
+use std::alloc::AllocError;
 use word_log::LogFault;
 
 /// Why a device could not be mounted.
@@ -98,5 +99,16 @@ impl From<LogFault> for MountFault {
             LogFault::PowerLost => MountFault::PowerLost,
             LogFault::Memory => MountFault::Memory,
         }
+    }
+}
+
+impl From<AllocError> for MountFault {
+    ghost use Rattle.line_words.specs.Told.Told.{Starves};
+    ghost use Rattle.recovery.specs.Mounting.{device_says};
+
+    ghost from_gives = { λ _ fault. device_says fault ≡ Starves };
+
+    fn from(_fault: AllocError) -> MountFault {
+        MountFault::Memory
     }
 }

@@ -128,8 +128,8 @@ fn a_fresh_device_mounts_with_no_blocks_no_pages_and_no_files(rt: HostRuntime) -
     assert_eq!(rt; byte_of(&mut mounted.blocks, &mut device, 7), Ok(0));
     assert_eq!(rt; mounted.volume.exists(1), Ok(false));
     assert_eq!(rt; mounted.volume.exists(2), Err(VolumeFault::Range));
-    assert_eq!(rt; inode_of(&mounted.journal, b"a"), None);
-    assert_eq!(rt; mounted.journal.used(), 0);
+    assert_eq!(rt; inode_of(mounted.files.journal(), b"a"), None);
+    assert_eq!(rt; mounted.files.journal().used(), 0);
     Ok(())
 }
 
@@ -155,11 +155,11 @@ fn an_open_log_of_files_is_replayed(rt: HostRuntime) -> Result<(), Fail> {
     }
     assert!(rt; write(&mut device, &[(680, 1)]));
     let mounted = start(rt.alloc(), &mut device, Choice::Firsts)?;
-    assert_eq!(rt; inode_of(&mounted.journal, b"a"), Some(1));
-    assert_eq!(rt; mounted.journal.pages(1), 2);
-    assert_eq!(rt; mounted.journal.unit(1, 0), None);
-    assert_eq!(rt; mounted.journal.unit(1, 1), Some(4));
-    assert_eq!(rt; mounted.journal.used(), 1);
+    assert_eq!(rt; inode_of(mounted.files.journal(), b"a"), Some(1));
+    assert_eq!(rt; mounted.files.journal().pages(1), 2);
+    assert_eq!(rt; mounted.files.journal().unit(1, 0), None);
+    assert_eq!(rt; mounted.files.journal().unit(1, 1), Some(4));
+    assert_eq!(rt; mounted.files.journal().used(), 1);
     Ok(())
 }
 

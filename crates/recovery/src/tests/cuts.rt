@@ -56,9 +56,9 @@ fn is_replayed<L: Lines>(mounted: &mut Mounted, dev: &mut L) -> bool
         && mounted.blocks.exists(5) == Ok(false)
         && mounted.volume.exists(0) == Ok(false)
         && mounted.volume.exists(1) == Ok(true)
-        && inode_of(&mounted.journal, b"a") == None
-        && inode_of(&mounted.journal, b"b") == Some(0)
-        && mounted.journal.unit(0, 0) == Some(4)
+        && inode_of(mounted.files.journal(), b"a") == None
+        && inode_of(mounted.files.journal(), b"b") == Some(0)
+        && mounted.files.journal().unit(0, 0) == Some(4)
 }
 
 // Takes a plain device behind a fuse through a cut, and mounts it.

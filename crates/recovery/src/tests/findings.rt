@@ -1,8 +1,9 @@
 // What is found of devices of which words are wrong, or lines are lost.
 use super::{LINES, fresh, start, write};
 use crate::MountFault;
+use error_events::Event;
 use line_device::{Choice, Lines, Plain};
-use nvm_base::LineNo;
+use nvm_base::{LineNo, Name};
 use std::alloc::Global;
 use std::test::Fail;
 
@@ -154,5 +155,25 @@ fn wrong_words_of_logs_and_tables_come_last(rt: HostRuntime) -> Result<(), Fail>
             "at {words:?}"
         );
     }
+    Ok(())
+}
+
+// A file `a` of a hole and of a page on unit 4, which has the lines from 3,264 on.
+#[test]
+fn bad_lines_of_files_are_told_as_events(rt: HostRuntime) -> Result<(), Fail> {
+    let mut device = fresh(rt.alloc(), LINES)?;
+    assert!(rt; write(&mut device, &[(1232, 3), (1233, 0x61), (1745, 5)]));
+    let losses = [Loss::Bad(3263), Loss::Weak(3264), Loss::Bad(3266)];
+    lose(&mut device, &losses)?;
+    let mut events = start(rt.alloc(), &mut device, Choice::Firsts)?.events;
+    let found = Event {
+        file: Name::read(b"a").ok_or("no name")?,
+        offset: 4096 + 128,
+        len: 64,
+        mapped: false,
+        live: false,
+    };
+    assert_eq!(rt; events.next(), Some(found));
+    assert_eq!(rt; events.next(), None);
     Ok(())
 }

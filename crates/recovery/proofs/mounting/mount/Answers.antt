@@ -5,7 +5,7 @@ use Rattle.recovery.specs.declared.Mounted.{Mounted}
 use Rattle.recovery.specs.Findings.{geometry_told, first_finding}
 use Rattle.recovery.proofs.FindingLemmas.{finds_before, finds_on, finds_stopped, handed, inspected_parts}
 use Rattle.recovery.proofs.LeaveLemmas.{leaves-write_back}
-use Rattle.recovery.proofs.MountLemmas.{logs_same, mount_finds, mount_journal, mount_left, mount_ok, mount_reads, mount_serves, mount_volume}
+use Rattle.recovery.proofs.MountLemmas.{logs_same, mount_files, mount_finds, mount_journal, mount_left, mount_ok, mount_reads, mount_serves, mount_volume}
 use Rattle.recovery.proofs.mounting.mount.Goals as goal
 
 pub returns-in_err-geo-clause-finds : goal.returns-in_err-geo-clause-finds
@@ -80,6 +80,14 @@ returns-in_err-tables-clause-outside g c =
     let new = (g.L.Lines.state c.replay_logs.new.dev).medium in
     let geo = c.in_ok-geo.ensures in
     (mount_left old now c.in_ok-geo.geo geo.geo geo.lines new geo.order c.in_err-tables.ensures.left).outside
+
+pub judge_tables-requires-clause-serves : goal.judge_tables-requires-clause-serves
+judge_tables-requires-clause-serves g c =
+    let old = (g.L.Lines.state c.args.dev.now).medium in
+    let now = (g.L.Lines.state c.inspect.new.dev).medium in
+    let new = (g.L.Lines.state c.replay_logs.new.dev).medium in
+    let geo = c.in_ok-geo.ensures in
+    mount_files old now c.in_ok-geo.geo geo.geo geo.lines geo.finds c.in_ok-tables.tables c.in_ok-tables.ensures.tables new geo.order c.in_ok-tables.ensures.left c.in_ok-tables.ensures.files_rest
 
 pub returns-clause-reads : goal.returns-clause-reads
 returns-clause-reads g c =
