@@ -20,7 +20,7 @@ use Rattle.machine_host.specs.declared.mode.Mode.TheVariants.{On}
 use Rattle.machine_host.specs.Machine.{Machine}
 use Rattle.machine_host.specs.Machine.Fate.{Gives}
 use Rattle.machine_host.specs.Commands.{meaning, refusal, unless_refused}
-use Rattle.machine_host.specs.OnFileErrors.{marked_in}
+use Rattle.machine_host.specs.OnFileErrors.{marked_in, with_poisoned}
 use Rattle.machine_host.specs.OnPages.{pages_named}
 use Rattle.machine_host.specs.OnVolume.{persist_at}
 use Rattle.machine_host.specs.Run.{Takes}
@@ -97,7 +97,7 @@ poisoned_block h next block line i does same =
 
 pub poisoned_in_file : (h next : Machine) (name : List ℕ) (offset i : ℕ) → Does h (PoisonFile name offset) next → i / 64 ≡ offset / 64 → byte_at_place next (of_file name i) ≡ None
 poisoned_in_file h next name offset i does same =
-    let done = gives_done h (PoisonFile name offset) (record h { files = marked_in lose_cell name offset h.files }) next refl does in
+    let done = gives_done h (PoisonFile name offset) (with_poisoned name offset h) next refl does in
     let there = (within_none _ (cell_refusal (cell_of (pages_named name h.files) (offset / 64))) (line_none _ (places_none h (PoisonFile name offset) done.0))).1 in
     ap (λ m. line_has (cell_of (pages_named name m.files) (i / 64)) (i % 64)) done.1
     ∙ ap (λ n. line_has (cell_of (pages_named name (marked_in lose_cell name offset h.files)) n) (i % 64)) same

@@ -14,13 +14,15 @@ use Rattle.machine_host.specs.OnVolume.{yes_or_no}
 use Rattle.machine_host.specs.declared.look.Look.{Look}
 use Rattle.machine_host.specs.declared.look.Look.TheVariants.{Once, Again}
 use Rattle.machine_host.specs.OnFlushes.{flushed_answer}
+use Rattle.machine_host.specs.OnEvents.{told_event}
 use Rattle.machine_host.specs.OnPages.{pages_named}
 use Rattle.nvm_base.specs.declared.units.Span.{Span}
 use Rattle.nvm_model.specs.Page.{Page}
+use Rattle.nvm_model.specs.Storage.{Event}
 use Rattle.nvm_model.specs.Touched.{next_bad_touched, persist_spans}
 use Rattle.machine_host.specs.declared.mode.Mode.TheVariants.{Stopped}
 use Rattle.script_text.specs.Action.{Action}
-use Rattle.script_text.specs.Action.Action.{BExists, VRanges, VExists, ListFiles, Load, Map, Sync, Flush, FlushVerify, DeepFlush, CheckFile, PoisonBlock, PoisonVolume, PoisonFile, PoisonMeta, WeakenFile, WeakenVolume, Cut, CutIn, FailIn, Restart, Recover, Store, Unmap}
+use Rattle.script_text.specs.Action.Action.{BExists, VRanges, VExists, ListFiles, Load, Map, Sync, Flush, FlushVerify, DeepFlush, NextEvent, CheckFile, PoisonBlock, PoisonVolume, PoisonFile, PoisonMeta, WeakenFile, WeakenVolume, Cut, CutIn, FailIn, Restart, Recover, Store, Unmap}
 use Rattle.script_text.specs.Script.{Input}
 use Rattle.script_text.specs.Script.Input.{Skipped, Malformed, Asked}
 use Rattle.machine_host.specs.Machine.{Machine, Fate}
@@ -72,6 +74,7 @@ marks h (Sync handle offset len) =
 marks h (Flush handle spans) = of_flush (MarksAt h (Flush handle spans)) h Once handle spans (inl refl) (λ name moved. refl)
 marks h (FlushVerify handle spans) = of_flush (MarksAt h (FlushVerify handle spans)) h Again handle spans (inl refl) (λ name moved. refl)
 marks h (DeepFlush handle spans) = of_flush (MarksAt h (DeepFlush handle spans)) h Once handle spans (inl refl) (λ name moved. refl)
+marks h NextEvent = inl refl
 marks h (CheckFile name offset len) = inl refl
 marks h (PoisonBlock block line) = inl refl
 marks h (PoisonVolume offset) = inl refl
@@ -229,6 +232,10 @@ done-stop answer (inr done) line is = cc (done.2, is)
 flush-stop : (look : Look) (name : List ℕ) (spans : List Span) (pages : List Page) (line : ℕ) → flushed_answer look name spans pages ≢ StoppedMeta line
 flush-stop look name spans pages = done-stop (flushed_answer look name spans pages) (flush_done look name (next_bad_touched spans (persist_spans spans pages) 0))
 
+told-stop : (events : List Event) (line : ℕ) → told_event events ≢ StoppedMeta line
+told-stop [] line is = cc is
+told-stop (event ∷ events) line is = cc is
+
 no_stop : (h : Machine) (action : Action) → NoStop ((meaning action).comes h)
 no_stop h (BExists block) = yes_or_no-stop _
 no_stop h (VExists page) = yes_or_no-stop _
@@ -245,6 +252,7 @@ no_stop h (Sync handle offset len) =
 no_stop h (Flush handle spans) = of_flush NoStop h Once handle spans (λ line is. cc is) (λ name moved. flush-stop Once name moved (pages_named name h.files))
 no_stop h (FlushVerify handle spans) = of_flush NoStop h Again handle spans (λ line is. cc is) (λ name moved. flush-stop Again name moved (pages_named name h.files))
 no_stop h (DeepFlush handle spans) = of_flush NoStop h Once handle spans (λ line is. cc is) (λ name moved. flush-stop Once name moved (pages_named name h.files))
+no_stop h NextEvent = told-stop h.events
 no_stop h action = λ line is. cc is
 
 stop-interrupted : (by : Interruption) (line : ℕ) → interrupted_answer by ≢ StoppedMeta line

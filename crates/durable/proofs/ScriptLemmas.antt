@@ -15,7 +15,7 @@ use Rattle.nvm_base.specs.Numbers.{number_of}
 use Rattle.nvm_base.specs.Names.{name_of}
 use Rattle.nvm_base.specs.declared.files.Kind.{Kind}
 use Rattle.script_text.specs.Action.{Action}
-use Rattle.script_text.specs.Action.Action.{BRead, BWrite, BAtomic, BMulti, BDiscard, BDiscardIf, BExists, BScar, VLoad, VStore, VSync, VRanges, VPSync, VDiscard, VDiscardIf, VExists, Create, Delete, Rename, Resize, ListFiles, FRead, FWrite, Map, Unmap, Load, Store, Sync, Flush, FlushVerify, DeepFlush, CheckFile, PoisonBlock, PoisonVolume, PoisonFile, PoisonMeta, WeakenFile, WeakenVolume, ClearFile, ClearVolume, CutIn, FailIn, Restart, Recover}
+use Rattle.script_text.specs.Action.Action.{BRead, BWrite, BAtomic, BMulti, BDiscard, BDiscardIf, BExists, BScar, VLoad, VStore, VSync, VRanges, VPSync, VDiscard, VDiscardIf, VExists, Create, Delete, Rename, Resize, ListFiles, FRead, FWrite, Map, Unmap, Load, Store, Sync, Flush, FlushVerify, DeepFlush, NextEvent, CheckFile, PoisonBlock, PoisonVolume, PoisonFile, PoisonMeta, WeakenFile, WeakenVolume, ClearFile, ClearVolume, CutIn, FailIn, Restart, Recover}
 use Rattle.script_text.specs.Operands.{bare_action, data_action, fitting, placed_action, kind_action, kind_of, name_action, named_action, names_action, number_action, numbered_action, of_both, of_data, ranges_action, ranges_of, sized_action, span_action, spans_action, spans_of}
 use Rattle.script_text.specs.Script.{Input, asked, command_action, cut_action, fail_action, files_action, inputs, inputs_of, is_comment, line_input, lines_of, media_action, plain_action, poison_action, power_action, restart_action, volume_action, words_input, words_of, map_action, mapped_action, flushing_action, storing_action}
 use Rattle.script_text.specs.Script.Input.{Skipped, Malformed, Asked}
@@ -280,7 +280,8 @@ brings-mapped name words =
     (brings-cond (bytes_eq name (codes "load")) (numbered_action (λ handle. span_action (Load handle)) words) _
     (brings-numbered (λ handle. span_action (Load handle)) words (λ handle rest. brings-span (Load handle) rest (λ a b. tt)))
     (brings-cond (bytes_eq name (codes "sync")) (numbered_action (λ handle. span_action (Sync handle)) words) _
-    (brings-numbered (λ handle. span_action (Sync handle)) words (λ handle rest. brings-span (Sync handle) rest (λ a b. tt))) (brings-media name words))))
+    (brings-numbered (λ handle. span_action (Sync handle)) words (λ handle rest. brings-span (Sync handle) rest (λ a b. tt)))
+    (brings-cond (bytes_eq name (codes "event")) (bare_action NextEvent words) _ (brings-bare NextEvent words tt) (brings-media name words)))))
 
 brings-files : (name : List ℕ) (words : List (List ℕ)) → Brings (files_action name words)
 brings-files name words =

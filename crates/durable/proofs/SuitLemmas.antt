@@ -2,7 +2,7 @@
 use Rattle.std.proofs.Common.{◌≡◌, ◌⊎◌, inl, inr, ℕ, ◌+◌, ◌==◌, Bool, true, false, cond, nat_lt, Option, Some, None, List, [], ◌∷◌, refl, sym, ap, ◌∙◌, if◌then◌else◌}
 use Rattle.reply_text.specs.Answer.Answer.{Done, Handle}
 use Rattle.script_text.specs.Action.{Action}
-use Rattle.script_text.specs.Action.Action.{BRead, BWrite, BAtomic, BMulti, BDiscard, BDiscardIf, BExists, BScar, VLoad, VStore, VSync, VRanges, VPSync, VDiscard, VDiscardIf, VExists, Create, Delete, Rename, Resize, ListFiles, FRead, FWrite, Map, Unmap, Load, Store, Sync, Flush, FlushVerify, DeepFlush, CheckFile, PoisonBlock, PoisonVolume, PoisonFile, PoisonMeta, WeakenFile, WeakenVolume, ClearFile, ClearVolume, Cut, CutIn, FailIn, Restart, Recover}
+use Rattle.script_text.specs.Action.Action.{BRead, BWrite, BAtomic, BMulti, BDiscard, BDiscardIf, BExists, BScar, VLoad, VStore, VSync, VRanges, VPSync, VDiscard, VDiscardIf, VExists, Create, Delete, Rename, Resize, ListFiles, FRead, FWrite, Map, Unmap, Load, Store, Sync, Flush, FlushVerify, DeepFlush, NextEvent, CheckFile, PoisonBlock, PoisonVolume, PoisonFile, PoisonMeta, WeakenFile, WeakenVolume, ClearFile, ClearVolume, Cut, CutIn, FailIn, Restart, Recover}
 use Rattle.machine_host.specs.declared.needs.Needs.TheVariants.{Usable, Unpowered}
 use Rattle.machine_host.specs.Machine.{Machine, Fate}
 use Rattle.machine_host.specs.OnMappings.{load_through, read_copy, store_through, with_mapping, write_copy}
@@ -183,6 +183,7 @@ suits h (Sync handle offset len) =
 suits h (Flush handle spans) = flush_suits h (Flush handle spans) Once handle spans refl refl refl refl refl refl
 suits h (FlushVerify handle spans) = flush_suits h (FlushVerify handle spans) Again handle spans refl refl refl refl refl refl
 suits h (DeepFlush handle spans) = flush_suits h (DeepFlush handle spans) Once handle spans refl refl refl refl refl refl
+suits h NextEvent = inl (record { bytes = nowhere; files = refl }, armed h _ refl refl refl refl refl refl refl refl)
 suits h (CheckFile name offset len) = inl (record { bytes = nowhere; files = refl }, same h)
 suits h (PoisonBlock block line) = inr (inl (inl refl), works h _ (PoisonBlock block line) refl refl refl refl refl refl refl)
 suits h (PoisonVolume offset) = inr (inl (inl refl), works h _ (PoisonVolume offset) refl refl refl refl refl refl refl)

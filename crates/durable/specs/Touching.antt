@@ -13,7 +13,7 @@ use Rattle.pm_volume.specs.Refusals.{physical_offset}
 use Rattle.reply_text.specs.Answer.{Answer}
 use Rattle.reply_text.specs.Answer.Answer.{Done, DoneBad, Bytes, Ranges, Files, Handle, Happened, NoEvent, BadLines, VerifyFile, Yes, No, Scarred, PoisonBlock as PoisonedBlock, PoisonVolume as PoisonedVolume, PoisonFile as PoisonedFile, DeviceFailed, PowerLost, Stopped, Refused, RefusedMeta}
 use Rattle.script_text.specs.Action.{Action}
-use Rattle.script_text.specs.Action.Action.{BRead, BWrite, BAtomic, BMulti, BDiscard, BDiscardIf, BExists, BScar, VLoad, VStore, VSync, VRanges, VPSync, VDiscard, VDiscardIf, VExists, Create, Delete, Rename, Resize, ListFiles, FRead, FWrite, Map, Unmap, Load, Store, Sync, Flush, FlushVerify, DeepFlush, CheckFile, PoisonBlock, PoisonVolume, PoisonFile, PoisonMeta, WeakenFile, WeakenVolume, ClearFile, ClearVolume, Cut, CutIn, FailIn, Restart, Recover}
+use Rattle.script_text.specs.Action.Action.{BRead, BWrite, BAtomic, BMulti, BDiscard, BDiscardIf, BExists, BScar, VLoad, VStore, VSync, VRanges, VPSync, VDiscard, VDiscardIf, VExists, Create, Delete, Rename, Resize, ListFiles, FRead, FWrite, Map, Unmap, Load, Store, Sync, Flush, FlushVerify, DeepFlush, NextEvent, CheckFile, PoisonBlock, PoisonVolume, PoisonFile, PoisonMeta, WeakenFile, WeakenVolume, ClearFile, ClearVolume, Cut, CutIn, FailIn, Restart, Recover}
 use Rattle.machine_host.specs.OnBlocks.{blocks_from}
 use Rattle.machine_host.specs.OnFlushes.{all_moved}
 use Rattle.machine_host.specs.Machine.{Machine}
@@ -129,6 +129,7 @@ covered_by flushed geo (Sync handle offset len) = flushed handle (record { start
 covered_by flushed geo (Flush handle spans) = flushed handle spans
 covered_by flushed geo (FlushVerify handle spans) = flushed handle spans
 covered_by flushed geo (DeepFlush handle spans) = flushed handle spans
+covered_by flushed geo NextEvent = nothing
 covered_by flushed geo (CheckFile name offset len) = nothing
 covered_by flushed geo (PoisonBlock block line) = nothing
 covered_by flushed geo (PoisonVolume offset) = nothing
@@ -185,6 +186,7 @@ region_changed (Sync handle offset len) = nothing
 region_changed (Flush handle spans) = nothing
 region_changed (FlushVerify handle spans) = nothing
 region_changed (DeepFlush handle spans) = nothing
+region_changed NextEvent = nothing
 region_changed (CheckFile name offset len) = nothing
 region_changed (PoisonBlock block line) = nothing
 region_changed (PoisonVolume offset) = nothing
@@ -243,6 +245,7 @@ harm_done (Sync handle offset len) = no_harm
 harm_done (Flush handle spans) = no_harm
 harm_done (FlushVerify handle spans) = no_harm
 harm_done (DeepFlush handle spans) = no_harm
+harm_done NextEvent = no_harm
 harm_done (CheckFile name offset len) = no_harm
 harm_done (PoisonBlock block line) = record no_harm { poisoned = line_of_blocks (8 * block + line) }
 harm_done (PoisonVolume offset) = record no_harm { poisoned = line_of_volume (offset / 64) }
