@@ -5,10 +5,10 @@ use Rattle.std.proofs.lemmas.Slice.Eq.{bytes_eq-Decides}
 use Rattle.nvm_base.specs.declared.units.Span.{Span}
 use Rattle.nvm_model.specs.Cell.{Cell, flush_cell, touches}
 use Rattle.nvm_model.specs.Mappings.{is_shared, mapping_of}
-use Rattle.nvm_model.specs.Page.{Page, cell_of, change_line, persist, presence_of}
+use Rattle.nvm_model.specs.Page.{Page, at_line, cell_of, change_line, persist, presence_of}
 use Rattle.nvm_model.specs.Storage.{File, Mapping}
 use Rattle.nvm_model.specs.Touched.{persist_spans, touches_any}
-use Rattle.nvm_model.proofs.MediaLemmas.{cell_of-changed}
+use Rattle.nvm_model.proofs.MediaLemmas.{cell_of-change, cell_of-changed}
 use Rattle.nvm_model.proofs.PageLemmas.{cell_of-persist, presence_of-persist}
 use Rattle.nvm_model.proofs.SeveralLemmas.{cell_of-spans, presence_of-spans}
 use Rattle.machine_host.specs.declared.look.Look.{Look}
@@ -77,4 +77,14 @@ named-marked mark name offset files =
     (λ _. cell_of (pages_named name (marked_in mark name offset files)) (offset / 64) ≡ option_map mark (cell_of (pages_named name files) (offset / 64))) [
       | inl is ↦ ap (λ p. cell_of p (offset / 64)) is ∙ cell_of-changed mark (offset / 64) (pages_named name files)
       | inr none ↦ ap (λ p. cell_of p (offset / 64)) none.0 ∙ no_line mark (offset / 64) (pages_named name files) none.1
+    ]
+
+-- and each line of that file
+pub named-marked_at : (mark : Cell → Cell) (name : List ℕ) (offset n : ℕ) (files : List File)
+    → cell_of (pages_named name (marked_in mark name offset files)) n ≡ option_map (at_line mark (offset / 64) n) (cell_of (pages_named name files) n)
+named-marked_at mark name offset n files =
+    elim (named-own name (change_line mark (offset / 64)) files) as
+    (λ _. cell_of (pages_named name (marked_in mark name offset files)) n ≡ option_map (at_line mark (offset / 64) n) (cell_of (pages_named name files) n)) [
+      | inl is ↦ ap (λ p. cell_of p n) is ∙ cell_of-change mark (offset / 64) (pages_named name files) n
+      | inr none ↦ ap (λ p. cell_of p n) none.0 ∙ no_line (at_line mark (offset / 64) n) n (pages_named name files) none.1
     ]

@@ -33,3 +33,8 @@ pub mod PassLemmas
 pub mod MetadataLemmas
 pub mod EntryLemmas
 pub mod FileLemmas
+pub mod NumberLemmas
+pub mod BadLineLemmas
+pub mod EventLemmas
+pub mod TellingLemmas
+pub mod ToldLemmas

@@ -178,7 +178,7 @@ contains-first x xs = (0, omega arith, refl)
 contains-next : (y x : ℕ) (xs : List ℕ) → Contains xs x → Contains (y ∷ xs) x
 contains-next y x xs has = (suc has.0, omega (arith, has.1), has.2)
 
-contains-parts : (y x : ℕ) (xs : List ℕ) → Contains (y ∷ xs) x → (y ≡ x) ⊎ Contains xs x
+pub contains-parts : (y x : ℕ) (xs : List ℕ) → Contains (y ∷ xs) x → (y ≡ x) ⊎ Contains xs x
 contains-parts y x xs (zero, small, is) = inl is
 contains-parts y x xs (suc k, small, is) = inr (k, omega (arith, small), is)
 

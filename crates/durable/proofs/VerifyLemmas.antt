@@ -37,7 +37,7 @@ use Rattle.durable.proofs.NamedPageLemmas.{named-own}
 use Rattle.durable.proofs.RefusalLemmas.{is_refused, refused_told}
 
 -- a line of a file after a flush of it
-synced-cell : (text : List ℕ) (moved : List Span) (files : List File) (n : ℕ)
+pub synced-cell : (text : List ℕ) (moved : List Span) (files : List File) (n : ℕ)
     → cell_of (pages_named text (synced_in text moved files)) n ≡ cell_of (persist_spans moved (pages_named text files)) n
 synced-cell text moved files n =
     elim (named-own text (persist_spans moved) files) as

@@ -3,3 +3,4 @@ pub mod Touching
 pub mod Naming
 pub mod Durable
 pub mod Files
+pub mod Events
