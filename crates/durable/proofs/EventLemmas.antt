@@ -36,7 +36,7 @@ use Rattle.machine_host.specs.OnFlushes.{all_moved, flush_file, flush_through, f
 use Rattle.machine_host.specs.OnPages.{pages_named}
 use Rattle.machine_host.specs.OnVolume.{yes_or_no}
 use Rattle.machine_host.specs.Run.{Ends, Hears, Takes, Transcript}
-use Rattle.durable.specs.Events.{AreAll, GoesBad, IsMount, TellsLines, all_told, live_events, told_by}
+use Rattle.durable.specs.Events.{AreAll, GoesBad, TellsLines, all_told, told_by}
 use Rattle.durable.specs.Files.{changes_files}
 use Rattle.durable.proofs.BadLineLemmas.{NoWorse, bad_named, bad_within, cleared_no_worse, other_named, same_no_worse, stored_no_worse, weakened_no_worse}
 use Rattle.durable.proofs.FileLineLemmas.{named-marked_at}

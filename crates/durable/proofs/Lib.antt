@@ -38,3 +38,5 @@ pub mod BadLineLemmas
 pub mod EventLemmas
 pub mod TellingLemmas
 pub mod ToldLemmas
+pub mod OrderLemmas
+pub mod FoundLemmas

@@ -28,7 +28,7 @@ use Rattle.machine_host.specs.OnEvents.{told_event}
 use Rattle.machine_host.specs.OnFlushes.{all_moved, flush_file, flush_through, flush_with, nothing_done}
 use Rattle.machine_host.specs.OnPages.{pages_named}
 use Rattle.machine_host.specs.Run.{Ends, Hears, Takes, Transcript}
-use Rattle.durable.specs.Events.{IsMount, TellsLines, all_told, told_by}
+use Rattle.durable.specs.Events.{TellsLines, all_told, told_by}
 use Rattle.durable.specs.Files.{changes_files}
 use Rattle.durable.proofs.BadLineLemmas.{cleared_no_worse, stored_no_worse, weakened_no_worse}
 use Rattle.durable.proofs.EventLemmas.{flush_tells, none_went, poison_tells, quiet, unchanged}
@@ -41,8 +41,8 @@ TellsAt h action (Gives good to) = TellsLines h (good ∷ []) to
 TellsAt h action (Works good to) = TellsLines h (good ∷ []) to
 TellsAt h action (Orders order to) = TellsLines h (Done ∷ []) to
 TellsAt h action (Cuts to) = TellsLines h (Done ∷ []) to
-TellsAt h action (Restarts choice) = IsMount action
-TellsAt h action Recovers = IsMount action
+TellsAt h action (Restarts choice) = action ≡ Restart choice
+TellsAt h action Recovers = action ≡ Recover
 
 -- whether something is there
 yes_silent : (there : Bool) → told_by (if there then Yes else No) ≡ []
@@ -107,8 +107,8 @@ tells h (PoisonFile name offset) none stay =
     poison_tells h name offset (within_none _ (cell_refusal (cell_of (pages_named name h.files) (offset / 64))) (line_none _ (places_none h (PoisonFile name offset) none))).1
 tells h (WeakenFile name offset) none stay = quiet h _ Done refl refl (weakened_no_worse name offset h.files)
 tells h (ClearFile name offset) none stay = quiet h _ Done refl refl (cleared_no_worse name offset h.files)
-tells h (Restart choice) none stay = inl (choice, refl)
-tells h Recover none stay = inr refl
+tells h (Restart choice) none stay = refl
+tells h Recover none stay = refl
 tells h action none stay = unchanged h _ _ refl refl refl
 
 -- one that changes it tells nothing, and no event comes by it

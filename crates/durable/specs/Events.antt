@@ -8,7 +8,6 @@ use Rattle.nvm_model.specs.Cell.{touches}
 use Rattle.nvm_model.specs.Mappings.{is_shared}
 use Rattle.nvm_model.specs.Page.{cell_of, is_bad_cell}
 use Rattle.nvm_model.specs.Storage.{Event, File, Mapping}
-use Rattle.reply_text.specs.declared.reply.Why.{Why}
 use Rattle.reply_text.specs.Answer.{Answer}
 use Rattle.reply_text.specs.Answer.Answer.{Done, DoneBad, Bytes, Ranges, Files, Handle, Happened, NoEvent, BadLines, VerifyFile, Yes, No, Scarred, PoisonBlock, PoisonVolume, PoisonFile, DeviceFailed, PowerLost, Stopped, Refused, RefusedMeta}
 use Rattle.script_text.specs.Action.{Action}
@@ -17,28 +16,25 @@ use Rattle.script_text.specs.Script.{Input}
 use Rattle.script_text.specs.Script.Input.{Skipped, Malformed, Asked}
 use Rattle.machine_host.specs.Machine.{Machine}
 use Rattle.machine_host.specs.OnPages.{pages_named}
-use Rattle.machine_host.specs.Run.{Transcript}
-
--- the commands that mount the storage anew
-abbrev pub IsMount : Action → Type 0
-IsMount action = ((choice : Choice) × (action ≡ Restart choice)) ⊎ (action ≡ Recover)
+use Rattle.durable.specs.Files.{IsStopped}
 
 -- a mount was done, and found so many bad lines, or one of metadata
 abbrev pub AreMounted : List Answer → Type 0
 AreMounted answers = ((bad : ℕ) × (answers ≡ DoneBad bad ∷ [])) ⊎ ((line : ℕ) × (answers ≡ Stopped line ∷ []))
 
--- a command was refused
-abbrev pub IsRefused : Answer → Type 0
-IsRefused answer = ((why : Why) × (answer ≡ Refused why)) ⊎ ((line : ℕ) × (answer ≡ RefusedMeta line))
+-- The command mounted the storage anew: a restart that was done, or stopped on the way, or a recovery that was done.
+abbrev pub Mounts : Action → List Answer → Type 0
+Mounts action answers =
+    ((choice : Choice) × (action ≡ Restart choice) × (AreMounted answers ⊎ IsStopped answers)) ⊎ ((action ≡ Recover) × AreMounted answers)
 
--- no mount was begun by these, as they were answered: each was refused
+-- none of these did, by what they were answered
 abbrev pub NoneMounts : List Input → List Answer → Type 0
 NoneMounts [] answers = Unit {0}
 NoneMounts (Skipped ∷ inputs) answers = NoneMounts inputs answers
 NoneMounts (Malformed ∷ inputs) [] = Unit {0}
 NoneMounts (Malformed ∷ inputs) (answer ∷ answers) = NoneMounts inputs answers
 NoneMounts (Asked action ∷ inputs) [] = Unit {0}
-NoneMounts (Asked action ∷ inputs) (answer ∷ answers) = (IsMount action → IsRefused answer) × NoneMounts inputs answers
+NoneMounts (Asked action ∷ inputs) (answer ∷ answers) = (Mounts action (answer ∷ []) → ⊥) × NoneMounts inputs answers
 
 -- the event that an answer tells, if it tells one
 abbrev pub told_by : Answer → List Event
