@@ -1,5 +1,5 @@
 -- The events of lines that go bad, and what a command tells.
-use Rattle.std.proofs.Common.{◌≡◌, inl, inr, ℕ, ◌+◌, ◌*◌, ◌/◌, ◌==◌, ◌&&◌, Bool, true, false, cond, Option, Some, None, option_map, List, [], ◌∷◌, ◌++◌, drop, length, refl, sym, ap, subst, ◌∙◌, arith, if◌then◌else◌}
+use Rattle.std.proofs.Common.{◌≡◌, inl, inr, ℕ, ◌*◌, ◌/◌, ◌&&◌, Bool, true, false, cond, Option, Some, None, option_map, List, [], ◌∷◌, ◌++◌, length, refl, sym, ap, subst, ◌∙◌, arith}
 use Rattle.std.specs.Prelude.{◌≢◌}
 use Rattle.std.proofs.lemmas.Bool.{and_cases, and_from, and_parts, both_ways, cases_eq}
 use Rattle.std.proofs.lemmas.List.{append-nil}
@@ -9,40 +9,29 @@ use Rattle.std.specs.Str.{bytes_eq}
 use Rattle.nvm_base.specs.declared.units.Span.{Span}
 use Rattle.line_words.specs.declared.interruption.Interruption.{Interruption}
 use Rattle.line_words.specs.declared.interruption.Interruption.TheVariants.{Failed, PowerLost as Lost}
-use Rattle.nvm_model.specs.Blocks.{is_there, nth}
 use Rattle.nvm_model.specs.Cell.{Cell, flush_cell, lose_cell}
-use Rattle.nvm_model.specs.Mappings.{is_shared, mapping_of}
 use Rattle.nvm_model.specs.Page.{Page, at_line, cell_of, change_line, is_bad_cell}
-use Rattle.nvm_model.specs.Storage.{Event, File, Mapping}
-use Rattle.nvm_model.specs.Touched.{bad_touched, is_bad_touched, next_bad_touched, persist_spans, persist_touched, touches_any}
+use Rattle.nvm_model.specs.Storage.{Event}
+use Rattle.nvm_model.specs.Touched.{bad_touched, is_bad_touched, next_bad_touched, persist_spans, touches_any}
 use Rattle.nvm_model.proofs.MediaLemmas.{at_line-beside, at_line-here}
 use Rattle.nvm_model.proofs.NextLemmas.{IsLowestFrom, next-lowest}
 use Rattle.nvm_model.proofs.SeveralLemmas.{cell_of-spans}
 use Rattle.scrub.specs.Refusals.{cell_refusal}
 use Rattle.reply_text.specs.Answer.{Answer}
-use Rattle.reply_text.specs.Answer.Answer.{Done, Happened, PoisonFile as PoisonedFile}
-use Rattle.script_text.specs.Action.{Action}
-use Rattle.script_text.specs.Action.Action.{BExists, VExists, Create, Delete, Rename, Resize, FWrite, Map, Load, Store, Sync, Flush, FlushVerify, DeepFlush, NextEvent, PoisonFile, WeakenFile, ClearFile, Restart, Recover}
-use Rattle.script_text.specs.Script.Input.{Asked}
+use Rattle.reply_text.specs.Answer.Answer.{Done, Happened}
 use Rattle.machine_host.specs.declared.look.Look.{Look}
 use Rattle.machine_host.specs.declared.look.Look.TheVariants.{Once, Again}
-use Rattle.machine_host.specs.Commands.{meaning, refusal, unless_refused, while_interrupted}
-use Rattle.machine_host.specs.Interrupted.{Interrupts, interrupted_answer}
-use Rattle.machine_host.specs.Machine.{Fate, Machine}
-use Rattle.machine_host.specs.Machine.Fate.{Gives, Works, Orders, Cuts, Restarts, Recovers}
-use Rattle.machine_host.specs.OnEvents.{line_event, taken_events, told_event}
-use Rattle.machine_host.specs.OnFileErrors.{marked_in, with_poisoned}
-use Rattle.machine_host.specs.OnFlushes.{all_moved, flush_file, flush_through, flush_with, flushed_answer, nothing_done, second_look, synced_in, with_synced}
+use Rattle.machine_host.specs.Interrupted.{interrupted_answer}
+use Rattle.machine_host.specs.Machine.{Machine}
+use Rattle.machine_host.specs.OnEvents.{line_event}
+use Rattle.machine_host.specs.OnFileErrors.{with_poisoned}
+use Rattle.machine_host.specs.OnFlushes.{flushed_answer, second_look, synced_in, with_synced}
 use Rattle.machine_host.specs.OnPages.{pages_named}
-use Rattle.machine_host.specs.OnVolume.{yes_or_no}
-use Rattle.machine_host.specs.Run.{Ends, Hears, Takes, Transcript}
 use Rattle.durable.specs.Events.{AreAll, GoesBad, TellsLines, all_told, told_by}
-use Rattle.durable.specs.Files.{changes_files}
-use Rattle.durable.proofs.BadLineLemmas.{NoWorse, bad_named, bad_within, cleared_no_worse, other_named, same_no_worse, stored_no_worse, weakened_no_worse}
+use Rattle.durable.proofs.BadLineLemmas.{NoWorse, bad_named, bad_within, other_named, same_no_worse}
 use Rattle.durable.proofs.FileLineLemmas.{named-marked_at}
-use Rattle.durable.proofs.HandleLemmas.{of_load, of_map, of_store}
 use Rattle.durable.proofs.NumberLemmas.{all_alike, all_none, all_one, all_passing}
-use Rattle.durable.proofs.RefusalLemmas.{is_refused, line_none, places_none, refused_told, unreadable_none, within_none}
+use Rattle.durable.proofs.RefusalLemmas.{is_refused}
 use Rattle.durable.proofs.VerifyLemmas.{synced-cell}
 
 -- names that differ

@@ -1,12 +1,12 @@
 -- The events that a mount finds.
-use Rattle.std.proofs.Common.{◌≡◌, ◌⊎◌, inl, inr, ℕ, ◌*◌, Bool, true, false, Option, Some, None, List, [], ◌∷◌, length, map, refl, sym, ap, subst, ◌∙◌}
+use Rattle.std.proofs.Common.{◌≡◌, ◌⊎◌, inl, inr, ℕ, ◌*◌, true, Option, Some, None, List, [], ◌∷◌, length, refl, sym, ap, subst}
 use Rattle.std.proofs.lemmas.Bool.{both_ways}
 use Rattle.std.proofs.lemmas.Simd.{map-map}
 use Rattle.line_device.specs.Panel.{Image}
 use Rattle.line_device.specs.declared.line.Choice.{Choice}
 use Rattle.line_words.specs.declared.interruption.Interruption.{Interruption}
 use Rattle.line_words.specs.declared.interruption.Interruption.TheVariants.{Failed, PowerLost as Lost}
-use Rattle.nvm_model.specs.Events.{bad_numbers, found_event, found_events, offsets_of, restart_events}
+use Rattle.nvm_model.specs.Events.{bad_numbers, found_event, found_events, restart_events}
 use Rattle.nvm_model.specs.Page.{cell_of, is_bad_cell}
 use Rattle.nvm_model.specs.Storage.{File}
 use Rattle.reply_text.specs.Answer.{Answer}

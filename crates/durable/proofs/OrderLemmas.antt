@@ -1,5 +1,5 @@
 -- What a run tells, in the order in which it came.
-use Rattle.std.proofs.Common.{◌≡◌, inl, inr, Bool, true, false, Option, Some, None, List, [], ◌∷◌, ◌++◌, refl, sym, ap, subst, ◌∙◌}
+use Rattle.std.proofs.Common.{◌≡◌, inl, inr, Bool, true, false, List, [], ◌∷◌, ◌++◌, refl, sym, ap, subst, ◌∙◌}
 use Rattle.std.specs.Prelude.{ℕ}
 use Rattle.std.specs.List.{All}
 use Rattle.std.proofs.lemmas.Grind.{flat_map-append}
@@ -12,7 +12,7 @@ use Rattle.script_text.specs.Script.{Input}
 use Rattle.script_text.specs.Script.Input.{Skipped, Malformed, Asked}
 use Rattle.machine_host.specs.Machine.{Machine}
 use Rattle.machine_host.specs.Run.{Hears, Run, Transcript}
-use Rattle.durable.specs.Events.{Mounts, NoneMounts, TellsInOrder, TellsLines, all_told, is_line_mapped, line_told, live_events, told_by}
+use Rattle.durable.specs.Events.{Mounts, NoneMounts, TellsInOrder, all_told, is_line_mapped, line_told, live_events, told_by}
 use Rattle.durable.specs.Files.{changes_files}
 use Rattle.durable.proofs.ToldLemmas.{kept, told}
 

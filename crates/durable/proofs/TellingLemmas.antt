@@ -1,9 +1,7 @@
 -- What each command tells, and which events come by it.
-use Rattle.std.proofs.Common.{◌≡◌, inl, inr, ℕ, ◌+◌, ◌*◌, ◌/◌, Bool, true, false, Option, Some, None, option_map, List, [], ◌∷◌, ◌++◌, drop, refl, sym, ap, subst, ◌∙◌, if◌then◌else◌}
+use Rattle.std.proofs.Common.{◌≡◌, ℕ, ◌*◌, ◌/◌, Bool, true, false, Option, Some, None, option_map, List, [], ◌∷◌, ◌++◌, drop, refl, ap, if◌then◌else◌}
 use Rattle.std.proofs.lemmas.Bool.{false≢true}
 use Rattle.std.proofs.lemmas.List.{append-nil}
-use Rattle.line_words.specs.declared.interruption.Interruption.{Interruption}
-use Rattle.line_words.specs.declared.interruption.Interruption.TheVariants.{Failed, PowerLost as Lost}
 use Rattle.nvm_base.specs.declared.units.Span.{Span}
 use Rattle.nvm_model.specs.Blocks.{is_there, nth}
 use Rattle.nvm_model.specs.Mappings.{is_shared, mapping_of}
@@ -11,29 +9,25 @@ use Rattle.nvm_model.specs.Page.{cell_of}
 use Rattle.nvm_model.specs.Storage.{Event, Mapping}
 use Rattle.nvm_model.specs.Touched.{next_bad_touched}
 use Rattle.scrub.specs.Refusals.{cell_refusal}
-use Rattle.reply_text.specs.Answer.{Answer}
 use Rattle.reply_text.specs.Answer.Answer.{Done, No, PoisonFile as PoisonedFile, Refused, Yes}
 use Rattle.reply_text.specs.declared.reply.Why.TheVariants as because
 use Rattle.machine_host.specs.Meaning.{Reasons, no_reasons}
 use Rattle.script_text.specs.Action.{Action}
 use Rattle.script_text.specs.Action.Action.{BExists, VExists, Create, Delete, Rename, Resize, FWrite, Map, Load, Store, Sync, Flush, FlushVerify, DeepFlush, NextEvent, PoisonFile, WeakenFile, ClearFile, Restart, Recover}
-use Rattle.script_text.specs.Script.Input.{Asked}
 use Rattle.machine_host.specs.declared.look.Look.{Look}
 use Rattle.machine_host.specs.declared.look.Look.TheVariants.{Once, Again}
-use Rattle.machine_host.specs.Commands.{meaning, refusal, unless_refused, while_interrupted}
-use Rattle.machine_host.specs.Interrupted.{Interrupts, interrupted_answer}
+use Rattle.machine_host.specs.Commands.{meaning, refusal}
 use Rattle.machine_host.specs.Machine.{Fate, Machine}
 use Rattle.machine_host.specs.Machine.Fate.{Gives, Works, Orders, Cuts, Restarts, Recovers}
 use Rattle.machine_host.specs.OnEvents.{told_event}
 use Rattle.machine_host.specs.OnFlushes.{all_moved, flush_file, flush_through, flush_with, nothing_done}
 use Rattle.machine_host.specs.OnPages.{pages_named}
-use Rattle.machine_host.specs.Run.{Ends, Hears, Takes, Transcript}
 use Rattle.durable.specs.Events.{TellsLines, all_told, told_by}
 use Rattle.durable.specs.Files.{changes_files}
 use Rattle.durable.proofs.BadLineLemmas.{cleared_no_worse, stored_no_worse, weakened_no_worse}
 use Rattle.durable.proofs.EventLemmas.{flush_tells, none_went, poison_tells, quiet, unchanged}
 use Rattle.durable.proofs.HandleLemmas.{of_load, of_map, of_store}
-use Rattle.durable.proofs.RefusalLemmas.{line_none, places_none, refused_told, unreadable_none, within_none}
+use Rattle.durable.proofs.RefusalLemmas.{line_none, places_none, unreadable_none, within_none}
 
 -- what comes of a command that is not refused
 abbrev pub TellsAt : Machine → Action → Fate → Type 0

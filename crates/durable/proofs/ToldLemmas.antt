@@ -1,20 +1,14 @@
 -- What a step and a run tell.
-use Rattle.std.proofs.Common.{◌≡◌, ◌⊎◌, inl, inr, Bool, true, false, Option, Some, None, List, [], ◌∷◌, ◌++◌, drop, refl, sym, ap, subst, ◌∙◌}
-use Rattle.std.specs.List.{All, flat_map}
-use Rattle.std.specs.Prelude.{ℕ}
-use Rattle.std.proofs.lemmas.Bool.{both_ways}
-use Rattle.std.proofs.lemmas.Grind.{flat_map-append}
-use Rattle.std.proofs.lemmas.List.{append-nil}
-use Rattle.std.proofs.lemmas.List.Elements.{All-append}
+use Rattle.std.proofs.Common.{◌≡◌, ◌⊎◌, inl, inr, true, false, Option, Some, None, List, [], ◌∷◌, ◌++◌, drop, refl, sym, ap, subst, ◌∙◌}
+use Rattle.std.specs.Prelude.{◌≢◌, ℕ}
 use Rattle.line_words.specs.declared.interruption.Interruption.{Interruption}
 use Rattle.line_words.specs.declared.interruption.Interruption.TheVariants.{Failed, PowerLost as Lost}
-use Rattle.nvm_model.specs.Storage.{Event, Mapping}
+use Rattle.nvm_model.specs.Storage.{Event}
 use Rattle.reply_text.specs.Answer.{Answer}
-use Rattle.reply_text.specs.Answer.Answer.{Done, Happened, NoEvent}
+use Rattle.reply_text.specs.Answer.Answer.{Done}
 use Rattle.script_text.specs.Action.{Action}
 use Rattle.script_text.specs.Action.Action.{NextEvent}
-use Rattle.script_text.specs.Script.{Input}
-use Rattle.script_text.specs.Script.Input.{Skipped, Malformed, Asked}
+use Rattle.script_text.specs.Script.Input.{Asked}
 use Rattle.machine_host.specs.Commands.{meaning, refusal, unless_refused, while_interrupted}
 use Rattle.machine_host.specs.Interrupted.{Interrupts, interrupted_answer}
 use Rattle.machine_host.specs.declared.mode.Mode.{Mode}
@@ -25,11 +19,11 @@ use Rattle.machine_host.specs.Machine.{Fate, Machine, bad_of}
 use Rattle.machine_host.specs.Machine.Fate.{Gives, Works, Orders, Cuts, Restarts, Recovers}
 use Rattle.machine_host.specs.OnEvents.{told_event}
 use Rattle.machine_host.specs.Restarting.{answer_with, mounted_answer, restarted}
-use Rattle.machine_host.specs.Run.{Ends, Hears, Run, Takes, Transcript}
-use Rattle.durable.specs.Events.{AreMounted, Mounts, TellsLines, TellsOldest, told_by}
+use Rattle.machine_host.specs.Run.{Hears, Takes, Transcript}
+use Rattle.durable.specs.Events.{AreMounted, Mounts, TellsLines, TellsOldest, all_told, told_by}
 use Rattle.durable.specs.Files.{IsStopped, changes_files}
 use Rattle.durable.proofs.EventLemmas.{interrupted_silent, refused_silent, unchanged}
-use Rattle.durable.proofs.RefusalLemmas.{refused_told}
+use Rattle.durable.proofs.RefusalLemmas.{is_on, refused_told}
 use Rattle.durable.proofs.TellingLemmas.{KeepsAt, TellsAt, keeps, tells}
 
 -- what mounts are answered that were done, or stopped on the way
@@ -168,10 +162,19 @@ pub oldest : (h next : Machine) (said : Transcript) → h.mode ≡ On → Hears 
 oldest h next said on heard =
     let takes = subst (λ o. Takes h NextEvent (unless_refused h o ((meaning NextEvent).comes h)) said next) (not_refused h on) heard in (
       subst (λ answers. TellsOldest h.events answers next.events) (sym (ap (λ s. s.answers) takes.0))
-      (subst (TellsOldest h.events (told_event h.events ∷ [])) (sym (ap (λ m. m.events) takes.1)) (by_events h.events)),
+          (subst (TellsOldest h.events (told_event h.events ∷ [])) (sym (ap (λ m. m.events) takes.1)) (by_events h.events)),
       takes.1 ∙ ap (λ es. record h { events = es }) (sym (ap (λ m. m.events) takes.1)),
     )
   where
     by_events : (events : List Event) → TellsOldest events (told_event events ∷ []) (drop 1 events)
     by_events [] = (refl, refl)
     by_events (event ∷ events) = (refl, refl)
+
+pub untold : (h next : Machine) (said : Transcript) → h.mode ≢ On → Hears h (Asked NextEvent) said next → (next ≡ h) × (all_told said.answers ≡ [])
+untold h next said off heard = by_refusal (refusal h NextEvent) refl heard
+  where
+    by_refusal : (o : Option Answer) → refusal h NextEvent ≡ o → Takes h NextEvent (unless_refused h o ((meaning NextEvent).comes h)) said next
+        → (next ≡ h) × (all_told said.answers ≡ [])
+    by_refusal None is takes = absurd (off (is_on h NextEvent refl is))
+    by_refusal (Some answer) is takes =
+        (takes.1, ap (λ (s : Transcript). all_told s.answers) takes.0 ∙ ap (λ es. es ++ []) (refused_silent answer (refused_told h NextEvent answer is)))

@@ -30,7 +30,7 @@ ghost use Rattle.durable.specs.Place.{Place, byte_at_place, is_weak_at, is_weak_
 ghost use Rattle.durable.specs.Naming.{Names, NamesLine, NamesLineOf, NamesObstacle, refused_before};
 ghost use Rattle.durable.specs.Place.Place.{of_volume, of_blocks, of_file};
 ghost use Rattle.durable.specs.Durable.{BringBytes, BringsBytes, Does, Finishes, HasNothing, IsDurable, IsComplete, KeepsThrough, Lasts, LastsPowered, Spares};
-ghost use Rattle.durable.specs.Events.{FindsAnew, Mounts, NoneMounts, TellsInOrder, TellsLines, TellsOldest};
+ghost use Rattle.durable.specs.Events.{FindsAnew, Mounts, NoneMounts, TellsInOrder, TellsLines, TellsOldest, all_told};
 ghost use Rattle.durable.specs.Files.{BreaksOff, FilesLast, FilesSettle, FilesThrough, LeavesFiles, changes_files, files_after, files_listed};
 
 /// A command that covers a byte of the blocks, the volume or a file was done, a flush also where it lost a line: in every later state,
@@ -163,13 +163,15 @@ pub fn what_files_there_are_stays()
 
 /// Media errors of files are told once, in the order in which they came, and are found anew at a mount. While nothing is mounted anew,
 /// what is told, and then what is still to be told, is what was to be told and then what came. One event comes of each line of a
-/// file that goes bad, and no other; a bad line that another name gets is no news. An `event` tells the oldest, where there is one.
+/// file that goes bad, and no other; a bad line that another name gets is no news. In mode On `event` tells the oldest, where there is one.
 /// After a mount there is an event of each bad line of the files that there are then.
 pub fn media_errors_are_told_once()
     ensures told { (h later : Machine) (inputs : List Input) (said : Transcript) → Run h inputs said later → NoneMounts inputs said.answers
         → TellsInOrder h said.answers later }
     ensures oldest { (h next : Machine) (said : Transcript) → h.mode ≡ On → Hears h (Asked NextEvent) said next
         → TellsOldest h.events said.answers next.events × (next ≡ record h { events = next.events }) }
+    ensures waits { (h next : Machine) (said : Transcript) → h.mode ≢ On → Hears h (Asked NextEvent) said next
+        → (next ≡ h) × (all_told said.answers ≡ []) }
     ensures noted { (h next : Machine) (action : Action) (said : Transcript) → Hears h (Asked action) said next → changes_files action ≡ false
         → (Mounts action said.answers → ⊥) → TellsLines h said.answers next }
     ensures renamed { (h next : Machine) (action : Action) (said : Transcript) → Hears h (Asked action) said next → changes_files action ≡ true
