@@ -48,6 +48,7 @@ use Rattle.machine_host.proofs.LastLemmas.{keeps-last, pages_last}
 use Rattle.machine_host.proofs.RunLemmas.{followed_by-silence}
 use Rattle.machine_host.proofs.CutLemmas.{the_write}
 use Rattle.machine_host.proofs.PartLemmas.{Later, Whole, began_ordering, began_recovering, began_working, line, mounted_shows, never_half, never_stopped, none_left, written}
+use Rattle.nvm_model.specs.Events.{bad_numbers, restart_events}
 
 -- What befell a command: nothing; an interruption, with a cut or a failure armed still; a restart that left this, and one that
 -- was interrupted; or a recovery that came to this state.
@@ -211,31 +212,31 @@ abbrev with_sevens : Machine
 with_sevens = holding small (fresh small).blocks (put 0 (replicate 8 7) (fill 0 8 (persist 0 64 (put 0 (replicate 64 0) (fill 0 64 (fresh small).volume))))) []
 
 pub write_lost : MayWrite with_failed_write [] (failed_write_lines (codes "data 00*512"))
-unfolding digits number_of data_of runs_of data_within data_text read_pages answer_line lines_of words_of command_action line_input refusal size first_line total_lines volume_line reading write look_blocks states_read blocks_read listed files_read file_words tables_of slots_of words_read
+unfolding digits number_of data_of runs_of data_within data_text read_pages answer_line lines_of words_of command_action line_input refusal size first_line total_lines volume_line reading restart_events bad_numbers write look_blocks states_read blocks_read listed files_read file_words tables_of slots_of words_read
 write_lost =
     may_write with_failed_write (Through ∷ Halted Failed false false ∷ Through ∷ Recovered untouched ∷ Through ∷ []) (failed_write_lines (codes "data 00*512"))
     (tt, (refl, (tt, (record { blocks = inl refl; volume = refl; files = refl; state = refl }, (tt, tt))))) refl
 
 pub write_kept : MayWrite with_failed_write [] (failed_write_lines (codes "data 01*512"))
-unfolding digits number_of data_of runs_of data_within data_text read_pages answer_line lines_of words_of command_action line_input refusal size first_line total_lines volume_line reading write look_blocks states_read blocks_read listed files_read file_words tables_of slots_of words_read
+unfolding digits number_of data_of runs_of data_within data_text read_pages answer_line lines_of words_of command_action line_input refusal size first_line total_lines volume_line reading restart_events bad_numbers write look_blocks states_read blocks_read listed files_read file_words tables_of slots_of words_read
 write_kept =
     may_write with_failed_write (Through ∷ Halted Failed false false ∷ Through ∷ Recovered with_ones ∷ Through ∷ []) (failed_write_lines (codes "data 01*512"))
     (tt, (refl, (tt, (record { blocks = inr refl; volume = refl; files = refl; state = refl }, (tt, tt))))) refl
 
 pub write_lost_by_the_second_recovery : MayWrite with_failed_recovery [] (failed_recovery_lines (codes "data 00*512"))
-unfolding digits number_of data_of runs_of data_within data_text read_pages answer_line lines_of words_of command_action line_input refusal size first_line total_lines volume_line reading write look_blocks states_read blocks_read listed files_read file_words tables_of slots_of words_read
+unfolding digits number_of data_of runs_of data_within data_text read_pages answer_line lines_of words_of command_action line_input refusal size first_line total_lines volume_line reading restart_events bad_numbers write look_blocks states_read blocks_read listed files_read file_words tables_of slots_of words_read
 write_lost_by_the_second_recovery =
     may_write with_failed_recovery (Through ∷ Halted Failed false false ∷ Through ∷ Halted Failed false false ∷ Recovered untouched ∷ Through ∷ []) (failed_recovery_lines (codes "data 00*512"))
     (tt, (refl, (tt, (refl, (record { blocks = inl refl; volume = refl; files = refl; state = refl }, (tt, tt)))))) refl
 
 pub write_kept_by_the_second_recovery : MayWrite with_failed_recovery [] (failed_recovery_lines (codes "data 01*512"))
-unfolding digits number_of data_of runs_of data_within data_text read_pages answer_line lines_of words_of command_action line_input refusal size first_line total_lines volume_line reading write look_blocks states_read blocks_read listed files_read file_words tables_of slots_of words_read
+unfolding digits number_of data_of runs_of data_within data_text read_pages answer_line lines_of words_of command_action line_input refusal size first_line total_lines volume_line reading restart_events bad_numbers write look_blocks states_read blocks_read listed files_read file_words tables_of slots_of words_read
 write_kept_by_the_second_recovery =
     may_write with_failed_recovery (Through ∷ Halted Failed false false ∷ Through ∷ Halted Failed false false ∷ Recovered with_ones ∷ Through ∷ []) (failed_recovery_lines (codes "data 01*512"))
     (tt, (refl, (tt, (refl, (record { blocks = inr refl; volume = refl; files = refl; state = refl }, (tt, tt)))))) refl
 
 pub restart_cut : MayWrite with_cut_restart (leaving_fives ∷ leaving_fives ∷ []) cut_restart_lines
-unfolding digits number_of data_of runs_of data_within data_text read_pages answer_line lines_of words_of command_action line_input refusal size first_line total_lines volume_line reading write look_blocks states_read blocks_read listed files_read file_words tables_of slots_of words_read
+unfolding digits number_of data_of runs_of data_within data_text read_pages answer_line lines_of words_of command_action line_input refusal size first_line total_lines volume_line reading restart_events bad_numbers write look_blocks states_read blocks_read listed files_read file_words tables_of slots_of words_read
 restart_cut =
     may_write with_cut_restart (Through ∷ Through ∷ Through ∷ StartHalted leaving_fives Lost false false ∷ Through ∷ Started leaving_fives ∷ Through ∷ []) cut_restart_lines
     (tt, (tt, (tt, ((refl, left_by Lasts leaving_fives.image off [] refl refl refl refl refl refl tt, refl), (tt, ((refl, left_by Lasts leaving_fives.image once_more [] refl refl refl refl refl refl tt), (tt, tt))))))) refl
@@ -247,19 +248,19 @@ restart_cut =
     once_more = record with_fives { mode = modes.Off }
 
 pub restart_failed : MayWrite with_failed_restart (leaving Lasts [] ∷ []) failed_restart_lines
-unfolding digits number_of data_of runs_of data_within data_text read_pages answer_line lines_of words_of command_action line_input refusal size first_line total_lines volume_line reading write look_blocks states_read blocks_read listed files_read file_words tables_of slots_of words_read
+unfolding digits number_of data_of runs_of data_within data_text read_pages answer_line lines_of words_of command_action line_input refusal size first_line total_lines volume_line reading restart_events bad_numbers write look_blocks states_read blocks_read listed files_read file_words tables_of slots_of words_read
 restart_failed =
     may_write with_failed_restart (Through ∷ Through ∷ StartHalted (leaving Lasts []) Failed false false ∷ Recovered untouched ∷ []) failed_restart_lines
     (tt, (tt, ((refl, left_by _ _ _ [] refl refl refl refl refl refl tt, refl), (record { blocks = refl; volume = refl; files = refl; state = refl }, tt)))) refl
 
 pub cut_before_failure : MayWrite with_cut_before_failure (leaving Lasts [] ∷ []) cut_before_failure_lines
-unfolding digits number_of data_of runs_of data_within data_text read_pages answer_line lines_of words_of command_action line_input refusal size first_line total_lines volume_line reading write look_blocks states_read blocks_read listed files_read file_words tables_of slots_of words_read
+unfolding digits number_of data_of runs_of data_within data_text read_pages answer_line lines_of words_of command_action line_input refusal size first_line total_lines volume_line reading restart_events bad_numbers write look_blocks states_read blocks_read listed files_read file_words tables_of slots_of words_read
 cut_before_failure =
     may_write with_cut_before_failure (Through ∷ Through ∷ Halted Lost false true ∷ StartHalted (leaving Lasts []) Failed false false ∷ []) cut_before_failure_lines
     (tt, (tt, (refl, ((refl, left_by _ _ _ [] refl (inl refl) refl refl refl refl tt, refl), tt)))) refl
 
 pub sync_failed : MayWrite with_failed_sync [] failed_sync_lines
-unfolding digits word_from byte_over word_over reaches number_of runs_of data_within data_text fill put persist discard first_bad_line first_uncovered_line look read_pages answer_line lines_of words_of command_action line_input refusal size first_line total_lines volume_line reading states_read blocks_read listed files_read file_words tables_of slots_of words_read
+unfolding digits word_from byte_over word_over reaches number_of runs_of data_within data_text fill put persist discard first_bad_line first_uncovered_line look read_pages answer_line lines_of words_of command_action line_input refusal size first_line total_lines volume_line reading restart_events bad_numbers states_read blocks_read listed files_read file_words tables_of slots_of words_read
 sync_failed =
     may_write with_failed_sync (Through ∷ Through ∷ Through ∷ Through ∷ Halted Failed false false ∷ Through ∷ Recovered with_sevens ∷ Through ∷ []) failed_sync_lines
     (tt, (tt, (tt, (tt, (refl, (tt, (record { blocks = refl; volume = unsynced 0 8 with_sevens.volume; files = refl; state = refl }, (tt, tt)))))))) refl

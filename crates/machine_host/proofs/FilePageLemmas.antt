@@ -1,6 +1,6 @@
 -- What reads and stores of a file's bytes come to.
 use Rattle.std.proofs.Common.{◌≡◌, ◌+◌, ◌*◌, ◌≤◌, ℕ, Bool, true, false, IsTrue, Option, Some, None, option_map, is_some, Result, Ok, Err, OnOk, List, length, if◌then◌else◌, refl, sym, ap, subst, ◌∙◌, arith}
-use Rattle.line_device.specs.Medium.{WritesBack}
+use Rattle.line_device.specs.Medium.{WritesBack, Medium}
 use Rattle.line_device.specs.Panel.{Runs}
 use Rattle.line_device.specs.Device.{Device}
 use Rattle.line_words.specs.Told.{Answers, OnRefused, OnWorked, is_done, outcome_by}

@@ -40,6 +40,7 @@ use Rattle.machine_host.proofs.FailureRunLemmas.Turn.{Through, Halted, Started}
 use Rattle.machine_host.proofs.HoleFileLemmas.{holes_read}
 use Rattle.machine_host.proofs.LastLemmas.{keeps-last}
 use Rattle.machine_host.proofs.PartLemmas.{Later, began_giving, began_ordering, began_restarting, began_working, never_stopped, no_bad_line, nothing_more}
+use Rattle.nvm_model.specs.Events.{bad_numbers, restart_events}
 
 -- a file of one hole, named by one byte
 abbrev one_hole : ℕ → List File
@@ -71,25 +72,25 @@ hole_kept image byte is =
     (refl, record { there = refl; keeps = keeps-last Firsts (line_of_file small (on_no_unit byte)) image (Absent ∷ []) refl }, tt)
 
 pub deletion_lost : MayWrite with_cut_deletion (leaving Firsts (with_inode 0 97 1) ∷ []) (cut_change_lines (codes "files a:1"))
-unfolding digits number_of read_pages words_read answer_line lines_of words_of command_action line_input refusal size first_line total_lines volume_line reading states_read blocks_read listed files_read file_words tables_of slots_of bytes_in
+unfolding digits number_of read_pages words_read answer_line lines_of words_of command_action line_input refusal size first_line total_lines volume_line reading restart_events bad_numbers states_read blocks_read listed files_read file_words tables_of slots_of bytes_in
 deletion_lost =
     may_write with_cut_deletion (Through ∷ Through ∷ Halted Lost false false ∷ Started (leaving Firsts (with_inode 0 97 1)) ∷ Through ∷ []) (cut_change_lines (codes "files a:1"))
     (tt, (tt, (refl, ((refl, left_by Firsts (leaving Firsts (with_inode 0 97 1)).image (struck deletion false false) (one_hole 97) refl refl refl refl refl (inl refl) (hole_kept (leaving Firsts (with_inode 0 97 1)).image 97 refl)), (tt, tt))))) refl
 
 pub deletion_kept : MayWrite with_cut_deletion (leaving Firsts [] ∷ []) (cut_change_lines (codes "files"))
-unfolding digits number_of read_pages words_read answer_line lines_of words_of command_action line_input refusal size first_line total_lines volume_line reading states_read blocks_read listed files_read file_words tables_of slots_of bytes_in
+unfolding digits number_of read_pages words_read answer_line lines_of words_of command_action line_input refusal size first_line total_lines volume_line reading restart_events bad_numbers states_read blocks_read listed files_read file_words tables_of slots_of bytes_in
 deletion_kept =
     may_write with_cut_deletion (Through ∷ Through ∷ Halted Lost false false ∷ Started (leaving Firsts []) ∷ Through ∷ []) (cut_change_lines (codes "files"))
     (tt, (tt, (refl, ((refl, left_by Firsts (leaving Firsts []).image (struck deletion false false) [] refl refl refl refl refl (inr refl) tt), (tt, tt))))) refl
 
 pub renaming_lost : MayWrite with_cut_renaming (leaving Firsts (with_inode 0 97 1) ∷ []) (cut_change_lines (codes "files a:1"))
-unfolding digits number_of read_pages words_read answer_line lines_of words_of command_action line_input refusal size first_line total_lines volume_line reading states_read blocks_read listed files_read file_words tables_of slots_of bytes_in
+unfolding digits number_of read_pages words_read answer_line lines_of words_of command_action line_input refusal size first_line total_lines volume_line reading restart_events bad_numbers states_read blocks_read listed files_read file_words tables_of slots_of bytes_in
 renaming_lost =
     may_write with_cut_renaming (Through ∷ Through ∷ Halted Lost false false ∷ Started (leaving Firsts (with_inode 0 97 1)) ∷ Through ∷ []) (cut_change_lines (codes "files a:1"))
     (tt, (tt, (refl, ((refl, left_by Firsts (leaving Firsts (with_inode 0 97 1)).image (struck renaming false false) (one_hole 97) refl refl refl refl refl (inl refl) (hole_kept (leaving Firsts (with_inode 0 97 1)).image 97 refl)), (tt, tt))))) refl
 
 pub renaming_kept : MayWrite with_cut_renaming (leaving Firsts (with_inode 0 98 1) ∷ []) (cut_change_lines (codes "files b:1"))
-unfolding digits number_of read_pages words_read answer_line lines_of words_of command_action line_input refusal size first_line total_lines volume_line reading states_read blocks_read listed files_read file_words tables_of slots_of bytes_in
+unfolding digits number_of read_pages words_read answer_line lines_of words_of command_action line_input refusal size first_line total_lines volume_line reading restart_events bad_numbers states_read blocks_read listed files_read file_words tables_of slots_of bytes_in
 renaming_kept =
     may_write with_cut_renaming (Through ∷ Through ∷ Halted Lost false false ∷ Started (leaving Firsts (with_inode 0 98 1)) ∷ Through ∷ []) (cut_change_lines (codes "files b:1"))
     (tt, (tt, (refl, ((refl, left_by Firsts (leaving Firsts (with_inode 0 98 1)).image (struck renaming false false) (one_hole 98) refl refl refl refl refl (inr refl) (hole_kept (leaving Firsts (with_inode 0 98 1)).image 98 refl)), (tt, tt))))) refl
@@ -117,7 +118,7 @@ module _ (image : Image) (cut fail : Bool) (byte : ℕ) (seen shown : List ℕ) 
 
   back_shows : bad_lines (back image (one_hole byte) cut fail).volume ≡ 0 → (rest : List Answer) → Later (back image (one_hole byte) cut fail) (Asked ListFiles ∷ []) rest
       → reply_text (mounted_answer (back image (one_hole byte) cut fail) ∷ rest) ≡ text (codes "ok bad 0" ∷ (codes "files" ++ shown) ∷ []) → shown ≡ seen
-  unfolding answer_line digits size first_line reading states_read blocks_read listed
+  unfolding answer_line digits size first_line reading restart_events bad_numbers states_read blocks_read listed
   back_shows healthy rest later e =
       let none : mounted_answer (back image (one_hole byte) cut fail) ≡ DoneBad 0 = ap (λ n. DoneBad (0 + n + 0)) healthy in
       list_shows rest later (ap (drop 9) (sym (ap (λ a. reply_text (a ∷ rest)) none) ∙ e))
@@ -149,7 +150,7 @@ read_either image left (inr new) keeps = inr (holes_read Firsts small image (one
 
 restart_shows : (shown : List ℕ) (cut fail : Bool) (answers : List Answer) → Later (struck renaming cut fail) (Asked (Restart Firsts) ∷ Asked ListFiles ∷ []) answers
     → reply_text answers ≡ text (codes "ok bad 0" ∷ (codes "files" ++ shown) ∷ []) → EitherName shown
-unfolding refusal reading
+unfolding refusal reading restart_events bad_numbers
 restart_shows shown cut fail answers later wrote =
     let one = began_restarting (struck renaming cut fail) (Restart Firsts) (Asked ListFiles ∷ []) answers later Firsts refl in
     let keeps = one.5.storage refl in
@@ -198,7 +199,7 @@ struck_shows shown answers later wrote =
 
 made_shows : (shown : List ℕ) (answers : List Answer) → Later (fresh small) (Asked (Create (97 ∷ []) 1) ∷ Asked (CutIn 3) ∷ Asked renaming ∷ Asked (Restart Firsts) ∷ Asked ListFiles ∷ []) answers
     → reply_text answers ≡ text (codes "ok" ∷ codes "ok" ∷ codes "power lost" ∷ codes "ok bad 0" ∷ (codes "files" ++ shown) ∷ []) → EitherName shown
-unfolding refusal reading answer_line size first_line total_lines listed files_read file_words tables_of slots_of
+unfolding refusal reading restart_events bad_numbers answer_line size first_line total_lines listed files_read file_words tables_of slots_of
 made_shows shown answers later wrote =
     let one = began_working (fresh small) (Create (97 ∷ []) 1) (Asked (CutIn 3) ∷ Asked renaming ∷ Asked (Restart Firsts) ∷ Asked ListFiles ∷ []) answers later Done made refl in
     by_end one.0 one.1 one.2 one.4 one.5 (sym (ap reply_text one.3) ∙ wrote)

@@ -341,7 +341,7 @@ module _ (host : HostState) (p : PagesState) (r : Result (Unit {0}) FlushFault) 
       subst (λ (j : JournalState). IsFileAt j new inode (change_file file_name found.file.name (on_pages (persist_spans spans)) room.files) (on_pages (persist_spans spans) found.file)) (sym same)
       (changed_at host.files.pages.journal right old inode room.files found.file found.at new (persist_spans spans) stand)
 
-  holds_lost : (q : Result (Unit {0}) FlushFault) → ((files : List File) (file : File) → IsFileAt host.files.pages.journal old inode files file → Answers flush_says (flush_refusal file.pages spans) q)
+  pub holds_lost : (q : Result (Unit {0}) FlushFault) → ((files : List File) (file : File) → IsFileAt host.files.pages.journal old inode files file → Answers flush_says (flush_refusal file.pages spans) q)
       → OnOk q ((files : List File) (file : File) → IsFileAt host.files.pages.journal old inode files file
       → FilesStand host.files.pages.journal.geo new host.files.pages.journal.tables (change_file file_name file.name (on_pages (persist_spans spans)) files))
       → OnOk q (HoldsLost (record host.files { pages = p }) new inode spans)

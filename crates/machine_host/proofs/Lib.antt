@@ -10,6 +10,7 @@ pub mod FilesAsideLemmas
 pub mod RoomLemmas
 pub mod ElsewhereLemmas
 pub mod EventLemmas
+pub mod ToldLemmas
 pub mod StepLemmas
 pub mod CallLemmas
 pub mod BlockLemmas
@@ -57,6 +58,7 @@ pub mod MediaLemmas
 pub mod PoisonLemmas
 mod NextEventLemmas
 mod NewsLemmas
+mod FileNewsLemmas
 mod WeakenLemmas
 pub mod LineLemmas
 pub mod FileErrorLemmas

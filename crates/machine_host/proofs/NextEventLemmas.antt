@@ -1,5 +1,5 @@
 -- What is answered where the oldest event is taken.
-use Rattle.std.proofs.Common.{◌≡◌, ◌≤◌, ◌∙◌, None, List, [], ◌∷◌, drop, refl, sym, ap, subst, arith}
+use Rattle.std.proofs.Common.{◌≡◌, ◌+◌, ◌≤◌, ◌∙◌, ℕ, Bool, true, false, Option, Some, None, slice_get, if◌then◌else◌, List, [], ◌∷◌, drop, refl, sym, ap, subst, arith}
 use Rattle.line_device.specs.Device.{Device}
 use Rattle.nvm_base.specs.Stock.{Stock}
 use Rattle.nvm_model.specs.Storage.{Event}
@@ -17,6 +17,7 @@ use Rattle.machine_host.specs.Stands.{Comes, HostServes, HostState}
 use Rattle.machine_host.proofs.RefusalLemmas.{fate_usable}
 use Rattle.machine_host.proofs.RoomLemmas.{room_still, serves_telling, stands_telling, telling}
 use Rattle.machine_host.proofs.TellingLemmas.{tells_nothing}
+use Rattle.reply_text.specs.Answer.Answer.{Happened, NoEvent}
 
 quiet_event : (events : List Event) → stop_in (told_event events) ≡ None
 quiet_event [] = refl
@@ -48,3 +49,13 @@ next_answered now d e on serves rest spare = record {
   room = short_event now.files.events.items;
   serves = serves_telling now d e serves (λ on. room_still now.files (record now.files { events = e }) d.medium d.medium (λ files stand. stand) spare (serves.mounted on).room);
 }
+
+-- what the first event, if there is one, is answered
+pub first_told : (events : List Event) (o : Option Event) → o ≡ slice_get events 0 → elim o [ None ↦ NoEvent | Some event ↦ Happened event ] ≡ told_event events
+first_told [] o is = ap (λ (o : Option Event). elim o [ None ↦ NoEvent | Some event ↦ Happened event ]) is
+first_told (event ∷ events) o is = ap (λ (o : Option Event). elim o [ None ↦ NoEvent | Some event ↦ Happened event ]) is
+
+-- taking one leaves at least as much room
+pub spare_kept : (old new : ℕ) (b : Bool) → new ≡ old + (if b then 1 else 0) → old ≤ new
+spare_kept old new true is = omega (arith, is)
+spare_kept old new false is = omega (arith, is)

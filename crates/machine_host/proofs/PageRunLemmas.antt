@@ -38,6 +38,7 @@ use Rattle.machine_host.specs.CutRows.{MayWrite}
 use Rattle.machine_host.specs.VolumeRows.{AreTogether, both_stored, cut_discard_lines, cut_fill_lines, cut_in, the_fill, with_both_pages, with_cut_discard, with_cut_fill}
 use Rattle.machine_host.proofs.LastLemmas.{keeps-last}
 use Rattle.machine_host.proofs.PartStoreLemmas.{stored_among, may_store-among}
+use Rattle.nvm_model.specs.Events.{bad_numbers, restart_events}
 
 -- the machine as the cut is armed, once it came, and after the restart
 abbrev armed : Machine → Machine
@@ -97,7 +98,7 @@ run_of_cut h to action start first second ordered works restarts chosen keeps on
 )
 
 pub fill_lost : MayWrite with_cut_fill (leaving Firsts [] ∷ []) (cut_fill_lines (codes "no") (codes "no"))
-unfolding digits number_of data_of runs_of data_within data_text fill put discard first_bad_line first_uncovered_line look read_pages answer_line lines_of words_of command_action line_input refusal size first_line total_lines volume_line reading states_read blocks_read listed files_read file_words tables_of slots_of words_read
+unfolding digits number_of data_of runs_of data_within data_text fill put discard first_bad_line first_uncovered_line look read_pages answer_line lines_of words_of command_action line_input refusal size first_line total_lines volume_line reading restart_events bad_numbers states_read blocks_read listed files_read file_words tables_of slots_of words_read
 fill_lost =
     let start = leaving Firsts [] in
     record {
@@ -113,7 +114,7 @@ fill_lost =
     both_stored_armed = record both_stored { cut_armed = true }
 
 pub fill_kept : MayWrite with_cut_fill (leaving Firsts with_both_pages ∷ []) (cut_fill_lines (codes "yes") (codes "yes"))
-unfolding digits number_of data_of runs_of data_within data_text fill put discard first_bad_line first_uncovered_line look read_pages answer_line lines_of words_of command_action line_input refusal size first_line total_lines volume_line reading states_read blocks_read listed files_read file_words tables_of slots_of words_read
+unfolding digits number_of data_of runs_of data_within data_text fill put discard first_bad_line first_uncovered_line look read_pages answer_line lines_of words_of command_action line_input refusal size first_line total_lines volume_line reading restart_events bad_numbers states_read blocks_read listed files_read file_words tables_of slots_of words_read
 fill_kept =
     let start = leaving Firsts with_both_pages in
     let left = stored_among (λ n. false) 4092 (replicate 8 17) (fresh small).volume in
@@ -133,7 +134,7 @@ run_after_store inputs said end works run =
     (worked (spending (fresh small) the_fill) Done, said, both_stored, refl, rw works (Done, refl, inl (refl, refl)), run)
 
 pub discard_kept : MayWrite with_cut_discard (leaving Firsts [] ∷ []) (cut_discard_lines (codes "no") (codes "no"))
-unfolding digits word_from byte_over word_over reaches number_of data_of runs_of data_within data_text fill put discard first_bad_line first_uncovered_line look read_pages answer_line lines_of words_of command_action line_input refusal size first_line total_lines volume_line reading states_read blocks_read listed files_read file_words tables_of slots_of words_read
+unfolding digits word_from byte_over word_over reaches number_of data_of runs_of data_within data_text fill put discard first_bad_line first_uncovered_line look read_pages answer_line lines_of words_of command_action line_input refusal size first_line total_lines volume_line reading restart_events bad_numbers states_read blocks_read listed files_read file_words tables_of slots_of words_read
 discard_kept =
     let start = leaving Firsts [] in
     let action = VDiscard 0 2 in
@@ -149,7 +150,7 @@ discard_kept =
     }
 
 pub discard_lost : MayWrite with_cut_discard (leaving Firsts ((18943, 1229782937960972288) ∷ (23552, 286331153) ∷ with_both_pages) ∷ []) (cut_discard_lines (codes "yes") (codes "yes"))
-unfolding digits word_from byte_over word_over reaches number_of data_of runs_of data_within data_text fill put discard first_bad_line first_uncovered_line look read_pages answer_line lines_of words_of command_action line_input refusal size first_line total_lines volume_line reading states_read blocks_read listed files_read file_words tables_of slots_of words_read
+unfolding digits word_from byte_over word_over reaches number_of data_of runs_of data_within data_text fill put discard first_bad_line first_uncovered_line look read_pages answer_line lines_of words_of command_action line_input refusal size first_line total_lines volume_line reading restart_events bad_numbers states_read blocks_read listed files_read file_words tables_of slots_of words_read
 discard_lost =
     let start = leaving Firsts ((18943, 1229782937960972288) ∷ (23552, 286331153) ∷ with_both_pages) in
     let action = VDiscard 0 2 in
@@ -165,7 +166,7 @@ discard_lost =
 
 -- a restart leaves both pages there, or both absent
 pub filled_together : (choice : Choice) (image : Image) → RestartMayLeave choice image (cut_in (fresh small) the_fill) → AreTogether (presence_read small image.word)
-unfolding fill reading read_pages words_read listed size first_line
+unfolding fill reading restart_events bad_numbers read_pages words_read listed size first_line
 filled_together choice image keeps = subst AreTogether (keeps.storage refl).there (by_store (keeps.storage refl).left (keeps.storage refl).may)
   where
     by_store : (left : List Page) → (left ≡ (fresh small).volume) ⊎ LineByLine (MayPut 4092 (replicate 8 17)) (fill 4092 8 (fresh small).volume) left → AreTogether (presence_of left)
@@ -173,7 +174,7 @@ filled_together choice image keeps = subst AreTogether (keeps.storage refl).ther
     by_store left (inr x) = inl x.there
 
 pub discarded_together : (choice : Choice) (image : Image) → RestartMayLeave choice image (cut_in both_stored (VDiscard 0 2)) → AreTogether (presence_read small image.word)
-unfolding fill put discard reading read_pages words_read listed size first_line
+unfolding fill put discard reading restart_events bad_numbers read_pages words_read listed size first_line
 discarded_together choice image keeps = subst AreTogether (keeps.storage refl).there (by_choice (keeps.storage refl).left (keeps.storage refl).may)
   where
     by_choice : (left : List Page) → (left ≡ both_stored.volume) ⊎ (left ≡ discard 0 2 both_stored.volume) → AreTogether (presence_of left)

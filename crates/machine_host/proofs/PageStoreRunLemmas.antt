@@ -41,6 +41,7 @@ use Rattle.machine_host.proofs.FailureRunLemmas.{left_by, may_write}
 use Rattle.machine_host.proofs.FailureRunLemmas.Turn.{Halted, Started, Through}
 use Rattle.machine_host.proofs.LastLemmas.{keeps-last, pages_last}
 use Rattle.machine_host.proofs.PartStoreLemmas.{may_store-among, stored_among}
+use Rattle.nvm_model.specs.Events.{bad_numbers, restart_events}
 
 -- the pages of the file with one byte stored, and the machine as a store after it was cut
 abbrev first_stored : List Page
@@ -66,7 +67,7 @@ left_among : (chosen : ℕ → Bool) → OneFileLeft (codes "a") (MayStore 4092 
 left_among chosen = (refl, record { here = λ is. may_store-among chosen 4092 (replicate 8 17) first_stored; beside = λ out. absurd (out refl) }, tt)
 
 pub store_lost : MayWrite with_cut_file_store (leaving Firsts (with_first_page 97 2 ((24064, 5) ∷ [])) ∷ []) (cut_file_store_lines (codes "data 00*8"))
-unfolding digits word_from byte_over word_over reaches number_of data_of runs_of data_within data_text fill put first_bad_line first_uncovered_line look read_pages words_read answer_line lines_of words_of command_action line_input refusal size first_line total_lines volume_line reading states_read blocks_read listed files_read file_words tables_of slots_of bytes_in
+unfolding digits word_from byte_over word_over reaches number_of data_of runs_of data_within data_text fill put first_bad_line first_uncovered_line look read_pages words_read answer_line lines_of words_of command_action line_input refusal size first_line total_lines volume_line reading restart_events bad_numbers states_read blocks_read listed files_read file_words tables_of slots_of bytes_in
 store_lost =
     let start = leaving Firsts (with_first_page 97 2 ((24064, 5) ∷ [])) in
     may_write with_cut_file_store (Through ∷ Through ∷ Through ∷ Halted Lost false false ∷ Started start ∷ Through ∷ []) (cut_file_store_lines (codes "data 00*8")) (
@@ -92,7 +93,7 @@ store_lost =
     ) refl
 
 pub hole_alone_filled : MayWrite with_cut_file_store (leaving Firsts (with_page_on 0 1 1 ++ with_first_page 97 2 ((24064, 5) ∷ [])) ∷ []) (cut_file_store_lines (codes "data 00*8"))
-unfolding digits word_from byte_over word_over reaches number_of data_of runs_of data_within data_text fill put first_bad_line first_uncovered_line look read_pages words_read answer_line lines_of words_of command_action line_input refusal size first_line total_lines volume_line reading states_read blocks_read listed files_read file_words tables_of slots_of bytes_in
+unfolding digits word_from byte_over word_over reaches number_of data_of runs_of data_within data_text fill put first_bad_line first_uncovered_line look read_pages words_read answer_line lines_of words_of command_action line_input refusal size first_line total_lines volume_line reading restart_events bad_numbers states_read blocks_read listed files_read file_words tables_of slots_of bytes_in
 hole_alone_filled =
     let start = leaving Firsts (with_page_on 0 1 1 ++ with_first_page 97 2 ((24064, 5) ∷ [])) in
     let left = stored_among (λ n. false) 4092 (replicate 8 17) first_stored in
@@ -118,7 +119,7 @@ hole_alone_filled =
     ) refl
 
 pub store_in_part : MayWrite with_cut_file_store (leaving Firsts (with_page_on 0 1 1 ++ with_first_page 97 2 ((24064, 5) ∷ (24575, 1229782937960972288) ∷ [])) ∷ []) (cut_file_store_lines (codes "data 11*4,00*4"))
-unfolding digits word_from byte_over word_over reaches number_of data_of runs_of data_within data_text fill put first_bad_line first_uncovered_line look read_pages words_read answer_line lines_of words_of command_action line_input refusal size first_line total_lines volume_line reading states_read blocks_read listed files_read file_words tables_of slots_of bytes_in
+unfolding digits word_from byte_over word_over reaches number_of data_of runs_of data_within data_text fill put first_bad_line first_uncovered_line look read_pages words_read answer_line lines_of words_of command_action line_input refusal size first_line total_lines volume_line reading restart_events bad_numbers states_read blocks_read listed files_read file_words tables_of slots_of bytes_in
 store_in_part =
     let start = leaving Firsts (with_page_on 0 1 1 ++ with_first_page 97 2 ((24064, 5) ∷ (24575, 1229782937960972288) ∷ [])) in
     let left = stored_among (λ n. n == 63) 4092 (replicate 8 17) first_stored in
@@ -166,6 +167,6 @@ pages_read image (x ∷ xs) (y ∷ ys) choice may keeps =
     by_store (inr lines) = inl lines.there
 
 pub holes_filled_together : (choice : Choice) (image : Image) → RestartMayLeave choice image (cut_in two_holes the_file_store) → AreTogether (presence_of (pages_named (codes "a") (files_read small image)))
-unfolding reading files_read
+unfolding reading restart_events bad_numbers files_read
 holes_filled_together choice image keeps =
     let storage = keeps.storage refl in pages_read image (files_of (tables_read small image.word)) storage.files_left choice storage.may_files storage.files

@@ -10,7 +10,7 @@ use Rattle.nvm_model.specs.Storage.{Block}
 use Rattle.block_device.specs.Refusals.{Refusal}
 use Rattle.block_device.specs.Refusals.Refusal.{Unreadable}
 use Rattle.script_text.specs.Action.{Action}
-use Rattle.script_text.specs.Action.Action.{BRead, BWrite, BAtomic, BMulti, BDiscard, BDiscardIf, BExists, BScar, VLoad, VStore, VSync, VRanges, VPSync, VDiscard, VDiscardIf, VExists, Create, Delete, Rename, Resize, ListFiles, FRead, FWrite, Map, Unmap, Load, Store, Sync, Flush, FlushVerify, DeepFlush, CheckFile, PoisonBlock, PoisonVolume, PoisonFile, PoisonMeta, WeakenFile, WeakenVolume, ClearFile, ClearVolume, Cut, CutIn, FailIn, Restart, Recover}
+use Rattle.script_text.specs.Action.Action.{BRead, BWrite, BAtomic, BMulti, BDiscard, BDiscardIf, BExists, BScar, VLoad, VStore, VSync, VRanges, VPSync, VDiscard, VDiscardIf, VExists, Create, Delete, Rename, Resize, ListFiles, FRead, FWrite, Map, Unmap, Load, Store, Sync, Flush, FlushVerify, DeepFlush, NextEvent, CheckFile, PoisonBlock, PoisonVolume, PoisonFile, PoisonMeta, WeakenFile, WeakenVolume, ClearFile, ClearVolume, Cut, CutIn, FailIn, Restart, Recover}
 use Rattle.reply_text.specs.declared.reply.Why.{Why}
 use Rattle.reply_text.specs.declared.reply.Why.TheVariants.{Range, Length, Limit}
 use Rattle.reply_text.specs.declared.reply.Why.TheVariants as because
@@ -176,6 +176,7 @@ places_refused h (Sync handle offset len) why is = cc is
 places_refused h (Flush handle spans) why is = cc is
 places_refused h (FlushVerify handle spans) why is = cc is
 places_refused h (DeepFlush handle spans) why is = cc is
+places_refused h NextEvent why is = cc is
 places_refused h (CheckFile name offset len) why is = cc is
 places_refused h (PoisonBlock block line) why is = cc is
 places_refused h (PoisonVolume offset) why is = cc is

@@ -338,7 +338,7 @@ on_err-with P (Err e) p q = (p, q)
 -- where all is as it was, a command that ran out of memory leaves what it may
 pub leaves_all : (starved : Starved) (host : HostState) (d : Device) → LeavesStarved starved host host d d
 leaves_all Untouched host d = (refl, refl)
-leaves_all WrittenBack host d = (record { events = host.files.events; host = refl; items = refl; spare = omega arith }, write_back-refl d.medium, refl)
+leaves_all WrittenBack host d = (record { events = host.files.events; same = refl; items = refl; spare = omega arith }, write_back-refl d.medium, refl)
 leaves_all (Unmounted choice) host d = inl (refl, inl refl)
 leaves_all Unrecovered host d = record { same = refl; opens = opens-none d.panel; stands = λ h stands. stands }
 

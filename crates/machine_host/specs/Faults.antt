@@ -74,7 +74,7 @@ pub record LeftUnrecovered (host after : HostState) (old new : Device) : Type 0 
 -- The host is as it was, but for more room for events.
 pub record IsRoomier (host after : HostState) : Type 0 where
   pub events : Stock Event
-  pub host : after ≡ record host { files = record host.files { events = events } }
+  pub same : after ≡ record host { files = record host.files { events = events } }
   pub items : events.items ≡ host.files.events.items
   pub spare : host.files.events.spare ≤ events.spare
 

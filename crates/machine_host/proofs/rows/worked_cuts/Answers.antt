@@ -23,18 +23,19 @@ use Rattle.machine_host.proofs.CutLemmas.{write_lost, write_kept, cut_that_never
 use Rattle.machine_host.proofs.PartLemmas.{write_all_or_nothing, write_never_in_part}
 use Rattle.machine_host.proofs.PageRunLemmas.{discard_kept, discard_lost, discarded_together, fill_kept, fill_lost, filled_together}
 use Rattle.machine_host.proofs.rows.worked_cuts.Goals as goal
+use Rattle.nvm_model.specs.Events.{bad_numbers, restart_events}
 
 -- the blocks are not looked at
 many_together : WritesOn larger (text (codes "batomic 0 01*33280" ∷ codes "batomic 0 01*32768" ∷ [])) [] (codes "refused limit" ∷ codes "ok" ∷ [])
-unfolding digits number_of runs_of data_within answer_line lines_of words_of command_action line_input refusal reading
+unfolding digits number_of runs_of data_within answer_line lines_of words_of command_action line_input refusal reading restart_events bad_numbers
 many_together = refl
 
 many_in_ranges : WritesOn larger (text (codes "bmulti 0 01*16896 40 01*16896" ∷ [])) [] (codes "refused limit" ∷ [])
-unfolding digits number_of data_of runs_of answer_line lines_of words_of command_action line_input refusal reading
+unfolding digits number_of data_of runs_of answer_line lines_of words_of command_action line_input refusal reading restart_events bad_numbers
 many_in_ranges = refl
 
 pub returns-clause-writes : goal.returns-clause-writes
-unfolding digits number_of data_of runs_of data_within data_text read_pages answer_line lines_of words_of command_action line_input refusal size first_line total_lines volume_line reading write look_blocks states_read blocks_read listed files_read file_words tables_of slots_of words_read
+unfolding digits number_of data_of runs_of data_within data_text read_pages answer_line lines_of words_of command_action line_input refusal size first_line total_lines volume_line reading restart_events bad_numbers write look_blocks states_read blocks_read listed files_read file_words tables_of slots_of words_read
 returns-clause-writes c = record {
   ranges_apart_and_whole = refl;
   sixty_four_together = many_together;

@@ -19,9 +19,10 @@ use Rattle.machine_host.specs.Commands.{refusal}
 use Rattle.machine_host.specs.Restarting.{reading}
 use Rattle.machine_host.proofs.FailureRunLemmas.{cut_before_failure, pair_all_or_nothing, pair_never_in_part, restart_cut, restart_failed, sync_failed, write_kept, write_kept_by_the_second_recovery, write_lost, write_lost_by_the_second_recovery}
 use Rattle.machine_host.proofs.rows.worked_failures.Goals as goal
+use Rattle.nvm_model.specs.Events.{bad_numbers, restart_events}
 
 pub returns-clause-failures : goal.returns-clause-failures
-unfolding digits word_from byte_over word_over reaches number_of runs_of data_within data_text fill put persist discard first_bad_line first_uncovered_line look read_pages words_read answer_line lines_of words_of command_action line_input refusal size first_line total_lines volume_line reading write look_blocks states_read blocks_read listed files_read file_words tables_of slots_of
+unfolding digits word_from byte_over word_over reaches number_of runs_of data_within data_text fill put persist discard first_bad_line first_uncovered_line look read_pages words_read answer_line lines_of words_of command_action line_input refusal size first_line total_lines volume_line reading restart_events bad_numbers write look_blocks states_read blocks_read listed files_read file_words tables_of slots_of
 returns-clause-failures c = record {
   stopped_at_the_next_mount = refl;
   last_line_of_metadata = refl;

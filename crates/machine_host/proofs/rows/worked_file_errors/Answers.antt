@@ -18,9 +18,10 @@ use Rattle.script_text.specs.Script.{command_action, line_input, lines_of, words
 use Rattle.machine_host.specs.Commands.{refusal}
 use Rattle.machine_host.specs.Restarting.{reading}
 use Rattle.machine_host.proofs.rows.worked_file_errors.Goals as goal
+use Rattle.nvm_model.specs.Events.{bad_numbers, restart_events}
 
 pub returns : goal.returns
-unfolding digits word_from byte_over word_over reaches number_of runs_of data_within data_text change_line fill put first_bad_line first_uncovered_line look read_pages words_read answer_line lines_of words_of command_action line_input refusal size first_line total_lines volume_line reading states_read blocks_read listed files_read file_words tables_of slots_of bytes_in bad_touched next_bad_touched persist_spans
+unfolding digits word_from byte_over word_over reaches number_of runs_of data_within data_text change_line fill put first_bad_line first_uncovered_line look read_pages words_read answer_line lines_of words_of command_action line_input refusal size first_line total_lines volume_line reading restart_events bad_numbers states_read blocks_read listed files_read file_words tables_of slots_of bytes_in bad_touched next_bad_touched persist_spans
 returns c = record {
   errors = record {
     bad_line_named = refl;

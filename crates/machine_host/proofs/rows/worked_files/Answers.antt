@@ -16,9 +16,10 @@ use Rattle.machine_host.specs.Commands.{refusal}
 use Rattle.machine_host.specs.Restarting.{reading}
 use Rattle.machine_host.proofs.FileRunLemmas.{deletion_kept, deletion_lost, renaming_all_or_nothing, renaming_kept, renaming_lost}
 use Rattle.machine_host.proofs.rows.worked_files.Goals as goal
+use Rattle.nvm_model.specs.Events.{bad_numbers, restart_events}
 
 pub returns-clause-files : goal.returns-clause-files
-unfolding digits number_of read_pages words_read answer_line lines_of words_of command_action line_input refusal size first_line total_lines volume_line reading states_read blocks_read listed files_read file_words tables_of slots_of bytes_in
+unfolding digits number_of read_pages words_read answer_line lines_of words_of command_action line_input refusal size first_line total_lines volume_line reading restart_events bad_numbers states_read blocks_read listed files_read file_words tables_of slots_of bytes_in
 returns-clause-files c = record {
   made_listed_and_deleted = refl;
   sixty_four_files = refl;

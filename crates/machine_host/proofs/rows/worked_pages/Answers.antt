@@ -18,9 +18,10 @@ use Rattle.machine_host.specs.Commands.{refusal}
 use Rattle.machine_host.specs.Restarting.{reading}
 use Rattle.machine_host.proofs.PageStoreRunLemmas.{hole_alone_filled, holes_filled_together, store_in_part, store_lost}
 use Rattle.machine_host.proofs.rows.worked_pages.Goals as goal
+use Rattle.nvm_model.specs.Events.{bad_numbers, restart_events}
 
 pub returns-clause-bytes : goal.returns-clause-bytes
-unfolding digits word_from byte_over word_over reaches number_of runs_of data_within data_text fill put first_bad_line first_uncovered_line look read_pages words_read answer_line lines_of words_of command_action line_input refusal size first_line total_lines volume_line reading states_read blocks_read listed files_read file_words tables_of slots_of bytes_in
+unfolding digits word_from byte_over word_over reaches number_of runs_of data_within data_text fill put first_bad_line first_uncovered_line look read_pages words_read answer_line lines_of words_of command_action line_input refusal size first_line total_lines volume_line reading restart_events bad_numbers states_read blocks_read listed files_read file_words tables_of slots_of bytes_in
 returns-clause-bytes c = record {
   written_and_read = refl;
   reasons_in_order = refl;

@@ -18,9 +18,10 @@ use Rattle.script_text.specs.Script.{lines_of, words_of, command_action, line_in
 use Rattle.machine_host.specs.Commands.{refusal}
 use Rattle.machine_host.specs.Restarting.{reading}
 use Rattle.machine_host.proofs.rows.worked_scripts.Goals as goal
+use Rattle.nvm_model.specs.Events.{bad_numbers, restart_events}
 
 pub returns-clause-volume : goal.returns-clause-volume
-unfolding digits word_from byte_over word_over reaches number_of runs_of data_within data_text fill put persist discard first_bad_line first_uncovered_line look read_pages words_read answer_line lines_of words_of command_action line_input refusal size first_line total_lines volume_line reading states_read blocks_read listed files_read file_words tables_of slots_of
+unfolding digits word_from byte_over word_over reaches number_of runs_of data_within data_text fill put persist discard first_bad_line first_uncovered_line look read_pages words_read answer_line lines_of words_of command_action line_input refusal size first_line total_lines volume_line reading restart_events bad_numbers states_read blocks_read listed files_read file_words tables_of slots_of
 returns-clause-volume c = record {
   unsynced_store_lost = refl;
   synced_store_kept = refl;
@@ -35,7 +36,7 @@ returns-clause-volume c = record {
 }
 
 pub returns-clause-blocks : goal.returns-clause-blocks
-unfolding digits word_from byte_over word_over reaches number_of runs_of data_within data_text fill put persist discard first_bad_line first_uncovered_line look read_pages words_read answer_line lines_of words_of command_action line_input refusal size first_line total_lines volume_line reading write change look_blocks states_read blocks_read listed files_read file_words tables_of slots_of
+unfolding digits word_from byte_over word_over reaches number_of runs_of data_within data_text fill put persist discard first_bad_line first_uncovered_line look read_pages words_read answer_line lines_of words_of command_action line_input refusal size first_line total_lines volume_line reading restart_events bad_numbers write change look_blocks states_read blocks_read listed files_read file_words tables_of slots_of
 returns-clause-blocks c = record {
   read_of_new_blocks = refl;
   discard_of_absent_block = refl;
@@ -50,7 +51,7 @@ returns-clause-blocks c = record {
 }
 
 pub returns-clause-pages : goal.returns-clause-pages
-unfolding digits word_from byte_over word_over reaches number_of runs_of data_within data_text fill put persist discard first_bad_line first_uncovered_line look read_pages words_read answer_line lines_of words_of command_action line_input refusal size first_line total_lines volume_line reading states_read blocks_read listed files_read file_words tables_of slots_of
+unfolding digits word_from byte_over word_over reaches number_of runs_of data_within data_text fill put persist discard first_bad_line first_uncovered_line look read_pages words_read answer_line lines_of words_of command_action line_input refusal size first_line total_lines volume_line reading restart_events bad_numbers states_read blocks_read listed files_read file_words tables_of slots_of
 returns-clause-pages c = record {
   half_synced_by_its_address = refl;
   store_over_the_end_of_a_range = refl;
@@ -64,7 +65,7 @@ returns-clause-pages c = record {
 }
 
 pub returns-clause-errors : goal.returns-clause-errors
-unfolding digits word_from byte_over word_over reaches number_of runs_of data_within data_text change_line fill put persist discard first_bad_line first_uncovered_line look read_pages words_read answer_line lines_of words_of command_action line_input refusal size first_line total_lines volume_line reading write change look_blocks lose states_read blocks_read listed files_read file_words tables_of slots_of
+unfolding digits word_from byte_over word_over reaches number_of runs_of data_within data_text change_line fill put persist discard first_bad_line first_uncovered_line look read_pages words_read answer_line lines_of words_of command_action line_input refusal size first_line total_lines volume_line reading restart_events bad_numbers write change look_blocks lose states_read blocks_read listed files_read file_words tables_of slots_of
 returns-clause-errors c = record {
   bad_line_of_the_volume = refl;
   bad_line_of_a_block = refl;

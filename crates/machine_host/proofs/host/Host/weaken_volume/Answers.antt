@@ -26,6 +26,6 @@ returns g c =
     (λ h stands. fate_weaken host old h c.args.offset serves stands on) said.refused told (on_refused-then weaken_says r (λ same. ap g.D.Lines.state same) said.untouched) said.ok said.outside said.serves is))
     (λ starved.
     let written = said.memory starved in (
-      (record { events = c.args.self.now.files.events; host = refl; items = refl; spare = omega arith }, written, said.panel),
+      (record { events = c.args.self.now.files.events; same = refl; items = refl; spare = omega arith }, written, said.panel),
       serves_ordered c.args.self.now c.args.self.now.mode _ _ c.requires.serves written (ap (λ p. p.power) said.panel ∙ c.requires.serves.power) (λ on. on) (λ stop. stop),
     ))
