@@ -1,10 +1,10 @@
 -- The file of an inode once it was changed, and the room that its weak lines have.
-use Rattle.std.proofs.Common.{◌≡◌, ◌+◌, ◌≤◌, ◌∙◌, ℕ, true, None, Some, List, [], ◌∷◌, length, refl, sym, ap, ap₂, subst, arith}
+use Rattle.std.proofs.Common.{◌≡◌, ◌+◌, ◌≤◌, ◌∙◌, ℕ, true, None, List, [], ◌∷◌, length, refl, sym, ap, subst, arith}
 use Rattle.std.specs.List.{list_all}
 use Rattle.std.proofs.lemmas.Bool.{and_from, and_parts}
 use Rattle.line_device.specs.Medium.{Medium}
 use Rattle.nvm_base.specs.declared.units.Span.{Span}
-use Rattle.nvm_model.specs.Cell.{lose_cell, weaken_cell}
+use Rattle.nvm_model.specs.Cell.{weaken_cell}
 use Rattle.nvm_model.specs.Events.{count_in_pages, is_weak_cell, weak_file_lines}
 use Rattle.nvm_model.specs.Files.{on_pages}
 use Rattle.nvm_model.specs.Listing.{AreAlike, AreApart, change_file, file_name, is_before, rises}

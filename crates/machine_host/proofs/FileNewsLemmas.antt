@@ -1,11 +1,10 @@
 -- What a poisoning and a weakening of a line of a file come to, with the events then.
-use Rattle.std.proofs.Common.{◌≡◌, ◌+◌, ◌/◌, ◌≤◌, ◌&&◌, ◌++◌, ◌∙◌, ℕ, Bool, true, false, not, Option, Some, None, Result, Ok, Err, is_ok, OnOk, List, [], ◌∷◌, refl, sym, ap, ap₂, subst, arith, if◌then◌else◌}
+use Rattle.std.proofs.Common.{◌≡◌, ◌+◌, ◌/◌, ◌≤◌, ◌&&◌, ◌++◌, ◌∙◌, ℕ, Bool, false, not, Some, Result, Ok, Err, is_ok, OnOk, List, [], ◌∷◌, refl, sym, ap, ap₂, subst, arith, if◌then◌else◌}
 use Rattle.std.specs.Prelude.{IfErr}
 use Rattle.std.proofs.lemmas.List.{append-nil}
 use Rattle.line_device.specs.Device.{Device}
 use Rattle.line_device.specs.Medium.{WritesBack}
-use Rattle.line_words.specs.Told.{Answers, OnRefused, Told}
-use Rattle.nvm_base.specs.Stock.{Stock}
+use Rattle.line_words.specs.Told.{Answers, OnRefused}
 use Rattle.inode_table.specs.Slots.{inode_of}
 use Rattle.mappings.specs.Object.{MappingsState}
 use Rattle.nvm_model.specs.Cell.{lose_cell, weaken_cell}
@@ -19,7 +18,7 @@ use Rattle.file_journal.specs.Standing.{FilesStand}
 use Rattle.file_pages.specs.Object.{IsFileAt, PagesServe, PagesState}
 use Rattle.scrub.specs.Lines.{IsFileLine}
 use Rattle.scrub.specs.Others.{WritesBackBut}
-use Rattle.scrub.specs.Refusals.{ScrubRefusal, file_refusal, place_says, weaken_says}
+use Rattle.scrub.specs.Refusals.{file_refusal, place_says, weaken_says}
 use Rattle.scrub.specs.declared.fault.PlaceFault.{PlaceFault}
 use Rattle.scrub.specs.declared.fault.WeakenFault.{WeakenFault}
 use Rattle.reply_text.specs.Answer.{Answer}
@@ -42,7 +41,7 @@ use Rattle.machine_host.proofs.FilesAsideLemmas.{files_stand_elsewhere}
 use Rattle.machine_host.proofs.LineLemmas.{if_err_all, place_refuses}
 use Rattle.machine_host.proofs.MediaLemmas.{IsRefusal}
 use Rattle.machine_host.proofs.NewsLemmas.{kept_at, news, room_taken, room_weakened}
-use Rattle.machine_host.proofs.RoomLemmas.{room_still, serves_telling, telling}
+use Rattle.machine_host.proofs.RoomLemmas.{room_still, serves_telling}
 
 -- what a host tells where nothing is news
 none_new : {A : Type 0} (xs ys zs : List A) (b : Bool) → ys ≡ xs ++ (if b then zs else []) → b ≡ false → ys ≡ xs
@@ -128,8 +127,8 @@ module _ (host : HostState) (old new : Device) (on : host.mode ≡ On) (serves :
   weaken_starved spare written panel = (
     (record { events = f.events; same = ap (λ (x : HeldFiles). record host { files = x }) files_are; items = items; spare = spare }, written, panel),
     subst (λ (x : HeldFiles). HostServes (record host { files = x }) new) (sym files_are)
-    (serves_telling host new f.events (serves_ordered host host.mode old new serves written (ap (λ p. p.power) panel ∙ serves.power) (λ on. on) (λ stop. stop))
-    (λ is. room_still host.files (record host.files { events = f.events }) old.medium new.medium
-    (λ files stand. files_stand_elsewhere host.geometry old.medium new.medium (λ n of. line_kept-write_back old.medium new.medium n written) host.files.pages.journal files (serves.mounted on).journal_geometry (serves.mounted on).journal_right stand)
-    spare room)),
+        (serves_telling host new f.events (serves_ordered host host.mode old new serves written (ap (λ p. p.power) panel ∙ serves.power) (λ on. on) (λ stop. stop))
+        (λ is. room_still host.files (record host.files { events = f.events }) old.medium new.medium
+        (λ files stand. files_stand_elsewhere host.geometry old.medium new.medium (λ n of. line_kept-write_back old.medium new.medium n written) host.files.pages.journal files (serves.mounted on).journal_geometry (serves.mounted on).journal_right stand)
+        spare room)),
   )

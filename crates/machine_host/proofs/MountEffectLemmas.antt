@@ -1,5 +1,5 @@
 -- What a mount does to lines with the host's layout, and what it gives.
-use Rattle.std.proofs.Common.{◌≡◌, ◌≢◌, ℕ, ◌<◌, IsTrue, List, [], ◌∷◌, None, refl, sym, subst, ◌∙◌}
+use Rattle.std.proofs.Common.{◌≡◌, ◌≢◌, ℕ, ◌<◌, IsTrue, List, [], ◌∷◌, None, refl, sym, subst, ◌∙◌, ◌≤◌}
 use Rattle.std.proofs.lemmas.Option.{none-some}
 use Rattle.line_device.specs.Medium.{IsSound, WritesBack, last_image}
 use Rattle.line_device.specs.Device.{Device}

@@ -1,5 +1,5 @@
 -- Lines of files that a media error takes, or that become weak: their events, and the room for these.
-use Rattle.std.proofs.Common.{◌≡◌, ◌≢◌, inl, inr, ◌+◌, ◌*◌, ◌/◌, ◌%◌, ◌<◌, ◌≤◌, ◌&&◌, ◌||◌, ◌++◌, ◌∙◌, ℕ, Bool, true, false, not, cond, nat_lt, Option, Some, None, is_some, option_and_then, slice_get, Result, Ok, Err, is_ok, OnOk, List, [], ◌∷◌, length, refl, sym, ap, ap₂, subst, arith, if◌then◌else◌}
+use Rattle.std.proofs.Common.{◌≡◌, ◌+◌, ◌*◌, ◌/◌, ◌%◌, ◌<◌, ◌≤◌, ◌&&◌, ◌++◌, ◌∙◌, ℕ, Bool, true, false, not, nat_lt, Option, Some, None, is_some, option_and_then, Result, Ok, Err, OnOk, List, [], ◌∷◌, length, sym, ap, ap₂, subst, arith, if◌then◌else◌}
 use Rattle.std.proofs.lemmas.Bool.{and_parts, lt-ltb}
 use Rattle.std.proofs.lemmas.Bool.Decides.{nat_tests}
 use Rattle.std.proofs.lemmas.Option.{slice_get_past}
@@ -7,7 +7,6 @@ use Rattle.line_device.specs.Device.{Device}
 use Rattle.line_device.specs.Medium.{Medium}
 use Rattle.line_words.specs.Told.{Told, OnRefused, refusal_of}
 use Rattle.line_words.specs.Told.Told.{Refuses, Starves, Stops}
-use Rattle.nvm_base.specs.Stock.{Stock}
 use Rattle.nvm_base.specs.declared.units.Span.{Span}
 use Rattle.inode_table.specs.Slots.{inode_of, pages_at}
 use Rattle.inode_table.proofs.SlotLemmas.{found_is_named}
@@ -22,12 +21,10 @@ use Rattle.nvm_model.proofs.NextLemmas.{IsLowestFrom, next-lowest}
 use Rattle.nvm_model.proofs.SeveralLemmas.{touches-one}
 use Rattle.file_journal.specs.Standing.{FilesStand}
 use Rattle.file_journal.specs.Tables.{AreTables}
-use Rattle.file_journal.proofs.DeviceFileLemmas.{device_files-stand}
 use Rattle.file_pages.specs.Object.{IsFileAt, PagesState}
 use Rattle.file_pages.proofs.FoundLemmas.{file-found, FoundFile}
 use Rattle.machine_host.specs.declared.held.HeldFiles.{HeldFiles}
 use Rattle.machine_host.specs.OnEvents.{line_event, taken_events}
-use Rattle.machine_host.specs.OnFileErrors.{marked_in}
 use Rattle.machine_host.specs.Stands.{HasRoom}
 use Rattle.machine_host.proofs.EventLemmas.{weak-weakened}
 use Rattle.machine_host.proofs.WeakFileLemmas.{change-weak}

@@ -1,5 +1,5 @@
 -- Room for the events of weak lines, and events that a host keeps.
-use Rattle.std.proofs.Common.{◌≡◌, ◌≤◌, ℕ, List, refl, arith}
+use Rattle.std.proofs.Common.{◌≡◌, ◌≤◌, List, arith}
 use Rattle.line_device.specs.Device.{Device}
 use Rattle.line_device.specs.Medium.{Medium}
 use Rattle.nvm_base.specs.Stock.{Stock}

@@ -1,8 +1,7 @@
 -- Lines that were lost, told one after another.
-use Rattle.std.proofs.Common.{◌≡◌, ◌+◌, ◌++◌, ◌≤◌, ◌<◌, ◌∙◌, ℕ, Option, Some, None, List, [], ◌∷◌, length, refl, sym, ap, ap₂, subst, arith}
+use Rattle.std.proofs.Common.{◌≡◌, ◌+◌, ◌++◌, ◌≤◌, ◌<◌, ◌∙◌, ℕ, Some, None, List, [], ◌∷◌, length, refl, sym, ap, subst, arith}
 use Rattle.line_device.specs.Medium.{Medium}
 use Rattle.nvm_base.specs.declared.units.Span.{Span}
-use Rattle.nvm_model.specs.Page.{Page}
 use Rattle.nvm_model.specs.Storage.{Event, File}
 use Rattle.nvm_model.specs.Touched.{bad_touched, bad_touched_from, is_bad_touched, next_bad_touched}
 use Rattle.nvm_model.proofs.NextLemmas.{IsLowestFrom, bad_from-all, bad_from-next, bad_from-none, next-lowest}

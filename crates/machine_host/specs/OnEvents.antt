@@ -1,5 +1,5 @@
 -- Lines of files that go bad, as events: which lines make one, and the command that takes the oldest.
-use Rattle.std.specs.Prelude.{◌*◌, ℕ, true, List, [], ◌∷◌, ◌++◌, drop, map, if◌then◌else◌}
+use Rattle.std.specs.Prelude.{◌*◌, ℕ, true, List, [], ◌∷◌, drop, map, if◌then◌else◌}
 use Rattle.nvm_base.specs.declared.units.Span.{Span}
 use Rattle.nvm_model.specs.Mappings.{is_shown}
 use Rattle.nvm_model.specs.Page.{Page, cell_of, is_bad_cell}
@@ -7,7 +7,6 @@ use Rattle.nvm_model.specs.Storage.{Event, Mapping}
 use Rattle.nvm_model.specs.Touched.{bad_touched, persist_spans}
 use Rattle.reply_text.specs.Answer.{Answer}
 use Rattle.reply_text.specs.Answer.Answer.{Happened, NoEvent}
-use Rattle.machine_host.specs.Machine.{Machine}
 use Rattle.machine_host.specs.Machine.Fate.{Gives}
 use Rattle.machine_host.specs.Meaning.{Meaning, anywhere, quiet}
 use Rattle.machine_host.specs.declared.needs.Needs.TheVariants.{Usable}

@@ -89,7 +89,13 @@ impl HeldFiles {
     }
 
     /// Tells each line of a file that is bad and that spans touch, the lowest first.
-    pub(crate) fn tell_lost<D: LineDevice>(&mut self, device: &D, name: &Name, inode: u64, spans: &[Span])
+    pub(crate) fn tell_lost<D: LineDevice>(
+        &mut self,
+        device: &D,
+        name: &Name,
+        inode: u64,
+        spans: &[Span],
+    )
         requires serves { JournalServes self.old.pages.journal (D.state device.now).medium }
         requires inode { inode < 64 }
         requires within { All (IsWithin (pages_at self.old.pages.journal.tables.files inode)) spans.now }

@@ -174,7 +174,7 @@ fn a_recorder_tells_what_the_script_asked_for(rt: HostRuntime) -> Result<(), Fai
 }
 
 // Calls one after the other: words, script, status, and what is written. Each run of a fresh image ends in another state.
-static ENDS_OF_RUNS: [(&str, &str, u8, &str); 19] = [
+static ENDS_OF_RUNS: [(&str, &str, u8, &str); 22] = [
     // Without power.
     (
         "run img dark",
@@ -243,6 +243,20 @@ static ENDS_OF_RUNS: [(&str, &str, u8, &str); 19] = [
         "files a:1 b:2\nok\nok\npower lost\n",
     ),
     ("run files files", "list\n", 0, "files a:1 c:2\n"),
+    // With a bad line of a file and a weak one, and an event that nobody took.
+    (
+        "run img worn",
+        "create a 1\nfwrite a 0 01*128\nweaken file a 0\npoison file a 64\n",
+        0,
+        "ok\nok\nok\nok\n",
+    ),
+    (
+        "run worn worn",
+        "event\nevent\nmap a 0 64 shared\nsync 0 0 1\nevent\n",
+        0,
+        "event a 64 64 unmapped restart\nnone\nhandle 0\nok\nevent a 0 64 mapped live\n",
+    ),
+    ("check worn", "", 0, "ok 5056 bad 2\n"),
     ("check img", "", 0, "ok 5056 bad 0\n"),
 ];
 

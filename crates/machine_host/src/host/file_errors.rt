@@ -11,8 +11,8 @@ ghost use Rattle.machine_host.specs.Responding.{Answered, Responds};
 
 use super::Host;
 use super::media::{marked, weakened};
-use line_device::LineDevice;
 use file_pages::{FilePages, ends_past};
+use line_device::LineDevice;
 use nvm_base::{LINE, Name, PAGE, Span};
 use reply_text::{Reply, Why};
 use scrub::LinesFault;
@@ -113,5 +113,6 @@ fn is_bad_in<D: LineDevice>(device: &D, files: &FilePages, inode: u64, offset: u
         start: offset,
         len: 1,
     };
-    !ends_past(PAGE * files.journal().pages(inode), byte) && files.next_bad(device, inode, byte, 0).is_some()
+    !ends_past(PAGE * files.journal().pages(inode), byte)
+        && files.next_bad(device, inode, byte, 0).is_some()
 }

@@ -88,7 +88,8 @@ impl Host {
         let moved = all_moved(spans, info.span.start);
         let spans = &moved[..spans.len()];
         let call = flush_file(device, &mut self.files.pages, inode, spans, look);
-        self.files.tell_flushed(device, &info.name, inode, spans, call);
+        self.files
+            .tell_flushed(device, &info.name, inode, spans, call);
         self.flushed(&info.name, call)
     }
 

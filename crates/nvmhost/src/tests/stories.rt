@@ -12,7 +12,7 @@ const TO_ALL_KINDS: &str =
     "ok\nok\npower lost\nok\nrefused device\nok bad 0\nok\nok\nrefused device\nok\nok bad 0\ndata 11*512\nok\ndata aa*4,00*4\nrefused meta 9\nok\nrefused device\nstopped meta 9\nok\nrefused meta 3\nok\nstopped meta 3\nok\n";
 
 /// Lines to draw from, with cuts, failures and media errors.
-pub static LINES: [&str; 66] = [
+pub static LINES: [&str; 70] = [
     "bwrite 0 11*1024\n",
     "batomic 1 22*1024\n",
     "bmulti 0 33*512 3 44*512\n",
@@ -57,8 +57,12 @@ pub static LINES: [&str; 66] = [
     "unmap 0\n",
     "check b 0 4096\n",
     "poison file b 64\n",
+    "poison file a 0\n",
     "weaken file b 0\n",
+    "weaken file a 64\n",
     "clear file b 64\n",
+    "event\n",
+    "event\n",
     "poison volume 64\n",
     "poison block 0 3\n",
     "weaken volume 0\n",
@@ -86,7 +90,7 @@ pub const LAST_LINES: &str =
     "restart all\nrecover\npoison meta 9\nbread 0 1\nvload 0 8\nbscar 0 1\ncut\nrestart all\npoison meta 5\nbread 0 1\n";
 
 /// Each script with its replies.
-pub static STORIES: [(&str, &str); 47] = [
+pub static STORIES: [(&str, &str); 48] = [
     // What is not synced may be lost, or kept.
     (
         "vstore 0 07*8\ncut\nrestart none\nvload 0 8\n",
@@ -280,6 +284,11 @@ pub static STORIES: [(&str, &str); 47] = [
     (
         "create a 1\nfwrite a 0 00*4096\nmap a 0 4096 shared\nweaken file a 0\nstore 0 0 09*8\nflushv 0 0 8 64 8\nload 0 0 8\nload 0 64 1\ncheck a 0 4096\n",
         "ok\nok\nhandle 0\nok\nok\nverify file a 0 64\npoison file a 0 64\ndata 00\nbad 1 0\n",
+    ),
+    // Lines that went bad are events, once each; a restart makes them anew, of all lines that are bad.
+    (
+        "create a 1\nfwrite a 0 01*300\nmap a 0 100 shared\nweaken file a 64\npoison file a 256\nflush 0 0 8 99 1 64 36\nevent\nevent\nevent\ncut\nevent\nrestart none\nevent\nevent\nevent\n",
+        "ok\nok\nhandle 0\nok\nok\nok\nevent a 256 64 unmapped live\nevent a 64 64 mapped live\nnone\nok\nrefused off\nok bad 2\nevent a 64 64 unmapped restart\nevent a 256 64 unmapped restart\nnone\n",
     ),
     // Bad metadata stops changes of them, and the list once the device is mounted anew.
     (

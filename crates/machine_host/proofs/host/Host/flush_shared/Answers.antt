@@ -1,14 +1,13 @@
-use Rattle.std.proofs.Common.{◌≡◌, ◌∙◌, Some, None, ap, refl, sym, take, length}
+use Rattle.std.proofs.Common.{◌≡◌, ◌∙◌, Some, None, ap, sym, take, length}
 use Rattle.inode_table.specs.Slots.{inode_of}
 use Rattle.file_journal.specs.Object.{JournalState}
-use Rattle.flush_engine.specs.Refusals.{flush_says, flushed}
-use Rattle.machine_host.specs.declared.held.HeldFiles.{HeldFiles}
-use Rattle.machine_host.specs.Faults.{mode_after}
+use Rattle.flush_engine.specs.Refusals.{flushed}
 use Rattle.machine_host.specs.Stands.{HostState}
 use Rattle.machine_host.proofs.FilePageLemmas.{right_now, room_now}
-use Rattle.machine_host.proofs.FlushLemmas.{flush_told, holds_lost, mapped_found}
+use Rattle.machine_host.proofs.FlushLemmas.{flush_told, mapped_found}
 use Rattle.machine_host.proofs.HandleCallLemmas.{told_of}
 use Rattle.machine_host.proofs.host.Host.flush_shared.Goals as goal
+use Rattle.machine_host.proofs.LostLineLemmas.{holds_lost}
 
 pub unreachable-requires : goal.unreachable-requires
 unreachable-requires g c =

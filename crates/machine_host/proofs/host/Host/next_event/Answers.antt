@@ -1,9 +1,8 @@
-use Rattle.std.proofs.Common.{◌≡◌, ◌≤◌, ◌+◌, ◌∙◌, Bool, true, false, Option, Some, None, option_map, slice_get, drop, List, [], ◌∷◌, is_some, refl, sym, ap, subst, arith, if◌then◌else◌}
+use Rattle.std.proofs.Common.{◌≡◌, ◌∙◌, Some, None, option_map, is_some, sym, ap, subst}
 use Rattle.nvm_base.specs.Stock.{Stock}
 use Rattle.nvm_model.specs.Storage.{Event}
 use Rattle.error_events.specs.Events.{event_of}
-use Rattle.reply_text.specs.Answer.{Answer, answer_of}
-use Rattle.reply_text.specs.Answer.Answer.{Happened, NoEvent}
+use Rattle.reply_text.specs.Answer.{answer_of}
 use Rattle.script_text.specs.Action.Action.{NextEvent}
 use Rattle.machine_host.specs.OnEvents.{told_event}
 use Rattle.machine_host.specs.Responding.{Answered}

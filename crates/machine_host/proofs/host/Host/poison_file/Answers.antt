@@ -1,6 +1,6 @@
 use Rattle.std.proofs.Common.{◌≡◌, ◌&&◌, Bool, not, Some, None, is_ok, ap, refl, subst, sym, ◌∙◌, arith}
 use Rattle.inode_table.specs.Slots.{inode_of}
-use Rattle.file_journal.specs.Object.{JournalServes, JournalState}
+use Rattle.file_journal.specs.Object.{JournalState}
 use Rattle.scrub.specs.Refusals.{place_says}
 use Rattle.reply_text.specs.Answer.{answer_of}
 use Rattle.script_text.specs.Action.Action.{PoisonFile}

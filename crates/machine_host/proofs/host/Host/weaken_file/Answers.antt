@@ -5,7 +5,7 @@ use Rattle.file_journal.specs.Object.{JournalState}
 use Rattle.scrub.specs.Refusals.{weaken_says}
 use Rattle.script_text.specs.Action.Action.{WeakenFile}
 use Rattle.machine_host.specs.Meaning.Starved.{WrittenBack}
-use Rattle.machine_host.specs.Responding.{Answered, Responds}
+use Rattle.machine_host.specs.Responding.{Responds}
 use Rattle.machine_host.specs.Stands.{HostState, HostServes}
 use Rattle.machine_host.specs.declared.held.HeldFiles.{HeldFiles}
 use Rattle.machine_host.proofs.CallLemmas.{on_refused-then}
