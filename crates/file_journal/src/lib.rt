@@ -28,6 +28,7 @@ pub use laws::{
     files_come_back, words_that_hold_tables_read_as_them,
 };
 use page_table::PageTable;
+pub use page_table::Run;
 use std::marker::Model;
 use word_log::Log;
 use word_tables::Geometry;

@@ -2,12 +2,14 @@
 ghost use Rattle.std.specs.Prelude.{◌≡◌, ◌↔◌, ◌<◌, ℕ, IfSome, IsNone, IsTrue, None, Some, slice_index_or};
 ghost use Rattle.inode_table.specs.Slots.{IsNamed, inode_of, pages_at};
 ghost use Rattle.page_table.specs.Pages.{used_pages};
+ghost use Rattle.page_table.specs.Runs.{IsRun, run_of};
 ghost use Rattle.word_tables.specs.Bounds.{IsValid};
 ghost use Rattle.word_tables.specs.Layout.{file_line};
 ghost use Rattle.file_journal.specs.Tables.{AreTables, unit_at};
 
 use crate::Journal;
 use nvm_base::{FileEntry, LineNo, Name};
+use page_table::Run;
 use word_tables::Geometry;
 
 impl Journal {
@@ -52,6 +54,18 @@ impl Journal {
         ensures tables { AreTables self.now.geo.fpages self.now.tables }
     {
         self.table.get(inode, page)
+    }
+
+    /// The run of a page: the pages around it that lie on units one after the other. None as above.
+    pub fn run(&self, inode: u64, page: u64) -> Option<Run>
+        requires inode { inode < 64 }
+        requires page { page < 256 }
+        ensures run { result ≡ run_of self.now.tables.pages inode page }
+        ensures pages { IfSome result (IsRun self.now.tables.pages inode page) }
+        ensures none { IsNone result ↔ (unit_at self.now.tables inode page ≡ None) }
+        ensures tables { AreTables self.now.geo.fpages self.now.tables }
+    {
+        self.table.run(inode, page)
     }
 
     /// The first of the 64 lines of a page: None where it is a hole, past the page count, or a free inode's.

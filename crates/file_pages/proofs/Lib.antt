@@ -10,5 +10,6 @@ mod SwitchedLemmas
 mod FilledLemmas
 mod FillLemmas
 mod StoreLemmas
+mod StretchLemmas
 mod RenewLemmas
 mod LentLemmas

@@ -1,10 +1,12 @@
 // Where the lines of a file's pages lie.
-ghost use Rattle.std.specs.Prelude.{◌≡◌, ◌<◌};
-ghost use Rattle.file_pages.specs.Object.{unit_place, units_of};
+ghost use Rattle.std.specs.Prelude.{◌≡◌, ◌/◌, ◌<◌, ℕ, length, true};
+ghost use Rattle.page_lines.specs.Stretches.{IsStretchOf, has_line};
+ghost use Rattle.inode_table.specs.Slots.{pages_at};
+ghost use Rattle.file_pages.specs.Object.{file_place, unit_place, units_of};
 
 use file_journal::Journal;
 use nvm_base::{LINE, PAGE};
-use page_lines::Places;
+use page_lines::{Places, Stretch};
 use std::marker::Model;
 
 /// Lines of a page.
@@ -50,5 +52,54 @@ impl<'a> Places for FileLines<'a> {
             Some(unit) => Some(geo.file_line(unit) + n % PAGE_LINES),
             None => None,
         }
+    }
+
+    // Runs are asked for where the lines are not those of one page.
+    fn stretch(&self, n: u64, end: u64) -> Stretch {
+        let page = n / PAGE_LINES;
+        if page >= self.journal.pages(self.inode) {
+            return Stretch::new(n, 1, None);
+        }
+        if end <= PAGE_LINES * page + PAGE_LINES {
+            lines_of_page(self.journal, self.inode, page)
+        } else {
+            lines_of_run(self.journal, self.inode, page)
+        }
+    }
+}
+
+// The lines of a page.
+fn lines_of_page(journal: &Journal, inode: u64, page: u64) -> Stretch
+    requires inode { inode < 64 }
+    requires page { page < 256 }
+    requires within { page < pages_at journal.now.tables.files inode }
+    ensures within { (n : ℕ) → n / 64 ≡ page → has_line result n ≡ true }
+    ensures lines { IsStretchOf (file_place journal.now inode) result }
+{
+    let geo = journal.geometry();
+    match journal.unit(inode, page) {
+        Some(unit) => {
+            let line = geo.file_line(unit);
+            Stretch::new(PAGE_LINES * page, PAGE_LINES, Some(line))
+        }
+        None => Stretch::new(PAGE_LINES * page, PAGE_LINES, None),
+    }
+}
+
+// The lines of the run that a page is in, and those of a hole.
+fn lines_of_run(journal: &Journal, inode: u64, page: u64) -> Stretch
+    requires inode { inode < 64 }
+    requires page { page < 256 }
+    requires within { page < pages_at journal.now.tables.files inode }
+    ensures within { (n : ℕ) → n / 64 ≡ page → has_line result n ≡ true }
+    ensures lines { IsStretchOf (file_place journal.now inode) result }
+{
+    let geo = journal.geometry();
+    match journal.run(inode, page) {
+        Some(run) => {
+            let line = geo.file_line(run.unit);
+            Stretch::new(PAGE_LINES * run.page, PAGE_LINES * run.len, Some(line))
+        }
+        None => Stretch::new(PAGE_LINES * page, PAGE_LINES, None),
     }
 }

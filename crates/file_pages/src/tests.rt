@@ -151,6 +151,31 @@ fn first_byte<L: Lines>(files: &FilePages, dev: &mut L, line: u64) -> Result<Opt
     }
 }
 
+// Stores a byte at each offset, one after the other.
+fn store_at<L: Lines>(
+    files: &mut FilePages,
+    dev: &mut L,
+    offsets: [u64; 3],
+) -> Result<(), PageFault>
+    requires serves { IsTrue (is_settled files.old) → PagesServe files.old (L.state dev.old).medium }
+    requires held { IsTrue (is_settled files.old) → known_units files.old.journal.tables.pages files.old.journal.free ≡ files.old.journal.geo.fpages }
+    ensures serves { IsTrue (is_settled files.new) → PagesServe files.new (L.state dev.new).medium }
+    ensures held { IsTrue (is_settled files.new) → known_units files.new.journal.tables.pages files.new.journal.free ≡ files.new.journal.geo.fpages }
+{
+    store(files, dev, offsets[0], &[1])?;
+    store(files, dev, offsets[1], &[2])?;
+    store(files, dev, offsets[2], &[3])
+}
+
+// How many pages the run of the file's second page has.
+fn run_len(files: &FilePages) -> u64 {
+    let inode = file(files);
+    if 64 <= inode {
+        return 0;
+    }
+    files.journal().run(inode, 1).map_or(0, |run| run.len)
+}
+
 // A media error takes the line of a byte, if it has one.
 fn spoil<L: Lines>(files: &FilePages, dev: &mut L, offset: u64) {
     let inode = file(files);
@@ -192,6 +217,36 @@ fn a_hole_reads_as_zeros_until_it_is_stored_to(rt: HostRuntime) -> Result<(), Fa
     let mut files = open(rt.alloc(), &mut device, Choice::Firsts)?;
     assert_eq!(rt; load(&mut files, &mut device, 4088, &mut out), Ok(()));
     assert_eq!(rt; out, [0, 0, 7, 7, 7, 7, 7, 7, 8, 8, 8, 8]);
+    Ok(())
+}
+
+#[test]
+fn a_span_has_its_bytes_in_order_whatever_units_its_pages_are_on(
+    rt: HostRuntime,
+) -> Result<(), Fail> {
+    for (offsets, first, lens) in [
+        ([4095, 4096, 8192], [1, 2, 7, 3], [1, 3]),
+        ([8192, 4096, 4095], [3, 2, 7, 1], [1, 3]),
+        ([4096, 8192, 4095], [3, 1, 7, 2], [1, 2]),
+    ] {
+        let mut device = fresh(rt.alloc())?;
+        make(rt.alloc(), &mut device)?;
+        let mut files = open(rt.alloc(), &mut device, Choice::Firsts)?;
+        assert_eq!(rt; store_at(&mut files, &mut device, offsets), Ok(()));
+        assert!(rt; lens.contains(&run_len(&files)));
+        assert_eq!(rt; store(&mut files, &mut device, 4097, &[7; 4095]), Ok(()));
+        let mut out = [9; 4098];
+        assert_eq!(rt; load(&mut files, &mut device, 4095, &mut out), Ok(()));
+        assert_eq!(rt; [out[0], out[1], out[2], out[4097]], first);
+        let persists = device.counts().persists;
+        assert_eq!(rt; persist(&mut files, &mut device, 4095, 4098), Ok(()));
+        assert_eq!(rt; device.counts().persists.checked_sub(persists), Some(66));
+        spoil(&files, &mut device, 8192);
+        spoil(&files, &mut device, 8128);
+        let mut files = open(rt.alloc(), &mut device, Choice::Lasts)?;
+        let poison = Err(PageFault::Poison(8128));
+        assert_eq!(rt; load(&mut files, &mut device, 4095, &mut out), poison);
+    }
     Ok(())
 }
 

@@ -5,7 +5,7 @@ ghost use Rattle.file_pages.specs.Fresh.{AreOwn, switch_units};
 ghost use Rattle.file_pages.specs.Object.{unit_place};
 
 use crate::lines::PAGE_LINES;
-use page_lines::Places;
+use page_lines::{Places, Stretch};
 use std::marker::Model;
 use word_tables::Geometry;
 
@@ -56,5 +56,15 @@ impl<'a> Places for UnitLines<'a> {
             Some(unit) => Some(self.geo.file_line(unit) + n % PAGE_LINES),
             None => None,
         }
+    }
+
+    // The lines of a unit.
+    fn stretch(&self, n: u64, _end: u64) -> Stretch {
+        let k = n / PAGE_LINES;
+        let line = match self.unit(k) {
+            Some(unit) => Some(self.geo.file_line(unit)),
+            None => None,
+        };
+        Stretch::new(PAGE_LINES * k, PAGE_LINES, line)
     }
 }

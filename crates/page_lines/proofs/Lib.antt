@@ -14,3 +14,4 @@ pub mod SearchLemmas
 pub mod CountLemmas
 pub mod ResultLemmas
 pub mod StoreLemmas
+pub mod StretchLemmas

@@ -74,3 +74,11 @@ byte_on-write_back a b i (Some line) w = ap (byte_at ((64 * line + i % 64) % 8))
 pub placed-write_back : (place : ℕ → Option ℕ) (a b : Medium) (start len : ℕ) → WritesBack a b → list_from (placed_byte place b) start len ≡ list_from (placed_byte place a) start len
 placed-write_back place a b start len w =
     list_from-same (placed_byte place b) (placed_byte place a) start start len (λ k lt. byte_on-write_back a b (start + k) (place ((start + k) / 64)) w)
+
+-- bytes of one line, which lies at the same line of the device
+pub placed-same : (a b : ℕ → Option ℕ) (m : Medium) (n start len : ℕ) → a n ≡ b n → start / 64 ≡ n → start % 64 + len ≤ 64
+    → list_from (placed_byte a m) start len ≡ list_from (placed_byte b m) start len
+placed-same a b m n start len same here fits =
+    list_from-same (placed_byte a m) (placed_byte b m) start start len (λ k lt.
+    let on : (start + k) / 64 ≡ n = omega (arith, here, lt, fits) in
+    ap (byte_on m (start + k)) (ap a on ∙ same ∙ sym (ap b on)))

@@ -28,8 +28,12 @@ pub fn clear_lines<L: Lines, P: Places>(
     ensures runs { Runs (there_among (P.place places.now) first count) 0 (ended result)
         (L.state dev.old).panel (L.state dev.new).panel }
 {
+    let end = first + count;
+    let mut stretch = places.stretch(first, end);
     for k in 0..count {
-        clear_at(dev, places, first + k)?;
+        let n = first + k;
+        stretch = stretch.reaching(places, n, end);
+        clear_at(dev, &stretch, n)?;
     }
     Ok(())
 }

@@ -48,9 +48,13 @@ pub fn lowest_bad<L: Lines, P: Places>(
     ensures { result ≡ lowest_bad_in which (P.place places.now) (L.state dev.now).medium span }
 {
     let touched = lines_of(span);
+    let end = touched.start + touched.len;
+    let mut stretch = places.stretch(touched.start, end);
     for k in 0..touched.len {
-        if is_hit(dev, places, span, which, touched.start + k) {
-            return Some(touched.start + k);
+        let n = touched.start + k;
+        stretch = stretch.reaching(places, n, end);
+        if is_hit(dev, &stretch, span, which, n) {
+            return Some(n);
         }
     }
     None

@@ -39,12 +39,16 @@ pub fn load_lines<L: Lines, P: Places>(
         len: out.len() as u64,
     };
     let touched = lines_of(span);
+    let end = touched.start + touched.len;
+    let mut stretch = places.stretch(touched.start, end);
     for k in 0..touched.len {
-        let part = part_in(span, touched.start + k);
+        let n = touched.start + k;
+        stretch = stretch.reaching(places, n, end);
+        let part = part_in(span, n);
         let at = (part.start - offset) as usize;
         load_at(
             dev,
-            places,
+            &stretch,
             part.start,
             &mut out[at..at + part.len as usize],
         )?;

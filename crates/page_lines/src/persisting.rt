@@ -34,8 +34,12 @@ pub fn persist_lines<L: Lines, P: Places>(
         (L.state dev.old).panel (L.state dev.new).panel }
 {
     let touched = lines_of(span);
+    let end = touched.start + touched.len;
+    let mut stretch = places.stretch(touched.start, end);
     for k in 0..touched.len {
-        persist_at(dev, places, touched.start + k)?;
+        let n = touched.start + k;
+        stretch = stretch.reaching(places, n, end);
+        persist_at(dev, &stretch, n)?;
     }
     Ok(())
 }

@@ -40,8 +40,12 @@ pub fn put_lines<L: Lines, P: Places>(
         start: offset,
         len: bytes.len() as u64,
     });
+    let end = touched.start + touched.len;
+    let mut stretch = places.stretch(touched.start, end);
     for k in 0..touched.len {
-        put_at(dev, places, offset, bytes, touched.start + k)?;
+        let n = touched.start + k;
+        stretch = stretch.reaching(places, n, end);
+        put_at(dev, &stretch, offset, bytes, n)?;
     }
     Ok(())
 }

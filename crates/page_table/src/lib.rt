@@ -2,10 +2,12 @@
 #![tactic(auto)]
 
 mod judging;
+mod runs;
 mod table;
 mod word;
 
 pub use judging::TableFault;
+pub use runs::{Run, four_pages_have_runs};
 pub use table::{INODE_PAGES, INODES, PageTable, SPARE_UNITS, tables_are_right};
 
 #[cfg(test)]

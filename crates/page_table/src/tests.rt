@@ -1,6 +1,6 @@
 ghost use Rattle.std.specs.Prelude.{◌≡◌, ◌<◌};
 
-use crate::{PageTable, SPARE_UNITS, TableFault};
+use crate::{PageTable, Run, SPARE_UNITS, TableFault};
 use free_pool::Pool;
 use std::alloc::Global;
 use std::process::Abort;
@@ -127,5 +127,30 @@ fn sixteen_units_stay_free(rt: HostRuntime) -> Result<(), Fail> {
         let answer = filled(&rt, rt.alloc(), fpages, most as usize + 1).err();
         assert_eq!(rt; answer, Some(TableFault::Bad(most)), "of {fpages}");
     }
+    Ok(())
+}
+
+// The run of so many pages from one on, on units from one on.
+fn run(page: u64, unit: u64, len: u64) -> Option<Run> {
+    Some(Run { page, unit, len })
+}
+
+#[test]
+fn pages_on_neighbouring_units_are_one_run(rt: HostRuntime) -> Result<(), Fail> {
+    let words = [(100, 6), (110, 7), (120, 9), (130, 8)];
+    let (mut table, _free) = table(&rt, rt.alloc(), &[256; 64], &words)?;
+    move_page(&mut table, 100, 0);
+    move_page(&mut table, 110, 1);
+    move_page(&mut table, 120, 3);
+    assert_eq!(rt; table.run(0, 1), run(0, 5, 2));
+    assert_eq!(rt; table.run(0, 2), None);
+    assert_eq!(rt; table.run(0, 3), run(3, 8, 1));
+
+    move_page(&mut table, 130, 2);
+    assert_eq!(rt; table.run(0, 3), run(0, 5, 4));
+    move_page(&mut table, 0, 255);
+    assert_eq!(rt; table.run(0, 3), run(1, 6, 3));
+    assert_eq!(rt; table.run(0, 255), run(255, 5, 1));
+    assert_eq!(rt; table.run(1, 0), None);
     Ok(())
 }

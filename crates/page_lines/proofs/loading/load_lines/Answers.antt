@@ -7,15 +7,18 @@ use Rattle.line_device.proofs.WriteBackLemmas.{write_back-refl, write_back-trans
 use Rattle.line_words.specs.Ending.{ended}
 use Rattle.page_lines.specs.Placed.{one_there, there_in}
 use Rattle.page_lines.specs.Shown.{before_line, placed_byte}
-use Rattle.page_lines.proofs.LoadLemmas.{placed-write_back}
+use Rattle.page_lines.specs.Stretches.{stretch_place}
+use Rattle.page_lines.proofs.LoadLemmas.{placed-same, placed-write_back}
 use Rattle.page_lines.proofs.BufferLemmas.{filled_none, filled_more}
 use Rattle.page_lines.proofs.SpanLemmas.{touches-among, there_among-next, there_in-next}
+use Rattle.page_lines.proofs.StretchLemmas.{apart_along, placed_along}
 use Rattle.page_lines.proofs.loading.load_lines.Goals as goal
 
 pub loop-k-init : goal.loop-k-init
 loop-k-init g c =
     let first : c.lines_of-touched.result.start ≡ c.args.offset / 64 = ap (λ s. s.start) c.lines_of-touched.ensures.value in
     record {
+      along = c.stretch-stretch.ensures.lines;
       bytes = filled_none (placed_byte (g.P.Places.place c.args.places.now) (g.L.Lines.state c.args.dev.now).medium) _ _ c.args.out.now (omega (arith, first));
       lines = write_back-refl _;
       runs = runs-refl _;
@@ -32,7 +35,7 @@ load_at-requires-clause-good g c = λ line at.
     let is : c.part_in-part.result.start / 64 ≡ n = omega (arith, first, count, start) in
     c.loop-k.invariant.lines.bad line
     ∙ c.requires.good n line (touches-among span t n c.lines_of-touched.ensures.value c.requires.some (omega arith) (omega arith))
-    (subst (λ i. g.P.Places.place c.args.places.now i ≡ Some line) is at)
+    (placed_along (g.P.Places.place c.args.places.now) c.reaching-stretch.result c.reaching-stretch.ensures.lines n line (subst (λ i. stretch_place c.reaching-stretch.result i ≡ Some line) is at))
 
 pub returns-in_err-load_at-clause-lines : goal.returns-in_err-load_at-clause-lines
 returns-in_err-load_at-clause-lines g c = write_back-trans _ _ _ c.loop-k.invariant.lines c.in_err-load_at.ensures.lines
@@ -51,12 +54,13 @@ loop-k-preserved g c =
     let start = ap (λ s. s.start) c.part_in-part.ensures in
     let len = ap (λ s. s.len) c.part_in-part.ensures in
     let is : part.start / 64 ≡ t.start + k = omega (arith, first, count, start) in
-    let there = ap (λ i. one_there (place i)) is in
+    let there = ap (λ i. one_there (stretch_place c.reaching-stretch.result i)) is ∙ ap one_there c.reaching-stretch.ensures.line in
     let more = there_among-next place t.start k in
     let size : length (take (part.start - c.args.offset + part.len - (part.start - c.args.offset)) (drop (part.start - c.args.offset) c.loop-k.out)) ≡ part.len =
     omega (arith, length-take {A = ℕ}, length-drop {A = ℕ}, c.loop-k.auto.out, first, count, start, len) in
-    let loaded = c.in_ok-load_at.ensures.ok ∙ placed-write_back place old now part.start _ c.loop-k.invariant.lines in
+    let loaded = c.in_ok-load_at.ensures.ok ∙ placed-same (stretch_place c.reaching-stretch.result) place now (t.start + k) part.start _ c.reaching-stretch.ensures.line is (omega (arith, size, first, count, start, len)) ∙ placed-write_back place old now part.start _ c.loop-k.invariant.lines in
     record {
+      along = c.reaching-stretch.ensures.lines;
       bytes =
           filled_more (placed_byte place old) c.args.offset (before_line span (t.start + k)) (part.start - c.args.offset) part.start _ _ _ c.args.out.now c.loop-k.out c.load_at.new.out
           c.loop-k.invariant.bytes loaded (omega (arith, first, count, start)) (omega (arith, first, count, start))
@@ -75,9 +79,13 @@ returns-in_err-load_at-clause-runs g c =
     let count = ap (λ s. s.len) c.lines_of-touched.ensures.value in
     let start = ap (λ s. s.start) c.part_in-part.ensures in
     let is : c.part_in-part.result.start / 64 ≡ t.start + k = omega (arith, first, count, start) in
-    let there = ap (λ i. one_there (place i)) is in
+    let there = ap (λ i. one_there (stretch_place c.reaching-stretch.result i)) is ∙ ap one_there c.reaching-stretch.ensures.line in
     let most = there_in-next place span t k c.lines_of-touched.ensures.value (omega arith) in
     let failed = err_from_is_err_and c.from_residual.result c.from_residual.ensures.1 in
     let same : ended {T = Unit {0}} (Err c.in_err-load_at.field-0.0) ≡ ended c.from_residual.result = sym (ap ended (failed.1 ∙ ap (λ e. Err e) failed.2)) in
     subst (λ end. Runs (there_in place span) 0 end (g.L.Lines.state c.args.dev.now).panel (g.L.Lines.state c.load_at.new.dev).panel) same
     (runs_within _ _ _ _ _ _ _ (runs_then _ _ _ _ _ _ _ _ c.loop-k.invariant.runs c.in_err-load_at.ensures.runs) (omega (arith, most, there)) (omega arith))
+
+pub load_at-requires-clause-apart : goal.load_at-requires-clause-apart
+load_at-requires-clause-apart g c =
+    apart_along (g.P.Places.place c.args.places.now) c.reaching-stretch.result c.reaching-stretch.ensures.lines _ _ c.loop-k.invariant.lines.count c.requires.apart

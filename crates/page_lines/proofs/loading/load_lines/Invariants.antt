@@ -5,6 +5,7 @@ use Rattle.line_device.specs.Panel.Outcome.{went}
 use Rattle.page_lines.specs.Placed.{there_among}
 use Rattle.page_lines.specs.Shown.{before_line, placed_byte}
 use Rattle.page_lines.proofs.BufferLemmas.{IsFilled}
+use Rattle.page_lines.specs.Stretches.{IsStretchOf}
 use Rattle.page_lines.proofs.loading.load_lines.Given as goal
 
 -- the bytes of the lines below this one are there
@@ -14,6 +15,7 @@ invariant-loop-k g l =
     let now = g.L.Lines.state l.dev in
     let place = g.P.Places.place l.places in
     record {
+      along : IsStretchOf place l.stretch;
       bytes : IsFilled (placed_byte place old.medium) l.offset (before_line l.span (l.touched.start + l.k)) l.initial.out l.out;
       lines : WritesBack old.medium now.medium;
       runs : Runs (there_among place l.touched.start l.k) 0 went old.panel now.panel;

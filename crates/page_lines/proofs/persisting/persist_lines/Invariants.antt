@@ -4,6 +4,7 @@ use Rattle.line_device.specs.Panel.Outcome.{went}
 use Rattle.nvm_model.specs.Cell.{persist_cell}
 use Rattle.page_lines.specs.Placed.{there_among}
 use Rattle.page_lines.proofs.LoopLemmas.{Reached}
+use Rattle.page_lines.specs.Stretches.{IsStretchOf}
 use Rattle.page_lines.proofs.persisting.persist_lines.Given as goal
 
 abbrev pub invariant-loop-k : goal.invariant-loop-k
@@ -13,6 +14,7 @@ invariant-loop-k g l =
     let place = g.P.Places.place l.places in
     let some = there_among place l.touched.start l.k in
     record {
+      along : IsStretchOf place l.stretch;
       reached : Reached place (persist_cell l.fn.span.start l.fn.span.len) l.touched.start (l.touched.start + l.k) old.medium new.medium;
       runs : Runs some some went old.panel new.panel;
     }
