@@ -14,6 +14,7 @@ mod lines;
 mod loading;
 mod mounting;
 mod queries;
+mod reading;
 mod renewing;
 mod storing;
 mod syncing;

@@ -16,7 +16,7 @@ use super::refusals::most_refusal;
 use file_pages::PageFault;
 use line_device::LineDevice;
 use line_words::Interruption;
-use nvm_base::{Bytes, MOST, Name, PAGE};
+use nvm_base::{Bytes, MOST, Name, PAGE, Span};
 use reply_text::{Reply, Why};
 use std::alloc::AllocError;
 
@@ -80,13 +80,10 @@ impl Host {
         requires within { offset + len ≤ 4096 * pages_at self.old.files.pages.journal.tables.files inode }
         ensures { Responds (FRead name.now offset len) result self.old self.new (D.state device.old) (D.state device.new) }
     {
+        let span = Span { start: offset, len };
         let mut bytes = Bytes::new(self.alloc);
-        bytes.repeat(0, len)?;
-        match self
-            .files
-            .pages
-            .load_into(device, inode, offset, bytes.as_mut_slice())
-        {
+        bytes.reserve(len)?;
+        match self.files.pages.read(device, inode, span, &mut bytes) {
             Ok(()) => Ok(Reply::Bytes(bytes)),
             Err(fault) => Ok(self.page_fault(name, fault)),
         }

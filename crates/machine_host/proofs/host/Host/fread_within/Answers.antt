@@ -1,11 +1,11 @@
-use Rattle.std.proofs.Common.{◌≡◌, ◌+◌, ◌*◌, ◌++◌, ◌≤◌, Ok, Err, Some, length, drop, sym, ap, subst, ◌∙◌, arith}
+use Rattle.std.proofs.Common.{◌≡◌, ◌+◌, ◌*◌, ◌++◌, ◌≤◌, Ok, Err, Some, length, sym, ap, subst, ◌∙◌, arith}
 use Rattle.inode_table.specs.Slots.{inode_of, pages_at}
-use Rattle.line_words.specs.Told.{Answers}
 use Rattle.nvm_base.specs.Units.{units_of}
+use Rattle.nvm_model.specs.Page.{look}
 use Rattle.page_lines.proofs.CountLemmas.{there_in_most}
 use Rattle.file_pages.specs.Costs.{lines_there}
 use Rattle.file_pages.specs.Object.{file_place}
-use Rattle.file_pages.specs.Refusals.{page_says, read_refusal}
+use Rattle.file_pages.specs.Refusals.{page_says}
 use Rattle.reply_text.specs.Answer.{IsPrintable}
 use Rattle.reply_text.specs.Answer.Answer.{Bytes}
 use Rattle.reply_text.specs.Room.{most_of}
@@ -14,7 +14,6 @@ use Rattle.machine_host.specs.OnPages.{page_answer}
 use Rattle.machine_host.specs.Stands.{HostState}
 use Rattle.machine_host.proofs.CallLemmas.{printable_told, short_told}
 use Rattle.machine_host.proofs.FilePageLemmas.{pages_part, read_answered}
-use Rattle.machine_host.proofs.LoadLemmas.{loaded_bytes, loaded_size, taken_short}
 use Rattle.machine_host.proofs.host.Host.fread_within.Goals as goal
 
 pub returns-in-Ok : goal.returns-in-Ok
@@ -23,21 +22,20 @@ returns-in-Ok g c =
     let now = c.args.self.now in
     let host : HostState = record { geometry = c.self.inside.geometry; mode = c.self.inside.mode; blocks = c.self.inside.blocks; volume = c.self.inside.volume; files = c.self.inside.files } in
     let name = c.args.name.now in
-    let items = c.repeat.new.self.items in
-    let lent = c.as_mut_slice.ensures.value in
-    let size : length items ≡ c.args.len = loaded_size c.args.len _ items c.new-bytes.ensures c.in_ok-repeat.ensures.ok in
-    let asked : length c.as_mut_slice.result.now ≡ c.args.len = ap length lent ∙ size in
+    let items = c.read.new.out.items in
+    let none = c.in_ok-reserve.ensures.items ∙ c.new-bytes.ensures in
+    let before = ap length none in
+    let size : length items ≡ c.args.len = omega (arith, said.length, before) in
     let here : inode_of name host.files.pages.journal.tables.files ≡ Some c.args.inode = ap (λ (k : HostState). inode_of name k.files.pages.journal.tables.files) c.self.view_is ∙ c.requires.named in
-    let few : lines_there host.files.pages.journal c.args.inode c.args.offset (length c.as_mut_slice.result.now) ≤ (units_of 64 (record { start = c.args.offset; len = c.args.len })).len =
-    subst (λ n. lines_there host.files.pages.journal c.args.inode c.args.offset (length c.as_mut_slice.result.now) ≤ (units_of 64 (record { start = c.args.offset; len = n })).len) asked
-    (there_in_most (file_place host.files.pages.journal c.args.inode) (record { start = c.args.offset; len = length c.as_mut_slice.result.now })) in
-    let short = taken_short c.args.len items (c.load_into.new.out ++ drop (length c.load_into.new.out) items) size in
-    read_answered now host _ c.load_into.new.self (Ok tt) name c.args.inode c.args.offset c.args.len _ (g.D.Lines.state c.args.device.now) (g.D.Lines.state c.load_into.new.dev) c.self.view_is
-    (ap (λ m. record { geometry = c.self.inside.geometry; mode = m; blocks = c.self.inside.blocks; volume = c.self.inside.volume; files = record { pages = c.load_into.new.self; mappings = c.self.inside.files.mappings; events = c.self.inside.files.events } }) (ap (λ k. k.mode) c.self.view_is ∙ c.requires.on))
+    let few : lines_there host.files.pages.journal c.args.inode c.args.offset c.args.len ≤ (units_of 64 (record { start = c.args.offset; len = c.args.len })).len =
+    there_in_most (file_place host.files.pages.journal c.args.inode) (record { start = c.args.offset; len = c.args.len }) in
+    let short : most_of (Bytes items) ≤ 72 + 3 * c.args.len = omega (arith, size) in
+    read_answered now host _ c.read.new.self (Ok tt) name c.args.inode c.args.offset c.args.len _ (g.D.Lines.state c.args.device.now) (g.D.Lines.state c.read.new.dev) c.self.view_is
+    (ap (λ m. record { geometry = c.self.inside.geometry; mode = m; blocks = c.self.inside.blocks; volume = c.self.inside.volume; files = record { pages = c.read.new.self; mappings = c.self.inside.files.mappings; events = c.self.inside.files.events } }) (ap (λ k. k.mode) c.self.view_is ∙ c.requires.on))
     c.requires.on c.requires.serves here few tt said.lines said.serves said.object said.runs _ c.requires.some c.requires.few
     (subst (λ (k : HostState). c.args.offset + c.args.len ≤ 4096 * pages_at k.files.pages.journal.tables.files c.args.inode) (sym c.self.view_is) c.requires.within)
-    (λ files file at. subst (λ n. Answers page_says (read_refusal file.pages c.args.offset n) (Ok tt)) asked (said.refused files file at))
-    (λ files file at. ap (λ bytes. Bytes bytes) (loaded_bytes c.args.len c.as_mut_slice.result.now items c.load_into.new.out file.pages c.args.offset lent size (said.ok files file at)))
+    said.refused
+    (λ files file at. ap (λ bytes. Bytes bytes) (said.ok files file at ∙ ap (λ before. before ++ look file.pages c.args.offset c.args.len) none))
     tt (omega (arith, short, c.requires.few))
 
 pub returns-in-Err : goal.returns-in-Err
@@ -46,21 +44,17 @@ returns-in-Err g c =
     let now = c.args.self.now in
     let host : HostState = record { geometry = c.self.inside.geometry; mode = c.self.inside.mode; blocks = c.self.inside.blocks; volume = c.self.inside.volume; files = c.self.inside.files } in
     let name = c.args.name.now in
-    let items = c.repeat.new.self.items in
-    let size : length items ≡ c.args.len = loaded_size c.args.len _ items c.new-bytes.ensures c.in_ok-repeat.ensures.ok in
-    let asked : length c.as_mut_slice.result.now ≡ c.args.len = ap length c.as_mut_slice.ensures.value ∙ size in
     let here : inode_of name host.files.pages.journal.tables.files ≡ Some c.args.inode = ap (λ (k : HostState). inode_of name k.files.pages.journal.tables.files) c.self.view_is ∙ c.requires.named in
-    let few : lines_there host.files.pages.journal c.args.inode c.args.offset (length c.as_mut_slice.result.now) ≤ (units_of 64 (record { start = c.args.offset; len = c.args.len })).len =
-    subst (λ n. lines_there host.files.pages.journal c.args.inode c.args.offset (length c.as_mut_slice.result.now) ≤ (units_of 64 (record { start = c.args.offset; len = n })).len) asked
-    (there_in_most (file_place host.files.pages.journal c.args.inode) (record { start = c.args.offset; len = length c.as_mut_slice.result.now })) in
+    let few : lines_there host.files.pages.journal c.args.inode c.args.offset c.args.len ≤ (units_of 64 (record { start = c.args.offset; len = c.args.len })).len =
+    there_in_most (file_place host.files.pages.journal c.args.inode) (record { start = c.args.offset; len = c.args.len }) in
     let told = sym c.page_fault.ensures.answer in
     let short = subst (λ a. most_of a ≤ 72) told (short_told (page_answer name) (pages_part name).short (page_says c.in-Err.fault)) in
-    read_answered now host _ c.load_into.new.self (Err c.in-Err.fault) name c.args.inode c.args.offset c.args.len _ (g.D.Lines.state c.args.device.now) (g.D.Lines.state c.load_into.new.dev) c.self.view_is
-    (c.page_fault.ensures.state ∙ ap (λ m. record { geometry = c.self.inside.geometry; mode = page_fault_mode m c.in-Err.fault; blocks = c.self.inside.blocks; volume = c.self.inside.volume; files = record { pages = c.load_into.new.self; mappings = c.self.inside.files.mappings; events = c.self.inside.files.events } }) (ap (λ k. k.mode) c.self.view_is ∙ c.requires.on))
+    read_answered now host _ c.read.new.self (Err c.in-Err.fault) name c.args.inode c.args.offset c.args.len _ (g.D.Lines.state c.args.device.now) (g.D.Lines.state c.read.new.dev) c.self.view_is
+    (c.page_fault.ensures.state ∙ ap (λ m. record { geometry = c.self.inside.geometry; mode = page_fault_mode m c.in-Err.fault; blocks = c.self.inside.blocks; volume = c.self.inside.volume; files = record { pages = c.read.new.self; mappings = c.self.inside.files.mappings; events = c.self.inside.files.events } }) (ap (λ k. k.mode) c.self.view_is ∙ c.requires.on))
     c.requires.on c.requires.serves here few
     (λ refused. let same = said.untouched refused in (same.0, ap (λ d. g.D.Lines.state d) same.2)) said.lines said.serves said.object said.runs _ c.requires.some c.requires.few
     (subst (λ (k : HostState). c.args.offset + c.args.len ≤ 4096 * pages_at k.files.pages.journal.tables.files c.args.inode) (sym c.self.view_is) c.requires.within)
-    (λ files file at. subst (λ n. Answers {T = Unit {0}} page_says (read_refusal file.pages c.args.offset n) (Err c.in-Err.fault)) asked (said.refused files file at))
+    said.refused
     (λ files file at. c.page_fault.ensures.answer)
     (subst IsPrintable told (printable_told (page_answer name) (pages_part name).printable (page_says c.in-Err.fault)))
     (omega (arith, short))
