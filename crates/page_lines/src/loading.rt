@@ -57,7 +57,7 @@ pub fn load_lines<L: Lines, P: Places>(
 }
 
 // The bytes of the span that lie in line n.
-fn part_in(span: Span, n: u64) -> Span
+pub(crate) fn part_in(span: Span, n: u64) -> Span
     requires small { span.start + span.len ≤ 2 ^ 40 }
     requires touched { (64 * n < span.start + span.len) × (span.start < 64 * n + 64) }
     ensures { result ≡ part_of span n }

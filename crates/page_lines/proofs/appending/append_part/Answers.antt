@@ -1,7 +1,7 @@
 use Rattle.std.proofs.Common.{◌%◌, ◌++◌, ap, ◌∙◌}
 use Rattle.line_device.proofs.WriteBackLemmas.{write_back-refl}
 use Rattle.page_lines.proofs.LoadLemmas.{device-line, placed-line, placed-nowhere}
-use Rattle.file_pages.proofs.reading.append_part.Goals as goal
+use Rattle.page_lines.proofs.appending.append_part.Goals as goal
 
 pub load-requires-clause-within : goal.load-requires-clause-within
 load-requires-clause-within g c = (c.requires.healthy c.in-Some.line c.in-Some.is).0

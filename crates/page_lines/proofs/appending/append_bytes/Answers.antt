@@ -1,6 +1,6 @@
 use Rattle.std.proofs.Common.{◌≡◌, ◌+◌, ◌-◌, ◌++◌, ap, take, drop, ◌∙◌, arith}
 use Rattle.page_lines.proofs.LoadLemmas.{list_from-line}
-use Rattle.file_pages.proofs.reading.append_bytes.Goals as goal
+use Rattle.page_lines.proofs.appending.append_bytes.Goals as goal
 
 pub returns-clause-bytes : goal.returns-clause-bytes
 returns-clause-bytes c =

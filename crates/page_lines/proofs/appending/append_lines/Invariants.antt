@@ -6,15 +6,14 @@ use Rattle.nvm_model.specs.Numbered.{list_from}
 use Rattle.page_lines.specs.Placed.{there_among}
 use Rattle.page_lines.specs.Shown.{before_line, placed_byte}
 use Rattle.page_lines.specs.Stretches.{IsStretchOf}
-use Rattle.file_pages.specs.Object.{unit_place}
-use Rattle.file_pages.proofs.reading.append_lines.Given as goal
+use Rattle.page_lines.proofs.appending.append_lines.Given as goal
 
 -- the bytes of the lines below this one are there, and room for the others
 abbrev pub invariant-loop-k : goal.invariant-loop-k
 invariant-loop-k g l =
     let old = g.L.Lines.state l.initial.dev in
     let now = g.L.Lines.state l.dev in
-    let place = unit_place l.lines.geo l.lines.units in
+    let place = g.P.Places.place l.places in
     let done = before_line l.span (l.touched.start + l.k) in
     record {
       along : IsStretchOf place l.stretch;

@@ -11,8 +11,7 @@ use Rattle.page_lines.specs.Placed.{one_there, there_in}
 use Rattle.page_lines.specs.Shown.{before_line, placed_byte}
 use Rattle.page_lines.proofs.LoadLemmas.{placed-same, placed-write_back}
 use Rattle.page_lines.proofs.SpanLemmas.{there_among-next, there_in-next, touches-among}
-use Rattle.file_pages.specs.Object.{unit_place}
-use Rattle.file_pages.proofs.reading.append_lines.Goals as goal
+use Rattle.page_lines.proofs.appending.append_lines.Goals as goal
 
 -- a piece more
 appended : (f : ℕ → ℕ) (start n len more : ℕ) (before items piece : List ℕ) → items ≡ before ++ list_from f start n → piece ≡ list_from f (start + n) len → n + len ≡ more
@@ -25,7 +24,7 @@ appended f start n len more before items piece is next total =
 pub loop-k-init : goal.loop-k-init
 loop-k-init g c =
     let first : c.lines_of-touched.result.start ≡ c.args.span.start / 64 = ap (λ s. s.start) c.lines_of-touched.ensures.value in
-    let f = placed_byte (unit_place c.args.lines.now.geo c.args.lines.now.units) (g.L.Lines.state c.args.dev.now).medium in
+    let f = placed_byte (g.P.Places.place c.args.places.now) (g.L.Lines.state c.args.dev.now).medium in
     let none : before_line c.args.span (c.lines_of-touched.result.start + 0) ≡ 0 = omega (arith, first) in
     record {
       along = c.stretch-stretch.ensures.lines;
@@ -54,7 +53,7 @@ loop-k-preserved g c =
     let t = c.lines_of-touched.result in
     let part = c.part_in.result in
     let n = t.start + c.loop-k.k in
-    let place = unit_place c.args.lines.now.geo c.args.lines.now.units in
+    let place = g.P.Places.place c.args.places.now in
     let old = (g.L.Lines.state c.args.dev.now).medium in
     let now = (g.L.Lines.state c.loop-k.dev).medium in
     let first : t.start ≡ span.start / 64 = ap (λ s. s.start) c.lines_of-touched.ensures.value in
@@ -80,7 +79,7 @@ pub returns-in_err-append_part-clause-runs : goal.returns-in_err-append_part-cla
 returns-in_err-append_part-clause-runs g c =
     let span = c.args.span in
     let k = c.loop-k.k in
-    let place = unit_place c.args.lines.now.geo c.args.lines.now.units in
+    let place = g.P.Places.place c.args.places.now in
     let there = ap one_there (c.line.ensures ∙ c.reaching-stretch.ensures.line) in
     let most = there_in-next place span c.lines_of-touched.result k c.lines_of-touched.ensures.value (omega arith) in
     let failed = err_from_is_err_and c.from_residual.result c.from_residual.ensures.1 in
