@@ -7,6 +7,7 @@ ghost use Rattle.file_pages.specs.Object.{PagesServe, is_settled};
 use crate::{MapFault, Mappings};
 use file_journal::{Journal, MountFault};
 use file_pages::FilePages;
+use indexmap::IndexMap;
 use line_device::{LineDevice, Lines, Plain, ResetFault};
 use nvm_base::{Kind, LineNo, Name, Span};
 use std::alloc::Global;
@@ -258,5 +259,42 @@ fn there_are_256_mappings_at_a_time(rt: HostRuntime) -> Result<(), Fail> {
         ),
         Ok(256)
     );
+    Ok(())
+}
+
+// As if all handles but the last had been given.
+fn with_one_handle_left(alloc: Global) -> Mappings {
+    Mappings {
+        alloc,
+        maps: IndexMap::new(alloc),
+        next: u64::from(u32::MAX),
+    }
+}
+
+#[test]
+fn handles_end(rt: HostRuntime) -> Result<(), Fail> {
+    let name = Name::read(b"a").ok_or("no name")?;
+    let mut device = fresh(rt.alloc())?;
+    make(rt.alloc(), &mut device, &name)?;
+    let mut files = open(rt.alloc(), &mut device)?;
+    let mut maps = with_one_handle_left(rt.alloc());
+    let last = map(
+        &mut maps,
+        &mut device,
+        &mut files,
+        &name,
+        WHOLE,
+        Kind::Shared,
+    );
+    assert_eq!(rt; last, Ok(4_294_967_295));
+    let none = map(
+        &mut maps,
+        &mut device,
+        &mut files,
+        &name,
+        WHOLE,
+        Kind::Shared,
+    );
+    assert_eq!(rt; none, Err(MapFault::Limit));
     Ok(())
 }
