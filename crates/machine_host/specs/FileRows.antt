@@ -25,11 +25,11 @@ all_ok count = map (λ _. codes "ok") (range_with_len 0 count)
 
 pub record FileRows : Type 0 where
   pub made_listed_and_deleted : Writes
-      (text (codes "list" ∷ codes "create a 0" ∷ codes "create a 1" ∷ codes "create b 257" ∷ codes "rename a a" ∷ codes "list" ∷ codes "delete a"
-      ∷ codes "delete a" ∷ []))
+      (text (codes "list" ∷ codes "create a 0" ∷ codes "create a 1" ∷ codes "create b 257" ∷ codes "fread a 0 1" ∷ codes "rename a a"
+      ∷ codes "list" ∷ codes "delete a" ∷ codes "delete a" ∷ []))
       []
-      (codes "files" ∷ codes "ok" ∷ codes "refused exists" ∷ codes "refused limit" ∷ codes "refused exists" ∷ codes "files a:0" ∷ codes "ok"
-      ∷ codes "refused missing" ∷ [])
+      (codes "files" ∷ codes "ok" ∷ codes "refused exists" ∷ codes "refused limit" ∷ codes "refused range" ∷ codes "refused exists"
+      ∷ codes "files a:0" ∷ codes "ok" ∷ codes "refused missing" ∷ [])
   pub sixty_four_files : Writes (text (creations 64 ++ codes "create g 0" ∷ [])) [] (all_ok 64 ++ codes "refused slots" ∷ [])
   pub slot_that_a_delete_frees : Writes
       (text (creations 64 ++ codes "delete f5" ∷ codes "create g 0" ∷ codes "create h 0" ∷ codes "create h 257" ∷ codes "create g 257" ∷ []))

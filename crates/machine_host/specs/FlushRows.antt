@@ -1,6 +1,6 @@
 -- Worked scripts that make bytes of mapped files durable: what the machine writes.
 use Rattle.std.specs.Prelude.{[], ◌∷◌, codes}
-use Rattle.line_device.specs.declared.line.Choice.TheVariants.{Firsts}
+use Rattle.line_device.specs.declared.line.Choice.TheVariants.{Firsts, Lasts}
 use Rattle.machine_host.specs.PageRows.{with_first_page}
 use Rattle.machine_host.specs.Rows.{leaving, text, Writes}
 
@@ -10,6 +10,11 @@ pub record FlushRows : Type 0 where
       ∷ []))
       (leaving Firsts (with_first_page 97 1 []) ∷ [])
       (codes "ok" ∷ codes "handle 0" ∷ codes "ok" ∷ codes "ok" ∷ codes "ok bad 0" ∷ codes "data 00*8" ∷ [])
+  pub mapped_store_kept : Writes
+      (text (codes "create a 1" ∷ codes "map a 0 4096 shared" ∷ codes "store 0 0 ff*8" ∷ codes "cut" ∷ codes "restart all" ∷ codes "fread a 0 8"
+      ∷ []))
+      (leaving Lasts (with_first_page 97 1 ((24064, 18446744073709551615) ∷ [])) ∷ [])
+      (codes "ok" ∷ codes "handle 0" ∷ codes "ok" ∷ codes "ok" ∷ codes "ok bad 0" ∷ codes "data ff*8" ∷ [])
   pub synced_store_kept : Writes
       (text (codes "create a 1" ∷ codes "map a 0 4096 shared" ∷ codes "store 0 0 ff*8" ∷ codes "sync 0 0 1" ∷ codes "cut" ∷ codes "restart none"
       ∷ codes "fread a 0 8" ∷ []))

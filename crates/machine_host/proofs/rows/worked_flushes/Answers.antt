@@ -25,6 +25,7 @@ unfolding digits word_from byte_over word_over reaches number_of runs_of data_wi
 returns c = record {
   flushes = record {
     mapped_store_lost = refl;
+    mapped_store_kept = refl;
     synced_store_kept = refl;
     weak_line_flushed = refl;
     weak_line_verified = refl;
