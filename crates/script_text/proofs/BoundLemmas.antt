@@ -1,16 +1,16 @@
 -- How large what a line asks for can be.
 use Rattle.std.proofs.Common.{◌≡◌, ℕ, Bool, true, false, List, [], ◌∷◌, Option, Some, None, Result, Ok, Err, if◌then◌else◌, IfOk, IfSome, refl, subst}
 use Rattle.script_text.specs.Action.{Action, action_of}
-use Rattle.script_text.specs.Action.Action.{BRead, BWrite, BDiscard, BDiscardIf, BExists, BAtomic, BScar, VLoad, VStore, VSync, VRanges, VPSync, VDiscard, VDiscardIf, VExists, Create, Delete, Rename, Resize, ListFiles, FRead, FWrite, Map, Unmap, Load, Store, Sync, Flush, FlushVerify, DeepFlush, NextEvent, CheckFile, PoisonBlock, PoisonVolume, PoisonFile, PoisonMeta, WeakenFile, WeakenVolume, ClearFile, ClearVolume, Cut, CutIn, FailIn, Restart, Recover}
-use Rattle.script_text.specs.Operands.{span_action, data_action, spans_action}
-use Rattle.script_text.specs.Script.{cut_action, fail_action, restart_action, poison_action, map_action, power_action, media_action, mapped_action, files_action, volume_action, plain_action, flushing_action, storing_action, command_action, is_comment, asked, words_input}
+use Rattle.script_text.specs.Action.Action.{BRead, BWrite, BDiscard, BDiscardIf, BExists, BAtomic, BScar, BMulti, VLoad, VStore, VSync, VRanges, VPSync, VDiscard, VDiscardIf, VExists, Create, Delete, Rename, Resize, ListFiles, FRead, FWrite, FAtomic, FMulti, FDiscard, FSync, Map, Unmap, Load, Store, Sync, Flush, FlushVerify, DeepFlush, NextEvent, CheckFile, PoisonBlock, PoisonVolume, PoisonFile, PoisonMeta, WeakenFile, WeakenVolume, ClearFile, ClearVolume, Cut, CutIn, FailIn, Restart, Recover}
+use Rattle.script_text.specs.Operands.{span_action, data_action, spans_action, ranges_action}
+use Rattle.script_text.specs.Script.{cut_action, fail_action, restart_action, poison_action, map_action, power_action, media_action, mapped_action, files_action, volume_action, plain_action, flushing_action, storing_action, writing_action, command_action, is_comment, asked, words_input}
 use Rattle.script_text.specs.Script.Input.{Skipped, Asked}
 use Rattle.line_device.specs.declared.line.Choice.TheVariants.{Firsts, Lasts, Seed}
 use Rattle.script_text.specs.declared.parsing.LineFault.{LineFault}
 use Rattle.script_text.specs.declared.command.Command.{Command}
 use Rattle.script_text.specs.Parsing.{InBounds, Parses}
 use Rattle.script_text.proofs.OperandLemmas.{IsName, Keeps, Keeps-none, Keeps-cond, bare_action-bounds, number_action-bounds, span_action-bounds, name_action-bounds, names_action-bounds, sized_action-bounds, data_action-bounds, named_action-bounds, numbered_action-bounds, kind_action-bounds, placed_action-bounds}
-use Rattle.script_text.proofs.PairLemmas.{spans_action-bounds, multi_action-bounds}
+use Rattle.script_text.proofs.PairLemmas.{spans_action-bounds, ranges_action-bounds}
 
 cut_action-bounds : (words : List (List ℕ)) → Keeps (cut_action words)
 cut_action-bounds [] = λ action e. let same : Cut ≡ action = cc in subst InBounds same tt
@@ -68,7 +68,9 @@ files_action-bounds name words =
     (Keeps-cond _ _ _ (names_action-bounds Rename (λ file to p q. (p, q)) words)
     (Keeps-cond _ _ _ (sized_action-bounds Resize (λ file a p q. (p, q)) words)
     (Keeps-cond _ _ _ (bare_action-bounds ListFiles tt words)
-    (Keeps-cond _ _ _ (named_action-bounds (λ file. span_action (FRead file)) (λ file rest good. span_action-bounds (FRead file) (λ a b p q. (good, p, q)) rest) words) (mapped_action-bounds name words))))))
+    (Keeps-cond _ _ _ (named_action-bounds (λ file. span_action (FRead file)) (λ file rest good. span_action-bounds (FRead file) (λ a b p q. (good, p, q)) rest) words)
+    (Keeps-cond _ _ _ (named_action-bounds (λ file. span_action (FDiscard file)) (λ file rest good. span_action-bounds (FDiscard file) (λ a b p q. (good, p, q)) rest) words)
+    (Keeps-cond _ _ _ (name_action-bounds FSync (λ file p. p) words) (mapped_action-bounds name words))))))))
 
 volume_action-bounds : (name : List ℕ) (words : List (List ℕ)) → Keeps (volume_action name words)
 volume_action-bounds name words =
@@ -97,6 +99,12 @@ storing_action-bounds : (name : List ℕ) (words : List (List ℕ)) → Keeps (s
 storing_action-bounds name words =
     Keeps-cond _ _ _ (numbered_action-bounds (λ h. data_action (Store h)) (λ h rest good. data_action-bounds (Store h) (λ a bytes p q r. (good, p, q, r)) rest) words) (flushing_action-bounds name words)
 
+writing_action-bounds : (name : List ℕ) (words : List (List ℕ)) → Keeps (writing_action name words)
+writing_action-bounds name words =
+    Keeps-cond _ _ _ (named_action-bounds (λ file. data_action (FWrite file)) (λ file rest good. data_action-bounds (FWrite file) (λ a bytes p q r. (good, p, q, r)) rest) words)
+    (Keeps-cond _ _ _ (named_action-bounds (λ file. data_action (FAtomic file)) (λ file rest good. data_action-bounds (FAtomic file) (λ a bytes p q r. (good, p, q, r)) rest) words)
+    (Keeps-cond _ _ _ (named_action-bounds (λ file. ranges_action (FMulti file)) (λ file rest good. ranges_action-bounds (FMulti file) (λ ranges bytes small. (good, small)) rest) words) (storing_action-bounds name words)))
+
 command_action-bounds : (name : List ℕ) (words : List (List ℕ)) → Keeps (command_action name words)
 unfolding command_action
 command_action-bounds name words =
@@ -104,8 +112,7 @@ command_action-bounds name words =
     (Keeps-cond _ _ _ (data_action-bounds VStore (λ a bytes p q r. (p, q, r)) words)
     (Keeps-cond _ _ _ (spans_action-bounds BScar (λ spans some each. (some, each)) words)
     (Keeps-cond _ _ _ (data_action-bounds BAtomic (λ a bytes p q r. (p, q, r)) words)
-    (Keeps-cond _ _ _ (multi_action-bounds words)
-    (Keeps-cond _ _ _ (named_action-bounds (λ file. data_action (FWrite file)) (λ file rest good. data_action-bounds (FWrite file) (λ a bytes p q r. (good, p, q, r)) rest) words) (storing_action-bounds name words))))))
+    (Keeps-cond _ _ _ (ranges_action-bounds BMulti (λ ranges bytes small. small) words) (writing_action-bounds name words)))))
 
 asked-bounds : (o : Option Action) (action : Action) → Keeps o → asked o ≡ Asked action → InBounds action
 asked-bounds None action small e = absurd (cc)

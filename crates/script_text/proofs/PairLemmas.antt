@@ -6,9 +6,8 @@ use Rattle.nvm_base.specs.declared.units.Span.{Span}
 use Rattle.nvm_base.specs.Numbers.{number_of}
 use Rattle.nvm_base.specs.Data.{data_of}
 use Rattle.script_text.specs.Action.{Action}
-use Rattle.script_text.specs.Action.Action.{BMulti}
 use Rattle.script_text.specs.Operands.{with_span, spans_of, spans_action, with_range, ranges_of, fitting, ranges_action}
-use Rattle.script_text.specs.Parsing.{InBounds, IsSmall, IsSmallRange}
+use Rattle.script_text.specs.Parsing.{InBounds, IsSmall, IsSmallRange, AreSmallRanges}
 use Rattle.script_text.proofs.DataLemmas.{data_of-some}
 use Rattle.script_text.proofs.OperandLemmas.{Keeps, number_of-below}
 
@@ -85,19 +84,19 @@ ranges_of-some x (text ∷ words) p e = go (number_of x) (data_of text) (ranges_
         let same : (record { start = a; len = length b } ∷ q.0, b ++ q.1) ≡ p = cc in
         subst (λ r. 0 < length r.0) same (omega arith)
 
-pub multi_action-bounds : (words : List (List ℕ)) (action : Action) → ranges_action BMulti words ≡ Some action → InBounds action
-multi_action-bounds [] action e = absurd (cc)
-multi_action-bounds (x ∷ words) action e = go (ranges_of (x ∷ words)) refl e
+pub ranges_action-bounds : (make : List Span → List ℕ → Action) → ((ranges : List Span) (bytes : List ℕ) → AreSmallRanges ranges bytes → InBounds (make ranges bytes)) → (words : List (List ℕ)) → Keeps (ranges_action make words)
+ranges_action-bounds make good [] action e = absurd (cc)
+ranges_action-bounds make good (x ∷ words) action e = go (ranges_of (x ∷ words)) refl e
   where
     sized : (p : List Span × List ℕ) (b : Bool) → nat_le (length p.1) 65536 ≡ b → ranges_of (x ∷ words) ≡ Some p
-        → option_map (λ p. BMulti p.0 p.1) (if b then Some p else None) ≡ Some action → InBounds action
+        → option_map (λ p. make p.0 p.1) (if b then Some p else None) ≡ Some action → InBounds action
     sized p true t is e =
-        let same : BMulti p.0 p.1 ≡ action = cc in
+        let same : make p.0 p.1 ≡ action = cc in
         let most : length p.1 ≤ 65536 = search (rules, tests) in
         let small = ranges_of-small (x ∷ words) p is most in
-        subst InBounds same (ranges_of-some x words p is, small.0, small.1, most)
+        subst InBounds same (good p.0 p.1 (ranges_of-some x words p is, small.0, small.1, most))
     sized p false t is e = absurd (cc)
 
-    go : (o : Option (List Span × List ℕ)) → ranges_of (x ∷ words) ≡ o → option_map (λ p. BMulti p.0 p.1) (fitting 65536 o) ≡ Some action → InBounds action
+    go : (o : Option (List Span × List ℕ)) → ranges_of (x ∷ words) ≡ o → option_map (λ p. make p.0 p.1) (fitting 65536 o) ≡ Some action → InBounds action
     go None is e = absurd (cc)
     go (Some p) is e = sized p (nat_le (length p.1) 65536) refl is e

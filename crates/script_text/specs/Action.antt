@@ -30,6 +30,10 @@ pub data Action : Type 0 where
   ListFiles : Action
   FRead : List ℕ → ℕ → ℕ → Action
   FWrite : List ℕ → ℕ → List ℕ → Action
+  FAtomic : List ℕ → ℕ → List ℕ → Action
+  FMulti : List ℕ → List Span → List ℕ → Action
+  FDiscard : List ℕ → ℕ → ℕ → Action
+  FSync : List ℕ → Action
   Map : List ℕ → Span → Kind → Action
   Unmap : ℕ → Action
   Load : ℕ → ℕ → ℕ → Action
@@ -79,6 +83,10 @@ action_of (command.Resize name pages) = Resize name pages
 action_of command.List = ListFiles
 action_of (command.FRead name offset len) = FRead name offset len
 action_of (command.FWrite name offset bytes) = FWrite name offset bytes.items
+action_of (command.FAtomic name offset bytes) = FAtomic name offset bytes.items
+action_of (command.FMulti name ranges bytes) = FMulti name ranges.items bytes.items
+action_of (command.FDiscard name page count) = FDiscard name page count
+action_of (command.FSync name) = FSync name
 action_of (command.Map name span kind) = Map name span kind
 action_of (command.Unmap handle) = Unmap handle
 action_of (command.Load handle offset len) = Load handle offset len

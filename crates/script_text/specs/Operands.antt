@@ -90,7 +90,7 @@ with_range (Some start) (Some bytes) None = None
 with_range (Some start) None rest = None
 with_range None bytes rest = None
 
--- ranges from pairs of a block and DATA, their lengths in bytes, and the bytes one after another
+-- ranges from pairs of a number and DATA, their lengths in bytes, and the bytes one after another
 abbrev pub ranges_of : List (List ℕ) → Option (List Span × List ℕ)
 ranges_of [] = Some ([], [])
 ranges_of (a ∷ []) = None

@@ -9,7 +9,7 @@ use Rattle.script_text.specs.declared.command.Command.{Command}
 use Rattle.script_text.specs.declared.parsing.LineFault.{LineFault}
 use Rattle.script_text.specs.declared.parsing.LineFault.TheVariants.{Syntax, Memory}
 use Rattle.script_text.specs.Action.{Action, action_of}
-use Rattle.script_text.specs.Action.Action.{BRead, BWrite, BDiscard, BDiscardIf, BExists, BScar, BAtomic, BMulti, VLoad, VStore, VSync, VRanges, VPSync, VDiscard, VDiscardIf, VExists, Create, Delete, Rename, Resize, ListFiles, FRead, FWrite, Map, Unmap, Load, Store, Sync, Flush, FlushVerify, DeepFlush, NextEvent, CheckFile, PoisonBlock, PoisonVolume, PoisonFile, PoisonMeta, WeakenFile, WeakenVolume, ClearFile, ClearVolume, Cut, CutIn, FailIn, Restart, Recover}
+use Rattle.script_text.specs.Action.Action.{BRead, BWrite, BDiscard, BDiscardIf, BExists, BScar, BAtomic, BMulti, VLoad, VStore, VSync, VRanges, VPSync, VDiscard, VDiscardIf, VExists, Create, Delete, Rename, Resize, ListFiles, FRead, FWrite, FAtomic, FMulti, FDiscard, FSync, Map, Unmap, Load, Store, Sync, Flush, FlushVerify, DeepFlush, NextEvent, CheckFile, PoisonBlock, PoisonVolume, PoisonFile, PoisonMeta, WeakenFile, WeakenVolume, ClearFile, ClearVolume, Cut, CutIn, FailIn, Restart, Recover}
 use Rattle.std.specs.Borrow.{Bor}
 use Rattle.script_text.specs.Operands.{fitting, ranges_of, spans_of, with_range}
 use Rattle.script_text.specs.Script.{Input, words_of}
@@ -27,7 +27,7 @@ ReadsSpans asks (Ok spans) = asks ≡ Some spans.items
 ReadsSpans asks (Err Syntax) = asks ≡ None
 ReadsSpans asks (Err Memory) = Unit {0}
 
--- what came of words that are pairs of a block and DATA
+-- what came of words that are pairs of a number and DATA
 abbrev pub ReadsRanges : Option (List Span × List ℕ) → Result (Stock Span × Stock ℕ) LineFault → Type 0
 ReadsRanges asks (Ok p) = asks ≡ Some (p.0.items, p.1.items)
 ReadsRanges asks (Err Syntax) = asks ≡ None
@@ -43,7 +43,7 @@ Parses input (Err Memory) = Unit {0}
 -- the name of a command that brings a list
 abbrev pub IsLong : List ℕ → Type 0
 IsLong name = (name ≡ codes "bwrite") ⊎ (name ≡ codes "vstore") ⊎ (name ≡ codes "bscar") ⊎ (name ≡ codes "batomic") ⊎ (name ≡ codes "bmulti") ⊎ (name ≡ codes "fwrite")
-    ⊎ (name ≡ codes "store") ⊎ (name ≡ codes "flush") ⊎ (name ≡ codes "flushv") ⊎ (name ≡ codes "deepflush")
+    ⊎ (name ≡ codes "fatomic") ⊎ (name ≡ codes "fmulti") ⊎ (name ≡ codes "store") ⊎ (name ≡ codes "flush") ⊎ (name ≡ codes "flushv") ⊎ (name ≡ codes "deepflush")
 
 -- the words are of such a command
 abbrev pub BringsMore : List (List ℕ) → Type 0
@@ -57,6 +57,11 @@ IsSmall span = (span.start < 2 ^ 32) × (span.len < 2 ^ 32)
 -- a range begins below 2 ^ 32 and has 1 to 65,536 bytes
 abbrev pub IsSmallRange : Span → Type 0
 IsSmallRange range = (range.start < 2 ^ 32) × (1 ≤ range.len) × (range.len ≤ 65536)
+
+-- there is such a range or more, and these bytes are theirs, 65,536 together at most
+abbrev pub AreSmallRanges : List Span → List ℕ → Type 0
+AreSmallRanges ranges bytes = (0 < length ranges) × All IsSmallRange ranges
+    × (length bytes ≡ sum_by (λ (r : Span). r.len) ranges) × (length bytes ≤ 65536)
 
 -- a seed is below 2 ^ 32
 abbrev pub IsSmallChoice : Choice → Type 0
@@ -73,8 +78,7 @@ InBounds (BDiscardIf block count) = (block < 2 ^ 32) × (count < 2 ^ 32)
 InBounds (BExists block) = block < 2 ^ 32
 InBounds (BScar ranges) = (0 < length ranges) × All IsSmall ranges
 InBounds (BAtomic block bytes) = (block < 2 ^ 32) × (0 < length bytes) × (length bytes ≤ 65536)
-InBounds (BMulti ranges bytes) = (0 < length ranges) × All IsSmallRange ranges
-    × (length bytes ≡ sum_by (λ (r : Span). r.len) ranges) × (length bytes ≤ 65536)
+InBounds (BMulti ranges bytes) = AreSmallRanges ranges bytes
 InBounds (VLoad offset len) = (offset < 2 ^ 32) × (len < 2 ^ 32)
 InBounds (VStore offset bytes) = (offset < 2 ^ 32) × (0 < length bytes) × (length bytes ≤ 65536)
 InBounds (VSync offset len) = (offset < 2 ^ 32) × (len < 2 ^ 32)
@@ -90,6 +94,10 @@ InBounds (Resize name pages) = (is_name name ≡ true) × (pages < 2 ^ 32)
 InBounds ListFiles = Unit {0}
 InBounds (FRead name offset len) = (is_name name ≡ true) × (offset < 2 ^ 32) × (len < 2 ^ 32)
 InBounds (FWrite name offset bytes) = (is_name name ≡ true) × (offset < 2 ^ 32) × (0 < length bytes) × (length bytes ≤ 65536)
+InBounds (FAtomic name offset bytes) = (is_name name ≡ true) × (offset < 2 ^ 32) × (0 < length bytes) × (length bytes ≤ 65536)
+InBounds (FMulti name ranges bytes) = (is_name name ≡ true) × AreSmallRanges ranges bytes
+InBounds (FDiscard name page count) = (is_name name ≡ true) × (page < 2 ^ 32) × (count < 2 ^ 32)
+InBounds (FSync name) = is_name name ≡ true
 InBounds (Map name span kind) = (is_name name ≡ true) × IsSmall span
 InBounds (Unmap handle) = handle < 2 ^ 32
 InBounds (Load handle offset len) = (handle < 2 ^ 32) × (offset < 2 ^ 32) × (len < 2 ^ 32)

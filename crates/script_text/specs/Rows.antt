@@ -1,12 +1,12 @@
 -- Worked lines: what they ask for.
 use Rattle.std.specs.Prelude.{◌≡◌, ℕ, [], ◌∷◌, ◌++◌, replicate, codes}
 use Rattle.nvm_base.specs.declared.units.Span.{Span}
-use Rattle.script_text.specs.Action.Action.{BAtomic, BMulti, VRanges, VPSync, VDiscard, VDiscardIf, VExists, Create, Delete, Rename, Resize, ListFiles, FRead, FWrite, PoisonBlock, PoisonVolume, PoisonMeta, WeakenVolume, ClearVolume, Cut, CutIn, FailIn, Restart, Recover}
+use Rattle.script_text.specs.Action.Action.{BAtomic, BMulti, VRanges, VPSync, VDiscard, VDiscardIf, VExists, Create, Delete, Rename, Resize, ListFiles, FRead, FWrite, FAtomic, FMulti, FDiscard, FSync, PoisonBlock, PoisonVolume, PoisonMeta, WeakenVolume, ClearVolume, Cut, CutIn, FailIn, Restart, Recover}
 use Rattle.line_device.specs.declared.line.Choice.TheVariants.{Firsts, Seed}
 use Rattle.script_text.specs.Script.{line_input}
 use Rattle.script_text.specs.Script.Input.{Malformed, Asked}
 
--- a range of blocks from its first block and its length in bytes
+-- a range from its first block or byte and its length in bytes
 abbrev pub range : ℕ → ℕ → Span
 range start len = record { start = start; len = len }
 
@@ -58,6 +58,17 @@ pub record LineRows : Type 0 where
   pub file_written_twice : line_input (codes "fwrite log 0 11 22") ≡ Malformed
   pub write_of_no_file : line_input (codes "fwrite 0 11") ≡ Malformed
   pub too_many_bytes_of_a_file : line_input (codes "fwrite log 0 aa*65537") ≡ Malformed
+  pub file_written_at_once : line_input (codes "fatomic log 4088 0102,ff*3") ≡ Asked (FAtomic (codes "log") 4088 (1 ∷ 2 ∷ 255 ∷ 255 ∷ 255 ∷ []))
+  pub ranges_of_a_file : line_input (codes "fmulti log 4088 0102 0 ff*3")
+      ≡ Asked (FMulti (codes "log") (range 4088 2 ∷ range 0 3 ∷ []) (1 ∷ 2 ∷ 255 ∷ 255 ∷ 255 ∷ []))
+  pub range_of_a_file_without_bytes : line_input (codes "fmulti log 0 11 64") ≡ Malformed
+  pub no_range_of_a_file : line_input (codes "fmulti log") ≡ Malformed
+  pub ranges_of_no_file : line_input (codes "fmulti 0 11 64 22") ≡ Malformed
+  pub too_many_bytes_of_a_file_together : line_input (codes "fmulti log 0 00*40000 65536 00*40000") ≡ Malformed
+  pub pages_of_a_file_discarded : line_input (codes "fdiscard log 1 2") ≡ Asked (FDiscard (codes "log") 1 2)
+  pub pages_of_a_file_not_counted : line_input (codes "fdiscard log 1") ≡ Malformed
+  pub file_synced : line_input (codes "fsync log") ≡ Asked (FSync (codes "log"))
+  pub two_files_synced : line_input (codes "fsync log head") ≡ Malformed
   pub line_of_a_block_poisoned : line_input (codes "poison block 3 7") ≡ Asked (PoisonBlock 3 7)
   pub line_of_the_volume_poisoned : line_input (codes "poison volume 4032") ≡ Asked (PoisonVolume 4032)
   pub line_of_the_metadata_poisoned : line_input (codes "poison meta 2303") ≡ Asked (PoisonMeta 2303)

@@ -5,7 +5,7 @@ use Rattle.std.specs.Str.{bytes_eq}
 use Rattle.std.specs.Io.BufRead.{strip_last}
 use Rattle.line_device.specs.declared.line.Choice.TheVariants.{Firsts, Lasts, Seed}
 use Rattle.script_text.specs.Action.{Action}
-use Rattle.script_text.specs.Action.Action.{BRead, BWrite, BDiscard, BDiscardIf, BExists, BScar, BAtomic, BMulti, VLoad, VStore, VSync, VRanges, VPSync, VDiscard, VDiscardIf, VExists, Create, Delete, Rename, Resize, ListFiles, FRead, FWrite, Map, Unmap, Load, Store, Sync, Flush, FlushVerify, DeepFlush, NextEvent, CheckFile, PoisonBlock, PoisonVolume, PoisonFile, PoisonMeta, WeakenFile, WeakenVolume, ClearFile, ClearVolume, Cut, CutIn, FailIn, Restart, Recover}
+use Rattle.script_text.specs.Action.Action.{BRead, BWrite, BDiscard, BDiscardIf, BExists, BScar, BAtomic, BMulti, VLoad, VStore, VSync, VRanges, VPSync, VDiscard, VDiscardIf, VExists, Create, Delete, Rename, Resize, ListFiles, FRead, FWrite, FAtomic, FMulti, FDiscard, FSync, Map, Unmap, Load, Store, Sync, Flush, FlushVerify, DeepFlush, NextEvent, CheckFile, PoisonBlock, PoisonVolume, PoisonFile, PoisonMeta, WeakenFile, WeakenVolume, ClearFile, ClearVolume, Cut, CutIn, FailIn, Restart, Recover}
 use Rattle.script_text.specs.Operands.{bare_action, number_action, span_action, name_action, names_action, sized_action, data_action, named_action, numbered_action, kind_action, spans_action, ranges_action, placed_action}
 
 -- a line: nothing to do, no command, or what it asks for
@@ -56,7 +56,7 @@ map_action file words = numbered_action (λ start. numbered_action (λ len. kind
 
 -- What a command's name and words ask for, None where they are no command: of those on the power, of these and those on
 -- bad and weak lines, of these and those on mappings and events, on files, and on the volume that bring no list, of all that
--- bring no list, of these and the flushes of a mapping, of these and a store to a mapping, of all.
+-- bring no list, of these and the flushes of a mapping, of these and a store to a mapping, of these and writes to a file, of all.
 abbrev pub power_action : List ℕ → List (List ℕ) → Option Action
 power_action name words =
     if bytes_eq name (codes "cut") then cut_action words
@@ -86,7 +86,9 @@ files_action name words =
     else (if bytes_eq name (codes "rename") then names_action Rename words
     else (if bytes_eq name (codes "resize") then sized_action Resize words
     else (if bytes_eq name (codes "list") then bare_action ListFiles words
-    else (if bytes_eq name (codes "fread") then named_action (λ file. span_action (FRead file)) words else mapped_action name words)))))
+    else (if bytes_eq name (codes "fread") then named_action (λ file. span_action (FRead file)) words
+    else (if bytes_eq name (codes "fdiscard") then named_action (λ file. span_action (FDiscard file)) words
+    else (if bytes_eq name (codes "fsync") then name_action FSync words else mapped_action name words)))))))
 
 abbrev pub volume_action : List ℕ → List (List ℕ) → Option Action
 volume_action name words =
@@ -114,14 +116,19 @@ flushing_action name words =
 abbrev pub storing_action : List ℕ → List (List ℕ) → Option Action
 storing_action name words = if bytes_eq name (codes "store") then numbered_action (λ handle. data_action (Store handle)) words else flushing_action name words
 
+abbrev pub writing_action : List ℕ → List (List ℕ) → Option Action
+writing_action name words =
+    if bytes_eq name (codes "fwrite") then named_action (λ file. data_action (FWrite file)) words
+    else (if bytes_eq name (codes "fatomic") then named_action (λ file. data_action (FAtomic file)) words
+    else (if bytes_eq name (codes "fmulti") then named_action (λ file. ranges_action (FMulti file)) words else storing_action name words))
+
 unfoldable pub command_action : List ℕ → List (List ℕ) → Option Action
 command_action name words =
     if bytes_eq name (codes "bwrite") then data_action BWrite words
     else (if bytes_eq name (codes "vstore") then data_action VStore words
     else (if bytes_eq name (codes "bscar") then spans_action BScar words
     else (if bytes_eq name (codes "batomic") then data_action BAtomic words
-    else (if bytes_eq name (codes "bmulti") then ranges_action BMulti words
-    else (if bytes_eq name (codes "fwrite") then named_action (λ file. data_action (FWrite file)) words else storing_action name words)))))
+    else (if bytes_eq name (codes "bmulti") then ranges_action BMulti words else writing_action name words))))
 
 abbrev pub asked : Option Action → Input
 asked None = Malformed

@@ -1,8 +1,8 @@
 use line_device::Choice;
 use nvm_base::{Bytes, Kind, Name, Span, Spans};
 
-/// A command of a script. Blocks and pages of the volume are numbered and counted; offsets and lengths are in bytes of
-/// the volume, of a file or from a mapping's start, addresses in bytes of the device.
+/// A command of a script. Blocks, and pages of the volume or of a file, are numbered and counted; offsets and lengths are
+/// in bytes of the volume, of a file or from a mapping's start, addresses in bytes of the device.
 #[derive(Debug, Drop)]
 pub enum Command {
     BRead {
@@ -93,6 +93,28 @@ pub enum Command {
         name: Name,
         offset: u64,
         bytes: Bytes,
+    },
+    /// The bytes are there wholly or not at all, wherever the power goes.
+    FAtomic {
+        name: Name,
+        offset: u64,
+        bytes: Bytes,
+    },
+    /// As `FAtomic`, of several ranges at once, whose bytes follow each other.
+    FMulti {
+        name: Name,
+        ranges: Spans,
+        bytes: Bytes,
+    },
+    /// Pages of the file become holes.
+    FDiscard {
+        name: Name,
+        page: u64,
+        count: u64,
+    },
+    /// The whole file becomes durable.
+    FSync {
+        name: Name,
     },
     /// A span of the file is shown, or a copy of it.
     Map {

@@ -23,6 +23,10 @@ pub(crate) fn read_files(name: &[u8], words: &[u8]) -> Option<Command>
         read_bare(Command::List, words)
     } else if name == b"fread".as_slice() {
         read_part(words).map(|(name, offset, len)| Command::FRead { name, offset, len })
+    } else if name == b"fdiscard".as_slice() {
+        read_part(words).map(|(name, page, count)| Command::FDiscard { name, page, count })
+    } else if name == b"fsync".as_slice() {
+        read_name(words).map(|name| Command::FSync { name })
     } else {
         read_mapped(name, words)
     }

@@ -18,6 +18,7 @@ mod spans;
 #[cfg(test)]
 mod tests;
 mod words;
+mod writes;
 
 pub use command::Command;
 pub use lines::split_line;

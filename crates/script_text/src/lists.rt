@@ -1,18 +1,16 @@
 // Commands that bring a list.
 ghost use Rattle.std.specs.Prelude.{◌≡◌, IfErr};
 ghost use Rattle.script_text.specs.Action.{action_of};
-ghost use Rattle.script_text.specs.Action.Action.{BAtomic, BMulti, BScar, BWrite, FWrite, VStore};
-ghost use Rattle.script_text.specs.Operands.{data_action, named_action, ranges_action, spans_action};
+ghost use Rattle.script_text.specs.Action.Action.{BAtomic, BMulti, BScar, BWrite, VStore};
+ghost use Rattle.script_text.specs.Operands.{data_action, ranges_action, spans_action};
 ghost use Rattle.script_text.specs.Parsing.{IsLong, ParsesAs};
 ghost use Rattle.script_text.specs.Script.{command_action, words_of};
 
-use crate::mapped::read_storing;
 use crate::operands::read_data;
 use crate::ranges::read_ranges;
 use crate::spans::read_spans;
-use crate::words::next_word;
+use crate::writes::read_writing;
 use crate::{Command, LineFault};
-use nvm_base::Name;
 use std::alloc::Global;
 
 // The command of that name with those words after it.
@@ -31,10 +29,8 @@ pub(crate) fn read_command(alloc: Global, name: &[u8], words: &[u8]) -> Result<C
         read_atomic(alloc, words)
     } else if name == b"bmulti".as_slice() {
         read_multi(alloc, words)
-    } else if name == b"fwrite".as_slice() {
-        read_file_write(alloc, words)
     } else {
-        read_storing(alloc, name, words)
+        read_writing(alloc, name, words)
     }
 }
 
@@ -79,26 +75,6 @@ fn read_multi(alloc: Global, words: &[u8]) -> Result<Command, LineFault>
 {
     match read_ranges(alloc, words) {
         Ok((ranges, bytes)) => Ok(Command::BMulti { ranges, bytes }),
-        Err(fault) => Err(fault),
-    }
-}
-
-// A name, a number and DATA.
-fn read_file_write(alloc: Global, words: &[u8]) -> Result<Command, LineFault>
-    ensures { ParsesAs action_of (named_action (λ file. data_action (FWrite file)) (words_of words.now)) result }
-{
-    let Some((name, rest)) = next_word(words) else {
-        return Err(LineFault::Syntax);
-    };
-    let Some(name) = Name::read(name) else {
-        return Err(LineFault::Syntax);
-    };
-    match read_data(alloc, rest) {
-        Ok((offset, bytes)) => Ok(Command::FWrite {
-            name,
-            offset,
-            bytes,
-        }),
         Err(fault) => Err(fault),
     }
 }

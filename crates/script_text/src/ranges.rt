@@ -1,4 +1,4 @@
-// Pairs of a block and DATA, as many as there are.
+// Pairs of a number and DATA, as many as there are.
 ghost use Rattle.std.specs.Prelude.{ℕ, ◌≤◌, List};
 ghost use Rattle.nvm_base.specs.declared.units.Span.{Span as Stretch};
 ghost use Rattle.script_text.specs.Action.{Action};

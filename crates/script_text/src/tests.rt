@@ -5,6 +5,7 @@ use std::alloc::{AllocError, Global};
 
 mod files;
 mod mappings;
+mod natives;
 
 // What a line gave. Of bytes and of spans it tells how many there are.
 #[derive(Clone, Copy, Debug, PartialEq, Eq)]
@@ -34,6 +35,10 @@ enum Gave {
     List,
     FRead(Name, u64, u64),
     FWrite(Name, u64, u64),
+    FAtomic(Name, u64, u64),
+    FMulti(Name, u64, u64),
+    FDiscard(Name, u64, u64),
+    FSync(Name),
     Map(Name, Span, Kind),
     Unmap(u64),
     LoadMapped(u64, u64, u64),
@@ -98,6 +103,18 @@ fn given(command: &Command) -> Gave {
             offset,
             bytes,
         } => Gave::FWrite(*name, *offset, bytes.len()),
+        Command::FAtomic {
+            name,
+            offset,
+            bytes,
+        } => Gave::FAtomic(*name, *offset, bytes.len()),
+        Command::FMulti {
+            name,
+            ranges,
+            bytes,
+        } => Gave::FMulti(*name, ranges.len(), bytes.len()),
+        Command::FDiscard { name, page, count } => Gave::FDiscard(*name, *page, *count),
+        Command::FSync { name } => Gave::FSync(*name),
         Command::Map { name, span, kind } => Gave::Map(*name, *span, *kind),
         Command::Unmap { handle } => Gave::Unmap(*handle),
         Command::Load {
