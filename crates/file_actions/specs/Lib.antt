@@ -1,0 +1,3 @@
+pub mod Rewriting
+pub mod Refusals
+pub mod Costs

@@ -1,0 +1,1 @@
+// When actions are refused. None of this makes a counted call.
