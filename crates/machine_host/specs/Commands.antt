@@ -9,7 +9,7 @@ use Rattle.nvm_model.specs.Storage.{Block, File, Mapping}
 use Rattle.block_device.specs.Images.{IsEither}
 use Rattle.word_tables.specs.declared.geometry.Geometry.{Geometry}
 use Rattle.script_text.specs.Action.{Action}
-use Rattle.script_text.specs.Action.Action.{BRead, BWrite, BAtomic, BMulti, BDiscard, BDiscardIf, BExists, BScar, VLoad, VStore, VSync, VRanges, VPSync, VDiscard, VDiscardIf, VExists, Create, Delete, Rename, Resize, ListFiles, FRead, FWrite, Map, Unmap, Load, Store, Sync, Flush, FlushVerify, DeepFlush, NextEvent, CheckFile, PoisonBlock, PoisonVolume, PoisonFile, PoisonMeta, WeakenFile, WeakenVolume, ClearFile, ClearVolume, Cut, CutIn, FailIn, Restart, Recover}
+use Rattle.script_text.specs.Action.Action.{BRead, BWrite, BAtomic, BMulti, BDiscard, BDiscardIf, BExists, BScar, VLoad, VStore, VSync, VRanges, VPSync, VDiscard, VDiscardIf, VExists, Create, Delete, Rename, Resize, ListFiles, FRead, FWrite, FAtomic, FMulti, FDiscard, FSync, Map, Unmap, Load, Store, Sync, Flush, FlushVerify, DeepFlush, NextEvent, CheckFile, PoisonBlock, PoisonVolume, PoisonFile, PoisonMeta, WeakenFile, WeakenVolume, ClearFile, ClearVolume, Cut, CutIn, FailIn, Restart, Recover}
 use Rattle.reply_text.specs.Answer.{Answer}
 use Rattle.reply_text.specs.Answer.Answer.{Refused}
 use Rattle.machine_host.specs.declared.mode.Mode.{Mode}
@@ -24,6 +24,7 @@ use Rattle.machine_host.specs.OnBlocks as on_blocks
 use Rattle.machine_host.specs.OnVolume as on_volume
 use Rattle.machine_host.specs.OnFiles as on_files
 use Rattle.machine_host.specs.OnPages as on_file_pages
+use Rattle.machine_host.specs.OnFileActions as on_file_actions
 use Rattle.machine_host.specs.OnMappings as on_mappings
 use Rattle.machine_host.specs.OnFlushes as on_flushes
 use Rattle.machine_host.specs.OnMedia as on_media
@@ -55,6 +56,10 @@ meaning (Resize name pages) = on_files.resize name pages
 meaning ListFiles = on_files.list_files
 meaning (FRead name offset len) = on_file_pages.fread name offset len
 meaning (FWrite name offset bytes) = on_file_pages.fwrite name offset bytes
+meaning (FAtomic name offset bytes) = on_file_actions.fatomic name offset bytes
+meaning (FMulti name ranges bytes) = on_file_actions.fmulti name ranges bytes
+meaning (FDiscard name page count) = on_file_actions.fdiscard name page count
+meaning (FSync name) = on_file_actions.fsync name
 meaning (Map name span kind) = on_mappings.map_file name span kind
 meaning (Unmap handle) = on_mappings.unmap handle
 meaning (Load handle offset len) = on_mappings.load handle offset len

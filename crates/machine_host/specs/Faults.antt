@@ -39,6 +39,9 @@ use Rattle.machine_host.specs.OnVolume.{volume_answer}
 use Rattle.machine_host.specs.OnFiles.{journal_answer}
 use Rattle.machine_host.specs.OnPages.{page_answer}
 use Rattle.machine_host.specs.OnMappings.{map_answer}
+use Rattle.file_actions.specs.Refusals.{action_says}
+use Rattle.file_actions.specs.declared.fault.ActionFault.{ActionFault}
+use Rattle.machine_host.specs.OnFileActions.{action_answer}
 use Rattle.mappings.specs.Refusals.{map_says}
 use Rattle.mappings.specs.declared.fault.MapFault.{MapFault}
 use Rattle.pm_volume.specs.declared.fault.VolumeFault.{VolumeFault}
@@ -124,6 +127,13 @@ page_fault_mode mode fault = told_mode mode (page_says fault)
 
 abbrev pub page_fault_answer : List ℕ → PageFault → Answer
 page_fault_answer name fault = told_answer (page_answer name) (page_says fault)
+
+-- and of the actions on it
+abbrev pub action_fault_mode : Mode → ActionFault → Mode
+action_fault_mode mode fault = told_mode mode (action_says fault)
+
+abbrev pub action_fault_answer : List ℕ → ActionFault → Answer
+action_fault_answer name fault = told_answer (action_answer name) (action_says fault)
 
 -- and of the mappings
 abbrev pub map_fault_mode : Mode → MapFault → Mode

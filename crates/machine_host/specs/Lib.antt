@@ -10,6 +10,7 @@ pub mod OnMappings
 pub mod OnEvents
 pub mod OnFlushes
 pub mod Flushing
+pub mod OnFileActions
 pub mod OnMedia
 pub mod OnFileErrors
 pub mod OnPower
@@ -36,3 +37,4 @@ pub mod FlushRows
 pub mod FileErrorRows
 pub mod EventRows
 pub mod PageRows
+pub mod FileActionRows

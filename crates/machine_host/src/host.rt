@@ -1,4 +1,5 @@
 // The host: it refuses a command, or performs it on the device and answers it by one line.
+mod actions;
 mod blocks;
 mod commands;
 mod events;

@@ -10,6 +10,7 @@ ghost use Rattle.machine_host.specs.MappingRows.{MappingRows};
 ghost use Rattle.machine_host.specs.FlushRows.{FlushRows};
 ghost use Rattle.machine_host.specs.FileErrorRows.{FileErrorRows};
 ghost use Rattle.machine_host.specs.EventRows.{EventRows};
+ghost use Rattle.machine_host.specs.FileActionRows.{FileActionRows, FileActionRuns};
 
 /// What the machine writes for the worked scripts.
 pub fn worked_scripts()
@@ -57,6 +58,12 @@ pub fn worked_flushes()
 /// What it writes for those with media errors of files.
 pub fn worked_file_errors()
     ensures errors { FileErrorRows }
+{}
+
+/// What it writes for those with actions on whole files, and what it may write after a cut in an atomic write.
+pub fn worked_file_actions()
+    ensures actions { FileActionRows }
+    ensures may_write { FileActionRuns }
 {}
 
 /// What it writes for those that are told of bad lines of files.

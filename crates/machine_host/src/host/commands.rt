@@ -50,6 +50,10 @@ pub fn longest_reply(command: &Command) -> u64
         | Command::Rename { .. }
         | Command::Resize { .. }
         | Command::FWrite { .. }
+        | Command::FAtomic { .. }
+        | Command::FMulti { .. }
+        | Command::FDiscard { .. }
+        | Command::FSync { .. }
         | Command::Map { .. }
         | Command::Unmap { .. }
         | Command::Store { .. }
@@ -116,6 +120,24 @@ impl Host {
                 offset,
                 bytes,
             } => Ok(self.fwrite(device, name, *offset, bytes.as_slice())),
+            Command::FAtomic {
+                name,
+                offset,
+                bytes,
+            } => Ok(self.fatomic(device, name, *offset, bytes.as_slice())),
+            Command::FMulti {
+                name,
+                ranges,
+                bytes,
+            } => Ok(self.fmulti(device, name, ranges.as_slice(), bytes.as_slice())),
+            Command::FDiscard { name, page, count } => {
+                let pages = Span {
+                    start: *page,
+                    len: *count,
+                };
+                Ok(self.fdiscard(device, name, pages))
+            }
+            Command::FSync { name } => Ok(self.fsync(device, name)),
             Command::Map { name, span, kind } => self.map(device, name, *span, *kind),
             Command::Unmap { handle } => Ok(self.unmap(device, *handle)),
             Command::Load {

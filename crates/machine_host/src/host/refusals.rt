@@ -101,6 +101,10 @@ fn needs(command: &Command) -> Needs
         | Command::List
         | Command::FRead { .. }
         | Command::FWrite { .. }
+        | Command::FAtomic { .. }
+        | Command::FMulti { .. }
+        | Command::FDiscard { .. }
+        | Command::FSync { .. }
         | Command::Map { .. }
         | Command::Unmap { .. }
         | Command::Load { .. }
@@ -160,6 +164,10 @@ fn place_refusal(geo: Geometry, command: &Command) -> Option<Why>
         | Command::List
         | Command::FRead { .. }
         | Command::FWrite { .. }
+        | Command::FAtomic { .. }
+        | Command::FMulti { .. }
+        | Command::FDiscard { .. }
+        | Command::FSync { .. }
         | Command::Map { .. }
         | Command::Unmap { .. }
         | Command::Load { .. }
