@@ -1,0 +1,12 @@
+use Rattle.std.proofs.Common.{ℕ, List, Err, sym, subst}
+use Rattle.nvm_base.specs.Stock.{Stock}
+use Rattle.script_text.specs.Operands.{data_action}
+use Rattle.script_text.specs.Parsing.{ParsesAs}
+use Rattle.script_text.specs.Script.{words_of}
+use Rattle.script_text.proofs.OperandLemmas.{named_action-first}
+use Rattle.script_text.proofs.writes.read_named_data.Goals as goal
+
+pub returns-in-Err : goal.returns-in-Err
+returns-in-Err c make =
+    let asks = named_action-first (λ file. data_action (make file)) (words_of c.args.words.now) _ _ c.in-Some-read.name c.in-Some.ensures c.in-Some-read.ensures.value in
+    subst (λ o. ParsesAs {T = List ℕ × ℕ × Stock ℕ} (λ p. make p.0 p.1 p.2.items) o (Err c.in-Err.fault)) (sym asks) (c.in-Err.ensures (make c.in-Some-read.name))
