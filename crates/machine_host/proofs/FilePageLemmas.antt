@@ -122,7 +122,7 @@ module _ (now host : HostState) (old : Device) (inside : host ≡ now) (on : now
         ∙ meta_refused Meta (page_answer name) (λ n. refl) host.files.pages.journal.geo old.medium.is_bad
     meta_seen false = refl
 
-    units_seen : pages_used h.files ≡ used_pages host.files.pages.journal.tables.pages
+    pub units_seen : pages_used h.files ≡ used_pages host.files.pages.journal.tables.pages
     units_seen = used_seen host.files.pages.journal.geo old.medium host.files.pages.journal.tables h.files right_now (files_seen now host old h inside on serves stands)
 
     pub named_seen : (o : Option ℕ) → o ≡ inode_of name host.files.pages.journal.tables.files → has_file file_name name h.files ≡ is_some o

@@ -54,6 +54,11 @@ pub mod UsedPageLemmas
 pub mod FilePageFateLemmas
 pub mod FilePageCallLemmas
 pub mod FilePageLemmas
+mod EitherFileLemmas
+mod WeakPageLemmas
+pub mod FileChangeLemmas
+pub mod FileActionFateLemmas
+pub mod FileActionLemmas
 pub mod LoadLemmas
 pub mod MediaLemmas
 pub mod PoisonLemmas
@@ -67,6 +72,7 @@ pub mod FileCheckLemmas
 mod FailureRunLemmas
 mod FileRunLemmas
 mod PageStoreRunLemmas
+mod FileActionRunLemmas
 mod LineSumLemmas
 mod WeakLineLemmas
 mod WeakFileLemmas

@@ -47,20 +47,20 @@ use Rattle.nvm_model.specs.Events.{bad_numbers, restart_events}
 abbrev first_stored : List Page
 first_stored = put 0 (5 ∷ []) (fill 0 1 (new_file (codes "a") 2).pages)
 
-abbrev one_file : List Page → List File
+abbrev pub one_file : List Page → List File
 one_file pages = record { name = codes "a"; pages = pages } ∷ []
 
 abbrev struck : Machine
 struck = record (while_interrupted (record (fresh small) { files = one_file first_stored }) the_file_store) { mode = modes.Off }
 
 -- an image whose tables have the file on these units keeps its last values
-kept_on : (image : Image) (units : List (Option ℕ)) (pages : List Page) → files_of (tables_read small image.word) ≡ record { name = codes "a"; units = units } ∷ []
+pub kept_on : (choice : Choice) (image : Image) (units : List (Option ℕ)) (pages : List Page) → files_of (tables_read small image.word) ≡ record { name = codes "a"; units = units } ∷ []
     → presence_of pages ≡ pages_there (record { name = codes "a"; units = units }) → pages_last (line_of_file small (record { name = codes "a"; units = units })) image pages ≡ true
-    → KeepsFiles Firsts small image (one_file pages)
-kept_on image units pages is there last =
+    → KeepsFiles choice small image (one_file pages)
+kept_on choice image units pages is there last =
     let on : UnitFile = record { name = codes "a"; units = units } in
-    subst (λ (xs : List UnitFile). AreAlike unit_file_name file_name (KeepsFile Firsts small image) xs (one_file pages)) (sym is)
-    (refl, record { there = there; keeps = keeps-last Firsts (line_of_file small on) image pages last }, tt)
+    subst (λ (xs : List UnitFile). AreAlike unit_file_name file_name (KeepsFile choice small image) xs (one_file pages)) (sym is)
+    (refl, record { there = there; keeps = keeps-last choice (line_of_file small on) image pages last }, tt)
 
 -- the store got to some lines, or nowhere
 left_among : (chosen : ℕ → Bool) → OneFileLeft (codes "a") (MayStore 4092 (replicate 8 17)) (one_file first_stored) (one_file (stored_among chosen 4092 (replicate 8 17) first_stored))
@@ -83,7 +83,7 @@ store_lost =
                 refl,
                 left_by Firsts start.image struck (one_file first_stored) refl refl refl refl refl
                     (one_left-same (codes "a") (MayStore 4092 (replicate 8 17)) (λ pages. inl refl) (one_file first_stored))
-                    (kept_on start.image (Some 0 ∷ None ∷ []) first_stored refl refl refl),
+                    (kept_on Firsts start.image (Some 0 ∷ None ∷ []) first_stored refl refl refl),
               ),
               (tt, tt),
             ),
@@ -109,7 +109,7 @@ hole_alone_filled =
               (
                 refl,
                 left_by Firsts start.image struck (one_file left) refl refl refl refl refl (left_among (λ n. false))
-                    (kept_on start.image (Some 0 ∷ Some 1 ∷ []) left refl refl refl),
+                    (kept_on Firsts start.image (Some 0 ∷ Some 1 ∷ []) left refl refl refl),
               ),
               (tt, tt),
             ),
@@ -135,7 +135,7 @@ store_in_part =
               (
                 refl,
                 left_by Firsts start.image struck (one_file left) refl refl refl refl refl (left_among (λ n. n == 63))
-                    (kept_on start.image (Some 0 ∷ Some 1 ∷ []) left refl refl refl),
+                    (kept_on Firsts start.image (Some 0 ∷ Some 1 ∷ []) left refl refl refl),
               ),
               (tt, tt),
             ),
@@ -144,24 +144,25 @@ store_in_part =
       ),
     ) refl
 
--- the pages of a file that a restart read
+-- the pages of the file that a restart read are together, where what was left of it is
+pub read_together : (image : Image) (xs : List UnitFile) (y : File) (ys : List File) (choice : Choice) → y.name ≡ codes "a" → AreTogether (presence_of y.pages)
+    → AreAlike unit_file_name file_name (KeepsFile choice small image) xs (y ∷ ys) → AreTogether (presence_of (pages_named (codes "a") (map (file_read small image) xs)))
+read_together image [] y ys choice is together keeps = absurd keeps
+read_together image (x ∷ xs) y ys choice is together keeps =
+    subst (λ ps. AreTogether (presence_of ps)) (sym found)
+    (subst AreTogether (sym (presence_of-read_pages (line_of_file small x) image (pages_there x) ∙ sym keeps.1.there)) together)
+  where
+    found : pages_named (codes "a") (map (file_read small image) (x ∷ xs)) ≡ read_pages (line_of_file small x) image (pages_there x)
+    found =
+        ap (λ (b : Bool). elim (if b then Some (file_read small image x) else file_of file_name (codes "a") (map (file_read small image) xs)) [ None ↦ [] | Some file ↦ file.pages ])
+        (named-is file_name (codes "a") (file_read small image x) (keeps.0 ∙ is))
+
 pages_read : (image : Image) (xs : List UnitFile) (left : List File) (choice : Choice) → OneFileLeft (codes "a") (MayStore 4092 (replicate 8 17)) (new_file (codes "a") 2 ∷ []) left
     → AreAlike unit_file_name file_name (KeepsFile choice small image) xs left → AreTogether (presence_of (pages_named (codes "a") (map (file_read small image) xs)))
 unfolding fill
 pages_read image xs [] choice may keeps = absurd may
-pages_read image [] (y ∷ ys) choice may keeps = absurd keeps
-pages_read image (x ∷ xs) (y ∷ ys) choice may keeps =
-    subst (λ ps. AreTogether (presence_of ps)) (sym found)
-    (subst AreTogether (sym (presence_of-read_pages (line_of_file small x) image (pages_there x) ∙ sym keeps.1.there)) (by_store (may.1.here refl)))
+pages_read image xs (y ∷ ys) choice may keeps = read_together image xs y ys choice (sym may.0) (by_store (may.1.here refl)) keeps
   where
-    named : x.name ≡ codes "a"
-    named = keeps.0 ∙ sym may.0
-
-    found : pages_named (codes "a") (map (file_read small image) (x ∷ xs)) ≡ read_pages (line_of_file small x) image (pages_there x)
-    found =
-        ap (λ (b : Bool). elim (if b then Some (file_read small image x) else file_of file_name (codes "a") (map (file_read small image) xs)) [ None ↦ [] | Some file ↦ file.pages ])
-        (named-is file_name (codes "a") (file_read small image x) named)
-
     by_store : MayStore 4092 (replicate 8 17) (new_file (codes "a") 2).pages y.pages → AreTogether (presence_of y.pages)
     by_store (inl same) = inr (ap presence_of same)
     by_store (inr lines) = inl lines.there

@@ -39,7 +39,7 @@ change-weak name f less (file ∷ files) =
     by_test false = omega arith
 
 -- no file of the name comes after the first one
-none-after : (name : List ℕ) (first : File) (files : List File) → first.name ≡ name → list_all (λ (file : File). is_before first.name file.name) files ≡ true
+pub none-after : (name : List ℕ) (first : File) (files : List File) → first.name ≡ name → list_all (λ (file : File). is_before first.name file.name) files ≡ true
     → has_file file_name name files ≡ false
 none-after name first [] is after = refl
 none-after name first (file ∷ files) is after =

@@ -19,6 +19,7 @@ use Rattle.reply_text.specs.Answer.{answer_line}
 use Rattle.script_text.specs.Script.{command_action, line_input, lines_of, words_of}
 use Rattle.machine_host.specs.Commands.{refusal}
 use Rattle.machine_host.specs.Restarting.{reading}
+use Rattle.machine_host.proofs.FileActionRunLemmas.{write_done, write_lost, written_together}
 use Rattle.machine_host.proofs.rows.worked_file_actions.Goals as goal
 
 pub returns-clause-actions : goal.returns-clause-actions
@@ -37,3 +38,6 @@ returns-clause-actions c = record {
   bad_metadata_stops_them = refl;
   discard_gives_room = refl;
 }
+
+pub returns-clause-may_write : goal.returns-clause-may_write
+returns-clause-may_write c = record { write_lost = write_lost; write_done = write_done; written_together = written_together }

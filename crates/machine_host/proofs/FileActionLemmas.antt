@@ -1,0 +1,187 @@
+-- What the actions that leave a file old or new come to.
+use Rattle.std.proofs.Common.{◌≡◌, ◌≤◌, ◌+◌, ◌∷◌, [], ℕ, true, IsTrue, Option, Some, None, option_map, Result, Ok, Err, OnOk, List, length, inl, inr, ◌⊎◌, refl, sym, ap, subst, ◌∙◌, arith}
+use Rattle.line_device.specs.Device.{Device}
+use Rattle.line_device.specs.Panel.{Runs}
+use Rattle.line_words.specs.Told.{Answers, OnRefused, OnWorked, is_done, outcome_by}
+use Rattle.line_words.specs.Told.Told.{Starves}
+use Rattle.nvm_base.specs.declared.units.Span.{Span}
+use Rattle.word_log.specs.Changes.{commit_calls, commit_persists}
+use Rattle.inode_table.specs.Slots.{inode_of, pages_at}
+use Rattle.nvm_model.specs.Events.{count_in_pages, is_weak_cell}
+use Rattle.nvm_model.specs.Files.{OneFileLeft, on_pages}
+use Rattle.nvm_model.specs.Listing.{change_file, file_name}
+use Rattle.nvm_model.specs.Page.{Page, discard}
+use Rattle.nvm_model.specs.Storage.{File, Block, Mapping}
+use Rattle.page_lines.specs.Turns.{WritesBackOthers}
+use Rattle.file_actions.specs.Costs.{write_calls, write_persists}
+use Rattle.file_actions.specs.Refusals.{ActionRefusal, action_says, discard_refusal, write_refusal}
+use Rattle.file_actions.specs.Refusals as refusals
+use Rattle.file_actions.specs.Refusals.ActionRefusal.{Range, Length, Limit, Overlap, Full, Meta, Poison}
+use Rattle.file_actions.specs.Rewriting.{pages_touched, rewritten}
+use Rattle.file_actions.specs.declared.fault.ActionFault.{ActionFault}
+use Rattle.file_actions.specs.declared.fault.ActionFault.TheVariants as fault
+use Rattle.file_journal.specs.Area.{IsOfFiles}
+use Rattle.file_journal.specs.Standing.{EachReadsFiles}
+use Rattle.file_journal.specs.Tables.{AreTables, known_units}
+use Rattle.file_pages.specs.Object.{IsFileAt, KeepsMarks, PagesServe, PagesState, is_settled}
+use Rattle.word_tables.specs.declared.geometry.Geometry.{Geometry}
+use Rattle.reply_text.specs.Answer.{Answer, IsPrintable}
+use Rattle.reply_text.specs.Answer.Answer.{Done}
+use Rattle.reply_text.specs.Room.{most_of}
+use Rattle.script_text.specs.Action.{Action}
+use Rattle.script_text.specs.Action.Action.{FDiscard}
+use Rattle.machine_host.specs.declared.mode.Mode.TheVariants.{On}
+use Rattle.machine_host.specs.Commands.{LeavesBlocks, LeavesFiles, LeavesVolume, MayLeaveBlocks, MayLeaveFiles, MayLeaveVolume, fate, longest, meaning, spending, unless_refused}
+use Rattle.machine_host.specs.Faults.{answer_after, mode_after}
+use Rattle.machine_host.specs.Interrupted.{stop_in}
+use Rattle.machine_host.specs.Lines.{bad_metadata}
+use Rattle.machine_host.specs.Machine.{Machine}
+use Rattle.machine_host.specs.Machine.Fate.{Works}
+use Rattle.machine_host.specs.Meaning.{Meaning, metadata_refusal}
+use Rattle.machine_host.specs.OnFileActions.{action_answer, fmulti}
+use Rattle.machine_host.specs.OnPages.{pages_named}
+use Rattle.machine_host.specs.Responding.{Answered}
+use Rattle.machine_host.specs.Stands.{HostServes, HostState, Stands}
+use Rattle.machine_host.proofs.CallLemmas.{IsPart}
+use Rattle.machine_host.proofs.EitherFileLemmas.{left-either}
+use Rattle.machine_host.proofs.FileActionFateLemmas.{fate_discard, fate_together}
+use Rattle.machine_host.proofs.FileChangeLemmas.{FileCalled, file_answered, file_called}
+use Rattle.machine_host.proofs.FilePageCallLemmas.{LeavesOthers, pages_after}
+use Rattle.machine_host.proofs.FilePageFateLemmas.{pages_are}
+use Rattle.machine_host.proofs.FilePageLemmas.{file_seen, named_seen, right_now, room_now, units_seen}
+use Rattle.machine_host.proofs.FilesCallLemmas.{journal_sizes}
+use Rattle.machine_host.proofs.RefusalLemmas.{meta_refused}
+use Rattle.machine_host.proofs.WeakPageLemmas.{discard-weak, rewritten-weak}
+
+never_starves : (f : ActionFault) → action_says f ≡ Starves → ⊥
+never_starves fault.Range e = cc e
+never_starves fault.Length e = cc e
+never_starves fault.Limit e = cc e
+never_starves fault.Overlap e = cc e
+never_starves fault.Full e = cc e
+never_starves (fault.Meta line) e = cc e
+never_starves (fault.Poison offset) e = cc e
+never_starves fault.Device e = cc e
+never_starves fault.PowerLost e = cc e
+
+module _ (name : List ℕ) where
+  no_stop : (w : ActionRefusal) → stop_in (action_answer name w) ≡ None
+  no_stop Range = refl
+  no_stop Length = refl
+  no_stop Limit = refl
+  no_stop Overlap = refl
+  no_stop Full = refl
+  no_stop (Meta line) = refl
+  no_stop (Poison offset) = refl
+
+  short_refusal : (w : ActionRefusal) → most_of (action_answer name w) ≤ 72
+  short_refusal Range = omega arith
+  short_refusal Length = omega arith
+  short_refusal Limit = omega arith
+  short_refusal Overlap = omega arith
+  short_refusal Full = omega arith
+  short_refusal (Meta line) = omega arith
+  short_refusal (Poison offset) = omega arith
+
+  printable_refusal : (w : ActionRefusal) → IsPrintable (action_answer name w)
+  printable_refusal Range = tt
+  printable_refusal Length = tt
+  printable_refusal Limit = tt
+  printable_refusal Overlap = tt
+  printable_refusal Full = tt
+  printable_refusal (Meta line) = tt
+  printable_refusal (Poison offset) = tt
+
+  pub actions_part : IsPart action_says (action_answer name)
+  actions_part = record { printable = printable_refusal; quiet = no_stop; short = short_refusal; fed = never_starves }
+
+-- An action that leaves all but one file, and that one old or new.
+pub record TurnsFile (action : Action) (name : List ℕ) (f : List Page → List Page) : Type 0 where
+  pub others : LeavesOthers action
+  pub may : (mappings : List Mapping) (files left : List File) → (left ≡ files) ⊎ (left ≡ change_file file_name name (on_pages f) files) → MayLeaveFiles mappings (Some action) files left
+  pub long : longest action ≡ 72
+
+turns_discard : (name : List ℕ) (span : Span) → TurnsFile (FDiscard name span.start span.len) name (discard span.start span.len)
+turns_discard name span = record {
+  others = record { blocks = λ old new same. same; volume = λ geo old new same. same };
+  may = λ mappings files left either. either;
+  long = refl;
+}
+
+turns_together : (action : Action) (name : List ℕ) (ranges : List Span) (bytes : List ℕ) → meaning action ≡ fmulti name ranges bytes → TurnsFile action name (rewritten ranges bytes)
+turns_together action name ranges bytes row = record {
+  others = record {
+    blocks = λ old new same. subst (λ (t : Meaning). LeavesBlocks t.blocks_left old (t.blocks old) new) (sym row) same;
+    volume = λ geo old new same. subst (λ (t : Meaning). LeavesVolume (t.volume_left geo) old (t.volume geo old) new) (sym row) same;
+  };
+  may = λ mappings files left either. subst (λ (t : Meaning). LeavesFiles (t.files_left mappings) files (t.files mappings files) left) (sym row) either;
+  long = ap (λ (t : Meaning). t.room) row;
+}
+
+-- Of a host behind a reference, by all that a call says.
+module _ {D : Type 0} (state : D → Device) (now host after : HostState) (p : PagesState) (r : Result (Unit {0}) ActionFault) (name : List ℕ) (inode : ℕ) (before last : D)
+    (inside : host ≡ now) (state_is : after ≡ pages_after host p host.files.events (mode_after action_says r)) (on : now.mode ≡ On) (serves : HostServes now (state before))
+    (here : inode_of name host.files.pages.journal.tables.files ≡ Some inode) where
+  meta_seen : (h : Machine) → Stands now (state before) h
+      → metadata_refusal true h.bad_meta ≡ option_map (action_answer name) (refusals.metadata_refusal host.files.pages.journal.geo (state before).medium)
+  meta_seen h stands =
+      ap (metadata_refusal true) (sym stands.device.metadata.bad ∙ ap (λ g. bad_metadata g (state before).medium.is_bad) (sym (journal_sizes now host (state before) h inside on serves stands)))
+      ∙ meta_refused Meta (action_answer name) (λ n. refl) host.files.pages.journal.geo (state before).medium.is_bad
+
+  abbrev seen_pages : (h : Machine) → Stands now (state before) h → List Page
+  seen_pages h stands = (file_seen now host (state before) inside on serves name h stands inode here).file.pages
+
+  size_seen : (h : Machine) → Stands now (state before) h → pages_at host.files.pages.journal.tables.files inode ≡ length (pages_named name h.files)
+  size_seen h stands =
+      let seen = file_seen now host (state before) inside on serves name h stands inode here in
+      let has = named_seen now host (state before) inside on serves name h stands (Some inode) (sym here) in
+      sym (ap length (pages_are h name seen.file (sym stands.mode ∙ on) has seen.found) ∙ seen.size)
+
+  -- all that a call says, which leaves the file old or new
+  abbrev ActionSays : (List Page → Option ActionRefusal) → (List Page → List Page) → ℕ → ℕ → Type 0
+  ActionSays why f calls persists = FileCalled action_says state host p r inode why f (λ old left. (left ≡ old) ⊎ (left ≡ f old)) calls persists before last
+
+  turned_answered : (action : Action) (f : List Page → List Page) (calls persists : ℕ) (why : List Page → Option ActionRefusal) → TurnsFile action name f
+      → ((pages : List Page) → count_in_pages is_weak_cell (f pages) ≤ count_in_pages is_weak_cell pages)
+      → ((h : Machine) → Stands now (state before) h → (calls ≤ (spending h action).calls) × (persists ≤ (spending h action).persists))
+      → ((h : Machine) (stands : Stands now (state before) h)
+      → fate h action ≡ unless_refused h (option_map (action_answer name) (why (seen_pages h stands))) (Works Done (record h { files = change_file file_name name (on_pages f) h.files })))
+      → ActionSays why f calls persists → (answer : Answer) → answer ≡ answer_after action_says (action_answer name) Done r → Answered action answer now after (state before) (state last)
+  turned_answered action f calls persists why turns thin few fate_is said answer answer_is =
+      file_answered action_says (action_answer name) (actions_part name) now host after p r name inode f action calls persists (state before) (state last) inside state_is on serves here few turns.others
+      (file_called action_says state host p r name inode why f (λ old left. (left ≡ old) ⊎ (left ≡ f old)) calls persists before last (right_now now host (state before) inside on serves) here said
+      (MayLeaveFiles host.files.mappings.mappings (Some action)) (λ files left up one. turns.may host.files.mappings.mappings files left (left-either name f files left up one))
+      thin (room_now now host (state before) inside on serves))
+      answer why turns.long fate_is said.refused said.ok answer_is
+
+  -- of ranges that are written together
+  abbrev write_spends : List Span → (ℕ → ℕ) → ℕ
+  write_spends ranges of_pages = of_pages (pages_touched ranges (pages_at host.files.pages.journal.tables.files inode))
+
+  pub together_answered : (action : Action) (ranges : List Span) (bytes : List ℕ) → meaning action ≡ fmulti name ranges bytes
+      → ActionSays (λ pages. write_refusal host.files.pages.journal (state before).medium pages ranges) (rewritten ranges bytes) (write_spends ranges write_calls) (write_spends ranges write_persists)
+      → (answer : Answer) → answer ≡ answer_after action_says (action_answer name) Done r → Answered action answer now after (state before) (state last)
+  together_answered action ranges bytes row =
+      turned_answered action (rewritten ranges bytes) (write_spends ranges write_calls) (write_spends ranges write_persists) (λ pages. write_refusal host.files.pages.journal (state before).medium pages ranges)
+      (turns_together action name ranges bytes row) (rewritten-weak ranges bytes)
+      (λ h stands. subst (λ (t : Meaning). (write_spends ranges write_calls ≤ (t.spends h).calls) × (write_spends ranges write_persists ≤ (t.spends h).persists)) (sym row)
+      (subst (λ n. (write_spends ranges write_calls ≤ write_calls (pages_touched ranges n)) × (write_spends ranges write_persists ≤ write_persists (pages_touched ranges n))) (size_seen h stands)
+      (omega arith, omega arith)))
+      (λ h stands.
+      let seen = file_seen now host (state before) inside on serves name h stands inode here in
+      fate_together h name seen.file (sym stands.mode ∙ on) (named_seen now host (state before) inside on serves name h stands (Some inode) (sym here)) seen.found
+      host.files.pages.journal (state before).medium (journal_sizes now host (state before) h inside on serves stands) (units_seen now host (state before) inside on serves name h stands) (meta_seen h stands)
+      action ranges bytes row)
+
+  -- and of pages that become holes
+  pub discard_answered : (span : Span)
+      → ActionSays (λ pages. discard_refusal host.files.pages.journal (state before).medium pages span) (discard span.start span.len) (commit_calls (5 + span.len)) (commit_persists (5 + span.len))
+      → (answer : Answer) → answer ≡ answer_after action_says (action_answer name) Done r → Answered (FDiscard name span.start span.len) answer now after (state before) (state last)
+  discard_answered span =
+      turned_answered (FDiscard name span.start span.len) (discard span.start span.len) (commit_calls (5 + span.len)) (commit_persists (5 + span.len))
+      (λ pages. discard_refusal host.files.pages.journal (state before).medium pages span) (turns_discard name span) (discard-weak span.start span.len) (λ h stands. (omega arith, omega arith))
+      (λ h stands.
+      let seen = file_seen now host (state before) inside on serves name h stands inode here in
+      fate_discard h name seen.file (sym stands.mode ∙ on) (named_seen now host (state before) inside on serves name h stands (Some inode) (sym here)) seen.found
+      host.files.pages.journal (state before).medium (journal_sizes now host (state before) h inside on serves stands) (units_seen now host (state before) inside on serves name h stands) (meta_seen h stands)
+      span)
