@@ -1,8 +1,7 @@
 -- What comes of the actions that leave a file old or new, by what they refuse.
-use Rattle.std.proofs.Common.{◌≡◌, ◌+◌, ◌-◌, ◌*◌, ◌==◌, ℕ, Bool, true, false, Option, Some, None, option_map, List, length, nat_lt, if◌then◌else◌, refl, sym, ap, ap₂, ◌∙◌}
+use Rattle.std.proofs.Common.{◌≡◌, ◌+◌, ◌-◌, ◌*◌, ◌==◌, ℕ, Bool, true, false, Option, Some, None, option_map, List, length, nat_lt, if◌then◌else◌, refl, ap, ap₂, ◌∙◌}
 use Rattle.line_device.specs.Medium.{Medium}
 use Rattle.nvm_base.specs.declared.units.Span.{Span}
-use Rattle.word_tables.specs.declared.geometry.Geometry.{Geometry}
 use Rattle.page_table.specs.Pages.{used_pages}
 use Rattle.nvm_model.specs.Blocks.{first_there}
 use Rattle.nvm_model.specs.Listing.{file_name, file_of, has_file}
@@ -24,27 +23,14 @@ use Rattle.machine_host.specs.Machine.Fate.{Works}
 use Rattle.machine_host.specs.Meaning.{Meaning, first_reason, metadata_refusal, span_refusal}
 use Rattle.machine_host.specs.Commands.{fate, meaning, unless_refused}
 use Rattle.machine_host.specs.OnFileActions.{action_answer, discarded_in, fmulti, written_together}
-use Rattle.machine_host.specs.OnFiles.{if_missing}
 use Rattle.machine_host.specs.OnPages.{if_full, pages_named, pages_used}
-use Rattle.machine_host.proofs.FilePageFateLemmas.{pages_are}
+use Rattle.machine_host.proofs.FilePageFateLemmas.{full_seen, pages_are, there}
 use Rattle.machine_host.proofs.RefusalLemmas.{fate_usable, mapped_first}
 
 -- Of a file that is there, by a journal of the same sizes whose tables use as many units, and the bad lines of metadata.
 module _ (h : Machine) (name : List ℕ) (file : File) (on : h.mode ≡ On) (has : has_file file_name name h.files ≡ true) (found : file_of file_name name h.files ≡ Some file)
     (s : JournalState) (m : Medium) (sizes : s.geo ≡ h.geometry) (used : pages_used h.files ≡ used_pages s.tables.pages)
     (meta : metadata_refusal true h.bad_meta ≡ option_map (action_answer name) (refusals.metadata_refusal s.geo m)) where
-  there : if_missing name h.files ≡ None
-  there = ap (λ b. if b then None else Some (Refused because.Missing)) has
-
-  by_full : (test : Bool) → (if test then Some (Refused because.Full) else None) ≡ option_map (action_answer name) (refused_if test Full)
-  by_full true = refl
-  by_full false = refl
-
-  room : (holes : ℕ) → if_full h holes ≡ option_map (action_answer name) (full_refusal s holes)
-  room holes =
-      ap₂ (λ (g : Geometry) (n : ℕ). if nat_lt (g.fpages - 16) (n + holes) then Some (Refused because.Full) else None) (sym sizes) used
-      ∙ by_full (nat_lt (s.geo.fpages - 16) (used_pages s.tables.pages + holes))
-
   abbrev together_fate : Option Answer → List Page → List Span → List ℕ → Fate
   together_fate named pages ranges bytes =
       unless_refused h
@@ -63,9 +49,9 @@ module _ (h : Machine) (name : List ℕ) (file : File) (on : h.mode ≡ On) (has
       let comes : Fate = Works Done (record h { files = written_together name ranges bytes h.files }) in
       fate_usable h action (ap (λ (t : Meaning). t.needs) row) on
       ∙ ap (λ (t : Meaning). unless_refused h (first_reason None h.bad_meta (t.reasons h)) (t.comes h)) row
-      ∙ ap₂ (λ o pages. together_fate o pages ranges bytes) there (pages_are h name file on has found)
+      ∙ ap₂ (λ o pages. together_fate o pages ranges bytes) (there h name file on has found) (pages_are h name file on has found)
       ∙ ap (λ o. unless_refused h o comes)
-      (ap₂ (λ full meta. first_there (option_map answer extent) (first_there full (first_there meta (option_map answer poison)))) (room holes) meta
+      (ap₂ (λ full meta. first_there (option_map answer extent) (first_there full (first_there meta (option_map answer poison)))) (full_seen h s (action_answer name) Full refl sizes used holes) meta
       ∙ ap (λ o. first_there (option_map answer extent) (first_there (option_map answer (full_refusal s holes)) o)) (mapped_first answer bad poison)
       ∙ ap (first_there (option_map answer extent)) (mapped_first answer (full_refusal s holes) (first_there bad poison))
       ∙ mapped_first answer extent (first_there (full_refusal s holes) (first_there bad poison)))
@@ -89,7 +75,7 @@ module _ (h : Machine) (name : List ℕ) (file : File) (on : h.mode ≡ On) (has
   fate_discard span =
       let comes : Fate = Works Done (record h { files = discarded_in name span.start span.len h.files }) in
       fate_usable h (FDiscard name span.start span.len) refl on
-      ∙ ap₂ (λ o pages. discard_fate o pages span) there (pages_are h name file on has found)
+      ∙ ap₂ (λ o pages. discard_fate o pages span) (there h name file on has found) (pages_are h name file on has found)
       ∙ ap (λ o. unless_refused h o comes)
       (ap (λ meta. first_there (option_map Refused (span_refusal (length file.pages) span.start span.len)) (first_there meta None)) meta
       ∙ by_span (nat_lt (length file.pages) (span.start + span.len)) (span.len == 0) (refusals.metadata_refusal s.geo m))

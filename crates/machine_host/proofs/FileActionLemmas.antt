@@ -15,7 +15,6 @@ use Rattle.nvm_model.specs.Storage.{File, Block, Mapping}
 use Rattle.page_lines.specs.Turns.{WritesBackOthers}
 use Rattle.file_actions.specs.Costs.{write_calls, write_persists}
 use Rattle.file_actions.specs.Refusals.{ActionRefusal, action_says, discard_refusal, write_refusal}
-use Rattle.file_actions.specs.Refusals as refusals
 use Rattle.file_actions.specs.Refusals.ActionRefusal.{Range, Length, Limit, Overlap, Full, Meta, Poison}
 use Rattle.file_actions.specs.Rewriting.{pages_touched, rewritten}
 use Rattle.file_actions.specs.declared.fault.ActionFault.{ActionFault}
@@ -34,10 +33,9 @@ use Rattle.machine_host.specs.declared.mode.Mode.TheVariants.{On}
 use Rattle.machine_host.specs.Commands.{LeavesBlocks, LeavesFiles, LeavesVolume, MayLeaveBlocks, MayLeaveFiles, MayLeaveVolume, fate, longest, meaning, spending, unless_refused}
 use Rattle.machine_host.specs.Faults.{answer_after, mode_after}
 use Rattle.machine_host.specs.Interrupted.{stop_in}
-use Rattle.machine_host.specs.Lines.{bad_metadata}
 use Rattle.machine_host.specs.Machine.{Machine}
 use Rattle.machine_host.specs.Machine.Fate.{Works}
-use Rattle.machine_host.specs.Meaning.{Meaning, metadata_refusal}
+use Rattle.machine_host.specs.Meaning.{Meaning}
 use Rattle.machine_host.specs.OnFileActions.{action_answer, fmulti}
 use Rattle.machine_host.specs.OnPages.{pages_named}
 use Rattle.machine_host.specs.Responding.{Answered}
@@ -48,9 +46,8 @@ use Rattle.machine_host.proofs.FileActionFateLemmas.{fate_discard, fate_together
 use Rattle.machine_host.proofs.FileChangeLemmas.{FileCalled, file_answered, file_called}
 use Rattle.machine_host.proofs.FilePageCallLemmas.{LeavesOthers, pages_after}
 use Rattle.machine_host.proofs.FilePageFateLemmas.{pages_are}
-use Rattle.machine_host.proofs.FilePageLemmas.{file_seen, named_seen, right_now, room_now, units_seen}
+use Rattle.machine_host.proofs.FilePageLemmas.{file_seen, meta_seen, named_seen, right_now, room_now, units_seen}
 use Rattle.machine_host.proofs.FilesCallLemmas.{journal_sizes}
-use Rattle.machine_host.proofs.RefusalLemmas.{meta_refused}
 use Rattle.machine_host.proofs.WeakPageLemmas.{discard-weak, rewritten-weak}
 
 never_starves : (f : ActionFault) → action_says f ≡ Starves → ⊥
@@ -122,12 +119,6 @@ turns_together action name ranges bytes row = record {
 module _ {D : Type 0} (state : D → Device) (now host after : HostState) (p : PagesState) (r : Result (Unit {0}) ActionFault) (name : List ℕ) (inode : ℕ) (before last : D)
     (inside : host ≡ now) (state_is : after ≡ pages_after host p host.files.events (mode_after action_says r)) (on : now.mode ≡ On) (serves : HostServes now (state before))
     (here : inode_of name host.files.pages.journal.tables.files ≡ Some inode) where
-  meta_seen : (h : Machine) → Stands now (state before) h
-      → metadata_refusal true h.bad_meta ≡ option_map (action_answer name) (refusals.metadata_refusal host.files.pages.journal.geo (state before).medium)
-  meta_seen h stands =
-      ap (metadata_refusal true) (sym stands.device.metadata.bad ∙ ap (λ g. bad_metadata g (state before).medium.is_bad) (sym (journal_sizes now host (state before) h inside on serves stands)))
-      ∙ meta_refused Meta (action_answer name) (λ n. refl) host.files.pages.journal.geo (state before).medium.is_bad
-
   abbrev seen_pages : (h : Machine) → Stands now (state before) h → List Page
   seen_pages h stands = (file_seen now host (state before) inside on serves name h stands inode here).file.pages
 
@@ -170,7 +161,7 @@ module _ {D : Type 0} (state : D → Device) (now host after : HostState) (p : P
       (λ h stands.
       let seen = file_seen now host (state before) inside on serves name h stands inode here in
       fate_together h name seen.file (sym stands.mode ∙ on) (named_seen now host (state before) inside on serves name h stands (Some inode) (sym here)) seen.found
-      host.files.pages.journal (state before).medium (journal_sizes now host (state before) h inside on serves stands) (units_seen now host (state before) inside on serves name h stands) (meta_seen h stands)
+      host.files.pages.journal (state before).medium (journal_sizes now host (state before) h inside on serves stands) (units_seen now host (state before) inside on serves name h stands) (meta_seen now host (state before) inside on serves name h stands Meta (action_answer name) (λ n. refl))
       action ranges bytes row)
 
   -- and of pages that become holes
@@ -183,5 +174,5 @@ module _ {D : Type 0} (state : D → Device) (now host after : HostState) (p : P
       (λ h stands.
       let seen = file_seen now host (state before) inside on serves name h stands inode here in
       fate_discard h name seen.file (sym stands.mode ∙ on) (named_seen now host (state before) inside on serves name h stands (Some inode) (sym here)) seen.found
-      host.files.pages.journal (state before).medium (journal_sizes now host (state before) h inside on serves stands) (units_seen now host (state before) inside on serves name h stands) (meta_seen h stands)
+      host.files.pages.journal (state before).medium (journal_sizes now host (state before) h inside on serves stands) (units_seen now host (state before) inside on serves name h stands) (meta_seen now host (state before) inside on serves name h stands Meta (action_answer name) (λ n. refl))
       span)

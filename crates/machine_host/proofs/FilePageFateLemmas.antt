@@ -40,9 +40,20 @@ bytes_right pages offset len some within =
     ap (λ b. first_there (refused_if b Range) (refused_if (len == 0) Length)) (le-ltb (4096 * pages) (offset + len) within)
     ∙ ap (λ b. refused_if b Length) (ne_eqb len 0 (λ e. omega arith))
 
+-- too few units would be left, by a journal of the same sizes whose tables use as many
+pub full_seen : {R : Type 0} (h : Machine) (s : JournalState) (answer : R → Answer) (full : R) → answer full ≡ Refused because.Full → s.geo ≡ h.geometry → pages_used h.files ≡ used_pages s.tables.pages → (holes : ℕ)
+    → if_full h holes ≡ option_map answer (if nat_lt (s.geo.fpages - 16) (used_pages s.tables.pages + holes) then Some full else None)
+full_seen h s answer full is sizes used holes =
+    ap₂ (λ (g : Geometry) (n : ℕ). if nat_lt (g.fpages - 16) (n + holes) then Some (Refused because.Full) else None) (sym sizes) used
+    ∙ by_test (nat_lt (s.geo.fpages - 16) (used_pages s.tables.pages + holes))
+  where
+    by_test : (test : Bool) → (if test then Some (Refused because.Full) else None) ≡ option_map answer (if test then Some full else None)
+    by_test true = ap Some (sym is)
+    by_test false = refl
+
 -- Of a file that is there.
 module _ (h : Machine) (name : List ℕ) (file : File) (on : h.mode ≡ On) (has : has_file file_name name h.files ≡ true) (found : file_of file_name name h.files ≡ Some file) where
-  there : if_missing name h.files ≡ None
+  pub there : if_missing name h.files ≡ None
   there = ap (λ b. if b then None else Some (Refused because.Missing)) has
 
   pub pages_are : pages_named name h.files ≡ file.pages
@@ -76,15 +87,6 @@ module _ (h : Machine) (name : List ℕ) (file : File) (on : h.mode ≡ On) (has
   -- By a journal of the same sizes whose tables use as many units, and the bad lines of metadata.
   module _ (s : JournalState) (m : Medium) (sizes : s.geo ≡ h.geometry) (used : pages_used h.files ≡ used_pages s.tables.pages)
       (meta : (changes : Bool) → metadata_refusal changes h.bad_meta ≡ option_map (page_answer name) (metadata_refusal_if changes s.geo m)) where
-    by_test : (test : Bool) → (if test then Some (Refused because.Full) else None) ≡ option_map (page_answer name) (refused_if test Full)
-    by_test true = refl
-    by_test false = refl
-
-    room : (holes : ℕ) → if_full h holes ≡ option_map (page_answer name) (full_refusal s holes)
-    room holes =
-        ap₂ (λ (g : Geometry) (n : ℕ). if nat_lt (g.fpages - 16) (n + holes) then Some (Refused because.Full) else None) (sym sizes) used
-        ∙ by_test (nat_lt (s.geo.fpages - 16) (used_pages s.tables.pages + holes))
-
     abbrev write_fate : Option Answer → List Page → ℕ → List ℕ → Fate
     write_fate named pages offset bytes =
         let len = length bytes in
@@ -107,7 +109,7 @@ module _ (h : Machine) (name : List ℕ) (file : File) (on : h.mode ≡ On) (has
         fate_usable h (FWrite name offset bytes) refl on
         ∙ ap₂ (λ o pages. write_fate o pages offset bytes) there pages_are
         ∙ ap (λ o. unless_refused h o comes)
-        (ap₂ (λ full meta. first_there (option_map answer extent) (first_there full (first_there meta (option_map answer poison)))) (room holes) (meta touches)
+        (ap₂ (λ full meta. first_there (option_map answer extent) (first_there full (first_there meta (option_map answer poison)))) (full_seen h s (page_answer name) Full refl sizes used holes) (meta touches)
         ∙ ap (λ o. first_there (option_map answer extent) (first_there (option_map answer (full_refusal s holes)) o)) (mapped_first answer (metadata_refusal_if touches s.geo m) poison)
         ∙ ap (first_there (option_map answer extent)) (mapped_first answer (full_refusal s holes) (first_there (metadata_refusal_if touches s.geo m) poison))
         ∙ mapped_first answer extent (first_there (full_refusal s holes) (first_there (metadata_refusal_if touches s.geo m) poison)))

@@ -1,5 +1,7 @@
 -- What reads and stores of a file's bytes come to.
-use Rattle.std.proofs.Common.{◌≡◌, ◌+◌, ◌*◌, ◌≤◌, ℕ, Bool, true, false, IsTrue, Option, Some, None, option_map, is_some, Result, Ok, Err, OnOk, List, length, if◌then◌else◌, refl, sym, ap, subst, ◌∙◌, arith}
+use Rattle.std.specs.List.{range_with_len}
+use Rattle.word_tables.specs.Layout.{meta_lines}
+use Rattle.std.proofs.Common.{◌≡◌, position, ◌+◌, ◌*◌, ◌≤◌, ℕ, Bool, true, false, IsTrue, Option, Some, None, option_map, is_some, Result, Ok, Err, OnOk, List, length, if◌then◌else◌, refl, sym, ap, subst, ◌∙◌, arith}
 use Rattle.line_device.specs.Medium.{WritesBack, Medium}
 use Rattle.line_device.specs.Panel.{Runs}
 use Rattle.line_device.specs.Device.{Device}
@@ -33,10 +35,10 @@ use Rattle.file_pages.proofs.PassLemmas.{pages_on}
 use Rattle.reply_text.specs.declared.reply.Why.{Why}
 use Rattle.reply_text.specs.declared.reply.Why.TheVariants as because
 use Rattle.reply_text.specs.Answer.{Answer, IsPrintable}
-use Rattle.reply_text.specs.Answer.Answer.{Done, Bytes, Refused}
+use Rattle.reply_text.specs.Answer.Answer.{Bytes, Refused, RefusedMeta}
 use Rattle.reply_text.specs.Room.{most_of}
 use Rattle.script_text.specs.Action.{Action}
-use Rattle.script_text.specs.Action.Action.{FRead, FWrite}
+use Rattle.script_text.specs.Action.Action.{FRead}
 use Rattle.machine_host.specs.declared.mode.Mode.TheVariants.{On}
 use Rattle.machine_host.specs.declared.needs.Needs.TheVariants.{Usable}
 use Rattle.machine_host.specs.Machine.{Machine}
@@ -52,7 +54,7 @@ use Rattle.machine_host.specs.Stands.{HostState, HostServes, Stands, Comes, HasR
 use Rattle.machine_host.proofs.CallLemmas.{IsPart, on_refused-then}
 use Rattle.machine_host.proofs.ExistsLemmas.{same_state}
 use Rattle.machine_host.proofs.FilePageCallLemmas.{AreReady, LeavesOthers, PagesCalled, both_settled, pages_after, work_answered, work_comes, work_serves, told_still}
-use Rattle.machine_host.proofs.FilePageFateLemmas.{fate_fwrite, fate_misread, fate_read_within, fate_unnamed, pages_are}
+use Rattle.machine_host.proofs.FilePageFateLemmas.{fate_misread, fate_read_within, fate_unnamed}
 use Rattle.machine_host.proofs.FilesAsideLemmas.{files_stand_elsewhere}
 use Rattle.machine_host.proofs.FilesCallLemmas.{files_seen, journal_sizes, sees_files}
 use Rattle.machine_host.proofs.RefusalLemmas.{meta_refused}
@@ -116,11 +118,12 @@ module _ (now host : HostState) (old : Device) (inside : host ≡ now) (on : now
 
   -- What host and device show of a state that they stand for.
   module _ (name : List ℕ) (h : Machine) (stands : Stands now old h) where
-    meta_seen : (changes : Bool) → metadata_refusal changes h.bad_meta ≡ option_map (page_answer name) (metadata_refusal_if changes host.files.pages.journal.geo old.medium)
-    meta_seen true =
+    -- the lowest bad line of metadata, as a part of storage finds it
+    pub meta_seen : {R : Type 0} (refusal : ℕ → R) (answer : R → Answer) → ((n : ℕ) → answer (refusal n) ≡ RefusedMeta n)
+        → metadata_refusal true h.bad_meta ≡ option_map answer (option_map refusal (position old.medium.is_bad (range_with_len 0 (meta_lines host.files.pages.journal.geo))))
+    meta_seen refusal answer is =
         ap (metadata_refusal true) (sym stands.device.metadata.bad ∙ ap (λ g. bad_metadata g old.medium.is_bad) (sym (journal_sizes now host old h inside on serves stands)))
-        ∙ meta_refused Meta (page_answer name) (λ n. refl) host.files.pages.journal.geo old.medium.is_bad
-    meta_seen false = refl
+        ∙ meta_refused refusal answer is host.files.pages.journal.geo old.medium.is_bad
 
     pub units_seen : pages_used h.files ≡ used_pages host.files.pages.journal.tables.pages
     units_seen = used_seen host.files.pages.journal.geo old.medium host.files.pages.journal.tables h.files right_now (files_seen now host old h inside on serves stands)
@@ -236,127 +239,3 @@ module _ (now host after : HostState) (p : PagesState) (r : Result (Unit {0}) Pa
     serves =
         work_serves page_says (page_answer name) (pages_part name) now host after p host.files.events r calls 0 old new inside state on serves (FRead name offset len) (λ h stands. (few, omega arith)) leaves call;
   }
-
--- A store's clauses are those of a call on bytes.
-pub store_called : {D : Type 0} (state : D → Device) (host : HostState) (p : PagesState) (r : Result (Unit {0}) PageFault) (name : List ℕ) (inode offset : ℕ) (bytes : List ℕ) (calls persists : ℕ) (before after : D)
-    → AreTables host.files.pages.journal.geo.fpages host.files.pages.journal.tables → inode_of name host.files.pages.journal.tables.files ≡ Some inode
-    → OnRefused page_says r ((p ≡ host.files.pages) × (after ≡ before))
-    → OnWorked page_says r ((files : List File) (file : File) → IsFileAt host.files.pages.journal (state before).medium inode files file
-    → EachReadsFiles host.files.pages.journal.geo (state after).medium (OneFileLeft file.name (MayStore offset bytes) files))
-    → WritesBackOthers (IsOfFiles host.files.pages.journal.geo) (state before).medium (state after).medium → KeepsMarks host.files.pages.journal.geo (state before).medium (state after).medium
-    → (IsTrue (is_settled p) → PagesServe p (state after).medium) → OnOk r (AreTables p.journal.geo.fpages p.journal.tables)
-    → OnOk r (p.journal.tables.files ≡ host.files.pages.journal.tables.files)
-    → (p.journal.geo ≡ host.files.pages.journal.geo) × (is_settled p ≡ is_done (outcome_by page_says r)) → (IsTrue (is_settled p) → known_units p.journal.tables.pages p.journal.free ≡ p.journal.geo.fpages)
-    → Runs calls persists (outcome_by page_says r) (state before).panel (state after).panel → OnOk r (HasRoom (record host.files { pages = p }) (state after).medium)
-    → PagesCalled page_says host p host.files.events r (MayLeaveFiles host.files.mappings.mappings (Some (FWrite name offset bytes))) calls persists (state before) (state after)
-store_called state host p r name inode offset bytes calls persists before after right here untouched images outside marks serves tables names object held runs room = record {
-  untouched = on_refused-then page_says r (λ same. ((same.0, refl), ap state same.1)) untouched;
-  images = left r images;
-  outside = outside;
-  marks = marks;
-  ready = ready r tables names object.1;
-  room = room;
-  runs = runs;
-}
-  where
-    of_name : ((files : List File) (file : File) → IsFileAt host.files.pages.journal (state before).medium inode files file
-        → EachReadsFiles host.files.pages.journal.geo (state after).medium (OneFileLeft file.name (MayStore offset bytes) files))
-        → (files : List File) → FilesStand host.files.pages.journal.geo (state before).medium host.files.pages.journal.tables files
-        → EachReadsFiles host.files.pages.journal.geo (state after).medium (OneFileLeft name (MayStore offset bytes) files)
-    of_name each files stand =
-        let seen = file-found host.files.pages.journal (state before).medium right name files stand inode (found_is_named name host.files.pages.journal.tables.files inode here) in
-        subst (λ n. EachReadsFiles host.files.pages.journal.geo (state after).medium (OneFileLeft n (MayStore offset bytes) files)) seen.named (each files seen.file seen.at)
-
-    left : (q : Result (Unit {0}) PageFault)
-        → OnWorked page_says q ((files : List File) (file : File) → IsFileAt host.files.pages.journal (state before).medium inode files file
-        → EachReadsFiles host.files.pages.journal.geo (state after).medium (OneFileLeft file.name (MayStore offset bytes) files))
-        → OnWorked page_says q ((files : List File) → FilesStand host.files.pages.journal.geo (state before).medium host.files.pages.journal.tables files
-        → EachReadsFiles host.files.pages.journal.geo (state after).medium (OneFileLeft name (MayStore offset bytes) files))
-    left (Ok x) each = of_name each
-    left (Err f) each = λ stop. of_name (each stop)
-
-    ready : (q : Result (Unit {0}) PageFault) → OnOk q (AreTables p.journal.geo.fpages p.journal.tables) → OnOk q (p.journal.tables.files ≡ host.files.pages.journal.tables.files) → is_settled p ≡ is_done (outcome_by page_says q)
-        → OnOk q (AreReady host.files.pages.journal p (state after).medium)
-    ready (Ok x) tables names settled =
-        let both = both_settled p.settled p.journal.settled settled in
-        record {
-          sizes = object.0;
-          names = names;
-          settled = both.0;
-          journal = both.1;
-          serves = serves settled;
-          right = subst (λ g. AreTables g.fpages p.journal.tables) object.0 tables;
-          held = held settled ∙ ap (λ g. g.fpages) object.0;
-        }
-    ready (Err f) tables names settled = tt
-
--- It makes no line weak.
-pub store_room : (host : HostState) (p : PagesState) (r : Result (Unit {0}) PageFault) (name : List ℕ) (inode offset : ℕ) (bytes : List ℕ) (old new : Medium) → AreTables host.files.pages.journal.geo.fpages host.files.pages.journal.tables
-    → inode_of name host.files.pages.journal.tables.files ≡ Some inode → HasRoom host.files old → p.journal.geo ≡ host.files.pages.journal.geo
-    → OnOk r ((files : List File) (file : File) → IsFileAt host.files.pages.journal old inode files file
-    → FilesStand host.files.pages.journal.geo new p.journal.tables (change_file file_name file.name (on_pages (λ pages. put offset bytes (fill offset (length bytes) pages))) files))
-    → OnOk r (HasRoom (record host.files { pages = p }) new)
-store_room host p (Ok x) name inode offset bytes old new right here room sizes ok =
-    room_then host.files (record host.files { pages = p }) old new (stored_in name offset bytes) thin
-    (λ files stand.
-    let seen = file-found host.files.pages.journal old right name files stand inode (found_is_named name host.files.pages.journal.tables.files inode here) in
-    subst (λ g. FilesStand g new p.journal.tables (stored_in name offset bytes files)) (sym sizes)
-    (subst (λ n. FilesStand host.files.pages.journal.geo new p.journal.tables (change_file file_name n (on_pages (λ pages. put offset bytes (fill offset (length bytes) pages))) files)) seen.named (ok files seen.file seen.at)))
-    (omega arith) room
-  where
-    thin : Thins (stored_in name offset bytes)
-    thin files =
-        change-weak name (on_pages (λ pages. put offset bytes (fill offset (length bytes) pages)))
-        (λ file. let a = put-weak offset bytes (fill offset (length bytes) file.pages) in let b = fill-weak offset (length bytes) file.pages in omega (arith, a, b)) files
-store_room host p (Err f) name inode offset bytes old new right here room sizes ok = tt
-
--- A store in a file.
-module _ (now host after : HostState) (p : PagesState) (r : Result (Unit {0}) PageFault) (name : List ℕ) (inode offset : ℕ) (bytes : List ℕ) (old new : Device)
-    (inside : host ≡ now) (state : after ≡ pages_after host p host.files.events (mode_after page_says r)) (on : now.mode ≡ On) (serves : HostServes now old) (here : inode_of name host.files.pages.journal.tables.files ≡ Some inode)
-    (call : PagesCalled page_says host p host.files.events r (MayLeaveFiles host.files.mappings.mappings (Some (FWrite name offset bytes))) (store_calls host.files.pages.journal inode offset (length bytes)) (fill_persists host.files.pages.journal inode offset (length bytes)) old new) where
-  stored_leaves : LeavesOthers (FWrite name offset bytes)
-  stored_leaves = record { blocks = λ old new same. same; volume = λ geo old new same. same }
-
-  -- which pages are there is seen as the machine sees it
-  there_seen : (h : Machine) → Stands now old h → presence_of (pages_named name h.files) ≡ pages_there host.files.pages.journal inode
-  there_seen h stands =
-      let seen = file_seen now host old inside on serves name h stands inode here in
-      let has = named_seen now host old inside on serves name h stands (Some inode) (sym here) in
-      ap presence_of (pages_are h name seen.file (sym stands.mode ∙ on) has seen.found)
-      ∙ (pages_on host.files.pages.journal old.medium inode h.files seen.file (right_now now host old inside on serves) seen.at).there
-
-  spent : (h : Machine) → Stands now old h
-      → (store_calls host.files.pages.journal inode offset (length bytes) ≤ storing_calls (presence_of (pages_named name h.files)) offset (length bytes))
-      × (fill_persists host.files.pages.journal inode offset (length bytes) ≤ filling_persists (presence_of (pages_named name h.files)) offset (length bytes))
-  spent h stands =
-      let same = sym (there_seen h stands) in (
-        subst (λ there. store_calls host.files.pages.journal inode offset (length bytes) ≤ storing_calls there offset (length bytes)) same (omega arith),
-        subst (λ there. fill_persists host.files.pages.journal inode offset (length bytes) ≤ filling_persists there offset (length bytes)) same (omega arith),
-      )
-
-  pub store_answered : (answer : Answer)
-      → ((files : List File) (file : File) → IsFileAt host.files.pages.journal old.medium inode files file → Answers page_says (store_refusal host.files.pages.journal old.medium file.pages offset (length bytes)) r)
-      → OnOk r ((files : List File) (file : File) → IsFileAt host.files.pages.journal old.medium inode files file
-      → FilesStand host.files.pages.journal.geo new.medium p.journal.tables (change_file file_name file.name (on_pages (λ pages. put offset bytes (fill offset (length bytes) pages))) files))
-      → answer ≡ answer_after page_says (page_answer name) Done r → Answered (FWrite name offset bytes) answer now after old new
-  store_answered answer refused ok answer_is =
-      work_answered page_says (page_answer name) (pages_part name) now host after p host.files.events r _ _ old new inside state on serves (FWrite name offset bytes) spent stored_leaves call refl answer
-      (λ h stands. store_refusal host.files.pages.journal old.medium (file_seen now host old inside on serves name h stands inode here).file.pages offset (length bytes))
-      (λ h. stored_in name offset bytes h.files) refl
-      (λ h stands.
-      let seen = file_seen now host old inside on serves name h stands inode here in
-      fate_fwrite h name seen.file (sym stands.mode ∙ on) (named_seen now host old inside on serves name h stands (Some inode) (sym here)) seen.found
-      host.files.pages.journal old.medium (journal_sizes now host old h inside on serves stands) (units_seen now host old inside on serves name h stands) (meta_seen now host old inside on serves name h stands)
-      offset bytes)
-      (λ h stands. let seen = file_seen now host old inside on serves name h stands inode here in refused h.files seen.file seen.at)
-      (λ h stands. stored r ok h (file_seen now host old inside on serves name h stands inode here))
-      answer_is
-    where
-      stored : (q : Result (Unit {0}) PageFault)
-          → OnOk q ((files : List File) (file : File) → IsFileAt host.files.pages.journal old.medium inode files file
-          → FilesStand host.files.pages.journal.geo new.medium p.journal.tables (change_file file_name file.name (on_pages (λ pages. put offset bytes (fill offset (length bytes) pages))) files))
-          → (h : Machine) → FoundFile host.files.pages.journal old.medium inode name h.files → OnOk q (FilesStand host.files.pages.journal.geo new.medium p.journal.tables (stored_in name offset bytes h.files))
-      stored (Ok x) ok h seen =
-          subst (λ n. FilesStand host.files.pages.journal.geo new.medium p.journal.tables (change_file file_name n (on_pages (λ pages. put offset bytes (fill offset (length bytes) pages))) h.files)) seen.named
-          (ok h.files seen.file seen.at)
-      stored (Err f) ok h seen = tt

@@ -57,6 +57,7 @@ pub mod FilePageLemmas
 mod EitherFileLemmas
 mod WeakPageLemmas
 pub mod FileChangeLemmas
+pub mod FileStoreLemmas
 pub mod FileActionFateLemmas
 pub mod FileActionLemmas
 pub mod LoadLemmas

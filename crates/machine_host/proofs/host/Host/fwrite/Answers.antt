@@ -3,28 +3,36 @@ use Rattle.inode_table.specs.Slots.{inode_of}
 use Rattle.file_journal.specs.Object.{JournalState}
 use Rattle.script_text.specs.Action.Action.{FWrite}
 use Rattle.machine_host.specs.Stands.{HostState}
-use Rattle.machine_host.proofs.FilePageLemmas.{missing_answered, right_now, room_now, store_answered, store_called, store_room}
+use Rattle.machine_host.proofs.FilePageLemmas.{missing_answered}
+use Rattle.machine_host.proofs.FileStoreLemmas.{store_answered}
 use Rattle.machine_host.proofs.host.Host.fwrite.Goals as goal
 
 pub returns-in-Some : goal.returns-in-Some
 returns-in-Some g c =
     let said = c.store-call.ensures in
-    let now = c.args.self.now in
     let host : HostState = record { geometry = c.self.inside.geometry; mode = c.self.inside.mode; blocks = c.self.inside.blocks; volume = c.self.inside.volume; files = c.self.inside.files } in
-    let old = g.D.Lines.state c.args.device.now in
     let name = c.args.name.now in
     let here : inode_of name host.files.pages.journal.tables.files ≡ Some c.in-Some.inode = ap (λ (j : JournalState). inode_of name j.tables.files) (sym c.journal.ensures) ∙ sym c.in-Some.ensures.value in
-    store_answered now host _ _ c.store-call.result name c.in-Some.inode c.args.offset c.args.bytes.now old _ c.self.view_is c.page_answer.ensures.state c.requires.on c.requires.serves here
-    (store_called g.D.Lines.state host _ c.store-call.result name c.in-Some.inode c.args.offset c.args.bytes.now _ _ _ _ (right_now now host old c.self.view_is c.requires.on c.requires.serves) here
-    said.untouched said.images said.outside said.metadata said.serves said.tables said.files said.object said.held said.runs
-    (store_room host _ c.store-call.result name c.in-Some.inode c.args.offset c.args.bytes.now old.medium _ (right_now now host old c.self.view_is c.requires.on c.requires.serves) here
-    (room_now now host old c.self.view_is c.requires.on c.requires.serves) said.object.0 said.ok))
-    _ said.refused said.ok c.page_answer.ensures.answer
+    store_answered g.D.Lines.state c.args.self.now host _ _ c.store-call.result name c.in-Some.inode c.args.offset c.args.bytes.now _ _ c.self.view_is c.page_answer.ensures.state c.requires.on c.requires.serves here
+    (record {
+      refused = said.refused;
+      untouched = said.untouched;
+      ok = said.ok;
+      images = said.images;
+      outside = said.outside;
+      marks = said.metadata;
+      serves = said.serves;
+      tables = said.tables;
+      names = said.files;
+      object = said.object;
+      held = said.held;
+      runs = said.runs;
+    })
+    _ c.page_answer.ensures.answer
 
 pub returns-in-None : goal.returns-in-None
 returns-in-None g c =
     let name = c.args.name.now in
     let host : HostState = record { geometry = c.self.inside.geometry; mode = c.self.inside.mode; blocks = c.self.inside.blocks; volume = c.self.inside.volume; files = c.self.inside.files } in
     let none : None ≡ inode_of name host.files.pages.journal.tables.files = c.in-None.ensures.value ∙ ap (λ (j : JournalState). inode_of name j.tables.files) c.journal.ensures in
-    missing_answered c.args.self.now host _ name (FWrite name c.args.offset c.args.bytes.now) c.self.view_is c.requires.on c.requires.serves
-    none refl (λ h. refl) (omega arith)
+    missing_answered c.args.self.now host _ name (FWrite name c.args.offset c.args.bytes.now) c.self.view_is c.requires.on c.requires.serves none refl (λ h. refl) (omega arith)
