@@ -1,5 +1,5 @@
 -- What comes of the actions that leave a file old or new, by what they refuse.
-use Rattle.std.proofs.Common.{◌≡◌, ◌+◌, ◌-◌, ◌*◌, ◌==◌, ℕ, Bool, true, false, Option, Some, None, option_map, List, length, nat_lt, if◌then◌else◌, refl, ap, ap₂, ◌∙◌}
+use Rattle.std.proofs.Common.{◌≡◌, ◌+◌, ◌-◌, ◌==◌, ℕ, Bool, true, false, Option, Some, None, option_map, List, length, nat_lt, if◌then◌else◌, refl, ap, ap₂, ◌∙◌}
 use Rattle.line_device.specs.Medium.{Medium}
 use Rattle.nvm_base.specs.declared.units.Span.{Span}
 use Rattle.page_table.specs.Pages.{used_pages}
@@ -23,7 +23,7 @@ use Rattle.machine_host.specs.Machine.Fate.{Works}
 use Rattle.machine_host.specs.Meaning.{Meaning, first_reason, metadata_refusal, span_refusal}
 use Rattle.machine_host.specs.Commands.{fate, meaning, unless_refused}
 use Rattle.machine_host.specs.OnFileActions.{action_answer, discarded_in, fmulti, written_together}
-use Rattle.machine_host.specs.OnPages.{if_full, pages_named, pages_used}
+use Rattle.machine_host.specs.OnPages.{if_full, pages_used}
 use Rattle.machine_host.proofs.FilePageFateLemmas.{full_seen, pages_are, there}
 use Rattle.machine_host.proofs.RefusalLemmas.{fate_usable, mapped_first}
 

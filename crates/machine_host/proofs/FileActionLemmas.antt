@@ -1,38 +1,27 @@
 -- What the actions that leave a file old or new come to.
-use Rattle.std.proofs.Common.{◌≡◌, ◌≤◌, ◌+◌, ◌∷◌, [], ℕ, true, IsTrue, Option, Some, None, option_map, Result, Ok, Err, OnOk, List, length, inl, inr, ◌⊎◌, refl, sym, ap, subst, ◌∙◌, arith}
+use Rattle.std.proofs.Common.{◌≡◌, ◌≤◌, ◌+◌, ℕ, Option, Some, option_map, Result, List, length, ◌⊎◌, refl, sym, ap, subst, ◌∙◌, arith}
 use Rattle.line_device.specs.Device.{Device}
-use Rattle.line_device.specs.Panel.{Runs}
-use Rattle.line_words.specs.Told.{Answers, OnRefused, OnWorked, is_done, outcome_by}
-use Rattle.line_words.specs.Told.Told.{Starves}
 use Rattle.nvm_base.specs.declared.units.Span.{Span}
 use Rattle.word_log.specs.Changes.{commit_calls, commit_persists}
 use Rattle.inode_table.specs.Slots.{inode_of, pages_at}
 use Rattle.nvm_model.specs.Events.{count_in_pages, is_weak_cell}
-use Rattle.nvm_model.specs.Files.{OneFileLeft, on_pages}
+use Rattle.nvm_model.specs.Files.{on_pages}
 use Rattle.nvm_model.specs.Listing.{change_file, file_name}
 use Rattle.nvm_model.specs.Page.{Page, discard}
-use Rattle.nvm_model.specs.Storage.{File, Block, Mapping}
-use Rattle.page_lines.specs.Turns.{WritesBackOthers}
+use Rattle.nvm_model.specs.Storage.{File, Mapping}
 use Rattle.file_actions.specs.Costs.{write_calls, write_persists}
 use Rattle.file_actions.specs.Refusals.{ActionRefusal, action_says, discard_refusal, write_refusal}
-use Rattle.file_actions.specs.Refusals.ActionRefusal.{Range, Length, Limit, Overlap, Full, Meta, Poison}
+use Rattle.file_actions.specs.Refusals.ActionRefusal.{Meta}
 use Rattle.file_actions.specs.Rewriting.{pages_touched, rewritten}
 use Rattle.file_actions.specs.declared.fault.ActionFault.{ActionFault}
-use Rattle.file_actions.specs.declared.fault.ActionFault.TheVariants as fault
-use Rattle.file_journal.specs.Area.{IsOfFiles}
-use Rattle.file_journal.specs.Standing.{EachReadsFiles}
-use Rattle.file_journal.specs.Tables.{AreTables, known_units}
-use Rattle.file_pages.specs.Object.{IsFileAt, KeepsMarks, PagesServe, PagesState, is_settled}
-use Rattle.word_tables.specs.declared.geometry.Geometry.{Geometry}
-use Rattle.reply_text.specs.Answer.{Answer, IsPrintable}
+use Rattle.file_pages.specs.Object.{PagesState}
+use Rattle.reply_text.specs.Answer.{Answer}
 use Rattle.reply_text.specs.Answer.Answer.{Done}
-use Rattle.reply_text.specs.Room.{most_of}
 use Rattle.script_text.specs.Action.{Action}
 use Rattle.script_text.specs.Action.Action.{FDiscard}
 use Rattle.machine_host.specs.declared.mode.Mode.TheVariants.{On}
-use Rattle.machine_host.specs.Commands.{LeavesBlocks, LeavesFiles, LeavesVolume, MayLeaveBlocks, MayLeaveFiles, MayLeaveVolume, fate, longest, meaning, spending, unless_refused}
+use Rattle.machine_host.specs.Commands.{LeavesBlocks, LeavesFiles, LeavesVolume, MayLeaveFiles, fate, longest, meaning, spending, unless_refused}
 use Rattle.machine_host.specs.Faults.{answer_after, mode_after}
-use Rattle.machine_host.specs.Interrupted.{stop_in}
 use Rattle.machine_host.specs.Machine.{Machine}
 use Rattle.machine_host.specs.Machine.Fate.{Works}
 use Rattle.machine_host.specs.Meaning.{Meaning}
@@ -40,7 +29,7 @@ use Rattle.machine_host.specs.OnFileActions.{action_answer, fmulti}
 use Rattle.machine_host.specs.OnPages.{pages_named}
 use Rattle.machine_host.specs.Responding.{Answered}
 use Rattle.machine_host.specs.Stands.{HostServes, HostState, Stands}
-use Rattle.machine_host.proofs.CallLemmas.{IsPart}
+use Rattle.machine_host.proofs.ActionAnswerLemmas.{actions_part}
 use Rattle.machine_host.proofs.EitherFileLemmas.{left-either}
 use Rattle.machine_host.proofs.FileActionFateLemmas.{fate_discard, fate_together}
 use Rattle.machine_host.proofs.FileChangeLemmas.{FileCalled, file_answered, file_called}
@@ -49,48 +38,6 @@ use Rattle.machine_host.proofs.FilePageFateLemmas.{pages_are}
 use Rattle.machine_host.proofs.FilePageLemmas.{file_seen, meta_seen, named_seen, right_now, room_now, units_seen}
 use Rattle.machine_host.proofs.FilesCallLemmas.{journal_sizes}
 use Rattle.machine_host.proofs.WeakPageLemmas.{discard-weak, rewritten-weak}
-
-never_starves : (f : ActionFault) → action_says f ≡ Starves → ⊥
-never_starves fault.Range e = cc e
-never_starves fault.Length e = cc e
-never_starves fault.Limit e = cc e
-never_starves fault.Overlap e = cc e
-never_starves fault.Full e = cc e
-never_starves (fault.Meta line) e = cc e
-never_starves (fault.Poison offset) e = cc e
-never_starves fault.Device e = cc e
-never_starves fault.PowerLost e = cc e
-
-module _ (name : List ℕ) where
-  no_stop : (w : ActionRefusal) → stop_in (action_answer name w) ≡ None
-  no_stop Range = refl
-  no_stop Length = refl
-  no_stop Limit = refl
-  no_stop Overlap = refl
-  no_stop Full = refl
-  no_stop (Meta line) = refl
-  no_stop (Poison offset) = refl
-
-  short_refusal : (w : ActionRefusal) → most_of (action_answer name w) ≤ 72
-  short_refusal Range = omega arith
-  short_refusal Length = omega arith
-  short_refusal Limit = omega arith
-  short_refusal Overlap = omega arith
-  short_refusal Full = omega arith
-  short_refusal (Meta line) = omega arith
-  short_refusal (Poison offset) = omega arith
-
-  printable_refusal : (w : ActionRefusal) → IsPrintable (action_answer name w)
-  printable_refusal Range = tt
-  printable_refusal Length = tt
-  printable_refusal Limit = tt
-  printable_refusal Overlap = tt
-  printable_refusal Full = tt
-  printable_refusal (Meta line) = tt
-  printable_refusal (Poison offset) = tt
-
-  pub actions_part : IsPart action_says (action_answer name)
-  actions_part = record { printable = printable_refusal; quiet = no_stop; short = short_refusal; fed = never_starves }
 
 -- An action that leaves all but one file, and that one old or new.
 pub record TurnsFile (action : Action) (name : List ℕ) (f : List Page → List Page) : Type 0 where

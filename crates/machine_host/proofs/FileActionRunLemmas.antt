@@ -1,5 +1,5 @@
 -- What may come of a cut in a write of ranges of a file.
-use Rattle.std.proofs.Common.{◌≡◌, ◌++◌, ◌⊎◌, inl, inr, ℕ, true, false, None, Some, List, [], ◌∷◌, map, replicate, refl, sym, ap, subst}
+use Rattle.std.proofs.Common.{◌≡◌, ◌++◌, ◌⊎◌, inl, inr, ℕ, false, None, Some, List, [], ◌∷◌, map, replicate, refl, subst}
 use Rattle.std.specs.Prelude.{codes}
 use Rattle.std.specs.Fmt.{digits}
 use Rattle.line_device.specs.Panel.{Image}

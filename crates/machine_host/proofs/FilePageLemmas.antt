@@ -1,8 +1,8 @@
 -- What reads and stores of a file's bytes come to.
+use Rattle.std.proofs.Common.{◌≡◌, position, ◌+◌, ◌*◌, ◌≤◌, ℕ, true, Option, Some, None, option_map, is_some, Result, Ok, Err, OnOk, List, if◌then◌else◌, refl, sym, ap, subst, ◌∙◌, arith}
 use Rattle.std.specs.List.{range_with_len}
 use Rattle.word_tables.specs.Layout.{meta_lines}
-use Rattle.std.proofs.Common.{◌≡◌, position, ◌+◌, ◌*◌, ◌≤◌, ℕ, Bool, true, false, IsTrue, Option, Some, None, option_map, is_some, Result, Ok, Err, OnOk, List, length, if◌then◌else◌, refl, sym, ap, subst, ◌∙◌, arith}
-use Rattle.line_device.specs.Medium.{WritesBack, Medium}
+use Rattle.line_device.specs.Medium.{WritesBack}
 use Rattle.line_device.specs.Panel.{Runs}
 use Rattle.line_device.specs.Device.{Device}
 use Rattle.line_words.specs.Told.{Answers, OnRefused, OnWorked, is_done, outcome_by}
@@ -11,27 +11,22 @@ use Rattle.nvm_base.specs.Units.{units_of}
 use Rattle.inode_table.specs.Slots.{inode_of, pages_at}
 use Rattle.inode_table.proofs.SlotLemmas.{found_is_named}
 use Rattle.page_table.specs.Pages.{used_pages}
-use Rattle.nvm_model.specs.Files.{OneFileLeft, on_pages}
-use Rattle.nvm_model.specs.Interrupted.{MayStore}
-use Rattle.nvm_model.specs.Listing.{change_file, file_name, has_file}
-use Rattle.nvm_model.specs.Page.{fill, look, presence_of, put}
+use Rattle.nvm_model.specs.Listing.{file_name, has_file}
+use Rattle.nvm_model.specs.Page.{look}
 use Rattle.nvm_model.specs.Storage.{File}
 use Rattle.nvm_model.proofs.KeptLemmas.{line_kept-write_back}
-use Rattle.page_lines.specs.Turns.{WritesBackOthers}
 use Rattle.page_lines.proofs.OthersLemmas.{others-write_back}
 use Rattle.file_journal.specs.Area.{IsOfFiles}
 use Rattle.file_journal.specs.Object.{JournalState}
 use Rattle.file_journal.specs.Standing.{EachReadsFiles, FilesStand}
 use Rattle.file_journal.specs.Tables.{AreTables, known_units}
 use Rattle.file_journal.proofs.ServesLemmas.{served_files}
-use Rattle.file_pages.specs.Costs.{fill_persists, filling_persists, store_calls, storing_calls}
-use Rattle.file_pages.specs.Object.{IsFileAt, KeepsMarks, PagesServe, PagesState, is_settled, pages_there}
-use Rattle.file_pages.specs.Refusals.{PageRefusal, metadata_refusal_if, page_says, read_refusal, store_refusal}
+use Rattle.file_pages.specs.Object.{IsFileAt, PagesServe, PagesState}
+use Rattle.file_pages.specs.Refusals.{PageRefusal, page_says, read_refusal}
 use Rattle.file_pages.specs.Refusals.PageRefusal.{Range, Length, Full, Meta, Poison}
 use Rattle.file_pages.specs.declared.fault.PageFault.{PageFault}
 use Rattle.file_pages.specs.declared.fault.PageFault.TheVariants as fault
 use Rattle.file_pages.proofs.FoundLemmas.{FoundFile, file-found}
-use Rattle.file_pages.proofs.PassLemmas.{pages_on}
 use Rattle.reply_text.specs.declared.reply.Why.{Why}
 use Rattle.reply_text.specs.declared.reply.Why.TheVariants as because
 use Rattle.reply_text.specs.Answer.{Answer, IsPrintable}
@@ -48,20 +43,18 @@ use Rattle.machine_host.specs.Interrupted.{stop_in}
 use Rattle.machine_host.specs.Lines.{bad_metadata}
 use Rattle.machine_host.specs.Meaning.{metadata_refusal, most_refusal}
 use Rattle.machine_host.specs.OnFiles.{if_missing}
-use Rattle.machine_host.specs.OnPages.{page_answer, pages_named, pages_used, stored_in}
+use Rattle.machine_host.specs.OnPages.{page_answer, pages_used}
 use Rattle.machine_host.specs.Responding.{Answered}
 use Rattle.machine_host.specs.Stands.{HostState, HostServes, Stands, Comes, HasRoom}
 use Rattle.machine_host.proofs.CallLemmas.{IsPart, on_refused-then}
 use Rattle.machine_host.proofs.ExistsLemmas.{same_state}
-use Rattle.machine_host.proofs.FilePageCallLemmas.{AreReady, LeavesOthers, PagesCalled, both_settled, pages_after, work_answered, work_comes, work_serves, told_still}
+use Rattle.machine_host.proofs.FilePageCallLemmas.{AreReady, LeavesOthers, PagesCalled, pages_after, work_comes, work_serves, told_still}
 use Rattle.machine_host.proofs.FilePageFateLemmas.{fate_misread, fate_read_within, fate_unnamed}
 use Rattle.machine_host.proofs.FilesAsideLemmas.{files_stand_elsewhere}
 use Rattle.machine_host.proofs.FilesCallLemmas.{files_seen, journal_sizes, sees_files}
 use Rattle.machine_host.proofs.RefusalLemmas.{meta_refused}
 use Rattle.machine_host.proofs.UsedPageLemmas.{used_seen}
-use Rattle.machine_host.proofs.RoomLemmas.{Thins, room_still, room_then}
-use Rattle.machine_host.proofs.WeakFileLemmas.{change-weak}
-use Rattle.machine_host.proofs.WeakLineLemmas.{fill-weak, put-weak}
+use Rattle.machine_host.proofs.RoomLemmas.{room_still}
 
 -- answers of pages
 never_starves : (f : PageFault) → page_says f ≡ Starves → ⊥

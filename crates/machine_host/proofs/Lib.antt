@@ -59,6 +59,7 @@ mod WeakPageLemmas
 pub mod FileChangeLemmas
 pub mod FileStoreLemmas
 pub mod FileActionFateLemmas
+mod ActionAnswerLemmas
 pub mod FileActionLemmas
 pub mod LoadLemmas
 pub mod MediaLemmas

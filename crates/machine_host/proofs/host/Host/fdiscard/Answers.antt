@@ -1,5 +1,4 @@
-use Rattle.std.proofs.Common.{◌≡◌, ◌∷◌, [], Some, None, length, refl, sym, ap, ◌∙◌, arith}
-
+use Rattle.std.proofs.Common.{◌≡◌, Some, None, refl, sym, ap, ◌∙◌, arith}
 use Rattle.inode_table.specs.Slots.{inode_of}
 use Rattle.file_journal.specs.Object.{JournalState}
 use Rattle.script_text.specs.Action.Action.{FDiscard}
