@@ -45,6 +45,7 @@ pub mod MapToldLemmas
 pub mod MapLemmas
 pub mod HandleCallLemmas
 pub mod FlushFateLemmas
+pub mod WholeFileLemmas
 pub mod LostLineLemmas
 pub mod FlushLemmas
 pub mod FilesLeftLemmas
