@@ -47,6 +47,7 @@ pub mod HandleCallLemmas
 pub mod FlushFateLemmas
 pub mod WholeFileLemmas
 pub mod LostLineLemmas
+pub mod SyncedLemmas
 pub mod FlushLemmas
 pub mod FilesLeftLemmas
 pub mod FilesCallLemmas
