@@ -58,7 +58,7 @@ use Rattle.machine_host.specs.declared.held.HeldFiles.{HeldFiles}
 use Rattle.machine_host.specs.Flushing.{FlushSaid, LinesTold, Looked}
 use Rattle.machine_host.specs.OnEvents.{lost_events}
 use Rattle.machine_host.proofs.LostLineLemmas.{err_then, heard_of, none_flushed, room_left, same_refused, told_others}
-use Rattle.machine_host.proofs.SyncedLemmas.{synced_answered, synced_called}
+use Rattle.machine_host.proofs.SyncedLemmas.{few_there, synced_answered, synced_called}
 
 -- answers of flushes
 never_starves : (f : FlushFault) → flush_says f ≡ Starves → ⊥
@@ -148,14 +148,6 @@ same_outcome (Err fault.Device) = refl
 same_outcome (Err fault.PowerLost) = refl
 
 -- no more lines are there than are touched
-few_there : (place : ℕ → Option ℕ) (first k : ℕ) → there_among place first k ≤ k
-few_there place first zero = omega arith
-few_there place first (suc k) = let rest = few_there place first k in let last = one (place (first + k)) in omega (arith, rest, last)
-  where
-    one : (o : Option ℕ) → one_there o ≤ 1
-    one None = omega arith
-    one (Some line) = omega arith
-
 few_lines : (s : JournalState) (inode : ℕ) (spans : List Span) → lines_in s inode spans ≤ lines_touched_by spans
 few_lines s inode [] = omega arith
 few_lines s inode (span ∷ spans) =

@@ -49,6 +49,7 @@ pub mod WholeFileLemmas
 pub mod LostLineLemmas
 pub mod SyncedLemmas
 pub mod FlushLemmas
+mod FileSyncLemmas
 pub mod FilesLeftLemmas
 pub mod FilesCallLemmas
 mod ListingLemmas
@@ -56,6 +57,7 @@ pub mod UsedPageLemmas
 pub mod FilePageFateLemmas
 pub mod FilePageCallLemmas
 pub mod FilePageLemmas
+pub mod FileActionLemmas
 pub mod LoadLemmas
 pub mod MediaLemmas
 pub mod PoisonLemmas

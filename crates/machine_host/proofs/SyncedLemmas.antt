@@ -1,5 +1,5 @@
 -- What a call that makes spans of a file durable comes to, whichever it is: flushes through mappings, and a sync of all of it.
-use Rattle.std.proofs.Common.{◌≡◌, ◌≤◌, ◌++◌, ◌∙◌, ℕ, Option, Some, None, option_map, Result, Ok, Err, OnOk, List, sym, ap, ap₂, subst}
+use Rattle.std.proofs.Common.{◌≡◌, ◌+◌, ◌≤◌, ◌++◌, ◌∙◌, ℕ, zero, suc, Option, Some, None, option_map, Result, Ok, Err, OnOk, List, sym, ap, ap₂, subst, arith}
 use Rattle.line_device.specs.Device.{Device}
 use Rattle.line_device.specs.Panel.{Runs}
 use Rattle.line_words.specs.Told.{Told, Answers, OnRefused, OnWorked, is_done, outcome_by}
@@ -14,6 +14,7 @@ use Rattle.nvm_model.specs.Listing.{change_file, file_name}
 use Rattle.nvm_model.specs.Page.{Page}
 use Rattle.nvm_model.specs.Storage.{File, Event}
 use Rattle.nvm_model.specs.Touched.{persist_spans}
+use Rattle.page_lines.specs.Placed.{one_there, there_among}
 use Rattle.page_lines.specs.Turns.{WritesBackOthers}
 use Rattle.file_journal.specs.Area.{IsOfFiles}
 use Rattle.file_journal.specs.Object.{JournalState}
@@ -41,6 +42,15 @@ use Rattle.machine_host.proofs.FilePageCallLemmas.{AreReady, LeavesOthers, Pages
 use Rattle.machine_host.proofs.FilePageFateLemmas.{pages_are}
 use Rattle.machine_host.proofs.FilePageLemmas.{file_seen, held_now, journal_now, right_now}
 use Rattle.machine_host.proofs.MapFateLemmas.{has-found}
+
+-- of so many lines no more are there
+pub few_there : (place : ℕ → Option ℕ) (first k : ℕ) → there_among place first k ≤ k
+few_there place first zero = omega arith
+few_there place first (suc k) = let rest = few_there place first k in let last = one (place (first + k)) in omega (arith, rest, last)
+  where
+    one : (o : Option ℕ) → one_there o ≤ 1
+    one None = omega arith
+    one (Some line) = omega arith
 
 both_refused : {E R P Q S : Type 0} (says : E → Told R) (r : Result (Unit {0}) E) → (P → Q → S) → OnRefused says r P → OnRefused says r Q → OnRefused says r S
 both_refused says (Ok x) f p q = tt
