@@ -1,5 +1,5 @@
 -- What flushes through mappings come to.
-use Rattle.std.proofs.Common.{◌≡◌, ◌+◌, ◌*◌, ◌≤◌, ◌++◌, ◌∙◌, ℕ, zero, suc, true, Option, Some, None, Result, Ok, Err, OnOk, List, [], ◌∷◌, length, refl, sym, ap, subst, arith, ap₂}
+use Rattle.std.proofs.Common.{◌≡◌, ◌+◌, ◌*◌, ◌≤◌, ◌++◌, ◌∙◌, ℕ, zero, suc, true, Option, Some, None, Result, Ok, Err, OnOk, List, [], ◌∷◌, length, refl, sym, ap, subst, arith}
 use Rattle.std.proofs.lemmas.List.Sums.{sum_by-cons}
 use Rattle.std.proofs.lemmas.Option.{same_Some}
 use Rattle.line_device.specs.Device.{Device}
@@ -11,7 +11,6 @@ use Rattle.nvm_base.specs.declared.files.Kind.TheVariants.{Shared}
 use Rattle.nvm_base.specs.declared.units.Span.{Span}
 use Rattle.mappings.specs.declared.info.MapInfo.{MapInfo}
 use Rattle.inode_table.specs.Slots.{inode_of}
-use Rattle.inode_table.proofs.SlotLemmas.{found_is_named}
 use Rattle.nvm_model.specs.Files.{OneFileLeft, on_pages}
 use Rattle.nvm_model.specs.Interrupted.{MaySyncAll}
 use Rattle.nvm_model.specs.Listing.{change_file, file_name}
@@ -19,15 +18,10 @@ use Rattle.nvm_model.specs.Mappings.{is_shared, mapping_of}
 use Rattle.nvm_model.specs.Storage.{File, Mapping, Event}
 use Rattle.nvm_model.specs.Touched.{next_bad_touched, persist_spans}
 use Rattle.page_lines.specs.Placed.{one_there, there_among}
-use Rattle.page_lines.specs.Turns.{WritesBackOthers}
-use Rattle.file_journal.specs.Area.{IsOfFiles}
 use Rattle.file_journal.specs.Object.{JournalState}
-use Rattle.file_journal.specs.Standing.{EachReadsFiles, FilesStand}
-use Rattle.file_journal.specs.Tables.{AreTables, known_units}
-use Rattle.file_journal.proofs.EachFilesLemmas.{each_files-then}
+use Rattle.file_journal.specs.Standing.{FilesStand}
 use Rattle.file_pages.specs.Costs.{lines_there}
-use Rattle.file_pages.specs.Object.{IsFileAt, KeepsMarks, PagesServe, PagesState, file_place}
-use Rattle.file_pages.proofs.FoundLemmas.{file-found}
+use Rattle.file_pages.specs.Object.{IsFileAt, PagesState, file_place}
 use Rattle.flush_engine.specs.Refusals.{FlushRefusal, flush_refusal, flush_says, flushed, verified}
 use Rattle.flush_engine.specs.Refusals.FlushRefusal.{Length, Limit, Poison, Range, Verify}
 use Rattle.flush_engine.specs.Spans.{lines_in}
@@ -47,27 +41,24 @@ use Rattle.machine_host.specs.Interrupted.{stop_in}
 use Rattle.machine_host.specs.Machine.{Machine}
 use Rattle.machine_host.specs.Meaning.{Meaning}
 use Rattle.machine_host.specs.Meaning.FilesLeft.{Unchanged}
-use Rattle.machine_host.specs.OnFlushes.{all_moved, flush_through, flush_with, flushed_answer, lines_touched_by, second_look, spans_refusal, synced_in}
-use Rattle.machine_host.specs.OnPages.{pages_named}
+use Rattle.machine_host.specs.OnFlushes.{all_moved, flush_through, flush_with, flushed_answer, lines_touched_by, second_look, spans_refusal}
 use Rattle.machine_host.specs.Responding.{Answered}
 use Rattle.machine_host.specs.Stands.{HostServes, HostState, IsOnFile, Stands, HasRoom}
 use Rattle.machine_host.proofs.CallLemmas.{IsPart, printable_after}
-use Rattle.machine_host.proofs.FilePageCallLemmas.{AreReady, LeavesOthers, PagesCalled, pages_after, work_comes, work_serves}
-use Rattle.machine_host.proofs.FilePageFateLemmas.{pages_are}
-use Rattle.machine_host.proofs.FilePageLemmas.{file_seen, held_now, journal_now, right_now, room_now}
+use Rattle.machine_host.proofs.FilePageCallLemmas.{LeavesOthers, PagesCalled, pages_after}
+use Rattle.machine_host.proofs.FilePageLemmas.{right_now, room_now}
 use Rattle.machine_host.proofs.FlushFateLemmas.{fate_flush, shows}
 use Rattle.machine_host.proofs.HandleCallLemmas.{Told, file_under}
 use Rattle.machine_host.proofs.HandledLemmas.{seen}
-use Rattle.machine_host.proofs.MapFateLemmas.{has-found}
 use Rattle.machine_host.proofs.MappedLemmas.{held_by}
 use Rattle.machine_host.proofs.VolumeCallLemmas.{short_after}
 use Rattle.nvm_base.specs.Stock.{Stock}
 use Rattle.std.specs.Prelude.{OnErr}
-use Rattle.mappings.specs.Object.{MappingsState}
 use Rattle.machine_host.specs.declared.held.HeldFiles.{HeldFiles}
 use Rattle.machine_host.specs.Flushing.{FlushSaid, LinesTold, Looked}
 use Rattle.machine_host.specs.OnEvents.{lost_events}
-use Rattle.machine_host.proofs.LostLineLemmas.{err_then, heard_of, room_left, same_refused, told_others}
+use Rattle.machine_host.proofs.LostLineLemmas.{err_then, heard_of, none_flushed, room_left, same_refused, told_others}
+use Rattle.machine_host.proofs.SyncedLemmas.{few_there, synced_answered, synced_called}
 
 -- answers of flushes
 never_starves : (f : FlushFault) → flush_says f ≡ Starves → ⊥
@@ -157,14 +148,6 @@ same_outcome (Err fault.Device) = refl
 same_outcome (Err fault.PowerLost) = refl
 
 -- no more lines are there than are touched
-few_there : (place : ℕ → Option ℕ) (first k : ℕ) → there_among place first k ≤ k
-few_there place first zero = omega arith
-few_there place first (suc k) = let rest = few_there place first k in let last = one (place (first + k)) in omega (arith, rest, last)
-  where
-    one : (o : Option ℕ) → one_there o ≤ 1
-    one None = omega arith
-    one (Some line) = omega arith
-
 few_lines : (s : JournalState) (inode : ℕ) (spans : List Span) → lines_in s inode spans ≤ lines_touched_by spans
 few_lines s inode [] = omega arith
 few_lines s inode (span ∷ spans) =
@@ -172,14 +155,6 @@ few_lines s inode (span ∷ spans) =
     let rest = few_lines s inode spans in
     let one = sum_by-cons (λ (x : Span). lines_there s inode x.start x.len) span spans in
     let other = sum_by-cons (λ (x : Span). (units_of 64 x).len) span spans in omega (arith, here, rest, one, other)
-
-both_refused : {P Q S : Type 0} (r : Result (Unit {0}) FlushFault) → (P → Q → S) → OnRefused flush_says r P → OnRefused flush_says r Q → OnRefused flush_says r S
-both_refused (Ok x) f p q = tt
-both_refused (Err e) f p q = λ none. f (p none) (q none)
-
-worked_then : {T P Q : Type 0} (r : Result T FlushFault) → (P → Q) → OnWorked flush_says r P → OnWorked flush_says r Q
-worked_then (Ok x) then_ p = then_ p
-worked_then (Err f) then_ p = λ stop. then_ (p stop)
 
 -- Of a shared mapping that has these spans.
 module _ (now host : HostState) (p : PagesState) (r : Result (Unit {0}) FlushFault) (action : Action) (handle inode : ℕ) (look : Look) (spans : List Span) (m : Mapping) (old : Device)
@@ -226,46 +201,13 @@ module _ (now host : HostState) (p : PagesState) (r : Result (Unit {0}) FlushFau
       persists_are : (h : Machine) → Stands now old h → (spending h action).persists ≡ lines_touched_by to
       persists_are h stands = ap (λ s. s.persists) (spends_are h stands)
 
-  -- A flush's clauses are those of a call on bytes, with the events after it.
-  module _ {D : Type 0} (state : D → Device) (before after : D) (first : state before ≡ old) (untouched : OnRefused flush_says (flushed r) ((p ≡ host.files.pages) × (after ≡ before)))
-      (images : OnWorked flush_says (flushed r) ((files : List File) (file : File) → IsFileAt host.files.pages.journal (state before).medium inode files file
-      → EachReadsFiles host.files.pages.journal.geo (state after).medium (OneFileLeft file.name (MaySyncAll to) files)))
-      (outside : WritesBackOthers (IsOfFiles host.files.pages.journal.geo) (state before).medium (state after).medium) (marks : KeepsMarks host.files.pages.journal.geo (state before).medium (state after).medium)
-      (served : PagesServe p (state after).medium) (object : (p.journal ≡ host.files.pages.journal) × (p.settled ≡ is_done (outcome_by flush_says r))) (runs : Runs lines lines (outcome_by flush_says r) (state before).panel (state after).panel)
+  -- A flush's clauses are those of a call that makes spans durable.
+  module _ {D : Type 0} (state : D → Device) (before after : D) (first : state before ≡ old) (said : FlushSaid state host.files.pages p r look inode to before after)
       (e : Stock Event) (same : OnRefused flush_says (flushed r) (e ≡ host.files.events)) (room : OnOk (flushed r) (HasRoom (record host.files { pages = p; events = e }) (state after).medium)) where
-    right_here : AreTables host.files.pages.journal.geo.fpages host.files.pages.journal.tables
-    right_here = right_now now host old inside on serves
-
-    of_name : ((files : List File) (file : File) → IsFileAt host.files.pages.journal (state before).medium inode files file → EachReadsFiles host.files.pages.journal.geo (state after).medium (OneFileLeft file.name (MaySyncAll to) files))
-        → (files : List File) → FilesStand host.files.pages.journal.geo (state before).medium host.files.pages.journal.tables files
-        → EachReadsFiles host.files.pages.journal.geo (state after).medium (MayLeaveFiles host.files.mappings.mappings (Some action) files)
-    of_name each files stand =
-        let found = file-found host.files.pages.journal (state before).medium right_here m.name files stand inode (found_is_named m.name host.files.pages.journal.tables.files inode here) in
-        each_files-then host.files.pages.journal.geo (state after).medium (OneFileLeft m.name (MaySyncAll to) files) (MayLeaveFiles host.files.mappings.mappings (Some action) files) (left_by_row files)
-        (subst (λ n. EachReadsFiles host.files.pages.journal.geo (state after).medium (OneFileLeft n (MaySyncAll to) files)) found.named (each files found.file found.at))
-
-    ready_after : {T : Type 0} (q : Result T FlushFault) → p.settled ≡ is_done (outcome_by flush_says q) → OnOk q (AreReady host.files.pages.journal p (state after).medium)
-    ready_after (Ok x) settled = record {
-      sizes = ap (λ j. j.geo) object.0;
-      names = ap (λ j. j.tables.files) object.0;
-      settled = settled;
-      journal = ap (λ j. j.settled) object.0 ∙ journal_now now host old inside on serves;
-      serves = served;
-      right = subst (λ (j : JournalState). AreTables host.files.pages.journal.geo.fpages j.tables) (sym object.0) right_here;
-      held = ap (λ j. known_units j.tables.pages j.free) object.0 ∙ held_now now host old inside on serves;
-    }
-    ready_after (Err f) settled = tt
-
     pub flush_called : PagesCalled flush_says host p e (flushed r) (MayLeaveFiles host.files.mappings.mappings (Some action)) lines lines (state before) (state after)
-    flush_called = record {
-      untouched = both_refused (flushed r) (λ q x. ((q.0, x), ap state q.1)) untouched same;
-      images = worked_then (flushed r) of_name images;
-      outside = outside;
-      marks = marks;
-      ready = ready_after (flushed r) (object.1 ∙ ap is_done (sym (same_outcome r)));
-      room = room;
-      runs = subst (λ (o : Outcome). Runs lines lines o (state before).panel (state after).panel) (sym (same_outcome r)) runs;
-    }
+    flush_called =
+        synced_called flush_says now host p (flushed r) action m.name inode to lines old inside on serves here state before after first left_by_row said.untouched said.images said.outside said.marks said.serves
+        (said.object.0, said.object.1 ∙ ap is_done (sym (same_outcome r))) (subst (λ (o : Outcome). Runs lines lines o (state before).panel (state after).panel) (sym (same_outcome r)) said.runs) e same room
 
   module _ (after : HostState) (e : Stock Event) (new : Device) (state : after ≡ pages_after host p e (mode_after flush_says (flushed r)))
       (call : PagesCalled flush_says host p e (flushed r) (MayLeaveFiles host.files.mappings.mappings (Some action)) lines lines old new) (object : p.journal ≡ host.files.pages.journal) where
@@ -276,44 +218,18 @@ module _ (now host : HostState) (p : PagesState) (r : Result (Unit {0}) FlushFau
         → ((files : List File) (file : File) → IsFileAt host.files.pages.journal old.medium inode files file → Looked look r (next_bad_touched to (persist_spans to file.pages) 0))
         → OnOk (flushed r) ((files : List File) (file : File) → IsFileAt host.files.pages.journal old.medium inode files file → e.items ≡ host.files.events.items ++ lost_events host.files.mappings.mappings m.name to file.pages)
         → answer ≡ answer_after flush_says (flush_answer m.name) (verify_answer m.name r) (flushed r) → Answered action answer now after old new
-    flush_answered answer refused ok looked told answer_is = record {
-      step = λ h stands.
-          let found = file_seen now host old inside on serves m.name h stands inode here in
-          let among = file_under now old on serves handle m is h stands in
-          let same : among.file ≡ found.file = same_Some _ _ (sym among.found ∙ found.found) in
-          let whole : m.start + m.len ≤ 4096 * length found.file.pages = subst (λ (f : File). m.start + m.len ≤ 4096 * length f.pages) same among.within in
-          let named : pages_named m.name h.files ≡ found.file.pages = pages_are h m.name found.file (sym stands.mode ∙ on) (has-found m.name h.files found.file found.found) found.found in
-          work_comes flush_says (flush_answer m.name) (flush_part m.name) now host after p e (flushed r) lines lines old new inside state on serves action spent flush_leaves call
-          h (flushed_answer look m.name to found.file.pages) answer (flush_refusal found.file.pages to) (synced_in m.name to h.files) (h.events ++ lost_events h.mappings m.name to found.file.pages)
-          (quiet_look m.name look (next_bad_touched to (persist_spans to found.file.pages) 0)) stands
-          (fate_flush now old on serves action handle look spans row m is shared right h stands found.file.pages named whole)
-          (refused h.files found.file found.at) (synced (flushed r) ok h.files found.file found.at found.named) (heard (flushed r) told h stands found.file found.at)
-          (answer_is ∙ told_look look m.name r (next_bad_touched to (persist_spans to found.file.pages) 0) (looked h.files found.file found.at));
-      printable = subst IsPrintable (sym answer_is) (printable_after flush_says (flush_answer m.name) (flush_part m.name) (verify_answer m.name r) (printable_verify m.name r) (flushed r));
-      room =
-          let short = subst (λ a. most_of a ≤ 72) (sym answer_is) (short_after flush_says (flush_answer m.name) (flush_part m.name) (verify_answer m.name r) (short_verify m.name r) (flushed r)) in
-          subst (λ (x : Meaning). most_of answer ≤ x.room) (sym row) short;
-      serves = work_serves flush_says (flush_answer m.name) (flush_part m.name) now host after p e (flushed r) lines lines old new inside state on serves action spent flush_leaves call;
-    }
-      where
-        synced : (q : Result (Unit {0}) FlushFault)
-            → OnOk q ((files : List File) (file : File) → IsFileAt host.files.pages.journal old.medium inode files file
-            → FilesStand host.files.pages.journal.geo new.medium host.files.pages.journal.tables (change_file file_name file.name (on_pages (persist_spans to)) files))
-            → (files : List File) (file : File) → IsFileAt host.files.pages.journal old.medium inode files file → file.name ≡ m.name
-            → OnOk q (FilesStand host.files.pages.journal.geo new.medium p.journal.tables (synced_in m.name to files))
-        synced (Ok x) ok files file at named =
-            subst (λ (j : JournalState). FilesStand host.files.pages.journal.geo new.medium j.tables (synced_in m.name to files)) (sym object)
-            (subst (λ n. FilesStand host.files.pages.journal.geo new.medium host.files.pages.journal.tables (change_file file_name n (on_pages (persist_spans to)) files)) named (ok files file at))
-        synced (Err f) ok files file at named = tt
-
-        heard : (q : Result (Unit {0}) FlushFault)
-            → OnOk q ((files : List File) (file : File) → IsFileAt host.files.pages.journal old.medium inode files file → e.items ≡ host.files.events.items ++ lost_events host.files.mappings.mappings m.name to file.pages)
-            → (h : Machine) → Stands now old h → (file : File) → IsFileAt host.files.pages.journal old.medium inode h.files file → OnOk q (e.items ≡ h.events ++ lost_events h.mappings m.name to file.pages)
-        heard (Ok x) told h stands file at =
-            told h.files file at
-            ∙ ap (λ (k : HostState). k.files.events.items ++ lost_events k.files.mappings.mappings m.name to file.pages) inside
-            ∙ ap₂ (λ (es : List Event) (s : MappingsState). es ++ lost_events s.mappings m.name to file.pages) (stands.events on) (stands.mappings on)
-        heard (Err f) told h stands file at = tt
+    flush_answered answer refused ok looked told answer_is =
+        synced_answered flush_says now host p (flushed r) action m.name inode to lines old inside on serves here (flush_answer m.name) (flush_part m.name) after e new state spent flush_leaves call object
+        answer (λ pages. flush_refusal pages to) (λ pages. flushed_answer look m.name to pages) (λ pages. quiet_look m.name look (next_bad_touched to (persist_spans to pages) 0))
+        (λ h stands found named.
+        let among = file_under now old on serves handle m is h stands in
+        let same : among.file ≡ found.file = same_Some _ _ (sym among.found ∙ found.found) in
+        let whole : m.start + m.len ≤ 4096 * length found.file.pages = subst (λ (f : File). m.start + m.len ≤ 4096 * length f.pages) same among.within in
+        fate_flush now old on serves action handle look spans row m is shared right h stands found.file.pages named whole)
+        refused ok told (λ files file at. answer_is ∙ told_look look m.name r (next_bad_touched to (persist_spans to file.pages) 0) (looked files file at))
+        (subst IsPrintable (sym answer_is) (printable_after flush_says (flush_answer m.name) (flush_part m.name) (verify_answer m.name r) (printable_verify m.name r) (flushed r)))
+        (let short = subst (λ a. most_of a ≤ 72) (sym answer_is) (short_after flush_says (flush_answer m.name) (flush_part m.name) (verify_answer m.name r) (short_verify m.name r) (flushed r)) in
+        subst (λ (x : Meaning). most_of answer ≤ x.room) (sym row) short)
 
 -- So it is answered. Of a host behind a reference: `host` is what is inside `now`, `f` are its files once the lost lines were told, and `after_host` is what the answer leaves.
 pub flush_told : {D : Type 0} (state : D → Device) (now host after_host : HostState) (p : PagesState) (f : HeldFiles) (r : Result (Unit {0}) FlushFault) (handle inode : ℕ) (look : Look) (spans moved : List Span) (before after : D) (answer : Answer)
@@ -340,10 +256,10 @@ flush_told state now host after_host p f r handle inode look spans moved before 
     let files_are = told_others m.name inode to (state after).medium (record host.files { pages = p }) f (flushed r) news undone in
     flush_answered now host p r action handle inode look spans m (state before) inside on serves row told.is shown fits found after_host f.events (state after)
     (is ∙ ap (λ (x : HeldFiles). record host { mode = mode_after flush_says (flushed r); files = x }) files_are)
-    (flush_called now host p r action handle inode look spans m (state before) inside on serves row told.is shown fits found state before after refl s.untouched s.images s.outside s.marks s.serves s.object s.runs
-    f.events (same_refused f.events host.files.events (flushed r) (err_then (flushed r) (λ same. ap (λ (x : HeldFiles). x.events) same) undone))
-    (room_left host p r m.name inode to (state before).medium (state after).medium tables found room s.object.0 f (flushed r) s.refused s.ok news))
-    s.object.0 answer s.refused s.ok s.looked (heard_of host p r m.name inode to (state before).medium (state after).medium tables found room s.object.0 f (flushed r) s.ok news)
+    (flush_called now host p r action handle inode look spans m (state before) inside on serves row told.is shown fits found state before after refl s
+    f.events (same_refused flush_says f.events host.files.events (flushed r) (err_then (flushed r) (λ same. ap (λ (x : HeldFiles). x.events) same) undone))
+    (room_left host p m.name inode to (state before).medium (state after).medium tables found room s.object.0 f (flushed r) (λ files file at. none_flushed file.pages to (flushed r) (s.refused files file at)) s.ok news))
+    s.object.0 answer s.refused s.ok s.looked (heard_of host p m.name inode to (state before).medium (state after).medium tables found room s.object.0 f (flushed r) s.ok news)
     (answer_is ∙ ap (λ n. answer_after flush_says (flush_answer n) (verify_answer n r) (flushed r)) named)
 
 -- a file of a shared mapping is there

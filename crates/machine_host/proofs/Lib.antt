@@ -45,8 +45,11 @@ pub mod MapToldLemmas
 pub mod MapLemmas
 pub mod HandleCallLemmas
 pub mod FlushFateLemmas
+pub mod WholeFileLemmas
 pub mod LostLineLemmas
+pub mod SyncedLemmas
 pub mod FlushLemmas
+mod FileSyncLemmas
 pub mod FilesLeftLemmas
 pub mod FilesCallLemmas
 mod ListingLemmas

@@ -14,7 +14,6 @@ use Rattle.reply_text.specs.declared.reply.Why.TheVariants as because
 use Rattle.reply_text.specs.Answer.{Answer}
 use Rattle.reply_text.specs.Answer.Answer.{Done, PoisonFile, Refused, RefusedMeta}
 use Rattle.machine_host.specs.Costs.{lines_persisted}
-use Rattle.machine_host.specs.Machine.{Machine}
 use Rattle.machine_host.specs.Machine.Fate.{Works}
 use Rattle.machine_host.specs.Meaning.{Meaning, anywhere, no_reasons, quiet, span_refusal}
 use Rattle.machine_host.specs.Meaning.FilesLeft.{OldOrNew}

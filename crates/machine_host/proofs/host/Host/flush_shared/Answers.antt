@@ -7,7 +7,7 @@ use Rattle.machine_host.proofs.FilePageLemmas.{right_now, room_now}
 use Rattle.machine_host.proofs.FlushLemmas.{flush_told, mapped_found}
 use Rattle.machine_host.proofs.HandleCallLemmas.{told_of}
 use Rattle.machine_host.proofs.host.Host.flush_shared.Goals as goal
-use Rattle.machine_host.proofs.LostLineLemmas.{holds_lost}
+use Rattle.machine_host.proofs.LostLineLemmas.{holds_lost, none_flushed}
 
 pub unreachable-requires : goal.unreachable-requires
 unreachable-requires g c =
@@ -24,8 +24,9 @@ tell_flushed-requires-clause-room g c =
     let old = g.D.Lines.state c.args.device.now in
     let said = c.flush_file-call.ensures.said in
     let here : inode_of c.args.info.now.name host.files.pages.journal.tables.files ≡ Some c.in-Some.inode = ap (λ (j : JournalState). inode_of c.args.info.now.name j.tables.files) (sym c.journal.ensures) ∙ sym c.in-Some.ensures.value in
-    holds_lost host c.flush_file-call.new.pages c.flush_file-call.result c.args.info.now.name c.in-Some.inode (take (length c.args.spans.now) c.all_moved-moved.result) old.medium (g.D.Lines.state c.flush_file-call.new.device).medium
-    (right_now now host old c.self.view_is c.requires.on c.requires.serves) here (room_now now host old c.self.view_is c.requires.on c.requires.serves) said.object.0 (flushed c.flush_file-call.result) said.refused said.ok
+    holds_lost host c.flush_file-call.new.pages c.args.info.now.name c.in-Some.inode (take (length c.args.spans.now) c.all_moved-moved.result) old.medium (g.D.Lines.state c.flush_file-call.new.device).medium
+    (right_now now host old c.self.view_is c.requires.on c.requires.serves) here (room_now now host old c.self.view_is c.requires.on c.requires.serves) said.object.0 (flushed c.flush_file-call.result)
+    (λ files file at. none_flushed file.pages (take (length c.args.spans.now) c.all_moved-moved.result) (flushed c.flush_file-call.result) (said.refused files file at)) said.ok
 
 pub returns : goal.returns
 returns g c = λ action row.
