@@ -49,7 +49,6 @@ pub mod WholeFileLemmas
 pub mod LostLineLemmas
 pub mod SyncedLemmas
 pub mod FlushLemmas
-mod FileSyncLemmas
 pub mod FilesLeftLemmas
 pub mod FilesCallLemmas
 mod ListingLemmas
@@ -64,6 +63,7 @@ pub mod FileStoreLemmas
 pub mod FileActionFateLemmas
 mod ActionAnswerLemmas
 pub mod FileActionLemmas
+mod FileSyncLemmas
 pub mod LoadLemmas
 pub mod MediaLemmas
 pub mod PoisonLemmas
