@@ -43,7 +43,7 @@ use Rattle.machine_host.specs.OnPages.{pages_named}
 use Rattle.machine_host.specs.Responding.{Answered}
 use Rattle.machine_host.specs.Stands.{HostServes, HostState, Stands}
 use Rattle.machine_host.proofs.CallLemmas.{printable_after}
-use Rattle.machine_host.proofs.FileActionLemmas.{actions_part}
+use Rattle.machine_host.proofs.ActionAnswerLemmas.{actions_part}
 use Rattle.machine_host.proofs.FilePageCallLemmas.{LeavesOthers}
 use Rattle.machine_host.proofs.FilePageFateLemmas.{pages_are}
 use Rattle.machine_host.proofs.FilePageLemmas.{file_seen, named_seen, right_now, room_now}

@@ -57,7 +57,7 @@ pub mod UsedPageLemmas
 pub mod FilePageFateLemmas
 pub mod FilePageCallLemmas
 pub mod FilePageLemmas
-pub mod FileActionLemmas
+mod ActionAnswerLemmas
 pub mod LoadLemmas
 pub mod MediaLemmas
 pub mod PoisonLemmas

@@ -1,4 +1,4 @@
--- What the actions that leave a file old or new come to.
+-- How refusals by the actions on a file are answered.
 use Rattle.std.proofs.Common.{◌≡◌, ◌≤◌, ℕ, None, List, refl, arith}
 use Rattle.line_words.specs.Told.Told.{Starves}
 use Rattle.file_actions.specs.Refusals.{ActionRefusal, action_says}
