@@ -1,7 +1,6 @@
 -- What a sync of a whole file comes to.
 use Rattle.std.proofs.Common.{◌≡◌, ◌+◌, ◌*◌, ◌≤◌, ◌++◌, ◌∙◌, ℕ, zero, suc, true, Option, Some, None, option_map, Result, Ok, Err, OnErr, OnOk, List, length, if◌then◌else◌, refl, sym, ap, ap₂, subst, arith}
 use Rattle.line_device.specs.Device.{Device}
-use Rattle.line_device.specs.Medium.{Medium}
 use Rattle.line_device.specs.Panel.{Runs}
 use Rattle.line_words.specs.Told.{Answers, OnRefused, OnWorked, is_done, outcome_by}
 use Rattle.nvm_base.specs.Units.{units_of}
@@ -9,17 +8,17 @@ use Rattle.inode_table.specs.Slots.{inode_of, pages_at}
 use Rattle.nvm_model.specs.Blocks.{first_there}
 use Rattle.nvm_model.specs.Files.{OneFileLeft, on_pages}
 use Rattle.nvm_model.specs.Interrupted.{MaySyncAll}
-use Rattle.nvm_model.specs.Listing.{change_file, file_name, file_of, has_file}
+use Rattle.nvm_model.specs.Listing.{change_file, file_name, has_file}
 use Rattle.nvm_model.specs.Numbered.{list_from}
 use Rattle.nvm_model.specs.Page.{Page}
 use Rattle.nvm_model.specs.Storage.{File}
 use Rattle.nvm_model.specs.Touched.{next_bad_touched, persist_spans}
-use Rattle.page_lines.specs.Placed.{one_there, there_among}
+use Rattle.page_lines.specs.Placed.{one_there}
 use Rattle.page_lines.specs.Turns.{WritesBackOthers}
 use Rattle.file_journal.specs.Area.{IsOfFiles}
 use Rattle.file_journal.specs.Object.{JournalState}
 use Rattle.file_journal.specs.Standing.{EachReadsFiles, FilesStand}
-use Rattle.file_journal.specs.Tables.{AreTables, unit_at}
+use Rattle.file_journal.specs.Tables.{unit_at}
 use Rattle.file_pages.specs.Costs.{lines_there}
 use Rattle.file_pages.specs.Object.{IsFileAt, KeepsMarks, PagesServe, PagesState, file_place, unit_place}
 use Rattle.file_actions.specs.Refusals.{action_says, all_bytes, sync_refusal}
@@ -32,14 +31,13 @@ use Rattle.reply_text.specs.Room.{most_of}
 use Rattle.script_text.specs.Action.Action.{FSync}
 use Rattle.machine_host.specs.declared.held.HeldFiles.{HeldFiles}
 use Rattle.machine_host.specs.declared.mode.Mode.TheVariants.{On}
-use Rattle.machine_host.specs.Commands.{MayLeaveFiles, fate, spending, unless_refused}
+use Rattle.machine_host.specs.Commands.{fate, spending, unless_refused}
 use Rattle.machine_host.specs.Faults.{answer_after, mode_after}
 use Rattle.machine_host.specs.Flushing.{LinesTold}
 use Rattle.machine_host.specs.Machine.{Machine, Fate}
 use Rattle.machine_host.specs.Machine.Fate.{Works}
 use Rattle.machine_host.specs.OnEvents.{lost_events}
 use Rattle.machine_host.specs.OnFileActions.{action_answer}
-use Rattle.machine_host.specs.OnFiles.{if_missing}
 use Rattle.machine_host.specs.OnFlushes.{synced_in}
 use Rattle.machine_host.specs.OnPages.{pages_named}
 use Rattle.machine_host.specs.Responding.{Answered}

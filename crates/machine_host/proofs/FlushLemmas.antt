@@ -1,5 +1,5 @@
 -- What flushes through mappings come to.
-use Rattle.std.proofs.Common.{◌≡◌, ◌+◌, ◌*◌, ◌≤◌, ◌++◌, ◌∙◌, ℕ, zero, suc, true, Option, Some, None, Result, Ok, Err, OnOk, List, [], ◌∷◌, length, refl, sym, ap, subst, arith}
+use Rattle.std.proofs.Common.{◌≡◌, ◌+◌, ◌*◌, ◌≤◌, ◌++◌, ◌∙◌, ℕ, true, Option, Some, None, Result, Ok, Err, OnOk, List, [], ◌∷◌, length, refl, sym, ap, subst, arith}
 use Rattle.std.proofs.lemmas.List.Sums.{sum_by-cons}
 use Rattle.std.proofs.lemmas.Option.{same_Some}
 use Rattle.line_device.specs.Device.{Device}
@@ -17,7 +17,6 @@ use Rattle.nvm_model.specs.Listing.{change_file, file_name}
 use Rattle.nvm_model.specs.Mappings.{is_shared, mapping_of}
 use Rattle.nvm_model.specs.Storage.{File, Mapping, Event}
 use Rattle.nvm_model.specs.Touched.{next_bad_touched, persist_spans}
-use Rattle.page_lines.specs.Placed.{one_there, there_among}
 use Rattle.file_journal.specs.Object.{JournalState}
 use Rattle.file_journal.specs.Standing.{FilesStand}
 use Rattle.file_pages.specs.Costs.{lines_there}
