@@ -12,7 +12,7 @@ const TO_ALL_KINDS: &str =
     "ok\nok\npower lost\nok\nrefused device\nok bad 0\nok\nok\nrefused device\nok\nok bad 0\ndata 11*512\nok\ndata aa*4,00*4\nrefused meta 9\nok\nrefused device\nstopped meta 9\nok\nrefused meta 3\nok\nstopped meta 3\nok\n";
 
 /// Lines to draw from, with cuts, failures and media errors.
-pub static LINES: [&str; 70] = [
+pub static LINES: [&str; 75] = [
     "bwrite 0 11*1024\n",
     "batomic 1 22*1024\n",
     "bmulti 0 33*512 3 44*512\n",
@@ -44,6 +44,11 @@ pub static LINES: [&str; 70] = [
     "fwrite a 4090 04*12\n",
     "fwrite b 0 05*70\n",
     "fwrite b 4090 06*12\n",
+    "fatomic a 60 08*70\n",
+    "fmulti b 10 09*8 4090 0a*12\n",
+    "fdiscard b 1 1\n",
+    "fsync a\n",
+    "fsync b\n",
     "fread a 0 4\n",
     "fread b 60 16\n",
     "fread c 4088 16\n",
@@ -90,7 +95,7 @@ pub const LAST_LINES: &str =
     "restart all\nrecover\npoison meta 9\nbread 0 1\nvload 0 8\nbscar 0 1\ncut\nrestart all\npoison meta 5\nbread 0 1\n";
 
 /// Each script with its replies.
-pub static STORIES: [(&str, &str); 48] = [
+pub static STORIES: [(&str, &str); 51] = [
     // What is not synced may be lost, or kept.
     (
         "vstore 0 07*8\ncut\nrestart none\nvload 0 8\n",
@@ -289,6 +294,20 @@ pub static STORIES: [(&str, &str); 48] = [
     (
         "create a 1\nfwrite a 0 01*300\nmap a 0 100 shared\nweaken file a 64\npoison file a 256\nflush 0 0 8 99 1 64 36\nevent\nevent\nevent\ncut\nevent\nrestart none\nevent\nevent\nevent\n",
         "ok\nok\nhandle 0\nok\nok\nok\nevent a 256 64 unmapped live\nevent a 64 64 mapped live\nnone\nok\nrefused off\nok bad 2\nevent a 64 64 unmapped restart\nevent a 256 64 unmapped restart\nnone\n",
+    ),
+    // Written together all are there, or none: a bad line refuses what no single range covers, and a cut leaves the old bytes.
+    (
+        "create a 1\nfwrite a 0 00*4096\npoison file a 70\nfatomic a 0 02*64\nfatomic a 0 02*128\nfread a 64 2\nfwrite a 126 03\nfatomic a 0 04\ncut\nrestart none\nfread a 0 2\nfread a 125 3\n",
+        "ok\nok\nok\npoison file a 64 64\nok\ndata 02*2\nok\nok\nok\nok bad 0\ndata 04,02\ndata 02,03,02\n",
+    ),
+    (
+        "create a 2\nfwrite a 0 05*8\ncut in 1\nfmulti a 0 01*8 4096 02*8\nrestart all\nfread a 0 8\nfread a 4096 8\nfmulti a 0 01*8 7 02\nfmulti a 4096 02*8 0 01*8\ncut\nrestart none\nfread a 0 8\nfread a 4096 8\n",
+        "ok\nok\nok\npower lost\nok bad 0\ndata 05*8\ndata 00*8\nrefused overlap\nok\nok\nok bad 0\ndata 01*8\ndata 02*8\n",
+    ),
+    // Pages are discarded together, and a file is made durable as a whole, but for a line that wears out.
+    (
+        "create a 2\nfwrite a 4090 07*12\nfdiscard a 1 2\nfdiscard a 1 1\nfread a 4094 4\nweaken file a 64\nfsync a\nevent\nfsync a\ncut\nrestart none\nfread a 4088 4\n",
+        "ok\nok\nrefused range\nok\ndata 07*2,00*2\nok\nok\nevent a 64 64 unmapped live\npoison file a 64 64\nok\nok bad 1\ndata 00*2,07*2\n",
     ),
     // Bad metadata stops changes of them, and the list once the device is mounted anew.
     (
