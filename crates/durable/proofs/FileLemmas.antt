@@ -71,7 +71,7 @@ module _ (P : List FileEntry → Type 0) where
       elim begun as (λ _. changes_files action ≡ false) [ inl done ↦ spares (done_begun answer done) | inr touches ↦ touches.files ] in
       inl (lists_free next (subst LeavesFiles (sym to.interrupted) (lists.settled (is_on h action to.needs none)))
       (subst P (sym (ap (map entry_of_file) to.files ∙ entries_made action h.mappings h.files leaves)) lists.now))
-  lists_step h action answer next spares lists (stops by is to) =
+  lists_step h action answer next spares lists (stops by is none to) =
       inl (lists_free next (subst LeavesFiles {x = Some action} (sym to.interrupted) (spares (ap is_begun is ∙ stop_begun by)))
       (subst (λ fs. P (map entry_of_file fs)) {x = h.files} (sym to.files) lists.now))
   lists_step h action answer next spares lists (returns covers back) =
@@ -142,7 +142,7 @@ stopped_by h action answer next change was (idles (inl why) to) = absurd (both_w
 stopped_by h action answer next change was (idles (inr none) to) = absurd (both_ways (changes_files action) none.files change)
 stopped_by h action answer next change was (alters (inl done) none to) = absurd (done_or_stopped answer was done)
 stopped_by h action answer next change was (alters (inr touches) none to) = absurd (both_ways (changes_files action) touches.files change)
-stopped_by h action answer next change was (stops by is to) = to
+stopped_by h action answer next change was (stops by is none to) = to
 stopped_by h action answer next change was (returns covers back) = absurd (both_ways (changes_files action) covers.files change)
 stopped_by h action answer next change was (remounts covers back) = absurd (both_ways (changes_files action) covers.files change)
 stopped_by h action answer next change was (empties covers to) = absurd (both_ways (changes_files action) covers.files change)

@@ -5,6 +5,7 @@ pub mod StepLemmas
 pub mod WordLemmas
 pub mod PresenceLemmas
 pub mod LineLemmas
+pub mod RefusalLemmas
 pub mod SparedLemmas
 pub mod VolumeLemmas
 pub mod BlockLemmas
@@ -12,9 +13,10 @@ pub mod EightLemmas
 pub mod NamedPageLemmas
 pub mod FileLineLemmas
 pub mod FlushedFileLemmas
+pub mod RewrittenLemmas
+pub mod RewrittenKeepLemmas
 pub mod FileKeepLemmas
 pub mod KeepLemmas
-pub mod RefusalLemmas
 pub mod ThereLemmas
 pub mod FileThereLemmas
 pub mod WholeLemmas
@@ -25,6 +27,7 @@ pub mod CoverLemmas
 pub mod LawLemmas
 pub mod LostLemmas
 pub mod VerifyLemmas
+pub mod DataLemmas
 pub mod ScriptLemmas
 pub mod WrittenLemmas
 pub mod FileWrittenLemmas

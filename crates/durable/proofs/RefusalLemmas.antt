@@ -1,5 +1,5 @@
 -- What a refusal is answered, and what is known where there is none.
-use Rattle.std.proofs.Common.{◌≡◌, ◌+◌, ◌*◌, ℕ, length, Bool, true, false, cond, Option, Some, None, option_map, option_and_then, List, [], ◌∷◌, refl, ◌∙◌, sym, ap, if◌then◌else◌}
+use Rattle.std.proofs.Common.{◌≡◌, ◌+◌, ◌-◌, ◌*◌, ℕ, length, nat_lt, Bool, true, false, cond, Option, Some, None, option_map, option_and_then, List, [], ◌∷◌, refl, ◌∙◌, sym, ap, if◌then◌else◌}
 use Rattle.nvm_base.specs.declared.units.Span.{Span}
 use Rattle.nvm_model.specs.Blocks.{Obstacle, first_there, first_obstacle}
 use Rattle.nvm_model.specs.Blocks.Obstacle.{scar, bad_line}
@@ -14,7 +14,7 @@ use Rattle.reply_text.specs.Answer.{Answer}
 use Rattle.reply_text.specs.Answer.Answer.{Done, DoneBad, Bytes, Ranges, Files, Handle, Happened, NoEvent, BadLines, VerifyFile, Yes, No, Scarred, PoisonBlock as PoisonedBlock, PoisonVolume as PoisonedVolume, PoisonFile as PoisonedFile, DeviceFailed, PowerLost, Stopped as MountStopped, Refused, RefusedMeta}
 use Rattle.reply_text.specs.declared.reply.Why.TheVariants as because
 use Rattle.script_text.specs.Action.{Action}
-use Rattle.script_text.specs.Action.Action.{BRead, BWrite, BAtomic, BMulti, BDiscard, BDiscardIf, BExists, BScar, VLoad, VStore, VSync, VRanges, VPSync, VDiscard, VDiscardIf, VExists, Create, Delete, Rename, Resize, ListFiles, FRead, FWrite, Map, Unmap, Load, Store, Sync, Flush, FlushVerify, DeepFlush, NextEvent, CheckFile, PoisonBlock, PoisonVolume, PoisonFile, PoisonMeta, WeakenFile, WeakenVolume, ClearFile, ClearVolume, Cut, CutIn, FailIn, Restart, Recover}
+use Rattle.script_text.specs.Action.Action.{BRead, BWrite, BAtomic, BMulti, BDiscard, BDiscardIf, BExists, BScar, VLoad, VStore, VSync, VRanges, VPSync, VDiscard, VDiscardIf, VExists, Create, Delete, Rename, Resize, ListFiles, FRead, FWrite, FAtomic, FMulti, FDiscard, FSync, Map, Unmap, Load, Store, Sync, Flush, FlushVerify, DeepFlush, NextEvent, CheckFile, PoisonBlock, PoisonVolume, PoisonFile, PoisonMeta, WeakenFile, WeakenVolume, ClearFile, ClearVolume, Cut, CutIn, FailIn, Restart, Recover}
 use Rattle.machine_host.specs.declared.look.Look.{Look}
 use Rattle.machine_host.specs.declared.look.Look.TheVariants.{Once, Again}
 use Rattle.machine_host.specs.declared.mode.Mode.{Mode}
@@ -31,12 +31,15 @@ use Rattle.machine_host.specs.OnVolume.{volume_answer}
 use Rattle.machine_host.specs.OnFiles.{if_exists, if_mapped, if_missing}
 use Rattle.machine_host.specs.OnFlushes.{all_moved, flush_file, flush_through, flush_with, nothing_done, spans_refusal}
 use Rattle.machine_host.specs.OnMappings.{if_full_of_mappings, load_through, read_copy, store_through, within_mapping, write_copy}
-use Rattle.machine_host.specs.OnPages.{fread, fwrite, page_answer, pages_named}
+use Rattle.machine_host.specs.OnPages.{fread, fwrite, if_full, page_answer, pages_named, pages_used}
 use Rattle.nvm_model.specs.Mappings.{is_full, is_mapped, is_shared, mapping_of}
 use Rattle.nvm_model.specs.Listing.{file_name, has_file}
 use Rattle.nvm_model.specs.Storage.{Mapping}
 use Rattle.file_pages.specs.Refusals.{PageRefusal}
 use Rattle.file_pages.specs.Refusals.PageRefusal.{Range as NoBytes, Length as NoLength, Full as NoRoom, Meta as NoMeta, Poison as PoisonedLine}
+use Rattle.file_actions.specs.Refusals.{ActionRefusal}
+use Rattle.file_actions.specs.Refusals.ActionRefusal.{Range as OutOfFile, Length as NoneToWrite, Limit as TooMany, Overlap as Shared, Full as NoPages, Meta as BadTables, Poison as LostLine}
+use Rattle.machine_host.specs.OnFileActions.{action_answer}
 use Rattle.machine_host.specs.Commands.{early_refusal, meaning, refusal}
 use Rattle.durable.specs.Naming.{refused_before}
 
@@ -121,6 +124,19 @@ refuses_page_refusal name (PoisonedLine offset) = refl
 refuses_pages : (name : List ℕ) (o : Option PageRefusal) → Refuses (option_map (page_answer name) o)
 refuses_pages name None = tt
 refuses_pages name (Some why) = refuses_page_refusal name why
+
+refuses_action_refusal : (name : List ℕ) (why : ActionRefusal) → is_refused (action_answer name why) ≡ true
+refuses_action_refusal name OutOfFile = refl
+refuses_action_refusal name NoneToWrite = refl
+refuses_action_refusal name TooMany = refl
+refuses_action_refusal name Shared = refl
+refuses_action_refusal name NoPages = refl
+refuses_action_refusal name (BadTables line) = refl
+refuses_action_refusal name (LostLine offset) = refl
+
+refuses_actions : (name : List ℕ) (o : Option ActionRefusal) → Refuses (option_map (action_answer name) o)
+refuses_actions name None = tt
+refuses_actions name (Some why) = refuses_action_refusal name why
 
 refuses_copy : (name : List ℕ) (shared : Bool) (o : Option PageRefusal) → Refuses (cond shared None (option_map (page_answer name) o))
 refuses_copy name true o = tt
@@ -218,6 +234,22 @@ file_line_reasons : (h : Machine) (name : List ℕ) (o : Option ScrubRefusal)
     → RefusingReasons (record no_reasons { named = if_missing name h.files; places = option_map line_answer o })
 file_line_reasons h name o = record { named = refuses_unless because.Missing (has_file file_name name h.files); places = refuses_line o; full = tt; unreadable = tt }
 
+-- a write as a whole to pages of a file
+together_reasons : (h : Machine) (name : List ℕ) (places unreadable : Option ActionRefusal) (holes : ℕ)
+    → RefusingReasons (record no_reasons {
+      named = if_missing name h.files;
+      places = option_map (action_answer name) places;
+      full = if_full h holes;
+      changes_metadata = true;
+      unreadable = option_map (action_answer name) unreadable;
+    })
+together_reasons h name places unreadable holes = record {
+  named = refuses_unless because.Missing (has_file file_name name h.files);
+  places = refuses_actions name places;
+  full = refuses_where because.Full (nat_lt (h.geometry.fpages - 16) (pages_used h.files + holes));
+  unreadable = refuses_actions name unreadable;
+}
+
 refusing_reasons : (h : Machine) (action : Action) → RefusingReasons ((meaning action).reasons h)
 refusing_reasons h (BRead block count) =
     record { named = tt; places = refuses_why _; full = tt; unreadable = refuses_obstacle (first_obstacle h.blocks block count) }
@@ -259,6 +291,10 @@ refusing_reasons h ListFiles = why_reasons None
 refusing_reasons h (FRead name offset len) = record { named = refuses_unless because.Missing _; places = refuses_why _; full = tt; unreadable = refuses_pages name _ }
 refusing_reasons h (FWrite name offset bytes) =
     record { named = refuses_unless because.Missing _; places = refuses_pages name _; full = refuses_where because.Full _; unreadable = refuses_pages name _ }
+refusing_reasons h (FAtomic name offset bytes) = together_reasons h name _ _ _
+refusing_reasons h (FMulti name ranges bytes) = together_reasons h name _ _ _
+refusing_reasons h (FDiscard name page count) = record { named = refuses_unless because.Missing _; places = refuses_why _; full = tt; unreadable = tt }
+refusing_reasons h (FSync name) = record { named = refuses_unless because.Missing _; places = tt; full = tt; unreadable = refuses_poison name _ }
 refusing_reasons h (Map name span kind) = record {
   named = refuses_unless because.Missing _;
   places = refuses_first (option_map Refused (span_refusal (4096 * length (pages_named name h.files)) span.start span.len)) (if_full_of_mappings h)

@@ -66,7 +66,7 @@ ended : (h : Machine) (action : Action) (good : Answer) (to : Machine) (answer :
     → Ends good to (while_interrupted h action) answer next → Step h action answer next
 ended h action good to answer next none begun done (inl end) =
     alters (elim begun as (λ _. IsDone answer ⊎ TouchesNothing action) [ inl is ↦ inl (subst IsDone (sym end.0) is) | inr none ↦ inr none ]) none (altered_at h action to next done end.1)
-ended h action good to answer next none begun done (inr end) = stops end.0 end.1 (record {
+ended h action good to answer next none begun done (inr end) = stops end.0 end.1 none (record {
   geometry = ap (λ m. m.geometry) end.2.state;
   blocks = ap (λ m. m.blocks) end.2.state;
   volume = ap (λ m. m.volume) end.2.state;
@@ -222,7 +222,7 @@ step_of h action said next = by_refusal (refusal h action) refl
 pub geometry_step : (h : Machine) (action : Action) (answer : Answer) (next : Machine) → Step h action answer next → next.geometry ≡ h.geometry
 geometry_step h action answer next (idles why to) = to.geometry
 geometry_step h action answer next (alters begun none to) = to.geometry
-geometry_step h action answer next (stops by is to) = to.geometry
+geometry_step h action answer next (stops by is none to) = to.geometry
 geometry_step h action answer next (returns none back) = back.geometry
 geometry_step h action answer next (remounts none back) = back.geometry
 geometry_step h action answer next (empties none to) = to.geometry
@@ -247,7 +247,7 @@ nothing_stopped h action next to gone =
 pub nothing_step : (h : Machine) (action : Action) (answer : Answer) (next : Machine) → HasNothing h → Step h action answer next → HasNothing next
 nothing_step h action answer next gone (idles why to) = nothing_idle h next to gone
 nothing_step h action answer next gone (alters begun none to) = absurd (gone.mode (is_on h action to.needs none))
-nothing_step h action answer next gone (stops by is to) = nothing_stopped h action next to gone
+nothing_step h action answer next gone (stops by is none to) = nothing_stopped h action next to gone
 nothing_step h action answer next gone (returns none back) = absurd (gone.metadata back.metadata)
 nothing_step h action answer next gone (remounts none back) = absurd (gone.metadata back.metadata)
 nothing_step h action answer next gone (empties none to) = to.nothing

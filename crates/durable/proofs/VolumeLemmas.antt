@@ -32,7 +32,7 @@ module _ (since : MayBe) where
   VolumeKeeps pages i v = AbsentKeeps pages i v ⊎ LineKeeps since (cell_of pages (i / 64)) (i % 64) v
 
   -- an absent page has no line
-  absent_line : (pages : List Page) (n : ℕ) → is_line_present pages n ≡ false → cell_of pages n ≡ None
+  pub absent_line : (pages : List Page) (n : ℕ) → is_line_present pages n ≡ false → cell_of pages n ≡ None
   absent_line pages n absent = by_page (slice_get pages (n / 64)) (sym (page_present pages n) ∙ absent)
     where
       by_page : (o : Option Page) → has_lines o ≡ false → line_in n o ≡ None
@@ -216,7 +216,7 @@ module _ (since : MayBe) where
   keeps-clear n i v pages out keeps = keeps-change clear_cell n i v pages (λ cell same line. absurd (out same)) keeps
 
   -- pages that have the page of the byte
-  same_page : (i : ℕ) (v : Option ℕ) (pages new : List Page) → slice_get new (i / 64 / 64) ≡ slice_get pages (i / 64 / 64) → VolumeKeeps pages i v → VolumeKeeps new i v
+  pub same_page : (i : ℕ) (v : Option ℕ) (pages new : List Page) → slice_get new (i / 64 / 64) ≡ slice_get pages (i / 64 / 64) → VolumeKeeps pages i v → VolumeKeeps new i v
   same_page i v pages new is (inl keeps) =
       inl (record { absent = page_present new (i / 64) ∙ ap has_lines is ∙ sym (page_present pages (i / 64)) ∙ keeps.absent; zero = keeps.zero })
   same_page i v pages new is (inr keeps) = inr (subst (λ o. LineKeeps since (line_in (i / 64) o) (i % 64) v) (sym is) keeps)

@@ -38,7 +38,8 @@ use Rattle.machine_host.specs.OnVolume.{persist_at, volume_answer}
 use Rattle.machine_host.specs.Run.{Takes}
 use Rattle.durable.specs.Place.{block_has, byte_at_place, is_line_present, is_weak_line, line_has}
 use Rattle.durable.specs.Place.Place.{of_volume, of_blocks}
-use Rattle.durable.specs.Touching.{is_made_durable, touched_lines_at}
+use Rattle.durable.specs.Region.{touched_lines_at}
+use Rattle.durable.specs.Touching.{is_made_durable}
 use Rattle.durable.specs.Durable.{Does, HaveLines, IsLineThere, Lasts, LastsPowered}
 use Rattle.script_text.specs.Script.Input.{Asked}
 use Rattle.durable.proofs.PresenceLemmas.{has_lines, line_in, page_present, zero_at}

@@ -1,4 +1,5 @@
 pub mod Place
+pub mod Region
 pub mod Touching
 pub mod Naming
 pub mod Durable

@@ -2,7 +2,7 @@
 ghost use Rattle.std.specs.Prelude.{◌≡◌, ◌≢◌, ◌+◌, ◌-◌, ◌*◌, ◌/◌, ℕ, true, false, List, [], ◌∷◌, ◌++◌, length, slice_index, Some, None};
 ghost use Rattle.word_tables.specs.declared.geometry.Geometry.{Geometry};
 ghost use Rattle.std.specs.List.{Contains};
-ghost use Rattle.durable.specs.Touching.{is_made_durable, may_be_made_durable, unmounts};
+ghost use Rattle.durable.specs.Touching.{is_made_durable, may_be_made_durable, may_wear, unmounts, wears};
 ghost use Rattle.nvm_base.specs.declared.files.FileEntry.{FileEntry};
 ghost use Rattle.nvm_base.specs.declared.units.Span.{Span};
 ghost use Rattle.reply_text.specs.Answer.Answer.{Files, RefusedMeta, Stopped as StoppedMeta, VerifyFile};
@@ -29,7 +29,7 @@ ghost use Rattle.machine_host.specs.Run.{Hears, Transcript, Run};
 ghost use Rattle.durable.specs.Place.{Place, byte_at_place, is_weak_at, is_weak_line};
 ghost use Rattle.durable.specs.Naming.{Names, NamesLine, NamesLineOf, NamesObstacle, refused_before};
 ghost use Rattle.durable.specs.Place.Place.{of_volume, of_blocks, of_file};
-ghost use Rattle.durable.specs.Durable.{BringBytes, BringsBytes, Does, Finishes, HasNothing, IsDurable, IsComplete, KeepsThrough, Lasts, LastsPowered, Spares};
+ghost use Rattle.durable.specs.Durable.{BringBytes, BringsBytes, Does, Finishes, HasNothing, IsDurable, IsComplete, KeepsByte, KeepsThrough, Lasts, LastsPowered, Spares};
 ghost use Rattle.durable.specs.Events.{FindsAnew, Mounts, NoneMounts, TellsInOrder, TellsLines, TellsOldest, all_told};
 ghost use Rattle.durable.specs.Files.{BreaksOff, FilesLast, FilesSettle, FilesThrough, LeavesFiles, changes_files, files_after, files_listed};
 
@@ -40,6 +40,7 @@ ghost use Rattle.durable.specs.Files.{BreaksOff, FilesLast, FilesSettle, FilesTh
 pub fn what_was_made_durable_stays()
     ensures stays { (h next : Machine) (action : Action) (x : Place) → Finishes h action next → is_made_durable h action x ≡ true → IsDurable next x }
     ensures bounded { (h : Machine) (action : Action) (x : Place) → is_made_durable h action x ≡ true → may_be_made_durable h action x ≡ true }
+    ensures bounded_in_place { (h : Machine) (action : Action) (x : Place) → wears h action x ≡ true → may_wear h action x ≡ true }
     ensures whole { (h end : Machine) (before after : List Input) (action : Action) (said : Transcript) (x : Place) → IsComplete h
         → BringBytes after → Run h (before ++ Asked action ∷ after) said end → KeepsThrough h before action after said end x }
     ensures scripts { (script : List ℕ) → BringBytes (inputs script) }
@@ -68,8 +69,8 @@ pub fn what_was_written_lasts()
     ensures cleared { (h next : Machine) (offset i : ℕ) → Does h (ClearVolume offset) next → i / 64 ≡ offset / 64
         → Lasts next (of_volume i) (Some 0) }
     ensures flushed { (h stored next : Machine) (name : List ℕ) (offset i : ℕ) (bytes : List ℕ) (action : Action) → BringsBytes (FWrite name offset bytes)
-        → Does h (FWrite name offset bytes) stored → Finishes stored action next → is_made_durable stored action (of_file name i) ≡ true
-        → is_among offset (length bytes) i ≡ true → is_weak_line (cell_of (pages_named name stored.files) (i / 64)) ≡ false
+        → BringsBytes action → Does h (FWrite name offset bytes) stored → Finishes stored action next
+        → is_made_durable stored action (of_file name i) ≡ true → is_among offset (length bytes) i ≡ true → KeepsByte stored action (of_file name i)
         → Lasts next (of_file name i) (Some (slice_index bytes (i - offset))) }
     ensures cleared_in_file { (h next : Machine) (name : List ℕ) (offset i : ℕ) → Does h (ClearFile name offset) next → i / 64 ≡ offset / 64
         → Lasts next (of_file name i) (Some 0) }
@@ -99,7 +100,7 @@ pub fn what_is_lost_stays_lost()
         → byte_at_place next (of_file name i) ≡ None }
     ensures of_a_block { (h next : Machine) (block line i : ℕ) → Does h (PoisonBlock block line) next → i / 64 ≡ 8 * block + line
         → byte_at_place next (of_blocks i) ≡ None }
-    ensures worn_out { (h next : Machine) (action : Action) (x : Place) → Finishes h action next → is_made_durable h action x ≡ true
+    ensures worn_out { (h next : Machine) (action : Action) (x : Place) → Finishes h action next → wears h action x ≡ true
         → is_weak_at h x ≡ true → byte_at_place next x ≡ None }
     ensures verified { (h next : Machine) (handle offset i : ℕ) (spans : List Span) (name : List ℕ) (said : Transcript)
         → Hears h (Asked (FlushVerify handle spans)) said next → said.answers ≡ VerifyFile name offset ∷ [] → i / 64 ≡ offset / 64
