@@ -28,7 +28,8 @@ use Rattle.durable.proofs.EntryLemmas.{entries_made, entries_read, entries_same,
 use Rattle.durable.proofs.KeepLemmas.{done_begun, stop_begun}
 use Rattle.durable.proofs.LawLemmas.{came_of, finishes, none-asked, not_done}
 use Rattle.durable.proofs.PassLemmas.{pass}
-use Rattle.durable.proofs.RefusalLemmas.{is_on, is_refused, refused_told}
+use Rattle.durable.proofs.RefusalLemmas.{is_on, refused_told}
+use Rattle.durable.proofs.RefusedAnswerLemmas.{is_refused}
 use Rattle.durable.proofs.WholeLemmas.{whole-heard, whole-run}
 
 module _ (P : List FileEntry → Type 0) where

@@ -35,7 +35,8 @@ use Rattle.durable.proofs.SparedLemmas.{KeptBy, SparedBy, SparesPlace}
 use Rattle.durable.proofs.KeepLemmas.{Keeps, PlaceKeeps, keeps-step, keeps_byte}
 use Rattle.durable.proofs.CoverLemmas.{covered_place}
 use Rattle.durable.proofs.ReadLemmas.{has}
-use Rattle.durable.proofs.RefusalLemmas.{is_on, is_refused, refused_told}
+use Rattle.durable.proofs.RefusalLemmas.{is_on, refused_told}
+use Rattle.durable.proofs.RefusedAnswerLemmas.{is_refused}
 use Rattle.durable.proofs.WholeLemmas.{whole-heard, whole-run}
 
 -- the answer of a first command, and those of the rest

@@ -5,6 +5,7 @@ pub mod StepLemmas
 pub mod WordLemmas
 pub mod PresenceLemmas
 pub mod LineLemmas
+pub mod RefusedAnswerLemmas
 pub mod RefusalLemmas
 pub mod SparedLemmas
 pub mod VolumeLemmas
@@ -31,6 +32,7 @@ pub mod DataLemmas
 pub mod ScriptLemmas
 pub mod WrittenLemmas
 pub mod FileWrittenLemmas
+pub mod TogetherLemmas
 pub mod UnsyncedLemmas
 pub mod PassLemmas
 pub mod MetadataLemmas

@@ -38,7 +38,8 @@ use Rattle.durable.proofs.CoverLemmas.{file_renewed, may_cover, was_bad}
 use Rattle.durable.proofs.LineLemmas.{MayBe, lost-kept}
 use Rattle.durable.proofs.BlockLemmas.{lost_there}
 use Rattle.durable.proofs.LawLemmas.{done_by, lasts}
-use Rattle.durable.proofs.RefusalLemmas.{is_refused, line_none, places_none, refused_told, within_none}
+use Rattle.durable.proofs.RefusalLemmas.{line_none, places_none, refused_told, within_none}
+use Rattle.durable.proofs.RefusedAnswerLemmas.{is_refused}
 
 pub stays_lost : (h : Machine) (x : Place) → IsComplete h → h.mode ≡ On → byte_at_place h x ≡ None → Lasts h x None
 stays_lost h x whole on lost = lasts h x None whole (λ since. record {

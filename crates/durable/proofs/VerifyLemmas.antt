@@ -35,7 +35,8 @@ use Rattle.durable.specs.Durable.{Does}
 use Rattle.durable.proofs.HandleLemmas.{of_flush}
 use Rattle.durable.proofs.LawLemmas.{stop_done}
 use Rattle.durable.proofs.NamedPageLemmas.{named-own}
-use Rattle.durable.proofs.RefusalLemmas.{is_refused, refused_told}
+use Rattle.durable.proofs.RefusalLemmas.{refused_told}
+use Rattle.durable.proofs.RefusedAnswerLemmas.{is_refused}
 
 -- a line of a file after a flush of it
 pub synced-cell : (text : List ℕ) (moved : List Span) (files : List File) (n : ℕ)

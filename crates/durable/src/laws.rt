@@ -9,12 +9,13 @@ ghost use Rattle.reply_text.specs.Answer.Answer.{Files, RefusedMeta, Stopped as 
 ghost use Rattle.nvm_model.specs.Cell.{covers, touches};
 ghost use Rattle.nvm_model.specs.Numbered.{is_among};
 ghost use Rattle.nvm_model.specs.Page.{cell_of, touches_absent};
+ghost use Rattle.range_sets.specs.Ranges.{total_of};
 ghost use Rattle.line_device.specs.Panel.{Image};
 ghost use Rattle.word_tables.specs.Layout.{volume_line};
 ghost use Rattle.pm_volume.specs.Presence.{presence_read};
 ghost use Rattle.pm_volume.specs.Refusals.{physical_offset};
 ghost use Rattle.script_text.specs.Action.{Action};
-ghost use Rattle.script_text.specs.Action.Action.{BRead, BWrite, BAtomic, VLoad, VStore, VSync, VPSync, FRead, FWrite, FlushVerify, PoisonBlock, PoisonFile, PoisonVolume, ClearFile, ClearVolume, Cut, Restart, ListFiles, NextEvent};
+ghost use Rattle.script_text.specs.Action.Action.{BRead, BWrite, BAtomic, VLoad, VStore, VSync, VPSync, FRead, FWrite, FAtomic, FMulti, FlushVerify, PoisonBlock, PoisonFile, PoisonVolume, ClearFile, ClearVolume, Cut, Restart, ListFiles, NextEvent};
 ghost use Rattle.script_text.specs.Script.{Input, inputs};
 ghost use Rattle.script_text.specs.Script.Input.{Asked};
 ghost use Rattle.line_device.specs.declared.line.Choice.TheVariants.{Firsts};
@@ -47,7 +48,8 @@ pub fn what_was_made_durable_stays()
 {}
 
 /// The bytes that were written are the ones that last: those of a write of blocks, those of a store to the volume or in a file that
-/// is then made durable, but in a weak line, and the zeros of a line that is cleared.
+/// is then made durable, but in a weak line that is made so in place, and the zeros of a line that is cleared; and at once those of a
+/// write of ranges of a file as a whole, in weak lines too.
 pub fn what_was_written_lasts()
     ensures write { (h next : Machine) (block i : ℕ) (bytes : List ℕ) → Does h (BWrite block bytes) next
         → is_among block (length bytes / 512) (i / 512) ≡ true
@@ -74,6 +76,13 @@ pub fn what_was_written_lasts()
         → Lasts next (of_file name i) (Some (slice_index bytes (i - offset))) }
     ensures cleared_in_file { (h next : Machine) (name : List ℕ) (offset i : ℕ) → Does h (ClearFile name offset) next → i / 64 ≡ offset / 64
         → Lasts next (of_file name i) (Some 0) }
+    ensures in_one_range { (h next : Machine) (name : List ℕ) (offset i : ℕ) (bytes : List ℕ) → BringsBytes (FAtomic name offset bytes)
+        → Does h (FAtomic name offset bytes) next → is_among offset (length bytes) i ≡ true
+        → Lasts next (of_file name i) (Some (slice_index bytes (i - offset))) }
+    ensures in_ranges { (h next : Machine) (name : List ℕ) (i : ℕ) (before after : List Span) (range : Span) (bytes : List ℕ)
+        → BringsBytes (FMulti name (before ++ range ∷ after) bytes) → Does h (FMulti name (before ++ range ∷ after) bytes) next
+        → is_among range.start range.len i ≡ true
+        → Lasts next (of_file name i) (Some (slice_index bytes (total_of before + (i - range.start)))) }
 {}
 
 /// While the power stays on, whatever calls fail and however often the storage is recovered, a byte is the one that was last
