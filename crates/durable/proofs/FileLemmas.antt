@@ -127,11 +127,11 @@ files_done h next action does change =
     subst (FilesLast next) (ap (map entry_of_file) (came.to.files ∙ files_meant action h.mappings h.files change)) (files_last next (subst LeavesFiles {x = None} (sym free) tt))
 
 -- and one that was stopped
-not_stopped : (answer : Answer) → IsStopped (answer ∷ []) → is_refused answer ≡ false
+pub not_stopped : (answer : Answer) → IsStopped (answer ∷ []) → is_refused answer ≡ false
 not_stopped answer (inl is) = cc is
 not_stopped answer (inr is) = cc is
 
-done_or_stopped : (answer : Answer) → IsStopped (answer ∷ []) → IsDone answer → ⊥
+pub done_or_stopped : (answer : Answer) → IsStopped (answer ∷ []) → IsDone answer → ⊥
 done_or_stopped answer (inl is) (inl done) = cc (is, done)
 done_or_stopped answer (inl is) (inr done) = cc (is, done.2)
 done_or_stopped answer (inr is) (inl done) = cc (is, done)

@@ -38,6 +38,8 @@ pub mod PassLemmas
 pub mod MetadataLemmas
 pub mod EntryLemmas
 pub mod FileLemmas
+pub mod WholeWriteLemmas
+pub mod ShownLemmas
 pub mod NumberLemmas
 pub mod BadLineLemmas
 pub mod EventLemmas

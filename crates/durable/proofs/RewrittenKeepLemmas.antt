@@ -13,8 +13,9 @@ use Rattle.file_actions.specs.Rewriting.{covers_any, data_of, durable_line, firs
 use Rattle.durable.specs.Place.{line_has}
 use Rattle.durable.proofs.BadLineLemmas.{bad_within}
 use Rattle.durable.proofs.LineLemmas.{LineKeeps, MayBe, line_has-kept, line_keeps-flushed}
+use Rattle.durable.proofs.PresenceLemmas.{absent_line}
 use Rattle.durable.proofs.RewrittenLemmas.{byte_rewritten, durable_shown, page_of-rewritten, rewritten-small, rewritten_line, untouched_page}
-use Rattle.durable.proofs.VolumeLemmas.{VolumeKeeps, absent_line, same_page}
+use Rattle.durable.proofs.VolumeLemmas.{VolumeKeeps, same_page}
 
 -- some range has the byte
 abbrev pub has_byte : List Span → ℕ → Bool
@@ -69,7 +70,7 @@ module _ (since : MayBe) where
   ]
 
   byte_shown : (i : ℕ) (v : Option ℕ) (pages : List Page) → (cell_of pages (i / 64) ≡ Some Bad → ⊥) → VolumeKeeps since pages i v → Some (byte_in pages i) ≡ v
-  byte_shown i v pages good (inl keeps) = ap (λ o. Some (elim o [ None ↦ 0 | Some cell ↦ cell_byte cell (i % 64) ])) (absent_line since pages (i / 64) keeps.absent) ∙ sym keeps.zero
+  byte_shown i v pages good (inl keeps) = ap (λ o. Some (elim o [ None ↦ 0 | Some cell ↦ cell_byte cell (i % 64) ])) (absent_line pages (i / 64) keeps.absent) ∙ sym keeps.zero
   byte_shown i v pages good (inr keeps) = shown (cell_of pages (i / 64)) (i % 64) v good keeps
 
   -- each value of a durable line has its byte

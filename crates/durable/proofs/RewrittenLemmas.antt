@@ -61,12 +61,16 @@ line_small byte n small k = elim (cases_lt k 64) as (λ _. get_or (list_from byt
   | inr past ↦ subst (λ b. b < 256) {x = 0} (sym (get_or_past (list_from byte (64 * n) 64) k 0 (omega (arith, length-list_from byte (64 * n) 64, past)))) (omega arith)
 ]
 
-pub durable_shown : (byte : ℕ → ℕ) (n k : ℕ) → k < 64 → ((i : ℕ) → byte i < 256) → line_has (Some (durable_line byte n)) k ≡ Some (byte (64 * n + k))
-durable_shown byte n k lt small =
+pub durable_word : (byte : ℕ → ℕ) (n k : ℕ) → k < 64
+    → slice_index_or (list_from (λ w. word_at (list_from byte (64 * n) 64) w ∷ []) 0 8) (k / 8) [] ≡ word_at (list_from byte (64 * n) 64) (k / 8) ∷ []
+durable_word byte n k lt =
     let one : ℕ → List ℕ = λ w. word_at (list_from byte (64 * n) 64) w ∷ [] in
     let at : 0 + k / 8 ≡ k / 8 = omega arith in
-    ap (λ h. Some (byte_at (k % 8) (newest h)))
-    (get_or_from_slice_get (list_from one 0 8) (k / 8) (one (k / 8)) [] (slice_get-list_from one 0 8 (k / 8) (omega (arith, lt)) ∙ ap (λ w. Some (one w)) at))
+    get_or_from_slice_get (list_from one 0 8) (k / 8) (one (k / 8)) [] (slice_get-list_from one 0 8 (k / 8) (omega (arith, lt)) ∙ ap (λ w. Some (one w)) at)
+
+pub durable_shown : (byte : ℕ → ℕ) (n k : ℕ) → k < 64 → ((i : ℕ) → byte i < 256) → line_has (Some (durable_line byte n)) k ≡ Some (byte (64 * n + k))
+durable_shown byte n k lt small =
+    ap (λ h. Some (byte_at (k % 8) (newest h))) (durable_word byte n k lt)
     ∙ ap Some (byte_spelled (list_from byte (64 * n) 64) k (line_small byte n small) ∙ line_at byte n k lt)
 
 -- page by page

@@ -20,7 +20,7 @@ use Rattle.script_text.specs.Script.{Input}
 use Rattle.script_text.specs.Script.Input.{Skipped, Malformed, Asked}
 use Rattle.durable.specs.Durable.{HasNothing, IsDone}
 use Rattle.durable.proofs.RefusalLemmas.{is_off, is_on}
-use Rattle.durable.proofs.StepKinds.{Alters, CoversNothing, Idles, Stops, Step, TouchesNothing}
+use Rattle.durable.proofs.StepKinds.{Alters, CoversNothing, Empties, Idles, Remounts, Returns, Stops, Step, TouchesNothing}
 use Rattle.durable.proofs.StepKinds.Step.{idles, alters, stops, returns, remounts, empties}
 use Rattle.durable.proofs.SuitLemmas.{Suits, same, suits}
 
@@ -110,10 +110,14 @@ is_read read to good answer next of (inr end) = record {
   mode = inr (end.0, ap (λ m. m.mode) end.2.state);
 }
 
-returned : (h : Machine) (action : Action) (choice : Choice) (image : Image) (answer : Answer) (next : Machine) → CoversNothing h action → h.mode ≡ Off → RestartMayLeave choice image h
-    → Ends (mounted_answer (restarted h image)) (restarted h image) (restarted h image) answer next → Step h action answer next
+-- a restart, as it was asked for
+abbrev pub ReadsBack : Choice → Machine → Machine → Type 0
+ReadsBack choice h next = ((back : Returns h next) × (back.choice ≡ choice)) ⊎ Empties h next
+
+pub reads_back : (h : Machine) (choice : Choice) (image : Image) (answer : Answer) (next : Machine) → h.mode ≡ Off → RestartMayLeave choice image h
+    → Ends (mounted_answer (restarted h image)) (restarted h image) (restarted h image) answer next → ReadsBack choice h next
 unfolding reading
-returned h action choice image answer next covers off may ends = by_metadata h.bad_meta refl
+reads_back h choice image answer next off may ends = by_metadata h.bad_meta refl
   where
     from : IsRead (reading h.geometry image) next
     from = is_read (reading h.geometry image) (restarted h image) (mounted_answer (restarted h image)) answer next refl ends
@@ -121,10 +125,10 @@ returned h action choice image answer next covers off may ends = by_metadata h.b
     read_as : (bad : List ℕ) → h.bad_meta ≡ bad → IsRead (read_with bad h.geometry image) next
     read_as bad is = subst (λ b. IsRead (read_with b h.geometry image) next) (may.metadata ∙ is) from
 
-    by_metadata : (bad : List ℕ) → h.bad_meta ≡ bad → Step h action answer next
+    by_metadata : (bad : List ℕ) → h.bad_meta ≡ bad → ReadsBack choice h next
     by_metadata [] is =
         let read = read_as [] is in
-        returns covers (record {
+        let back : Returns h next = record {
           off = off;
           metadata = is;
           choice = choice;
@@ -136,10 +140,11 @@ returned h action choice image answer next covers off may ends = by_metadata h.b
           files = read.files;
           interrupted = read.interrupted;
           stopped = λ at. elim read.mode as (λ _. ⊥) [ inl on ↦ cc (at, on) | inr by ↦ stops_stopped by.0 (sym by.1 ∙ at) ];
-        })
+        } in
+        inl (back, refl)
     by_metadata (line ∷ lines) is =
         let read = read_as (line ∷ lines) is in
-        empties covers (record {
+        inr (record {
           geometry = read.geometry;
           nothing = record {
             metadata = λ none. cc (none, read.metadata);
@@ -150,10 +155,14 @@ returned h action choice image answer next covers off may ends = by_metadata h.b
           };
         })
 
+returned : (h : Machine) (action : Action) (choice : Choice) (image : Image) (answer : Answer) (next : Machine) → CoversNothing h action → h.mode ≡ Off → RestartMayLeave choice image h
+    → Ends (mounted_answer (restarted h image)) (restarted h image) (restarted h image) answer next → Step h action answer next
+returned h action choice image answer next covers off may ends =
+    elim (reads_back h choice image answer next off may ends) as (λ _. Step h action answer next) [ inl back ↦ returns covers back.0 | inr gone ↦ empties covers gone ]
+
 -- a recovery
-remounted : (h : Machine) (action : Action) (answer : Answer) (next : Machine) → CoversNothing h action → (bad : List ℕ) → h.bad_meta ≡ bad → RecoversTo bad h next
-    → Step h action answer next
-remounted h action answer next covers [] is to = remounts covers (record {
+pub mounts_anew : (h next : Machine) (bad : List ℕ) → h.bad_meta ≡ bad → RecoversTo bad h next → Remounts h next ⊎ Empties h next
+mounts_anew h next [] is to = inl (record {
   metadata = is;
   geometry = ap (λ m. m.geometry) to.state;
   blocks = to.blocks;
@@ -162,7 +171,7 @@ remounted h action answer next covers [] is to = remounts covers (record {
   interrupted = ap (λ m. m.interrupted) to.state;
   stopped = λ at. cc (at, ap (λ m. m.mode) to.state);
 })
-remounted h action answer next covers (line ∷ lines) is to = empties covers (record {
+mounts_anew h next (line ∷ lines) is to = inr (record {
   geometry = ap (λ m. m.geometry) to;
   nothing = record {
     metadata = λ none. cc (none, ap (λ m. m.bad_meta) to);
@@ -172,6 +181,11 @@ remounted h action answer next covers (line ∷ lines) is to = empties covers (r
     files = ap (λ m. m.files) to;
   };
 })
+
+remounted : (h : Machine) (action : Action) (answer : Answer) (next : Machine) → CoversNothing h action → (bad : List ℕ) → h.bad_meta ≡ bad → RecoversTo bad h next
+    → Step h action answer next
+remounted h action answer next covers bad is to =
+    elim (mounts_anew h next bad is to) as (λ _. Step h action answer next) [ inl back ↦ remounts covers back | inr gone ↦ empties covers gone ]
 
 -- or one that was interrupted
 unmounted : (by : Interruption) (h next : Machine) → Interrupts by h next → Idles h next

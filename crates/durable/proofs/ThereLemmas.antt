@@ -110,7 +110,7 @@ lines-persist_at : (o : Option ℕ) (len : ℕ) (pages : List Page) → HaveLine
 lines-persist_at None len pages whole = whole
 lines-persist_at (Some start) len pages whole = lines-persist start len pages whole
 
-is_there : (there : List Bool) (k : ℕ) → slice_index_or there k false ≡ true → slice_get there k ≡ Some true
+pub is_there : (there : List Bool) (k : ℕ) → slice_index_or there k false ≡ true → slice_get there k ≡ Some true
 is_there [] k none = cc none
 is_there (b ∷ there) zero is = ap Some is
 is_there (b ∷ there) (suc k) is = is_there there k is

@@ -5,3 +5,4 @@ pub mod Naming
 pub mod Durable
 pub mod Files
 pub mod Events
+pub mod Whole

@@ -1,5 +1,5 @@
 // Laws of whole runs, each a function without a body.
-ghost use Rattle.std.specs.Prelude.{◌≡◌, ◌≢◌, ◌+◌, ◌-◌, ◌*◌, ◌/◌, ℕ, true, false, List, [], ◌∷◌, ◌++◌, length, slice_index, Some, None};
+ghost use Rattle.std.specs.Prelude.{◌≡◌, ◌≢◌, ◌⊎◌, ◌+◌, ◌-◌, ◌*◌, ◌/◌, ℕ, true, false, List, [], ◌∷◌, ◌++◌, length, slice_index, Some, None};
 ghost use Rattle.word_tables.specs.declared.geometry.Geometry.{Geometry};
 ghost use Rattle.std.specs.List.{Contains};
 ghost use Rattle.durable.specs.Touching.{is_made_durable, may_be_made_durable, may_wear, unmounts, wears};
@@ -9,15 +9,17 @@ ghost use Rattle.reply_text.specs.Answer.Answer.{Files, RefusedMeta, Stopped as 
 ghost use Rattle.nvm_model.specs.Cell.{covers, touches};
 ghost use Rattle.nvm_model.specs.Numbered.{is_among};
 ghost use Rattle.nvm_model.specs.Page.{cell_of, touches_absent};
+ghost use Rattle.nvm_model.specs.Storage.{File};
 ghost use Rattle.range_sets.specs.Ranges.{total_of};
 ghost use Rattle.line_device.specs.Panel.{Image};
 ghost use Rattle.word_tables.specs.Layout.{volume_line};
 ghost use Rattle.pm_volume.specs.Presence.{presence_read};
 ghost use Rattle.pm_volume.specs.Refusals.{physical_offset};
 ghost use Rattle.script_text.specs.Action.{Action};
-ghost use Rattle.script_text.specs.Action.Action.{BRead, BWrite, BAtomic, VLoad, VStore, VSync, VPSync, FRead, FWrite, FAtomic, FMulti, FlushVerify, PoisonBlock, PoisonFile, PoisonVolume, ClearFile, ClearVolume, Cut, Restart, ListFiles, NextEvent};
+ghost use Rattle.script_text.specs.Action.Action.{BRead, BWrite, BAtomic, VLoad, VStore, VSync, VPSync, FRead, FWrite, FAtomic, FMulti, FlushVerify, PoisonBlock, PoisonFile, PoisonVolume, ClearFile, ClearVolume, Cut, Recover, Restart, ListFiles, NextEvent};
 ghost use Rattle.script_text.specs.Script.{Input, inputs};
 ghost use Rattle.script_text.specs.Script.Input.{Asked};
+ghost use Rattle.line_device.specs.declared.line.Choice.{Choice};
 ghost use Rattle.line_device.specs.declared.line.Choice.TheVariants.{Firsts};
 ghost use Rattle.machine_host.specs.declared.mode.Mode.TheVariants.{On, Stopped};
 ghost use Rattle.machine_host.specs.declared.needs.Needs.TheVariants.{Usable};
@@ -31,8 +33,10 @@ ghost use Rattle.durable.specs.Place.{Place, byte_at_place, is_weak_at, is_weak_
 ghost use Rattle.durable.specs.Naming.{Names, NamesLine, NamesLineOf, NamesObstacle, refused_before};
 ghost use Rattle.durable.specs.Place.Place.{of_volume, of_blocks, of_file};
 ghost use Rattle.durable.specs.Durable.{BringBytes, BringsBytes, Does, Finishes, HasNothing, IsDurable, IsComplete, KeepsByte, KeepsThrough, Lasts, LastsPowered, Spares};
-ghost use Rattle.durable.specs.Events.{FindsAnew, Mounts, NoneMounts, TellsInOrder, TellsLines, TellsOldest, all_told};
-ghost use Rattle.durable.specs.Files.{BreaksOff, FilesLast, FilesSettle, FilesThrough, LeavesFiles, changes_files, files_after, files_listed};
+ghost use Rattle.durable.specs.Whole.{HasEither, ShowsEither, ShowsFiles, WholeWrite, command, files_written};
+ghost use Rattle.durable.specs.Whole.WholeWrite.{atomic, together, discards};
+ghost use Rattle.durable.specs.Events.{AreMounted, FindsAnew, Mounts, NoneMounts, TellsInOrder, TellsLines, TellsOldest, all_told};
+ghost use Rattle.durable.specs.Files.{BreaksOff, FilesLast, FilesSettle, FilesThrough, IsStopped, LeavesFiles, changes_files, files_after, files_listed};
 
 /// A command that covers a byte of the blocks, the volume or a file was done, a flush also where it lost a line: in every later state,
 /// whatever is cut, fails, and is restarted or recovered, the byte is the same or its line is lost, until a command that changes it is
@@ -169,6 +173,27 @@ pub fn what_files_there_are_stays()
         → FilesSettle next (files_listed h) (files_after h action) }
     ensures whole { (h end : Machine) (before after : List Input) (action : Action) (said : Transcript) → IsComplete h
         → changes_files action ≡ true → Run h (before ++ Asked action ∷ after) said end → FilesThrough h before action after said end }
+{}
+
+/// An atomic write or a discard of pages of a file that was stopped is done as a whole or not at all. A recovery that is done at once
+/// leaves the files as before, or as they were to be. So does a restart, where each byte shows a value that its word had since it was last
+/// durable, the last one where that was asked for: what was written shows as it was written, and holes as zeros.
+pub fn a_stopped_write_is_whole_or_not()
+    ensures recovered { (write : WholeWrite) (h next later : Machine) (said : Transcript) → BreaksOff h (command write) next
+        → Hears next (Asked Recover) said later → AreMounted said.answers → HasEither write h later }
+    ensures restarted { (write : WholeWrite) (h next later : Machine) (choice : Choice) (said : Transcript) → BreaksOff h (command write) next
+        → Hears next (Asked (Restart choice)) said later → AreMounted said.answers ⊎ IsStopped said.answers → ShowsEither choice write h later }
+    ensures shown { (h next later : Machine) (name : List ℕ) (i : ℕ) (before after : List Span) (range : Span) (bytes : List ℕ) (choice : Choice)
+        → BringsBytes (FMulti name (before ++ range ∷ after) bytes) → BreaksOff h (FMulti name (before ++ range ∷ after) bytes) next
+        → ShowsFiles choice (files_written (together name (before ++ range ∷ after) bytes) h.files) later → is_among range.start range.len i ≡ true
+        → byte_at_place later (of_file name i) ≡ Some (slice_index bytes (total_of before + (i - range.start))) }
+    ensures shown_alone { (h next later : Machine) (name : List ℕ) (offset i : ℕ) (bytes : List ℕ) (choice : Choice)
+        → BringsBytes (FAtomic name offset bytes) → BreaksOff h (FAtomic name offset bytes) next
+        → ShowsFiles choice (files_written (atomic name offset bytes) h.files) later → is_among offset (length bytes) i ≡ true
+        → byte_at_place later (of_file name i) ≡ Some (slice_index bytes (i - offset)) }
+    ensures shown_holes { (later : Machine) (name : List ℕ) (page count i : ℕ) (files : List File) (choice : Choice)
+        → ShowsFiles choice (files_written (discards name page count) files) later → is_among page count (i / 4096) ≡ true
+        → byte_at_place later (of_file name i) ≡ Some 0 }
 {}
 
 /// Media errors of files are told once, in the order in which they came, and are found anew at a mount. While nothing is mounted anew,
