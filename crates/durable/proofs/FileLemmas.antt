@@ -144,9 +144,9 @@ stopped_by h action answer next change was (idles (inr none) to) = absurd (both_
 stopped_by h action answer next change was (alters (inl done) none to) = absurd (done_or_stopped answer was done)
 stopped_by h action answer next change was (alters (inr touches) none to) = absurd (both_ways (changes_files action) touches.files change)
 stopped_by h action answer next change was (stops by is none to) = to
-stopped_by h action answer next change was (returns covers back) = absurd (both_ways (changes_files action) covers.files change)
-stopped_by h action answer next change was (remounts covers back) = absurd (both_ways (changes_files action) covers.files change)
-stopped_by h action answer next change was (empties covers to) = absurd (both_ways (changes_files action) covers.files change)
+stopped_by h action answer next change was (returns covers back) = absurd (both_ways (changes_files action) covers.0.files change)
+stopped_by h action answer next change was (remounts covers back) = absurd (both_ways (changes_files action) covers.0.files change)
+stopped_by h action answer next change was (empties covers to) = absurd (both_ways (changes_files action) covers.0.files change)
 
 lists_stopped : (h : Machine) (action : Action) (next : Machine) → Stops h action next
     → Lists (λ es. (es ≡ files_listed h) ⊎ (es ≡ files_after h action)) next

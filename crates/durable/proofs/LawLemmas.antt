@@ -96,9 +96,9 @@ came_by : (h : Machine) (action : Action) (answer : Answer) (next : Machine) →
 came_by h action answer next some done (idles (inl why) to) = absurd (both_ways (is_refused answer) (done_allowed answer done) (refused_told h action answer why))
 came_by h action answer next some done (idles (inr none) to) = absurd (some none)
 came_by h action answer next some done (stops by is none to) = absurd (not_stopped by (subst IsDone is done))
-came_by h action answer next some done (returns none back) = absurd (some none)
-came_by h action answer next some done (remounts none back) = absurd (some none)
-came_by h action answer next some done (empties none to) = absurd (some none)
+came_by h action answer next some done (returns none back) = absurd (some none.0)
+came_by h action answer next some done (remounts none back) = absurd (some none.0)
+came_by h action answer next some done (empties none to) = absurd (some none.0)
 came_by h action answer next some done (alters begun none to) = record { none = none; to = to }
 
 pub came_of : (h next : Machine) (action : Action) → Finishes h action next → (CoversNothing h action → ⊥) → Came h action next

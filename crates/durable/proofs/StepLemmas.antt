@@ -21,10 +21,11 @@ use Rattle.script_text.specs.Script.Input.{Skipped, Malformed, Asked}
 use Rattle.durable.specs.Durable.{HasNothing, IsDone}
 use Rattle.durable.proofs.RefusalLemmas.{is_off, is_on}
 use Rattle.durable.proofs.StepKinds.{Alters, CoversNothing, Empties, Idles, Remounts, Returns, Stops, Step, TouchesNothing}
+use Rattle.durable.specs.Whole.{IsMount}
 use Rattle.durable.proofs.StepKinds.Step.{idles, alters, stops, returns, remounts, empties}
 use Rattle.durable.proofs.SuitLemmas.{Suits, same, suits}
 
-stops_on : (by : Interruption) → interrupted_mode by ≡ On → ⊥
+pub stops_on : (by : Interruption) → interrupted_mode by ≡ On → ⊥
 stops_on Failed on = cc on
 stops_on Lost on = cc on
 
@@ -76,6 +77,7 @@ ended h action good to answer next none begun done (inr end) = stops end.0 end.1
   metadata = ap (λ m. m.bad_meta) end.2.state;
   mode = λ on. stops_on end.0 (sym (ap (λ m. m.mode) end.2.state) ∙ on);
   stopped = λ is. stops_stopped end.0 (sym (ap (λ m. m.mode) end.2.state) ∙ is);
+  needs = done.needs;
 })
 
 -- a state that is read from a medium, or was interrupted there
@@ -155,7 +157,7 @@ reads_back h choice image answer next off may ends = by_metadata h.bad_meta refl
           };
         })
 
-returned : (h : Machine) (action : Action) (choice : Choice) (image : Image) (answer : Answer) (next : Machine) → CoversNothing h action → h.mode ≡ Off → RestartMayLeave choice image h
+returned : (h : Machine) (action : Action) (choice : Choice) (image : Image) (answer : Answer) (next : Machine) → CoversNothing h action × IsMount action → h.mode ≡ Off → RestartMayLeave choice image h
     → Ends (mounted_answer (restarted h image)) (restarted h image) (restarted h image) answer next → Step h action answer next
 returned h action choice image answer next covers off may ends =
     elim (reads_back h choice image answer next off may ends) as (λ _. Step h action answer next) [ inl back ↦ returns covers back.0 | inr gone ↦ empties covers gone ]
@@ -182,7 +184,7 @@ mounts_anew h next (line ∷ lines) is to = inr (record {
   };
 })
 
-remounted : (h : Machine) (action : Action) (answer : Answer) (next : Machine) → CoversNothing h action → (bad : List ℕ) → h.bad_meta ≡ bad → RecoversTo bad h next
+remounted : (h : Machine) (action : Action) (answer : Answer) (next : Machine) → CoversNothing h action × IsMount action → (bad : List ℕ) → h.bad_meta ≡ bad → RecoversTo bad h next
     → Step h action answer next
 remounted h action answer next covers bad is to =
     elim (mounts_anew h next bad is to) as (λ _. Step h action answer next) [ inl back ↦ remounts covers back | inr gone ↦ empties covers gone ]
@@ -214,13 +216,13 @@ by_fate h action (Orders order to) said next none suit takes =
 by_fate h action (Cuts to) said next none suit takes =
     record { answer = Done; answers = ap (λ s. s.answers) takes.0; step = idles (inr suit.0) (idle_at h to next suit.1 takes.1) }
 by_fate h action (Restarts choice) said next none suit takes =
-    record { answer = takes.1; answers = ap (λ s. s.answers) takes.2; step = returned h action choice takes.0.image takes.1 next suit.0 (is_off h action suit.1 none) takes.4 takes.5 }
+    record { answer = takes.1; answers = ap (λ s. s.answers) takes.2; step = returned h action choice takes.0.image takes.1 next (suit.0, inl (choice, suit.2)) (is_off h action suit.1 none) takes.4 takes.5 }
 by_fate h action Recovers said next none suit takes = record {
   answer = takes.0;
   answers = ap (λ s. s.answers) takes.1;
   step = elim takes.2 as (λ _. Step h action takes.0 next) [
-    | inl end ↦ remounted h action takes.0 next suit h.bad_meta refl end.1
-    | inr end ↦ idles (inr suit) (unmounted end.0 h next end.2)
+    | inl end ↦ remounted h action takes.0 next (suit.0, inr suit.1) h.bad_meta refl end.1
+    | inr end ↦ idles (inr suit.0) (unmounted end.0 h next end.2)
   ];
 }
 

@@ -31,8 +31,8 @@ Suits h action (Gives good to) = (CoversNothing h action × Idles h to) ⊎ ((Is
 Suits h action (Works good to) = (IsDone good ⊎ TouchesNothing action) × Alters h action to
 Suits h action (Orders order to) = CoversNothing h action × Idles h to
 Suits h action (Cuts to) = CoversNothing h action × Idles h to
-Suits h action (Restarts choice) = CoversNothing h action × ((meaning action).needs ≡ Unpowered)
-Suits h action Recovers = CoversNothing h action
+Suits h action (Restarts choice) = CoversNothing h action × ((meaning action).needs ≡ Unpowered) × (action ≡ Restart choice)
+Suits h action Recovers = CoversNothing h action × (action ≡ Recover)
 
 pub nowhere : (x : Place) → holds nothing x ≡ false
 nowhere (of_volume i) = refl
@@ -215,5 +215,5 @@ suits h Cut =
     (record { bytes = nowhere; files = refl }, record { geometry = refl; blocks = refl; volume = refl; files = refl; mappings = refl; interrupted = refl; metadata = λ bad. bad; mode = λ on. cc on; stopped = λ is. cc is })
 suits h (CutIn calls) = (record { bytes = nowhere; files = refl }, armed h _ refl refl refl refl refl refl refl refl)
 suits h (FailIn calls) = (record { bytes = nowhere; files = refl }, armed h _ refl refl refl refl refl refl refl refl)
-suits h (Restart choice) = (record { bytes = nowhere; files = refl }, refl)
-suits h Recover = record { bytes = nowhere; files = refl }
+suits h (Restart choice) = (record { bytes = nowhere; files = refl }, refl, refl)
+suits h Recover = (record { bytes = nowhere; files = refl }, refl)

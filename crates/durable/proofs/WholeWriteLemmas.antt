@@ -17,27 +17,31 @@ use Rattle.reply_text.specs.Answer.{Answer}
 use Rattle.reply_text.specs.Answer.Answer.{Done, DoneBad, Stopped as MountStopped}
 use Rattle.script_text.specs.Action.{Action}
 use Rattle.script_text.specs.Action.Action.{Recover, Restart}
-use Rattle.script_text.specs.Script.Input.{Asked}
+use Rattle.script_text.specs.Script.{Input}
+use Rattle.script_text.specs.Script.Input.{Skipped, Malformed, Asked}
 use Rattle.machine_host.specs.Commands.{MayLeaveFiles, meaning, refusal, unless_refused}
+use Rattle.std.specs.Prelude.{◌≢◌}
+use Rattle.machine_host.specs.declared.mode.Mode.TheVariants.{On}
 use Rattle.machine_host.specs.Machine.{Machine}
 use Rattle.machine_host.specs.Machine.Fate.{Works}
 use Rattle.machine_host.specs.OnPages.{pages_named}
-use Rattle.machine_host.specs.Run.{Hears, Takes, Transcript}
+use Rattle.machine_host.specs.Run.{Hears, Run, Takes, Transcript}
 use Rattle.durable.specs.Place.{byte_at_place, is_line_present, line_has}
 use Rattle.durable.specs.Place.Place.{of_file}
 use Rattle.durable.specs.Durable.{AllHaveLines, HaveLines, IsLineThere}
 use Rattle.durable.specs.Events.{AreMounted}
 use Rattle.durable.specs.Files.{BreaksOff, IsStopped}
-use Rattle.durable.specs.Whole.{HasEither, MayShow, ShowsEither, ShowsFiles, WholeWrite, command, files_written}
+use Rattle.durable.specs.Whole.{BreaksOffFor, HasEither, IsMount, NoneMounted, MayShow, ShowsEither, ShowsFiles, WholeWrite, command, files_written}
 use Rattle.durable.specs.Whole.WholeWrite.{atomic, together, discards}
 use Rattle.durable.proofs.FileLemmas.{done_or_stopped, not_stopped}
 use Rattle.durable.proofs.FileThereLemmas.{lines-files_left, lines-named}
 use Rattle.durable.proofs.NamedPageLemmas.{named-read}
 use Rattle.durable.proofs.PresenceLemmas.{absent_line}
-use Rattle.durable.proofs.RefusalLemmas.{is_off, refused_told}
+use Rattle.durable.proofs.RefusalLemmas.{is_off, is_on, refused_told}
 use Rattle.durable.proofs.RefusedAnswerLemmas.{is_refused}
-use Rattle.durable.proofs.StepKinds.{Returns}
-use Rattle.durable.proofs.StepLemmas.{mounts_anew, reads_back}
+use Rattle.durable.proofs.StepKinds.{Returns, Step}
+use Rattle.durable.proofs.StepKinds.Step.{idles, alters, stops, returns, remounts, empties}
+use Rattle.durable.proofs.StepLemmas.{mounts_anew, reads_back, step_of, stops_on}
 use Rattle.durable.proofs.ThereLemmas.{is_there}
 
 -- it is done by a change of the files alone
@@ -49,6 +53,7 @@ works_on (discards name page count) h = refl
 -- it was begun, and stopped
 pub record IsBroken (h : Machine) (action : Action) (next : Machine) : Type 0 where
   pub none : refusal h action ≡ None
+  mode : next.mode ≢ On
   files : next.files ≡ h.files
   mappings : next.mappings ≡ h.mappings
   interrupted : next.interrupted ≡ Some action
@@ -64,8 +69,36 @@ broken write h next breaks = by_refusal (refusal h (command write)) refl breaks.
         let t = subst (λ f. Takes h (command write) f breaks.said next) (works_on write h) took in
         elim t.2 as (λ _. IsBroken h (command write) next) [
           | inl end ↦ absurd (done_or_stopped t.0 (subst IsStopped (ap (λ s. s.answers) t.1) breaks.stopped) (inl end.0))
-          | inr end ↦ record { none = is; files = ap (λ m. m.files) end.2.state; mappings = ap (λ m. m.mappings) end.2.state; interrupted = ap (λ m. m.interrupted) end.2.state }
+          | inr end ↦ record { none = is; mode = λ on. stops_on end.0 (sym (ap (λ m. m.mode) end.2.state) ∙ on); files = ap (λ m. m.files) end.2.state; mappings = ap (λ m. m.mappings) end.2.state; interrupted = ap (λ m. m.interrupted) end.2.state }
         ]
+
+-- and stays so while none asks for a mount
+broken_step : (h m next : Machine) (action other : Action) (answer : Answer) → (IsMount other → ⊥) → IsBroken h action m → Step m other answer next → IsBroken h action next
+broken_step h m next action other answer waits at (idles why to) = record {
+  none = at.none;
+  mode = λ on. at.mode (to.mode on);
+  files = to.files ∙ at.files;
+  mappings = to.mappings ∙ at.mappings;
+  interrupted = to.interrupted ∙ at.interrupted;
+}
+broken_step h m next action other answer waits at (alters begun none to) = absurd (at.mode (is_on m other to.needs none))
+broken_step h m next action other answer waits at (stops by is none to) = absurd (at.mode (is_on m other to.needs none))
+broken_step h m next action other answer waits at (returns covers back) = absurd (waits covers.1)
+broken_step h m next action other answer waits at (remounts covers back) = absurd (waits covers.1)
+broken_step h m next action other answer waits at (empties covers to) = absurd (waits covers.1)
+
+broken_run : (inputs : List Input) (h m next : Machine) (action : Action) (said : Transcript) → NoneMounted inputs → IsBroken h action m → Run m inputs said next → IsBroken h action next
+broken_run [] h m next action said waits at run = subst (IsBroken h action) (sym run.1) at
+broken_run (Skipped ∷ inputs) h m next action said waits at run =
+    broken_run inputs h run.2 next action run.1 waits (subst (IsBroken h action) (sym run.4.1) at) run.5
+broken_run (Malformed ∷ inputs) h m next action said waits at run =
+    broken_run inputs h run.2 next action run.1 waits (subst (IsBroken h action) (sym run.4.1) at) run.5
+broken_run (Asked other ∷ inputs) h m next action said waits at run =
+    let taken = step_of m other run.0 run.2 run.4 in
+    broken_run inputs h run.2 next action run.1 waits.1 (broken_step h m run.2 action other taken.answer waits.0 at taken.step) run.5
+
+broken_for : (write : WholeWrite) (h next : Machine) → BreaksOffFor h (command write) next → IsBroken h (command write) next
+broken_for write h next breaks = broken_run breaks.inputs h breaks.at next (command write) breaks.said breaks.waits (broken write h breaks.at breaks.broke) breaks.run
 
 -- so a mount finds the files old or new
 old_or_new : (write : WholeWrite) (h next : Machine) (left : List File) → IsBroken h (command write) next → MayLeaveFiles next.mappings next.interrupted next.files left
@@ -84,12 +117,12 @@ mounted_allowed : (answer : Answer) → AreMounted (answer ∷ []) → is_refuse
 mounted_allowed answer (inl done) = let same : answer ≡ DoneBad done.0 = cc done.1 in ap is_refused same
 mounted_allowed answer (inr bad) = let same : answer ≡ MountStopped bad.0 = cc bad.1 in ap is_refused same
 
-pub recovered : (write : WholeWrite) (h next later : Machine) (said : Transcript) → BreaksOff h (command write) next → Hears next (Asked Recover) said later → AreMounted said.answers
+pub recovered : (write : WholeWrite) (h next later : Machine) (said : Transcript) → BreaksOffFor h (command write) next → Hears next (Asked Recover) said later → AreMounted said.answers
     → HasEither write h later
 recovered write h next later said breaks heard mounted = by_refusal (refusal next Recover) refl heard
   where
     at : IsBroken h (command write) next
-    at = broken write h next breaks
+    at = broken_for write h next breaks
 
     by_refusal : (o : Option Answer) → refusal next Recover ≡ o → Takes next Recover (unless_refused next o ((meaning Recover).comes next)) said later → HasEither write h later
     by_refusal (Some answer) is took =
@@ -144,12 +177,12 @@ shows_files choice next later back same lines name i =
     subst (λ c. MayShow c (cell_of (pages_named name left) (i / 64)) (i % 64) (byte_at_place later (of_file name i))) same
     (subst (MayShow back.choice (cell_of (pages_named name left) (i / 64)) (i % 64)) (sym shown) (shows_read back.choice read.place back.image (pages_named name left) i whole read.keeps))
 
-pub restarted : (write : WholeWrite) (h next later : Machine) (choice : Choice) (said : Transcript) → BreaksOff h (command write) next → Hears next (Asked (Restart choice)) said later
+pub restarted : (write : WholeWrite) (h next later : Machine) (choice : Choice) (said : Transcript) → BreaksOffFor h (command write) next → Hears next (Asked (Restart choice)) said later
     → AreMounted said.answers ⊎ IsStopped said.answers → ShowsEither choice write h later
 restarted write h next later choice said breaks heard mounted = by_refusal (refusal next (Restart choice)) refl heard
   where
     at : IsBroken h (command write) next
-    at = broken write h next breaks
+    at = broken_for write h next breaks
 
     allowed : (answer : Answer) → said.answers ≡ answer ∷ [] → AreMounted said.answers ⊎ IsStopped said.answers → is_refused answer ≡ false
     allowed answer is (inl done) = mounted_allowed answer (subst AreMounted is done)
@@ -157,7 +190,7 @@ restarted write h next later choice said breaks heard mounted = by_refusal (refu
 
     by_back : (back : Returns next later) → back.choice ≡ choice → ShowsEither choice write h later
     by_back back same =
-        let shows = shows_files choice next later back same (subst AllHaveLines (sym at.files) breaks.whole.file_lines) in
+        let shows = shows_files choice next later back same (subst AllHaveLines (sym at.files) breaks.broke.whole.file_lines) in
         elim (old_or_new write h next back.may.files_left at back.may.may_files) as (λ _. ShowsEither choice write h later) [
           | inl old ↦ inl (inl (subst (λ fs. ShowsFiles choice fs later) old shows))
           | inr new ↦ inl (inr (subst (λ fs. ShowsFiles choice fs later) new shows))

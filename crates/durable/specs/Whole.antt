@@ -8,13 +8,17 @@ use Rattle.nvm_model.specs.Cell.Cell.{Bad, Kept}
 use Rattle.nvm_model.specs.Page.{cell_of}
 use Rattle.nvm_model.specs.Storage.{File}
 use Rattle.script_text.specs.Action.{Action}
-use Rattle.script_text.specs.Action.Action.{FAtomic, FMulti, FDiscard}
+use Rattle.script_text.specs.Action.Action.{FAtomic, FMulti, FDiscard, Recover, Restart}
+use Rattle.script_text.specs.Script.{Input}
+use Rattle.script_text.specs.Script.Input.{Skipped, Malformed, Asked}
 use Rattle.machine_host.specs.Machine.{Machine}
 use Rattle.machine_host.specs.OnFileActions.{discarded_in, written_together}
 use Rattle.machine_host.specs.OnPages.{pages_named}
 use Rattle.durable.specs.Place.{byte_at_place}
 use Rattle.durable.specs.Place.Place.{of_file}
+use Rattle.machine_host.specs.Run.{Run, Transcript}
 use Rattle.durable.specs.Durable.{HasNothing}
+use Rattle.durable.specs.Files.{BreaksOff}
 
 -- pages of a file are written as a whole, by one range or several, or made holes
 pub data WholeWrite : Type 0 where
@@ -50,3 +54,22 @@ HasEither write h later = ((later.files ≡ h.files) ⊎ (later.files ≡ files_
 
 abbrev pub ShowsEither : Choice → WholeWrite → Machine → Machine → Type 0
 ShowsEither choice write h later = (ShowsFiles choice h.files later ⊎ ShowsFiles choice (files_written write h.files) later) ⊎ HasNothing later
+
+-- a command asks for a mount, and none of these does
+abbrev pub IsMount : Action → Type 0
+IsMount action = ((choice : Choice) × (action ≡ Restart choice)) ⊎ (action ≡ Recover)
+
+abbrev pub NoneMounted : List Input → Type 0
+NoneMounted [] = Unit {0}
+NoneMounted (Skipped ∷ inputs) = NoneMounted inputs
+NoneMounted (Malformed ∷ inputs) = NoneMounted inputs
+NoneMounted (Asked action ∷ inputs) = (IsMount action → ⊥) × NoneMounted inputs
+
+-- it was stopped in h, and others came that ask for no mount
+pub record BreaksOffFor (h : Machine) (action : Action) (next : Machine) : Type 0 where
+  pub at : Machine
+  pub broke : BreaksOff h action at
+  pub inputs : List Input
+  pub said : Transcript
+  pub run : Run at inputs said next
+  pub waits : NoneMounted inputs

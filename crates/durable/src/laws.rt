@@ -33,7 +33,7 @@ ghost use Rattle.durable.specs.Place.{Place, byte_at_place, is_weak_at, is_weak_
 ghost use Rattle.durable.specs.Naming.{Names, NamesLine, NamesLineOf, NamesObstacle, refused_before};
 ghost use Rattle.durable.specs.Place.Place.{of_volume, of_blocks, of_file};
 ghost use Rattle.durable.specs.Durable.{BringBytes, BringsBytes, Does, Finishes, HasNothing, IsDurable, IsComplete, KeepsByte, KeepsThrough, Lasts, LastsPowered, Spares};
-ghost use Rattle.durable.specs.Whole.{HasEither, ShowsEither, ShowsFiles, WholeWrite, command, files_written};
+ghost use Rattle.durable.specs.Whole.{BreaksOffFor, HasEither, ShowsEither, ShowsFiles, WholeWrite, command, files_written};
 ghost use Rattle.durable.specs.Whole.WholeWrite.{atomic, together, discards};
 ghost use Rattle.durable.specs.Events.{AreMounted, FindsAnew, Mounts, NoneMounts, TellsInOrder, TellsLines, TellsOldest, all_told};
 ghost use Rattle.durable.specs.Files.{BreaksOff, FilesLast, FilesSettle, FilesThrough, IsStopped, LeavesFiles, changes_files, files_after, files_listed};
@@ -175,13 +175,13 @@ pub fn what_files_there_are_stays()
         → changes_files action ≡ true → Run h (before ++ Asked action ∷ after) said end → FilesThrough h before action after said end }
 {}
 
-/// An atomic write or a discard of pages of a file that was stopped is done as a whole or not at all. A recovery that is done at once
-/// leaves the files as before, or as they were to be. So does a restart, where each byte shows a value that its word had since it was last
-/// durable, the last one where that was asked for: what was written shows as it was written, and holes as zeros.
+/// An atomic write or a discard of pages of a file that was stopped is done as a whole or not at all. The next recovery
+/// leaves the files as before, or as they were to be, where it is done. So does the next restart, where each byte shows a value that its
+/// word had since it was last durable, the last one where that was asked for: what was written shows as it was written, and holes as zeros.
 pub fn a_stopped_write_is_whole_or_not()
-    ensures recovered { (write : WholeWrite) (h next later : Machine) (said : Transcript) → BreaksOff h (command write) next
+    ensures recovered { (write : WholeWrite) (h next later : Machine) (said : Transcript) → BreaksOffFor h (command write) next
         → Hears next (Asked Recover) said later → AreMounted said.answers → HasEither write h later }
-    ensures restarted { (write : WholeWrite) (h next later : Machine) (choice : Choice) (said : Transcript) → BreaksOff h (command write) next
+    ensures restarted { (write : WholeWrite) (h next later : Machine) (choice : Choice) (said : Transcript) → BreaksOffFor h (command write) next
         → Hears next (Asked (Restart choice)) said later → AreMounted said.answers ⊎ IsStopped said.answers → ShowsEither choice write h later }
     ensures shown { (h next later : Machine) (name : List ℕ) (i : ℕ) (before after : List Span) (range : Span) (bytes : List ℕ) (choice : Choice)
         → BringsBytes (FMulti name (before ++ range ∷ after) bytes) → BreaksOff h (FMulti name (before ++ range ∷ after) bytes) next
