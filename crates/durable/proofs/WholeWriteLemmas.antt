@@ -31,7 +31,7 @@ use Rattle.durable.specs.Place.Place.{of_file}
 use Rattle.durable.specs.Durable.{AllHaveLines, HaveLines, IsLineThere}
 use Rattle.durable.specs.Events.{AreMounted}
 use Rattle.durable.specs.Files.{BreaksOff, IsStopped}
-use Rattle.durable.specs.Whole.{BreaksOffFor, HasEither, IsMount, NoneMounted, MayShow, ShowsEither, ShowsFiles, WholeWrite, command, files_written}
+use Rattle.durable.specs.Whole.{BreaksOffFor, HasEither, IsMount, NoMountAsked, MayShow, ShowsEither, ShowsFiles, WholeWrite, command, files_written}
 use Rattle.durable.specs.Whole.WholeWrite.{atomic, together, discards}
 use Rattle.durable.proofs.FileLemmas.{done_or_stopped, not_stopped}
 use Rattle.durable.proofs.FileThereLemmas.{lines-files_left, lines-named}
@@ -87,7 +87,7 @@ broken_step h m next action other answer waits at (returns covers back) = absurd
 broken_step h m next action other answer waits at (remounts covers back) = absurd (waits covers.1)
 broken_step h m next action other answer waits at (empties covers to) = absurd (waits covers.1)
 
-broken_run : (inputs : List Input) (h m next : Machine) (action : Action) (said : Transcript) → NoneMounted inputs → IsBroken h action m → Run m inputs said next → IsBroken h action next
+broken_run : (inputs : List Input) (h m next : Machine) (action : Action) (said : Transcript) → NoMountAsked inputs → IsBroken h action m → Run m inputs said next → IsBroken h action next
 broken_run [] h m next action said waits at run = subst (IsBroken h action) (sym run.1) at
 broken_run (Skipped ∷ inputs) h m next action said waits at run =
     broken_run inputs h run.2 next action run.1 waits (subst (IsBroken h action) (sym run.4.1) at) run.5

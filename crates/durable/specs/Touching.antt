@@ -15,8 +15,7 @@ use Rattle.word_tables.specs.declared.geometry.Geometry.{Geometry}
 use Rattle.durable.specs.Place.{Place}
 use Rattle.durable.specs.Region.{Region, discarded_pages, everything, all_files, file_bytes, flushed_lines, flushed_through, holds, line_of_blocks, line_of_file, line_of_volume, nothing, pages_bytes, ranges_bytes, rewritten_bytes, spanned, stored_bytes, touched_lines, touched_lines_at, two_files, whole_file}
 
--- The bytes that a command makes durable: none; those of a region in place, where a weak line is lost by that; or those of one
--- anew, in lines that are not weak.
+-- The bytes that a command makes durable: in place, where a weak line is lost by that, or anew, in lines that are not weak.
 pub record Covered : Type 0 where
   pub region : Region
   pub worn : Bool

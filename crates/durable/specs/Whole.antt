@@ -37,8 +37,7 @@ files_written (atomic name offset bytes) files = written_together name (record {
 files_written (together name ranges bytes) files = written_together name ranges bytes files
 files_written (discards name page count) files = discarded_in name page count files
 
--- what a restart may show of byte i of a line: that of a value which its word had since it was last durable, of the last one where
--- that was asked for
+-- what a restart may show of byte i of a line: a value that its word had since it was last durable, the last where that was asked for
 abbrev pub MayShow : Choice → Option Cell → ℕ → Option ℕ → Type 0
 MayShow choice None i byte = byte ≡ Some 0
 MayShow choice (Some Bad) i byte = byte ≡ None
@@ -59,11 +58,11 @@ ShowsEither choice write h later = (ShowsFiles choice h.files later ⊎ ShowsFil
 abbrev pub IsMount : Action → Type 0
 IsMount action = ((choice : Choice) × (action ≡ Restart choice)) ⊎ (action ≡ Recover)
 
-abbrev pub NoneMounted : List Input → Type 0
-NoneMounted [] = Unit {0}
-NoneMounted (Skipped ∷ inputs) = NoneMounted inputs
-NoneMounted (Malformed ∷ inputs) = NoneMounted inputs
-NoneMounted (Asked action ∷ inputs) = (IsMount action → ⊥) × NoneMounted inputs
+abbrev pub NoMountAsked : List Input → Type 0
+NoMountAsked [] = Unit {0}
+NoMountAsked (Skipped ∷ inputs) = NoMountAsked inputs
+NoMountAsked (Malformed ∷ inputs) = NoMountAsked inputs
+NoMountAsked (Asked action ∷ inputs) = (IsMount action → ⊥) × NoMountAsked inputs
 
 -- it was stopped in h, and others came that ask for no mount
 pub record BreaksOffFor (h : Machine) (action : Action) (next : Machine) : Type 0 where
@@ -72,4 +71,4 @@ pub record BreaksOffFor (h : Machine) (action : Action) (next : Machine) : Type 
   pub inputs : List Input
   pub said : Transcript
   pub run : Run at inputs said next
-  pub waits : NoneMounted inputs
+  pub waits : NoMountAsked inputs
