@@ -6,12 +6,8 @@
 
 mod atomic;
 mod checks;
-mod discarding;
 mod fault;
-mod syncing;
 
 pub use atomic::{atomic_multiwrite, atomic_write};
-pub use discarding::discard;
 pub use fault::ActionFault;
 pub use file_pages::FilePages;
-pub use syncing::sync;
