@@ -8,6 +8,10 @@ use Rattle.file_journal.specs.Switches.{AreHeld, IsSwitch}
 use Rattle.file_journal.specs.Tables.{IsVacant, unit_at}
 use Rattle.file_pages.specs.Object.{pages_there, unit_place}
 
+-- a line among the 64 from one on, as those of a unit from its first one
+abbrev pub IsOfUnit : ℕ → ℕ → Type 0
+IsOfUnit first n = (first ≤ n) × (n < first + 64)
+
 -- units are the device's, and each is listed once
 pub record AreOwn (size : ℕ) (units : List (Option ℕ)) : Type 0 where
   pub below : (k u : ℕ) → slice_index_or units k None ≡ Some u → u < size

@@ -12,7 +12,7 @@ ghost use Rattle.file_journal.specs.Area.{IsOfFiles};
 ghost use Rattle.file_journal.specs.Object.{JournalServes};
 ghost use Rattle.file_journal.specs.Standing.{EachReadsFiles, FilesStand};
 ghost use Rattle.file_journal.specs.Tables.{IsVacant};
-ghost use Rattle.file_pages.specs.Fresh.{Takes};
+ghost use Rattle.file_pages.specs.Fresh.{IsOfUnit, Takes};
 ghost use Rattle.file_pages.specs.Object.{KeepsMarks, PagesServe, is_settled};
 ghost use Rattle.file_pages.specs.Refusals.{page_says};
 
@@ -35,6 +35,7 @@ impl FilePages {
         ensures unit { IfOk result (Takes self.old.journal self.new.journal) }
         ensures lines { IfOk result (λ unit. (k : ℕ) → k < 64
             → HoldsLine (L.state dev.new).medium (file_line self.old.journal.geo unit + k) (take 64 (drop (64 * k) bytes.now))) }
+        ensures beside { IfOk result (λ unit. WritesBackOthers (IsOfUnit (file_line self.old.journal.geo unit)) (L.state dev.old).medium (L.state dev.new).medium) }
         ensures files { (files : List File) → FilesStand self.old.journal.geo (L.state dev.old).medium self.old.journal.tables files
             → FilesStand self.old.journal.geo (L.state dev.new).medium self.old.journal.tables files }
         ensures images { (files : List File) → FilesStand self.old.journal.geo (L.state dev.old).medium self.old.journal.tables files
@@ -68,6 +69,7 @@ fn renew_unit<L: Lines>(
     requires vacant { IsVacant journal.now.tables.pages unit }
     ensures lines { OnOk result ((k : ℕ) → k < 64
         → HoldsLine (L.state dev.new).medium (file_line journal.now.geo unit + k) (take 64 (drop (64 * k) bytes.now))) }
+    ensures beside { WritesBackOthers (IsOfUnit (file_line journal.now.geo unit)) (L.state dev.old).medium (L.state dev.new).medium }
     ensures files { (files : List File) → FilesStand journal.now.geo (L.state dev.old).medium journal.now.tables files
         → FilesStand journal.now.geo (L.state dev.new).medium journal.now.tables files }
     ensures images { (files : List File) → FilesStand journal.now.geo (L.state dev.old).medium journal.now.tables files

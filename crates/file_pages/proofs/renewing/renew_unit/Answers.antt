@@ -26,6 +26,14 @@ returns-clause-lines g c =
     (λ holds k below. subst (λ n. HoldsLine new (n + k) (take 64 (drop (64 * k) c.args.bytes.now))) first (holds k (omega (arith, below, c.requires.length))))
     c.renew_lines.ensures.ok
 
+pub returns-clause-beside : goal.returns-clause-beside
+returns-clause-beside g c =
+    let s = c.args.journal.now in
+    let old = (g.L.Lines.state c.args.dev.now).medium in
+    let new = (g.L.Lines.state c.renew_lines.new.dev).medium in
+    let first = c.file_line.ensures ∙ ap (λ (geo : Geometry). file_line geo c.args.unit) c.geometry.ensures.geometry in
+    of_unit s.geo c.args.unit c.file_line.result (length c.args.bytes.now) old new first c.requires.length c.renew_lines.ensures.outside
+
 pub returns-clause-files : goal.returns-clause-files
 returns-clause-files g c =
     let s = c.args.journal.now in
