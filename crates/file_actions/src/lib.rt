@@ -5,8 +5,14 @@
 #![tactic(auto)]
 
 mod atomic;
+mod building;
 mod checks;
 mod fault;
+mod preparing;
+mod ranges;
+mod switching;
+#[cfg(test)]
+mod tests;
 
 pub use atomic::{atomic_multiwrite, atomic_write};
 pub use fault::ActionFault;
