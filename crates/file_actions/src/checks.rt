@@ -71,10 +71,10 @@ fn check_together(pages: u64, ranges: &[Span]) -> Result<(), ActionFault>
     if ranges.len() > MOST_RANGES || pages_touched(ranges, pages) > MOST_PAGES as u64 {
         return Err(ActionFault::Limit);
     }
-    match first_overlap(ranges) {
-        Some(_) => Err(ActionFault::Overlap),
-        None => Ok(()),
+    if first_overlap(ranges).is_some() {
+        return Err(ActionFault::Overlap);
     }
+    Ok(())
 }
 
 // Whether so many pages have all bytes of ranges, and each range has some.
@@ -187,7 +187,6 @@ fn is_bad<L: Lines>(dev: &L, files: &FilePages, inode: u64, n: u64) -> bool
     ensures bad { (listed : List File) (file : File) → IsFileAt files.now.journal (L.state dev.now).medium inode listed file
         → result ≡ is_bad_cell (cell_of file.pages n) }
 {
-    let _geo = files.journal().geometry();
     let _used = files.journal().used();
     match files.line_of(inode, LINE * n) {
         Some(line) => dev.is_bad(line),

@@ -1,7 +1,9 @@
 // Pages and lines that ranges of bytes touch, and bytes laid over others.
 ghost use Rattle.std.specs.Prelude.{◌≡◌, ◌+◌, ◌-◌, ◌<◌, ◌≤◌, ◌^◌, ℕ, All, length, slice_index, sum_by, true, if◌then◌else◌};
 ghost use Rattle.nvm_base.specs.declared.units.Span.{Span as Stretch};
+ghost use Rattle.nvm_model.specs.Cell.{covers};
 ghost use Rattle.nvm_model.specs.Numbered.{is_among};
+ghost use Rattle.nvm_model.specs.Page.{touches_page};
 ghost use Rattle.range_sets.specs.Ranges.{IsInReach, is_disjoint};
 ghost use Rattle.file_actions.specs.Rewriting.{covers_any, data_of, pages_touched, touches_any_page};
 
@@ -14,11 +16,19 @@ pub(crate) fn touches_any(ranges: &[Span], page: u64) -> bool
     ensures { result ≡ touches_any_page ranges.now page }
 {
     for range in ranges {
-        if range.start < PAGE * page + PAGE && PAGE * page < range.start + range.len {
+        if touches(*range, page) {
             return true;
         }
     }
     false
+}
+
+fn touches(range: Span, page: u64) -> bool
+    requires end { IsInReach range }
+    requires small { page < 2 ^ 40 }
+    ensures { result ≡ touches_page range.start range.len page }
+{
+    range.start < PAGE * page + PAGE && PAGE * page < range.start + range.len
 }
 
 /// Whether some range covers a line wholly.
@@ -28,11 +38,19 @@ pub(crate) fn covers_any(ranges: &[Span], line: u64) -> bool
     ensures { result ≡ covers_any ranges.now line }
 {
     for range in ranges {
-        if range.start <= LINE * line && LINE * line + LINE <= range.start + range.len {
+        if covers(*range, line) {
             return true;
         }
     }
     false
+}
+
+fn covers(range: Span, line: u64) -> bool
+    requires end { IsInReach range }
+    requires small { line < 2 ^ 40 }
+    ensures { result ≡ covers range.start range.len line }
+{
+    range.start <= LINE * line && LINE * line + LINE <= range.start + range.len
 }
 
 /// How many of so many pages ranges touch.
