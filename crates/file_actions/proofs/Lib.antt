@@ -1,3 +1,6 @@
 mod CountLemmas
 mod DataLemmas
+mod FindLemmas
+mod WitnessLemmas
 mod KeptLemmas
+mod RefusalLemmas

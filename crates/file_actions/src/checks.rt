@@ -50,10 +50,10 @@ pub(crate) fn check_write<L: Lines>(
     ensures valid { IsValid files.now.journal.geo }
 {
     let journal = files.journal();
-    let pages = journal.pages(inode);
-    check_together(pages, ranges)?;
+    let geo = journal.geometry();
+    check_together(journal.pages(inode), ranges)?;
     check_room(journal, hole_count(journal, inode, ranges))?;
-    check_meta(dev, journal.geometry())?;
+    check_meta(dev, geo)?;
     match first_lost(dev, files, inode, ranges) {
         Some(n) => Err(ActionFault::Poison(LINE * n)),
         None => Ok(()),
