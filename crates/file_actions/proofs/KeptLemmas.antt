@@ -1,12 +1,15 @@
 -- Bad lines of files, by their places on the device and by what the files' pages say.
-use Rattle.std.proofs.Common.{◌≡◌, inl, inr, ℕ, ◌+◌, ◌*◌, ◌/◌, ◌<◌, ◌≤◌, Bool, true, false, not, List, Option, Some, None, length, refl, sym, ap, subst, ◌∙◌, arith}
-use Rattle.std.proofs.lemmas.Bool.{and_from, cases_Bool, false≢true}
+use Rattle.std.proofs.Common.{◌-◌, ap₂, option_map, position, ◌≡◌, inl, inr, ℕ, ◌+◌, ◌*◌, ◌/◌, ◌<◌, ◌≤◌, Bool, true, false, not, List, Option, Some, None, length, refl, sym, ap, subst, ◌∙◌, arith}
+use Rattle.std.proofs.lemmas.Bool.{le-ltb, and_from, cases_Bool, false≢true}
 use Rattle.std.proofs.lemmas.Option.{slice_get_within}
+use Rattle.std.specs.List.{range_with_len}
 use Rattle.nvm_base.specs.declared.units.Span.{Span}
 use Rattle.line_device.specs.Medium.{Medium}
 use Rattle.word_tables.specs.Layout.{total_lines}
 use Rattle.inode_table.specs.Slots.{pages_at}
-use Rattle.nvm_model.specs.Page.{cell_of, is_bad_cell}
+use Rattle.line_words.proofs.PositionLemmas.{none_among}
+use Rattle.nvm_model.specs.Blocks.{first_there}
+use Rattle.nvm_model.specs.Page.{cell_of, first_bad_line, is_bad_cell}
 use Rattle.nvm_model.specs.Storage.{File}
 use Rattle.page_lines.specs.Sought.{is_bad_at}
 use Rattle.page_lines.proofs.StandingLemmas.{bad_at}
@@ -14,6 +17,8 @@ use Rattle.file_journal.specs.Object.{JournalServes, JournalState}
 use Rattle.file_journal.specs.Tables.{AreTables}
 use Rattle.file_journal.proofs.FileLineLemmas.{page_line_within}
 use Rattle.file_pages.specs.Object.{IsFileAt, file_place, pages_there, units_of}
+use Rattle.file_pages.specs.Refusals.{poisoned_at, read_refusal, refused_if}
+use Rattle.file_pages.specs.Refusals.PageRefusal.{Range}
 use Rattle.file_pages.proofs.PassLemmas.{length-pages_on, pages_on}
 use Rattle.file_pages.proofs.PlaceLemmas.{length-units, line_at, located, place_in, place_is, unit_get, units_own}
 use Rattle.file_actions.specs.Checked.{AreKept}
@@ -66,3 +71,23 @@ all_kept s m inode ranges are low none n line touched out place =
     let within = slice_get_within (units_of s.tables inode) (n / 64) (Some p.0) (unit_get (units_of s.tables inode) (n / 64) p.0 p.1) in
     let some = some_file s m inode (n / 64) are low (omega (arith, within, length-units s.tables inode)) in
     kept-line s m inode are ranges some.listed some.file some.at (none some.listed some.file some.at) n line touched out place
+
+-- a line of a page that ranges touch can be read, unless one of them covers it
+pub line_read : (s : JournalState) (m : Medium) (inode : ℕ) → AreTables s.geo.fpages s.tables → (ranges : List Span) → AreKept s m inode ranges → (files : List File) (file : File) → IsFileAt s m inode files file
+    → (line : ℕ) → touches_any_page ranges (line / 64) ≡ true → covers_any ranges line ≡ false → line < 64 * pages_at s.tables.files inode → read_refusal file.pages (64 * line) 64 ≡ None
+unfolding first_bad_line
+line_read s m inode are ranges kept files file at line touched out within =
+    ap₂ (λ a b. first_there a b)
+    (ap (λ b. first_there (refused_if b Range) None) (le-ltb (4096 * length file.pages) (64 * line + 64) (omega (arith, within, size s m inode are ranges files file at))))
+    (ap (λ o. poisoned_at (option_map (λ k. 64 * line / 64 + k) o)) none)
+  where
+    good : (o : Option ℕ) → file_place s inode line ≡ o → is_bad_at m o ≡ false
+    good None is = refl
+    good (Some l) is = kept line l touched out is
+
+    cell : is_bad_cell (cell_of file.pages line) ≡ false
+    cell = sym (line_bad s m inode are files file at line) ∙ good (file_place s inode line) refl
+
+    none : position (λ n. is_bad_cell (cell_of file.pages n)) (range_with_len (64 * line / 64) ((64 * line + 64 - 1) / 64 + 1 - 64 * line / 64)) ≡ None
+    none = none_among (λ n. is_bad_cell (cell_of file.pages n)) (64 * line / 64) ((64 * line + 64 - 1) / 64 + 1 - 64 * line / 64)
+        (λ k below. let e : 64 * line / 64 + k ≡ line = omega (arith, below) in ap (λ n. is_bad_cell (cell_of file.pages n)) e ∙ cell)

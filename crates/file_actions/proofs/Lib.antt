@@ -4,3 +4,4 @@ mod FindLemmas
 mod WitnessLemmas
 mod KeptLemmas
 mod RefusalLemmas
+mod LineLemmas

@@ -10,6 +10,7 @@ ghost use Rattle.line_words.specs.Told.Told.{Stops};
 ghost use Rattle.inode_table.specs.Slots.{pages_at};
 ghost use Rattle.nvm_model.specs.Page.{look};
 ghost use Rattle.nvm_model.specs.Storage.{File};
+ghost use Rattle.file_journal.specs.Tables.{AreTables};
 ghost use Rattle.file_pages.specs.Object.{IsFileAt, PagesServe, is_settled};
 ghost use Rattle.file_pages.specs.Refusals.{page_says};
 ghost use Rattle.file_actions.specs.Checked.{AreKept, AreTogether};
@@ -37,6 +38,7 @@ pub(crate) fn build_page<L: Lines>(
 ) -> Result<(), Interruption>
     requires serves { PagesServe files.old (L.state dev.old).medium }
     requires settled { IsTrue (is_settled files.old) }
+    requires tables { AreTables files.old.journal.geo.fpages files.old.journal.tables }
     requires on { IsTrue (L.state dev.old).panel.power }
     requires inode { inode < 64 }
     requires together { AreTogether (pages_at files.old.journal.tables.files inode) ranges.now }
@@ -74,6 +76,7 @@ fn build_line<L: Lines>(
 ) -> Result<(), Interruption>
     requires serves { PagesServe files.old (L.state dev.old).medium }
     requires settled { IsTrue (is_settled files.old) }
+    requires tables { AreTables files.old.journal.geo.fpages files.old.journal.tables }
     requires on { IsTrue (L.state dev.old).panel.power }
     requires inode { inode < 64 }
     requires together { AreTogether (pages_at files.old.journal.tables.files inode) ranges.now }
@@ -106,6 +109,7 @@ fn load_rest<L: Lines>(
 ) -> Result<(), Interruption>
     requires serves { PagesServe files.old (L.state dev.old).medium }
     requires settled { IsTrue (is_settled files.old) }
+    requires tables { AreTables files.old.journal.geo.fpages files.old.journal.tables }
     requires on { IsTrue (L.state dev.old).panel.power }
     requires inode { inode < 64 }
     requires together { AreTogether (pages_at files.old.journal.tables.files inode) ranges.now }
@@ -126,8 +130,6 @@ fn load_rest<L: Lines>(
     if covers_any(ranges, line) {
         return Ok(());
     }
-    let _geo = files.journal().geometry();
-    let _used = files.journal().used();
     match files.load_into(dev, inode, LINE * line, out) {
         Ok(()) => Ok(()),
         Err(fault) => Err(stop_of(fault)),

@@ -6,6 +6,7 @@ ghost use Rattle.nvm_base.specs.declared.units.Span.{Span as Stretch};
 ghost use Rattle.line_device.specs.Panel.{Runs};
 ghost use Rattle.line_words.specs.Ending.{ended};
 ghost use Rattle.inode_table.specs.Slots.{pages_at};
+ghost use Rattle.file_journal.specs.Tables.{AreTables};
 ghost use Rattle.file_pages.specs.Object.{PagesServe, is_settled};
 ghost use Rattle.file_actions.specs.Checked.{AreKept, AreTogether};
 ghost use Rattle.file_actions.specs.Made.{AreAsBefore, AreMade, AreWritten, IsPassed, IsWritten};
@@ -34,6 +35,7 @@ pub(crate) fn write_pages<L: Lines>(
 ) -> Result<(), Interruption>
     requires serves { PagesServe files.old (L.state dev.old).medium }
     requires settled { IsTrue (is_settled files.old) }
+    requires tables { AreTables files.old.journal.geo.fpages files.old.journal.tables }
     requires on { IsTrue (L.state dev.old).panel.power }
     requires inode { inode < 64 }
     requires together { AreTogether (pages_at files.old.journal.tables.files inode) ranges.now }
@@ -69,6 +71,7 @@ fn write_touched<L: Lines>(
 ) -> Result<Option<u64>, Interruption>
     requires serves { PagesServe files.old (L.state dev.old).medium }
     requires settled { IsTrue (is_settled files.old) }
+    requires tables { AreTables files.old.journal.geo.fpages files.old.journal.tables }
     requires on { IsTrue (L.state dev.old).panel.power }
     requires inode { inode < 64 }
     requires together { AreTogether (pages_at files.old.journal.tables.files inode) ranges.now }
@@ -102,6 +105,7 @@ fn write_page<L: Lines>(
 ) -> Result<u64, Interruption>
     requires serves { PagesServe files.old (L.state dev.old).medium }
     requires settled { IsTrue (is_settled files.old) }
+    requires tables { AreTables files.old.journal.geo.fpages files.old.journal.tables }
     requires on { IsTrue (L.state dev.old).panel.power }
     requires inode { inode < 64 }
     requires together { AreTogether (pages_at files.old.journal.tables.files inode) ranges.now }
