@@ -5,3 +5,4 @@ mod WitnessLemmas
 mod KeptLemmas
 mod RefusalLemmas
 mod LineLemmas
+mod PreparedLemmas

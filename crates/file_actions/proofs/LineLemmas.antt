@@ -1,8 +1,9 @@
 -- A line with its new bytes, and a page of them.
-use Rattle.std.proofs.Common.{◌≡◌, ℕ, ◌+◌, ◌*◌, ◌-◌, ◌<◌, ◌≤◌, ◌++◌, true, false, List, length, take, drop, get_or, inl, inr, refl, sym, ap, subst, ◌∙◌, arith}
+use Rattle.std.proofs.Common.{◌≡◌, ℕ, ◌+◌, ◌*◌, ◌-◌, ◌<◌, ◌≤◌, ◌++◌, true, false, List, length, length-append, length-take, length-drop, take, drop, get_or, inl, inr, refl, sym, ap, subst, ◌∙◌, arith}
 use Rattle.std.proofs.lemmas.Bool.{cases_Bool, cases_lt}
 use Rattle.std.proofs.lemmas.Option.{get_or_from_slice_get}
-use Rattle.std.proofs.lemmas.Slice.{between-put_mid, drop-put_mid, take-put_mid_below}
+use Rattle.std.proofs.lemmas.Slice.{between-put_mid, take-put_mid_below}
+use Rattle.std.proofs.lemmas.List.{drop-take}
 use borrow.Rule.Slice.PartMut.{put_mid}
 use Rattle.nvm_base.specs.declared.units.Span.{Span}
 use Rattle.line_device.specs.Medium.{Medium, WritesBack}
@@ -49,11 +50,26 @@ file_at-write_back s old new inode files file are x at = record {
 -- one line more of a page
 module _ (s : JournalState) (old : Medium) (inode : ℕ) (ranges : List Span) (bytes : List ℕ) (first k a size : ℕ) (out piece : List ℕ) (long : length out ≡ 4096) (below : k < 64) (at : a ≡ 64 * k) (is : size ≡ 64) (fits : length piece ≡ 64)
     (before : (j : ℕ) → j < k → IsNewLine s old inode ranges bytes (first + j) (take 64 (drop (64 * j) out))) (here : IsNewLine s old inode ranges bytes (first + k) piece) where
+  pub size_more : length (put_mid a size out piece) ≡ 4096
+  size_more =
+      omega (
+        arith,
+        length-append (take a out) (piece ++ drop size (drop a out)),
+        length-append piece (drop size (drop a out)),
+        length-take {A = ℕ},
+        length-drop {A = ℕ},
+        long,
+        below,
+        at,
+        is,
+        fits,
+      )
+
   front_of : (j : ℕ) → j < k → take 64 (drop (64 * j) (put_mid a size out piece)) ≡ take 64 (drop (64 * j) out)
   front_of j lt =
-      sym (take-drop (64 * j) 64 (put_mid a size out piece))
+      sym (drop-take (64 * j) 64 (put_mid a size out piece))
       ∙ ap (drop (64 * j)) (take-put_mid_below a size out piece (64 * j + 64) (omega (arith, lt, at)) (omega (arith, long, at, below)))
-      ∙ take-drop (64 * j) 64 out
+      ∙ drop-take (64 * j) 64 out
 
   pub lines_more : (j : ℕ) → j < k + 1 → IsNewLine s old inode ranges bytes (first + j) (take 64 (drop (64 * j) (put_mid a size out piece)))
   lines_more j lt =
@@ -61,5 +77,10 @@ module _ (s : JournalState) (old : Medium) (inode : ℕ) (ranges : List Span) (b
         | inl earlier ↦ subst (IsNewLine s old inode ranges bytes (first + j)) (sym (front_of j earlier)) (before j earlier)
         | inr last ↦
             let same : j ≡ k = omega (arith, lt, last) in
-            ?
+            let whole : 64 ≡ a + 64 - a = omega arith in
+            let place : 64 * j ≡ a = omega (arith, same, at) in
+            let is_piece : take 64 (drop (64 * j) (put_mid a size out piece)) ≡ piece =
+            ap (λ n. take n (drop (64 * j) (put_mid a size out piece))) whole ∙ ap (λ n. take (a + 64 - a) (drop n (put_mid a size out piece))) place
+            ∙ between-put_mid a size out piece (a + 64) (omega (arith, long, at, below)) (omega (arith, fits)) in
+            subst (IsNewLine s old inode ranges bytes (first + j)) (sym is_piece) (subst (λ n. IsNewLine s old inode ranges bytes (first + n) piece) (sym same) here)
       ]
