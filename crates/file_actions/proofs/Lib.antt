@@ -6,3 +6,4 @@ mod KeptLemmas
 mod RefusalLemmas
 mod LineLemmas
 mod PreparedLemmas
+mod MadeLemmas

@@ -31,7 +31,7 @@ use word_tables::Geometry;
 
 /// Most ranges, and most pages, that are written together.
 const MOST_RANGES: usize = 8;
-pub(crate) const MOST_PAGES: usize = 16;
+const MOST_PAGES: u64 = 16;
 
 /// Whether ranges of a file can be written together.
 pub(crate) fn check_write<L: Lines>(
@@ -68,7 +68,7 @@ fn check_together(pages: u64, ranges: &[Span]) -> Result<(), ActionFault>
     ensures together { OnOk result (AreTogether pages ranges.now) }
 {
     check_extents(pages, ranges)?;
-    if ranges.len() > MOST_RANGES || pages_touched(ranges, pages) > MOST_PAGES as u64 {
+    if ranges.len() > MOST_RANGES || pages_touched(ranges, pages) > MOST_PAGES {
         return Err(ActionFault::Limit);
     }
     if first_overlap(ranges).is_some() {

@@ -13,7 +13,6 @@ ghost use Rattle.file_actions.specs.Made.{AreAsBefore, AreMade, AreWritten, IsPa
 ghost use Rattle.file_actions.specs.Rewriting.{pages_touched, touches_any_page};
 
 use crate::building::{build_page, stop_of};
-use crate::checks::MOST_PAGES;
 use crate::ranges::touches_any;
 use arrayvec::ArrayVec;
 use file_pages::FilePages;
@@ -21,8 +20,8 @@ use line_device::Lines;
 use line_words::Interruption;
 use nvm_base::Span;
 
-/// Pages, and the unit that each gets.
-pub(crate) type Switches = ArrayVec<(u64, Option<u64>), MOST_PAGES>;
+/// Pages, and the unit that each gets: as many as are written together.
+pub(crate) type Switches = ArrayVec<(u64, Option<u64>), 16>;
 
 /// Writes each page that ranges touch to a fresh unit, and lists it with that.
 pub(crate) fn write_pages<L: Lines>(
