@@ -82,7 +82,9 @@ module _ (s : JournalState) (inode : ℕ) (ranges : List Span) where
       fills : filled_holes s.tables inode after ≡ filled_holes s.tables inode switches + (if is_hole then 1 else 0)
       fills =
           let g : ℕ × Option ℕ → ℕ = λ c. cond (is_some c.1 && is_none (unit_at s.tables inode c.0)) 1 0 in
-          sum_by-append g switches ((k, Some u) ∷ []) ∙ refl
+          let one : ℕ = if is_hole then 1 else 0 in
+          let e : 0 + one ≡ one = omega arith in
+          sum_by-append g switches ((k, Some u) ∷ []) ∙ ap (λ n. filled_holes s.tables inode switches + n) e
 
       hole_test : (touches_any_page ranges k && not (slice_index_or (pages_there s inode) k true)) ≡ is_hole
       hole_test =
