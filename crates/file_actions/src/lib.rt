@@ -4,13 +4,10 @@
 // pages by one commit of the journal. The bytes of a page that no range has are those last stored, which are durable then too.
 #![tactic(auto)]
 
-mod atomic;
-mod checks;
 mod discarding;
 mod fault;
 mod syncing;
 
-pub use atomic::{atomic_multiwrite, atomic_write};
 pub use discarding::discard;
 pub use fault::ActionFault;
 pub use file_pages::FilePages;

@@ -1,1 +1,0 @@
-// When actions are refused. None of this makes a counted call.
