@@ -6,6 +6,7 @@
 
 mod discarding;
 mod fault;
+mod switching;
 mod syncing;
 
 pub use discarding::discard;
