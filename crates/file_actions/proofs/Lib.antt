@@ -1,0 +1,2 @@
+mod HoledLemmas
+mod SwitchingLemmas
