@@ -4,10 +4,13 @@ use Rattle.std.proofs.lemmas.Bool.{cases_Bool, false≢true}
 use Rattle.std.proofs.lemmas.List.Sums.{sum_by-cons}
 use Rattle.std.proofs.lemmas.Option.{get_or_from_slice_get, none-some, same_Some}
 use Rattle.line_device.specs.Medium.{Medium}
+use Rattle.line_words.specs.Words.{WritesBackOutside}
+use Rattle.word_log.specs.Area.{IsOf}
+use Rattle.word_tables.specs.Bounds.{IsValid}
 use Rattle.word_tables.specs.declared.geometry.Geometry.{Geometry}
 use Rattle.inode_table.specs.Slots.{IsNamed, pages_at}
 use Rattle.nvm_model.specs.Cell.{Cell, CellStands}
-use Rattle.nvm_model.specs.Files.{on_pages}
+use Rattle.nvm_model.specs.Files.{OneFileLeft, on_pages}
 use Rattle.nvm_model.specs.Listing.{AreAlike, change_file, file_name}
 use Rattle.nvm_model.specs.Numbered.{is_among, map_from}
 use Rattle.nvm_model.specs.Page.{Page, PagesStand, cell_of, discard, discard_page, is_present, presence_of}
@@ -15,20 +18,27 @@ use Rattle.nvm_model.specs.Page.Page.{Absent, Present}
 use Rattle.nvm_model.specs.Storage.{File}
 use Rattle.nvm_model.proofs.AlikeChangeLemmas.{alike-change}
 use Rattle.nvm_model.proofs.NumberedLemmas.{slice_get-map_from}
+use Rattle.nvm_model.proofs.OneFileLemmas.{left-change, left-same}
 use Rattle.nvm_model.proofs.PageLemmas.{cell_of-discard, page_of_line, presence_of-map}
 use Rattle.nvm_model.proofs.TouchedPageLemmas.{among_bounds, among_from}
+use Rattle.file_journal.specs.Area.{file_area}
 use Rattle.file_journal.specs.Changes.{filled_holes, holes, switched, unit_for}
 use Rattle.file_journal.specs.Files.{UnitFile, files_of, switched_file, unit_file_name}
-use Rattle.file_journal.specs.Standing.{FileStands, FilesStand, line_of_file, line_on, pages_there}
+use Rattle.file_journal.specs.Images.{EachReadsTables, IsEither}
+use Rattle.file_journal.specs.Object.{JournalState}
+use Rattle.file_journal.specs.Standing.{EachReadsFiles, FileStands, FilesStand, line_of_file, line_on, pages_there}
 use Rattle.file_journal.specs.Switches.{ArePagesOf}
 use Rattle.file_journal.specs.Tables.{AreTables, Tables, unit_at}
-use Rattle.file_journal.proofs.FileChangeLemmas.{Becomes}
+use Rattle.file_journal.proofs.FileChangeLemmas.{Becomes, changed_images}
+use Rattle.file_journal.proofs.FileLineLemmas.{page_lines-kept}
+use Rattle.file_journal.proofs.EachFilesLemmas.{each_files-then}
 use Rattle.file_journal.proofs.FillLemmas.{set_again, switched_are}
 use Rattle.file_journal.proofs.HoleLemmas.{hole_at, holes_are, holes_held, unit_for-hole}
 use Rattle.file_journal.proofs.NamedFileLemmas.{files_of-switched}
 use Rattle.file_journal.proofs.ReplaceLemmas.{pages_at_most}
-use Rattle.file_journal.proofs.StandingLemmas.{unit_there}
+use Rattle.file_journal.proofs.StandingLemmas.{files-kept, unit_there}
 use Rattle.file_journal.proofs.SwitchLemmas.{unit_for_by}
+use Rattle.file_pages.specs.Object.{IsFileAt}
 
 -- the unit of a page after them: none where it is one of them, and its own where not
 hole_unit : (first count page : ℕ) (old : Option ℕ) → unit_for (holes first count) page old ≡ cond (is_among first count page) None old
@@ -132,7 +142,7 @@ module _ (first count : ℕ) where
     };
   }
     where
-      abbrev after : UnitFile
+      after : UnitFile
       after = switched_file (holes first count) on
 
       there : presence_of (discard first count file.pages) ≡ pages_there after
@@ -149,3 +159,26 @@ module _ (first count : ℕ) where
         (λ on file is is_file stands. (is ∙ sym is_file, file_stands-holed geo m on file stands))
         (λ on file other same stands. stands) stand);
   }
+
+-- What a commit of them leaves of the files that journal and device stood for.
+module _ (s : JournalState) (old new : Medium) (valid : IsValid s.geo) (are : AreTables s.geo.fpages s.tables) (inode : ℕ) (low : inode < 64) (first count : ℕ) (within : first + count ≤ pages_at s.tables.files inode)
+    (back : WritesBackOutside (IsOf (file_area s.geo)) old new) (listed : List File) (file : File) (at : IsFileAt s old inode listed file) where
+  become : Becomes s.geo s.tables (switched inode (holes first count) s.tables) (change_file file_name file.name (on_pages (discard first count)))
+  become = holes-become first count s.geo s.tables are inode file.name at.named low within
+
+  pub holed-files : (now : Tables) → now ≡ switched inode (holes first count) s.tables → FilesStand s.geo new now (change_file file_name file.name (on_pages (discard first count)) listed)
+  holed-files now same =
+      subst (λ (t : Tables). FilesStand s.geo new t (change_file file_name file.name (on_pages (discard first count)) listed)) (sym same)
+      (become.keeps new listed (files-kept s.geo old new s.tables listed are (page_lines-kept s.geo old new valid back) at.stand))
+
+  pub holed-images : EachReadsTables s.geo new (IsEither s.tables (switched inode (holes first count) s.tables))
+      → EachReadsFiles s.geo new (OneFileLeft file.name (λ was left. (left ≡ was) ⊎ (left ≡ discard first count was)) listed)
+  holed-images images =
+      each_files-then s.geo new (λ x. (x ≡ listed) ⊎ (x ≡ change_file file_name file.name (on_pages (discard first count)) listed))
+      (OneFileLeft file.name (λ was left. (left ≡ was) ⊎ (left ≡ discard first count was)) listed)
+      (λ x is. by_case x is)
+      (changed_images s.geo old new s.tables (switched inode (holes first count) s.tables) (change_file file_name file.name (on_pages (discard first count))) listed are become at.stand (page_lines-kept s.geo old new valid back) images)
+    where
+      by_case : (x : List File) → (x ≡ listed) ⊎ (x ≡ change_file file_name file.name (on_pages (discard first count)) listed) → OneFileLeft file.name (λ was left. (left ≡ was) ⊎ (left ≡ discard first count was)) listed x
+      by_case x (inl same) = subst (OneFileLeft file.name (λ was left. (left ≡ was) ⊎ (left ≡ discard first count was)) listed) (sym same) (left-same file.name _ (λ p. inl refl) listed)
+      by_case x (inr next) = subst (OneFileLeft file.name (λ was left. (left ≡ was) ⊎ (left ≡ discard first count was)) listed) (sym next) (left-change file.name (discard first count) _ (λ p. inr refl) listed)
