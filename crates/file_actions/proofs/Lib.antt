@@ -1,2 +1,4 @@
 mod HoledLemmas
 mod SwitchingLemmas
+mod SyncedLemmas
+mod ToldLemmas
