@@ -12,7 +12,7 @@ returns-in_err-check_pages-clause-refused g c = λ listed file at.
     let s = c.args.journal.now in
     let size : c.pages.result ≡ length file.pages = c.pages.ensures.pages ∙ sym (length-pages_on s m c.args.inode file.pages (pages_on s m c.args.inode listed file c.pages.ensures.tables at)) in
     checks_found action_says _ _ _ _ c.in_err-check_pages.field-0.0 c.from_residual.result c.from_residual.ensures.1
-    (subst (λ n. Checks action_says (pages_refusal n c.args.pages) (Err c.in_err-check_pages.field-0.0)) size c.in_err-check_pages.ensures.refused)
+    (subst (λ n. Checks {T = Unit {0}} action_says (pages_refusal n c.args.pages) (Err c.in_err-check_pages.field-0.0)) size c.in_err-check_pages.ensures.refused)
 
 pub returns-clause-refused : goal.returns-clause-refused
 returns-clause-refused g c = λ listed file at.
