@@ -13,7 +13,7 @@ use Rattle.nvm_model.specs.Cell.{Cell, CellStands}
 use Rattle.nvm_model.specs.Files.{OneFileLeft, on_pages}
 use Rattle.nvm_model.specs.Listing.{AreAlike, change_file, file_name}
 use Rattle.nvm_model.specs.Numbered.{is_among, map_from}
-use Rattle.nvm_model.specs.Page.{Page, PagesStand, cell_of, discard, discard_page, is_present, presence_of}
+use Rattle.nvm_model.specs.Page.{Page, discard, discard_page, is_present, presence_of}
 use Rattle.nvm_model.specs.Page.Page.{Absent, Present}
 use Rattle.nvm_model.specs.Storage.{File}
 use Rattle.nvm_model.proofs.AlikeChangeLemmas.{alike-change}

@@ -1,13 +1,11 @@
 -- All lines of a file, which are those of all bytes that a file may have.
-use Rattle.std.proofs.Common.{◌≡◌, ◌⊎◌, inl, inr, ℕ, suc, ◌+◌, ◌*◌, ◌/◌, ◌<◌, ◌≤◌, ◌==◌, ◌&&◌, Bool, true, false, cond, List, [], ◌∷◌, ◌++◌, length, nat_le, nat_lt, Option, Some, None, slice_get, refl, sym, ap, ap₂, subst, ◌∙◌, arith}
+use Rattle.std.proofs.Common.{◌≡◌, ℕ, suc, ◌+◌, ◌*◌, ◌/◌, ◌<◌, ◌≤◌, ◌==◌, ◌&&◌, Bool, true, false, cond, List, [], ◌∷◌, length, nat_lt, Option, Some, None, slice_get, refl, sym, ap, ap₂, subst, ◌∙◌, arith}
 use Rattle.std.specs.Bool.{Decides}
 use Rattle.std.specs.List.{Contains}
-use Rattle.std.specs.Str.{bytes_eq}
-use Rattle.std.proofs.lemmas.Bool.{both_ways, false≢true, le-leb, le-ltb, lt-ltb, ltb-true, and_parts, ne_eqb}
+use Rattle.std.proofs.lemmas.Bool.{false≢true, le-leb, le-ltb, lt-ltb, ltb-true, and_parts, ne_eqb}
 use Rattle.std.proofs.lemmas.List.{length-map}
 use Rattle.std.proofs.lemmas.Option.{slice_get_within}
 use Rattle.std.proofs.lemmas.Slice.Eq.{bytes_eq-Decides}
-use Rattle.nvm_base.specs.declared.units.Span.{Span}
 use Rattle.line_device.specs.Medium.{Medium}
 use Rattle.inode_table.specs.Slots.{pages_at}
 use Rattle.nvm_model.specs.Cell.{Cell, flush_cell, lowest_touched, persist_cell, touches}
@@ -21,7 +19,7 @@ use Rattle.nvm_model.specs.Page.Page.{Absent, Present}
 use Rattle.nvm_model.specs.Storage.{File}
 use Rattle.nvm_model.specs.Touched.{is_bad_touched, next_bad_touched, persist_spans, persist_touched, touches_any}
 use Rattle.nvm_model.proofs.ListedLemmas.{contains-here, contains-later}
-use Rattle.nvm_model.proofs.NextLemmas.{IsLowestFrom, lowest-alike, lowest-next}
+use Rattle.nvm_model.proofs.NextLemmas.{lowest-alike, lowest-next}
 use Rattle.nvm_model.proofs.OneFileLemmas.{change-same, left-then}
 use Rattle.nvm_model.proofs.PageLemmas.{page_of_line}
 use Rattle.nvm_model.proofs.SeveralLemmas.{may_sync-after, spans-none, touches-one}

@@ -1,7 +1,7 @@
 -- What the fault of a call on pages tells of the action that makes it.
-use Rattle.std.proofs.Common.{◌≡◌, ◌≢◌, ℕ, Option, Some, None, option_map, Result, Ok, Err, refl, sym, ap, ◌∙◌}
+use Rattle.std.proofs.Common.{◌≡◌, ℕ, Option, Some, None, option_map, Result, Ok, Err, refl, sym, ap, ◌∙◌}
 use Rattle.std.specs.Result.{IsErrAnd}
-use Rattle.line_words.specs.Told.{Answers, OnRefused, OnWorked, Told, refusal_of}
+use Rattle.line_words.specs.Told.{Answers, OnWorked, Told, refusal_of}
 use Rattle.line_words.specs.Told.Told.{Refuses, Starves, Stops}
 use Rattle.file_pages.specs.declared.fault.PageFault.{PageFault}
 use Rattle.file_pages.specs.Refusals as of_pages

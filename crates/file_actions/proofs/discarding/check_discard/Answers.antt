@@ -1,4 +1,4 @@
-use Rattle.std.proofs.Common.{◌≡◌, ℕ, Ok, Err, length, sym, subst, ◌∙◌}
+use Rattle.std.proofs.Common.{◌≡◌, Ok, Err, length, sym, subst, ◌∙◌}
 use Rattle.line_words.specs.Told.{Checks}
 use Rattle.word_tables.specs.declared.geometry.Geometry.{Geometry}
 use Rattle.page_lines.proofs.ResultLemmas.{checks_found, checks_second}

@@ -1,4 +1,4 @@
-use Rattle.std.proofs.Common.{◌≡◌, ◌+◌, ℕ, List, Option, None, OnOk, length, ap, subst, sym, ◌∙◌, arith}
+use Rattle.std.proofs.Common.{◌≡◌, ◌+◌, ℕ, List, Option, None, length, ap, subst, sym, ◌∙◌, arith}
 use Rattle.line_device.specs.Panel.{Runs}
 use Rattle.line_words.specs.Ending.{ended}
 use Rattle.word_log.specs.Changes.{commit_calls, commit_persists}

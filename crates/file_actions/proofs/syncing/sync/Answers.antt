@@ -1,11 +1,10 @@
-use Rattle.std.proofs.Common.{◌≡◌, ◌*◌, ℕ, Err, Ok, List, None, length, ap, subst, sym, ◌∙◌, arith}
+use Rattle.std.proofs.Common.{◌≡◌, ◌*◌, ℕ, Err, Ok, length, ap, subst, sym, ◌∙◌, arith}
 use Rattle.line_words.specs.Told.{Answers}
 use Rattle.inode_table.specs.Slots.{pages_at}
 use Rattle.nvm_model.specs.Files.{OneFileLeft, on_pages}
 use Rattle.nvm_model.specs.Interrupted.{MaySync, MaySyncAll}
 use Rattle.nvm_model.specs.Listing.{change_file, file_name}
-use Rattle.nvm_model.specs.Page.{Page, persist}
-use Rattle.nvm_model.specs.Storage.{File}
+use Rattle.nvm_model.specs.Page.{persist}
 use Rattle.nvm_model.specs.Touched.{next_bad_touched, persist_spans}
 use Rattle.nvm_model.proofs.OneFileLemmas.{left-change}
 use Rattle.nvm_model.proofs.SeveralLemmas.{may_sync_all-done}
@@ -17,7 +16,7 @@ use Rattle.file_journal.proofs.ReplaceLemmas.{pages_at_most}
 use Rattle.file_pages.specs.Refusals.{page_says, read_refusal}
 use Rattle.file_pages.proofs.PassLemmas.{length-pages_on, pages_on}
 use Rattle.file_pages.proofs.WorkLemmas.{reads-left}
-use Rattle.file_actions.specs.Refusals.{action_says, all_bytes, sync_refusal}
+use Rattle.file_actions.specs.Refusals.{action_says, all_bytes}
 use Rattle.file_actions.proofs.SyncedLemmas.{looked-at, none-bad, synced-images, synced-none, synced-same}
 use Rattle.file_actions.proofs.ToldLemmas.{told-answers, told-done, told-worked}
 use Rattle.file_actions.proofs.syncing.sync.Goals as goal
