@@ -24,13 +24,17 @@ ghost use Rattle.file_pages.specs.Object.{IsFileAt, KeepsMarks, PagesServe, is_s
 ghost use Rattle.file_actions.specs.Refusals.{action_says, discard_refusal, metadata_refusal, pages_refusal};
 
 use crate::ActionFault;
-use crate::switching::{Switches, switch};
+use crate::switching::switch;
+use arrayvec::ArrayVec;
 use file_journal::Journal;
 use file_pages::{FilePages, ends_past};
 use line_device::Lines;
 use line_words::{Interruption, first_bad};
 use nvm_base::{LineNo, Span};
 use word_tables::Geometry;
+
+// A page of a file, and no unit, for as many as a file may have.
+type Switches = ArrayVec<(u64, Option<u64>), 256>;
 
 /// Makes pages of a file holes: wherever the power goes, all of them or none.
 pub fn discard<L: Lines>(
@@ -65,44 +69,44 @@ pub fn discard<L: Lines>(
     ensures runs { Runs (commit_calls (5 + pages.len)) (commit_persists (5 + pages.len)) (outcome_by action_says result) (L.state dev.old).panel (L.state dev.new).panel }
 {
     check_discard(files.journal(), dev, inode, pages)?;
-    make_holes(files.journal_mut(), dev, inode, pages)?;
+    make_holes(dev, files, inode, pages)?;
     Ok(())
 }
 
 // Makes pages of a file holes by one commit.
 fn make_holes<L: Lines>(
-    journal: &mut Journal,
     dev: &mut L,
+    files: &mut FilePages,
     inode: u64,
     pages: Span,
 ) -> Result<(), Interruption>
-    requires serves { JournalServes journal.old (L.state dev.old).medium }
-    requires settled { IsTrue journal.old.settled }
+    requires serves { PagesServe files.old (L.state dev.old).medium }
+    requires settled { IsTrue (is_settled files.old) }
     requires on { IsTrue (L.state dev.old).panel.power }
     requires inode { inode < 64 }
-    requires within { pages.start + pages.len ≤ pages_at journal.old.tables.files inode }
-    requires good { AreGood (L.state dev.old).medium (meta_lines journal.old.geo) }
-    requires valid { IsValid journal.old.geo }
-    requires tables { AreTables journal.old.geo.fpages journal.old.tables }
-    ensures ok { OnOk result ((listed : List File) (file : File) → IsFileAt journal.old (L.state dev.old).medium inode listed file
-        → FilesStand journal.old.geo (L.state dev.new).medium journal.new.tables
+    requires within { pages.start + pages.len ≤ pages_at files.old.journal.tables.files inode }
+    requires good { AreGood (L.state dev.old).medium (meta_lines files.old.journal.geo) }
+    requires valid { IsValid files.old.journal.geo }
+    requires tables { AreTables files.old.journal.geo.fpages files.old.journal.tables }
+    ensures ok { OnOk result ((listed : List File) (file : File) → IsFileAt files.old.journal (L.state dev.old).medium inode listed file
+        → FilesStand files.old.journal.geo (L.state dev.new).medium files.new.journal.tables
         (change_file file_name file.name (on_pages (discard pages.start pages.len)) listed)) }
-    ensures images { (listed : List File) (file : File) → IsFileAt journal.old (L.state dev.old).medium inode listed file
-        → EachReadsFiles journal.old.geo (L.state dev.new).medium
+    ensures images { (listed : List File) (file : File) → IsFileAt files.old.journal (L.state dev.old).medium inode listed file
+        → EachReadsFiles files.old.journal.geo (L.state dev.new).medium
         (OneFileLeft file.name (λ old left. (left ≡ old) ⊎ (left ≡ discard pages.start pages.len old)) listed) }
-    ensures outside { WritesBackOthers (IsOfFiles journal.old.geo) (L.state dev.old).medium (L.state dev.new).medium }
-    ensures metadata { KeepsMarks journal.old.geo (L.state dev.old).medium (L.state dev.new).medium }
-    ensures serves { OnOk result (JournalServes journal.new (L.state dev.new).medium) }
-    ensures tables { OnOk result (AreTables journal.new.geo.fpages journal.new.tables) }
-    ensures files { OnOk result (journal.new.tables.files ≡ journal.old.tables.files) }
-    ensures object { (journal.new.geo ≡ journal.old.geo) × (journal.new.settled ≡ is_ok result) }
-    ensures known { OnOk result (known_units journal.new.tables.pages journal.new.free
-        ≡ known_units journal.old.tables.pages journal.old.free) }
+    ensures outside { WritesBackOthers (IsOfFiles files.old.journal.geo) (L.state dev.old).medium (L.state dev.new).medium }
+    ensures metadata { KeepsMarks files.old.journal.geo (L.state dev.old).medium (L.state dev.new).medium }
+    ensures serves { OnOk result (PagesServe files.new (L.state dev.new).medium) }
+    ensures tables { OnOk result (AreTables files.new.journal.geo.fpages files.new.journal.tables) }
+    ensures files { OnOk result (files.new.journal.tables.files ≡ files.old.journal.tables.files) }
+    ensures object { (files.new.journal.geo ≡ files.old.journal.geo) × (is_settled files.new ≡ is_ok result) }
+    ensures known { OnOk result (known_units files.new.journal.tables.pages files.new.journal.free
+        ≡ known_units files.old.journal.tables.pages files.old.journal.free) }
     ensures runs { Runs (commit_calls (5 + pages.len)) (commit_persists (5 + pages.len)) (ended result) (L.state dev.old).panel (L.state dev.new).panel }
 {
-    let _size = journal.pages(inode);
+    let _size = files.journal().pages(inode);
     let switches = holes(pages);
-    switch(journal, dev, inode, switches.as_slice())
+    switch(dev, files, inode, switches.as_slice())
 }
 
 // A switch to no unit for each of these pages.
