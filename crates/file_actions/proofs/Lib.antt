@@ -7,3 +7,7 @@ mod RefusalLemmas
 mod LineLemmas
 mod PreparedLemmas
 mod MadeLemmas
+mod HoledLemmas
+mod SwitchingLemmas
+mod SyncedLemmas
+mod ToldLemmas

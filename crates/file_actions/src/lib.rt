@@ -7,13 +7,17 @@
 mod atomic;
 mod building;
 mod checks;
+mod discarding;
 mod fault;
 mod preparing;
 mod ranges;
 mod switching;
+mod syncing;
 #[cfg(test)]
 mod tests;
 
 pub use atomic::{atomic_multiwrite, atomic_write};
+pub use discarding::discard;
 pub use fault::ActionFault;
 pub use file_pages::FilePages;
+pub use syncing::sync;

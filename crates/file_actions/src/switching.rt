@@ -1,4 +1,4 @@
-// One commit of the journal for all pages that were written.
+// One commit of the journal for several pages.
 ghost use Rattle.std.specs.Prelude.{◌≡◌, ◌+◌, ◌<◌, IsTrue, None, OnOk, length};
 ghost use Rattle.std.specs.Result.{is_ok};
 ghost use Rattle.line_device.specs.Panel.{Runs};
@@ -22,7 +22,7 @@ use file_pages::FilePages;
 use line_device::Lines;
 use line_words::Interruption;
 
-/// Switches pages to their units, all of them by one commit. It is known that nothing refuses that.
+/// Switches pages to units or to none, all of them by one commit. It is known that nothing refuses that.
 pub(crate) fn switch<L: Lines>(
     dev: &mut L,
     files: &mut FilePages,
