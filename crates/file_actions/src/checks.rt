@@ -133,8 +133,8 @@ fn check_room(journal: &Journal, holes: u64) -> Result<(), ActionFault>
     Ok(())
 }
 
-// Whether no line of metadata is bad.
-fn check_meta<L: Lines>(dev: &L, geo: Geometry) -> Result<(), ActionFault>
+/// Whether no line of metadata is bad.
+pub(crate) fn check_meta<L: Lines>(dev: &L, geo: Geometry) -> Result<(), ActionFault>
     requires valid { IsValid geo }
     requires lines { (L.state dev.now).medium.count ≡ total_lines geo }
     ensures refused { Checks action_says (metadata_refusal geo (L.state dev.now).medium) result }

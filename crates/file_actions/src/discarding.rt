@@ -7,7 +7,7 @@ ghost use Rattle.line_words.specs.Ending.{ended};
 ghost use Rattle.line_words.specs.Told.{Answers, Checks, OnRefused, OnWorked, is_done, outcome_by};
 ghost use Rattle.word_log.specs.Changes.{commit_calls, commit_persists};
 ghost use Rattle.word_tables.specs.Bounds.{IsValid};
-ghost use Rattle.word_tables.specs.Layout.{meta_lines, total_lines};
+ghost use Rattle.word_tables.specs.Layout.{meta_lines};
 ghost use Rattle.inode_table.specs.Slots.{pages_at};
 ghost use Rattle.nvm_model.specs.Files.{OneFileLeft, on_pages};
 ghost use Rattle.nvm_model.specs.Lines.{AreGood};
@@ -21,17 +21,17 @@ ghost use Rattle.file_journal.specs.Object.{JournalServes};
 ghost use Rattle.file_journal.specs.Standing.{EachReadsFiles, FilesStand};
 ghost use Rattle.file_journal.specs.Tables.{AreTables, known_units};
 ghost use Rattle.file_pages.specs.Object.{IsFileAt, KeepsMarks, PagesServe, is_settled};
-ghost use Rattle.file_actions.specs.Refusals.{action_says, discard_refusal, metadata_refusal, pages_refusal};
+ghost use Rattle.file_actions.specs.Refusals.{action_says, discard_refusal, pages_refusal};
 
 use crate::ActionFault;
+use crate::checks::check_meta;
 use crate::switching::switch;
 use arrayvec::ArrayVec;
 use file_journal::Journal;
 use file_pages::{FilePages, ends_past};
 use line_device::Lines;
-use line_words::{Interruption, first_bad};
-use nvm_base::{LineNo, Span};
-use word_tables::Geometry;
+use line_words::Interruption;
+use nvm_base::Span;
 
 // A page of a file, and no unit, for as many as a file may have.
 type Switches = ArrayVec<(u64, Option<u64>), 256>;
@@ -140,7 +140,7 @@ fn check_discard<L: Lines>(
 {
     let geo = journal.geometry();
     check_pages(journal.pages(inode), pages)?;
-    check_metadata(dev, geo)
+    check_meta(dev, geo)
 }
 
 // Whether a file of so many pages has all of these, and there is at least one.
@@ -155,17 +155,4 @@ fn check_pages(size: u64, pages: Span) -> Result<(), ActionFault>
         return Err(ActionFault::Length);
     }
     Ok(())
-}
-
-// Whether no line of metadata is bad.
-fn check_metadata<L: Lines>(dev: &L, geo: Geometry) -> Result<(), ActionFault>
-    requires valid { IsValid geo }
-    requires lines { (L.state dev.now).medium.count ≡ total_lines geo }
-    ensures refused { Checks action_says (metadata_refusal geo (L.state dev.now).medium) result }
-    ensures good { OnOk result (AreGood (L.state dev.now).medium (meta_lines geo)) }
-{
-    match first_bad(dev, 0, geo.meta_lines()) {
-        Some(line) => Err(ActionFault::Meta(LineNo(line))),
-        None => Ok(()),
-    }
 }

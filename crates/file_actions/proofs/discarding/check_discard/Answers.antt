@@ -19,6 +19,6 @@ returns-clause-refused g c = λ listed file at.
     let m = (g.L.Lines.state c.args.dev.now).medium in
     let s = c.args.journal.now in
     let size : c.pages.result ≡ length file.pages = c.pages.ensures.pages ∙ sym (length-pages_on s m c.args.inode file.pages (pages_on s m c.args.inode listed file c.pages.ensures.tables at)) in
-    checks_second action_says _ _ tt c.check_metadata.result
+    checks_second action_says _ _ tt c.check_meta.result
     (subst (λ n. Checks {T = Unit {0}} action_says (pages_refusal n c.args.pages) (Ok tt)) size c.in_ok-check_pages.ensures.refused)
-    (subst (λ (geo : Geometry). Checks action_says (metadata_refusal geo m) c.check_metadata.result) c.geometry-geo.ensures.geometry c.check_metadata.ensures.refused)
+    (subst (λ (geo : Geometry). Checks action_says (metadata_refusal geo m) c.check_meta.result) c.geometry-geo.ensures.geometry c.check_meta.ensures.refused)
