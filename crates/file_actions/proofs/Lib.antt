@@ -7,3 +7,4 @@ mod RefusalLemmas
 mod LineLemmas
 mod PreparedLemmas
 mod MadeLemmas
+mod RewrittenLemmas
