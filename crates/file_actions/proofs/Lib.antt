@@ -8,3 +8,4 @@ mod LineLemmas
 mod PreparedLemmas
 mod MadeLemmas
 mod RewrittenLemmas
+mod CommitLemmas
