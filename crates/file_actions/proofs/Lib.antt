@@ -11,3 +11,5 @@ mod HoledLemmas
 mod SwitchingLemmas
 mod SyncedLemmas
 mod ToldLemmas
+mod RewrittenLemmas
+mod CommitLemmas

@@ -6,21 +6,20 @@ use Rattle.std.proofs.lemmas.List.Sums.{sum_by-append}
 use Rattle.std.proofs.lemmas.Option.{same_Some}
 use Rattle.nvm_base.specs.declared.units.Span.{Span}
 use Rattle.line_device.specs.Medium.{Medium}
-use Rattle.line_device.proofs.HistoryLemmas.{is_in-word_write_back}
-use Rattle.line_words.specs.Words.{HoldsLine}
 use Rattle.free_pool.specs.Units.{IsFree, IsTaken, free_count}
 use Rattle.free_pool.proofs.CountLemmas.{free_count-taken}
 use Rattle.inode_table.specs.Slots.{pages_at}
 use Rattle.word_tables.specs.declared.geometry.Geometry.{Geometry}
 use Rattle.word_tables.specs.Layout.{file_line}
+use Rattle.nvm_model.specs.Cell.{CellStands}
 use Rattle.nvm_model.specs.Storage.{File}
 use Rattle.page_lines.specs.Turns.{WritesBackOthers}
-use Rattle.page_lines.proofs.OthersLemmas.{good_line-others}
+use Rattle.page_lines.proofs.TurnLemmas.{stands-others}
 use Rattle.file_journal.specs.Changes.{filled_holes}
 use Rattle.file_journal.specs.Object.{JournalState}
 use Rattle.file_journal.specs.Switches.{IsSwitch}
 use Rattle.file_journal.specs.Tables.{IsVacant, Tables, unit_at}
-use Rattle.file_pages.specs.Fresh.{IsOfUnit}
+use Rattle.file_pages.specs.Fresh.{IsOfUnit, durable_cell}
 use Rattle.file_pages.specs.Object.{IsFileAt, PagesState, pages_there}
 use Rattle.file_pages.proofs.FreshLemmas.{length-pushed, not_both, pushed_is, pushed_new, pushed_old, taken_now, taken_still}
 use Rattle.file_pages.proofs.HoleLemmas.{page_there}
@@ -145,7 +144,9 @@ module _ (s : JournalState) (inode : ℕ) (ranges : List Span) where
           → AreWritten s old inode ranges bytes new (switches ++ (k, Some u) ∷ [])
       written_more old mid new bytes before beside here i page v is =
           elim (pushed_is switches (k, Some u) i (page, Some v) is) as (λ _. HoldsPage s old inode ranges bytes new page v) [
-            | inl was ↦ λ listed file at j lt. holds-others (file_line s.geo v + j) _ (λ of. unit_apart i page (subst (λ w. IsSwitch switches i page (Some w)) (same_unit v j lt of) was)) (before i page v was listed file at j lt)
+            | inl was ↦ λ listed file at j lt.
+                stands-others (IsOfUnit (file_line s.geo u)) mid new (file_line s.geo v + j) (durable_cell (new_line ranges bytes file.pages (64 * page + j))) beside
+                (λ of. unit_apart i page (subst (λ w. IsSwitch switches i page (Some w)) (same_unit v j lt of) was)) (before i page v was listed file at j lt)
             | inr now ↦
                 let p = page_is page (Some v) now.1 in
                 subst (λ w. HoldsPage s old inode ranges bytes new page w) (same_Some u v p.1) (subst (λ q. HoldsPage s old inode ranges bytes new q u) p.0 here)
@@ -153,14 +154,6 @@ module _ (s : JournalState) (inode : ℕ) (ranges : List Span) where
         where
           same_unit : (v j : ℕ) → j < 64 → IsOfUnit (file_line s.geo u) (file_line s.geo v + j) → v ≡ u
           same_unit v j lt of = omega (arith, of, lt)
-
-          holds-others : (line : ℕ) (xs : List ℕ) → (IsOfUnit (file_line s.geo u) line → ⊥) → HoldsLine mid line xs → HoldsLine new line xs
-          holds-others line xs out holds = record {
-            good_line = good_line-others (IsOfUnit (file_line s.geo u)) mid new line holds.good_line beside;
-            words = λ w lt v at.
-                let e : (8 * line + w) / 8 ≡ line = omega (arith, lt) in
-                holds.words w lt v (is_in-word_write_back (mid.is_weak ((8 * line + w) / 8)) v (mid.history (8 * line + w)) (new.history (8 * line + w)) (beside.word_write_back (8 * line + w) (λ of. out (subst (IsOfUnit (file_line s.geo u)) e of))) at);
-          }
 
 -- a page more was written, or passed
 module _ (a b c : PagesState) (old mid new : Medium) (inode : ℕ) (ranges : List Span) (bytes : List ℕ) (k all : ℕ) (switches after : List (ℕ × Option ℕ)) (x : AreAsBefore a old b mid)
@@ -173,7 +166,7 @@ module _ (a b c : PagesState) (old mid new : Medium) (inode : ℕ) (ranges : Lis
       let below = subst (λ (g : Geometry). u < g.fpages) x.geo w.takes.below in
       let beside = subst (λ (g : Geometry). WritesBackOthers (IsOfUnit (file_line g u)) mid new) x.geo w.beside in
       let holds : HoldsPage a.journal old inode ranges bytes new k u = λ listed file at j lt.
-          subst (λ (g : Geometry). HoldsLine new (file_line g u + j) (new_line ranges bytes file.pages (64 * k + j))) x.geo (w.holds listed file (file_still a b old mid x inode listed file at) j lt) in
+          subst (λ (g : Geometry). CellStands new (file_line g u + j) (durable_cell (new_line ranges bytes file.pages (64 * k + j)))) x.geo (w.holds listed file (file_still a b old mid x inode listed file at) j lt) in
       let more = made_more a.journal inode ranges k switches b.journal.free made within u w.touched w.takes.free vacant below in
       let lines = written_more a.journal inode ranges k switches b.journal.free made within u w.touched w.takes.free vacant below old mid new bytes written beside holds in
       let count = free_count-taken b.journal.free u w.takes.free in

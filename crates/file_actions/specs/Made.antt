@@ -3,9 +3,9 @@ use Rattle.std.specs.Prelude.{◌≡◌, ◌+◌, ◌*◌, ◌<◌, ◌&&◌, �
 use Rattle.std.specs.List.{range_with_len}
 use Rattle.nvm_base.specs.declared.units.Span.{Span}
 use Rattle.line_device.specs.Medium.{Medium}
-use Rattle.line_words.specs.Words.{HoldsLine}
 use Rattle.word_tables.specs.declared.geometry.Geometry.{Geometry}
 use Rattle.word_tables.specs.Layout.{file_line}
+use Rattle.nvm_model.specs.Cell.{CellStands}
 use Rattle.nvm_model.specs.Numbered.{list_from}
 use Rattle.nvm_model.specs.Page.{Page, byte_in}
 use Rattle.nvm_model.specs.Storage.{File}
@@ -15,7 +15,7 @@ use Rattle.file_journal.specs.Changes.{filled_holes}
 use Rattle.file_journal.specs.Object.{JournalState}
 use Rattle.file_journal.specs.Standing.{FilesStand}
 use Rattle.file_journal.specs.Switches.{AreHeld, IsSwitch}
-use Rattle.file_pages.specs.Fresh.{IsOfUnit, Takes}
+use Rattle.file_pages.specs.Fresh.{IsOfUnit, Takes, durable_cell}
 use Rattle.file_pages.specs.Object.{IsFileAt, KeepsMarks, PagesServe, PagesState, pages_there}
 use Rattle.file_actions.specs.Rewriting.{data_of, pages_touched, touches_any_page}
 
@@ -32,11 +32,11 @@ abbrev pub IsNewLine : JournalState → Medium → ℕ → List Span → List �
 IsNewLine s m inode ranges bytes n out =
     (listed : List File) (file : File) → IsFileAt s m inode listed file → out ≡ new_line ranges bytes file.pages n
 
--- the lines of a unit have those of a page as they will be
+-- the lines of a unit have the bytes of a page as they will be, durably
 abbrev pub HoldsPage : JournalState → Medium → ℕ → List Span → List ℕ → Medium → ℕ → ℕ → Type 0
 HoldsPage s m inode ranges bytes now page unit =
     (listed : List File) (file : File) → IsFileAt s m inode listed file
-    → (k : ℕ) → k < 64 → HoldsLine now (file_line s.geo unit + k) (new_line ranges bytes file.pages (64 * page + k))
+    → (k : ℕ) → k < 64 → CellStands now (file_line s.geo unit + k) (durable_cell (new_line ranges bytes file.pages (64 * page + k)))
 
 -- Tables and files are as before, and no line of metadata was worked on.
 pub record AreAsBefore (s : PagesState) (old : Medium) (now : PagesState) (new : Medium) : Type 0 where

@@ -13,3 +13,4 @@ mod StoreLemmas
 mod StretchLemmas
 pub mod RenewLemmas
 mod LentLemmas
+mod DurableLemmas

@@ -1,10 +1,10 @@
 use Rattle.std.proofs.Common.{ℕ, ◌+◌, ◌*◌, drop, take, sym, subst, ap, ◌∙◌}
-use Rattle.line_words.specs.Words.{HoldsLine}
+use Rattle.nvm_model.specs.Cell.{CellStands}
 use Rattle.word_tables.specs.Layout.{file_line}
 use Rattle.page_lines.specs.Turns.{WritesBackOthers}
 use Rattle.page_lines.proofs.OthersLemmas.{others-trans, others-write_back}
 use Rattle.file_journal.specs.Object.{JournalState}
-use Rattle.file_pages.specs.Fresh.{IsOfUnit, Takes}
+use Rattle.file_pages.specs.Fresh.{IsOfUnit, Takes, durable_cell}
 use Rattle.file_pages.specs.Object.{PagesState}
 use Rattle.file_actions.specs.Made.{AreAsBefore}
 use Rattle.file_actions.proofs.PreparedLemmas.{before-trans, before-write_back}
@@ -53,6 +53,6 @@ returns-in-Ok-clause-page g c =
           others-trans (IsOfUnit (file_line s.geo unit)) old mid new (others-write_back (IsOfUnit (file_line s.geo unit)) old mid built.lines)
           (subst (λ (j : JournalState). WritesBackOthers (IsOfUnit (file_line j.geo unit)) mid new) built.object.0 said.beside);
       holds = λ listed file at k below.
-          subst (HoldsLine new (file_line s.geo unit + k)) (built.ok k below listed file at)
-          (subst (λ (j : JournalState). HoldsLine new (file_line j.geo unit + k) (take 64 (drop (64 * k) c.build_page.new.out))) built.object.0 (said.lines k below));
+          subst (λ xs. CellStands new (file_line s.geo unit + k) (durable_cell xs)) (built.ok k below listed file at)
+          (subst (λ (j : JournalState). CellStands new (file_line j.geo unit + k) (durable_cell (take 64 (drop (64 * k) c.build_page.new.out)))) built.object.0 (said.lines k below));
     }
