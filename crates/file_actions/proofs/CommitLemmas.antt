@@ -1,5 +1,5 @@
 -- All pages that were made, switched by one commit.
-use Rattle.std.proofs.Common.{◌≡◌, ◌⊎◌, inl, inr, ℕ, ◌+◌, ◌*◌, ◌/◌, ◌<◌, ◌≤◌, true, is_some, List, Option, Some, None, length, slice_get, slice_index_or, refl, sym, ap, subst, ◌∙◌, arith}
+use Rattle.std.proofs.Common.{◌≡◌, ◌⊎◌, ℕ, ◌+◌, ◌<◌, ◌≤◌, is_some, List, Option, Some, None, length, slice_index_or, refl, sym, ap, subst, ◌∙◌, arith}
 use Rattle.std.proofs.lemmas.List.{length-map}
 use Rattle.std.proofs.lemmas.Option.{same_Some}
 use Rattle.nvm_base.specs.declared.units.Span.{Span}
@@ -23,7 +23,7 @@ use Rattle.file_journal.specs.Images.{EachReadsTables, IsEither}
 use Rattle.file_journal.specs.Object.{JournalState}
 use Rattle.file_journal.specs.Refusals.{switch_refusal}
 use Rattle.file_journal.specs.Standing.{EachReadsFiles, FilesStand}
-use Rattle.file_journal.specs.Switches.{AreSwitches, ArePagesOf, IsSwitch}
+use Rattle.file_journal.specs.Switches.{AreSwitches, ArePagesOf}
 use Rattle.file_journal.specs.Tables.{AreTables, Tables}
 use Rattle.file_journal.proofs.FileLineLemmas.{area_of_files}
 use Rattle.file_journal.proofs.FillLemmas.{set_again, switched_are}

@@ -1,5 +1,5 @@
 -- The bytes of ranges that are laid over others, one range after the other.
-use Rattle.std.proofs.Common.{◌++◌, drop-cons, drop-drop, get_or-take, get_or-drop, length-take, length-drop, max, min, ◌≡◌, ℕ, zero, suc, ◌+◌, ◌-◌, ◌*◌, ◌<◌, ◌≤◌, ◌||◌, ◌&&◌, Bool, true, false, not, List, [], ◌∷◌, length, take, drop, get_or, slice_index, nat_le, nat_lt, cond, if◌then◌else◌, inl, inr, refl, sym, ap, ap₂, subst, ◌∙◌, arith}
+use Rattle.std.proofs.Common.{◌++◌, drop-cons, drop-drop, get_or-take, get_or-drop, length-take, length-drop, max, min, ◌≡◌, ℕ, zero, suc, ◌+◌, ◌-◌, ◌*◌, ◌<◌, ◌≤◌, ◌||◌, true, false, not, List, [], ◌∷◌, length, take, drop, get_or, slice_index, nat_le, nat_lt, if◌then◌else◌, inl, inr, refl, sym, ap, ap₂, subst, ◌∙◌, arith}
 use Rattle.std.specs.List.{list_any}
 use Rattle.std.proofs.lemmas.Bool.{and_from, and_parts, cases_Bool, cases_lt, false≢true, leb-true, le-leb, ltb-true, lt-ltb, not-true, or_parts}
 use Rattle.std.proofs.lemmas.List.{get_or_append_left, get_or-append_right}

@@ -1,11 +1,10 @@
 -- Bad lines of files, by their places on the device and by what the files' pages say.
-use Rattle.std.proofs.Common.{◌-◌, ap₂, option_map, position, ◌≡◌, inl, inr, ℕ, ◌+◌, ◌*◌, ◌/◌, ◌<◌, ◌≤◌, Bool, true, false, not, List, Option, Some, None, length, refl, sym, ap, subst, ◌∙◌, arith}
+use Rattle.std.proofs.Common.{◌-◌, ap₂, option_map, position, ◌≡◌, inl, inr, ℕ, ◌+◌, ◌*◌, ◌/◌, ◌<◌, ◌≤◌, true, false, not, List, Option, Some, None, length, refl, sym, ap, subst, ◌∙◌, arith}
 use Rattle.std.proofs.lemmas.Bool.{le-ltb, and_from, cases_Bool, false≢true}
 use Rattle.std.proofs.lemmas.Option.{slice_get_within}
 use Rattle.std.specs.List.{range_with_len}
 use Rattle.nvm_base.specs.declared.units.Span.{Span}
 use Rattle.line_device.specs.Medium.{Medium}
-use Rattle.word_tables.specs.Layout.{total_lines}
 use Rattle.inode_table.specs.Slots.{pages_at}
 use Rattle.line_words.proofs.PositionLemmas.{none_among}
 use Rattle.nvm_model.specs.Blocks.{first_there}

@@ -1,6 +1,6 @@
 -- Pages made on fresh units, one after the other.
 use Rattle.std.specs.List.{range_with_len}
-use Rattle.std.proofs.Common.{◌≡◌, inl, inr, ℕ, ◌+◌, ◌*◌, ◌%◌, ◌/◌, ◌<◌, ◌≤◌, ◌&&◌, Bool, true, false, not, is_none, is_some, cond, if◌then◌else◌, List, [], ◌∷◌, ◌++◌, Option, Some, None, length, count_by, set, slice_get, slice_index_or, refl, sym, ap, ap₂, subst, ◌∙◌, arith}
+use Rattle.std.proofs.Common.{◌≡◌, inl, inr, ℕ, ◌+◌, ◌*◌, ◌<◌, ◌&&◌, Bool, true, false, not, is_none, is_some, cond, if◌then◌else◌, List, [], ◌∷◌, ◌++◌, Option, Some, None, length, count_by, set, slice_index_or, refl, sym, ap, subst, ◌∙◌, arith}
 use Rattle.std.proofs.lemmas.Bool.{and_left, cases_lt, false≢true}
 use Rattle.std.proofs.lemmas.List.Sums.{sum_by-append}
 use Rattle.std.proofs.lemmas.Option.{same_Some}
@@ -12,7 +12,6 @@ use Rattle.inode_table.specs.Slots.{pages_at}
 use Rattle.word_tables.specs.declared.geometry.Geometry.{Geometry}
 use Rattle.word_tables.specs.Layout.{file_line}
 use Rattle.nvm_model.specs.Cell.{CellStands}
-use Rattle.nvm_model.specs.Storage.{File}
 use Rattle.page_lines.specs.Turns.{WritesBackOthers}
 use Rattle.page_lines.proofs.TurnLemmas.{stands-others}
 use Rattle.file_journal.specs.Changes.{filled_holes}
@@ -20,7 +19,7 @@ use Rattle.file_journal.specs.Object.{JournalState}
 use Rattle.file_journal.specs.Switches.{IsSwitch}
 use Rattle.file_journal.specs.Tables.{IsVacant, Tables, unit_at}
 use Rattle.file_pages.specs.Fresh.{IsOfUnit, durable_cell}
-use Rattle.file_pages.specs.Object.{IsFileAt, PagesState, pages_there}
+use Rattle.file_pages.specs.Object.{PagesState, pages_there}
 use Rattle.file_pages.proofs.FreshLemmas.{length-pushed, not_both, pushed_is, pushed_new, pushed_old, taken_now, taken_still}
 use Rattle.file_pages.proofs.HoleLemmas.{page_there}
 use Rattle.file_actions.specs.Made.{AreAsBefore, AreMade, AreWritten, HoldsPage, IsPassed, IsWritten, new_line}

@@ -1,5 +1,5 @@
 -- Work on fresh units, while the files stay as they are.
-use Rattle.std.proofs.Common.{◌≡◌, ℕ, ◌+◌, ◌/◌, ◌<◌, ◌≤◌, false, true, List, Option, Some, refl, sym, ap, subst, ◌∙◌, arith}
+use Rattle.std.proofs.Common.{◌≡◌, ℕ, ◌/◌, ◌<◌, List, Some, refl, sym, ap, subst, ◌∙◌, arith}
 use Rattle.std.proofs.lemmas.Option.{slice_get_within}
 use Rattle.nvm_base.specs.declared.units.Span.{Span}
 use Rattle.line_device.specs.Medium.{Medium, WritesBack}
@@ -14,7 +14,7 @@ use Rattle.file_journal.specs.Area.{IsOfFiles}
 use Rattle.file_journal.specs.Object.{JournalServes, JournalState}
 use Rattle.file_journal.specs.Standing.{FilesStand}
 use Rattle.file_journal.specs.Tables.{AreTables, Tables}
-use Rattle.file_journal.proofs.ServesLemmas.{journal-same, journal-write_back}
+use Rattle.file_journal.proofs.ServesLemmas.{journal-write_back}
 use Rattle.file_journal.proofs.StandingLemmas.{files-kept}
 use Rattle.file_pages.specs.Object.{IsFileAt, KeepsMarks, PagesServe, PagesState, file_place, unit_place, units_of}
 use Rattle.file_pages.proofs.PlaceLemmas.{length-units, place_is, unit_get}

@@ -1,5 +1,5 @@
 -- What the tests before an atomic write tell, one after the other.
-use Rattle.std.proofs.Common.{◌≡◌, ℕ, ◌+◌, ◌*◌, ◌<◌, ◌≤◌, ◌^◌, ◌||◌, Bool, true, false, not, is_some, All, MatchOption, List, length, nat_lt, Option, Some, None, Result, Ok, Err, get_or, refl, sym, ap, subst, ◌∙◌, arith}
+use Rattle.std.proofs.Common.{◌≡◌, ℕ, ◌+◌, ◌<◌, ◌≤◌, ◌||◌, true, false, not, is_some, All, MatchOption, List, length, nat_lt, Option, Some, None, Result, Ok, Err, refl, sym, subst, arith}
 use Rattle.nvm_base.specs.declared.units.Span.{Span}
 use Rattle.line_device.specs.Medium.{Medium}
 use Rattle.line_words.specs.Told.{Checks}
@@ -7,7 +7,7 @@ use Rattle.word_tables.specs.Layout.{meta_lines}
 use Rattle.inode_table.specs.Slots.{pages_at}
 use Rattle.page_table.specs.Pages.{used_pages}
 use Rattle.nvm_model.specs.Lines.{AreGood}
-use Rattle.nvm_model.specs.Page.{Page, presence_of}
+use Rattle.nvm_model.specs.Page.{presence_of}
 use Rattle.nvm_model.specs.Blocks.{first_there}
 use Rattle.nvm_model.specs.Storage.{File}
 use Rattle.page_lines.proofs.ResultLemmas.{checks_second}

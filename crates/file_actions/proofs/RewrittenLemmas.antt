@@ -1,5 +1,5 @@
 -- Pages switched to units that have their new bytes.
-use Rattle.std.proofs.Common.{◌≡◌, ◌⊎◌, inl, inr, ℕ, ◌+◌, ◌*◌, ◌/◌, ◌%◌, ◌<◌, ◌≤◌, Bool, true, false, is_some, if◌then◌else◌, List, map, Option, Some, None, option_and_then, option_map, get_or, length, slice_get, slice_index_or, refl, sym, ap, subst, ◌∙◌, arith}
+use Rattle.std.proofs.Common.{◌≡◌, ◌⊎◌, inl, inr, ℕ, ◌+◌, ◌*◌, ◌/◌, ◌%◌, ◌<◌, Bool, true, false, is_some, if◌then◌else◌, List, map, Option, Some, None, option_and_then, option_map, get_or, length, slice_get, slice_index_or, refl, sym, ap, subst, ◌∙◌, arith}
 use Rattle.std.proofs.lemmas.Bool.{cases_Bool, false≢true}
 use Rattle.std.proofs.lemmas.Option.{none-some, get_or_from_slice_get, same_Some, slice_get-map, slice_get_within}
 use Rattle.nvm_base.specs.declared.units.Span.{Span}
@@ -16,13 +16,12 @@ use Rattle.nvm_model.specs.Files.{OneFileLeft, on_pages}
 use Rattle.nvm_model.specs.Listing as list
 use Rattle.nvm_model.specs.Listing.{change_file, file_name}
 use Rattle.nvm_model.specs.Numbered.{list_from, map_from}
-use Rattle.nvm_model.specs.Page.{Page, PagesStand, byte_in, cell_in, cell_of, is_bad_cell, is_present, presence_of}
-use Rattle.nvm_model.specs.Page.Page.{Absent, Present}
+use Rattle.nvm_model.specs.Page.{Page, byte_in, cell_in, cell_of, is_bad_cell, is_present, presence_of}
+use Rattle.nvm_model.specs.Page.Page.{Present}
 use Rattle.nvm_model.specs.Storage.{File}
 use Rattle.nvm_model.proofs.KeptLemmas.{LineKept, cell-kept}
 use Rattle.nvm_model.proofs.NumberedLemmas.{length-list_from, slice_get-list_from, slice_get-map_from}
 use Rattle.nvm_model.proofs.OneFileLemmas.{alike-change_among, left-change, left-same}
-use Rattle.nvm_model.proofs.PageLemmas.{page_of_line}
 use Rattle.page_lines.specs.Shown.{placed_byte}
 use Rattle.page_lines.specs.Sought.{is_bad_at}
 use Rattle.page_lines.proofs.LoopLemmas.{within-touches}

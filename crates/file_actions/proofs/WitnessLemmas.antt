@@ -1,5 +1,5 @@
 -- A device stands for some files, so what is said of any files is said of some.
-use Rattle.std.proofs.Common.{◌≡◌, ℕ, ◌<◌, List, Some, refl, sym, ap, subst, ◌∙◌}
+use Rattle.std.proofs.Common.{◌≡◌, ℕ, ◌<◌, List, Some, sym, ap, subst, ◌∙◌}
 use Rattle.line_device.specs.Medium.{Medium}
 use Rattle.inode_table.specs.Slots as names
 use Rattle.inode_table.specs.Slots.{IsNamed, pages_at}

@@ -3,7 +3,6 @@ use Rattle.std.specs.Prelude.{◌≡◌, ◌+◌, ◌*◌, ◌<◌, ◌&&◌, �
 use Rattle.std.specs.List.{range_with_len}
 use Rattle.nvm_base.specs.declared.units.Span.{Span}
 use Rattle.line_device.specs.Medium.{Medium}
-use Rattle.word_tables.specs.declared.geometry.Geometry.{Geometry}
 use Rattle.word_tables.specs.Layout.{file_line}
 use Rattle.nvm_model.specs.Cell.{CellStands}
 use Rattle.nvm_model.specs.Numbered.{list_from}

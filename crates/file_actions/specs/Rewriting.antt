@@ -1,5 +1,5 @@
 -- What an atomic write makes of a file's pages.
-use Rattle.std.specs.Prelude.{◌+◌, ◌-◌, ◌*◌, ◌/◌, ◌&&◌, ℕ, Bool, false, not, List, [], ◌∷◌, count_by, drop, length, Option, slice_index, if◌then◌else◌}
+use Rattle.std.specs.Prelude.{◌-◌, ◌*◌, ◌/◌, ◌&&◌, ℕ, Bool, false, not, List, [], ◌∷◌, count_by, drop, length, Option, slice_index, if◌then◌else◌}
 use Rattle.std.specs.List.{find, list_any, range_with_len}
 use Rattle.line_device.specs.Word.{word_at}
 use Rattle.nvm_base.specs.declared.units.Span.{Span}

@@ -1,4 +1,4 @@
-use Rattle.std.proofs.Common.{ℕ, ◌≡◌, ◌⊎◌, inl, ◌+◌, List, Option, length, refl, ap, sym, subst, ◌∙◌, arith}
+use Rattle.std.proofs.Common.{ℕ, ◌≡◌, ◌⊎◌, inl, List, Option, refl, ap, sym, subst, ◌∙◌, arith}
 use Rattle.word_tables.specs.declared.geometry.Geometry.{Geometry}
 use Rattle.page_table.specs.Pages.{used_pages}
 use Rattle.nvm_model.specs.Files.{OneFileLeft}

@@ -1,5 +1,5 @@
-use Rattle.std.proofs.Common.{ℕ, ◌≡◌, ◌+◌, ◌-◌, ◌*◌, ◌/◌, ◌<◌, true, refl, ap, sym, subst, ◌∙◌, arith}
-use Rattle.line_device.proofs.PanelLemmas.{runs-refl, runs_then, runs_within}
+use Rattle.std.proofs.Common.{◌≡◌, ◌+◌, ◌-◌, ◌*◌, ◌/◌, refl, ap, sym, subst, ◌∙◌, arith}
+use Rattle.line_device.proofs.PanelLemmas.{runs-refl, runs_then}
 use Rattle.line_device.proofs.WriteBackLemmas.{write_back-refl, write_back-trans}
 use Rattle.inode_table.specs.Slots.{pages_at}
 use Rattle.file_journal.specs.Object.{JournalState}

@@ -1,4 +1,4 @@
-use Rattle.std.proofs.Common.{ℕ, Err, length, sym, subst, ◌≤◌, ◌*◌, ◌/◌, ◌∙◌, arith}
+use Rattle.std.proofs.Common.{ℕ, Err, sym, subst, ◌*◌, ◌/◌, ◌∙◌, arith}
 use Rattle.line_device.proofs.WriteBackLemmas.{write_back-refl}
 use Rattle.line_words.specs.Told.{Answers}
 use Rattle.file_journal.proofs.ReplaceLemmas.{pages_at_most}

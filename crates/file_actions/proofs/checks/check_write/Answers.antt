@@ -1,5 +1,4 @@
-use Rattle.std.proofs.Common.{ℕ, Err, Ok, None, Some, refl, sym, subst, ◌*◌, ◌∙◌, ◌≤◌, ◌+◌, arith}
-use Rattle.nvm_base.specs.declared.units.Span.{Span}
+use Rattle.std.proofs.Common.{ℕ, Err, Ok, refl, subst, ◌*◌, ◌≤◌, ◌+◌, arith}
 use Rattle.line_words.specs.Told.{Checks}
 use Rattle.word_tables.specs.declared.geometry.Geometry.{Geometry}
 use Rattle.word_tables.specs.Layout.{meta_lines}
@@ -9,7 +8,6 @@ use Rattle.page_lines.proofs.ResultLemmas.{checks_found, checks_second}
 use Rattle.file_journal.proofs.ReplaceLemmas.{pages_at_most}
 use Rattle.file_actions.specs.Checked.{AreTogether}
 use Rattle.file_actions.specs.Refusals.{action_says, full_refusal, metadata_refusal, poisoned_at, together_refusal}
-use Rattle.file_actions.specs.Rewriting.{first_lost}
 use Rattle.file_actions.specs.declared.fault.ActionFault.TheVariants.{Poison}
 use Rattle.file_actions.proofs.RefusalLemmas.{in_reach, writable, write_checked}
 use Rattle.file_actions.proofs.checks.check_write.Goals as goal

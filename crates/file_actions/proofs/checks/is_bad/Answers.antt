@@ -1,4 +1,4 @@
-use Rattle.std.proofs.Common.{◌≡◌, ◌*◌, ◌/◌, Some, None, Option, option_map, ap, sym, subst, ◌∙◌, arith}
+use Rattle.std.proofs.Common.{◌≡◌, ◌*◌, ◌/◌, ap, sym, subst, ◌∙◌, arith}
 use Rattle.page_lines.specs.Sought.{is_bad_at}
 use Rattle.file_journal.specs.Object.{JournalState}
 use Rattle.file_journal.specs.Tables.{AreTables}

@@ -1,11 +1,10 @@
-use Rattle.std.proofs.Common.{ℕ, ◌+◌, ◌*◌, drop, take, sym, subst, ap, ◌∙◌}
+use Rattle.std.proofs.Common.{◌+◌, ◌*◌, drop, take, subst}
 use Rattle.nvm_model.specs.Cell.{CellStands}
 use Rattle.word_tables.specs.Layout.{file_line}
 use Rattle.page_lines.specs.Turns.{WritesBackOthers}
 use Rattle.page_lines.proofs.OthersLemmas.{others-trans, others-write_back}
 use Rattle.file_journal.specs.Object.{JournalState}
 use Rattle.file_pages.specs.Fresh.{IsOfUnit, Takes, durable_cell}
-use Rattle.file_pages.specs.Object.{PagesState}
 use Rattle.file_actions.specs.Made.{AreAsBefore}
 use Rattle.file_actions.proofs.PreparedLemmas.{before-trans, before-write_back}
 use Rattle.file_actions.proofs.preparing.write_page.Goals as goal

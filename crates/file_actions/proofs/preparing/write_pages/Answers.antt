@@ -1,7 +1,7 @@
 use Rattle.std.proofs.lemmas.Result.{err_from_is_err_and}
 use Rattle.line_device.specs.Panel.{Runs}
 use Rattle.line_words.specs.Ending.{ended}
-use Rattle.std.proofs.Common.{Err, None, MatchOption, ℕ, ◌≡◌, ◌+◌, ◌*◌, ◌<◌, ◌≤◌, true, List, Option, Some, length, refl, ap, sym, subst, ◌∙◌, arith}
+use Rattle.std.proofs.Common.{Err, None, MatchOption, ℕ, ◌≡◌, ◌+◌, ◌*◌, ◌<◌, List, Option, Some, length, refl, ap, sym, subst, ◌∙◌, arith}
 use Rattle.line_device.proofs.PanelLemmas.{runs-refl, runs_then, runs_within}
 use Rattle.free_pool.specs.Units.{free_count}
 use Rattle.inode_table.specs.Slots.{pages_at}

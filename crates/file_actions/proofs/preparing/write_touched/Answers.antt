@@ -1,6 +1,3 @@
-use Rattle.std.proofs.Common.{ℕ, Bool, ◌*◌, if◌then◌else◌, refl, sym, subst, ◌∙◌}
-use Rattle.line_device.specs.Panel.{Runs}
-use Rattle.line_words.specs.Ending.{ended}
 use Rattle.file_actions.proofs.PreparedLemmas.{before-refl}
 use Rattle.file_actions.proofs.preparing.write_touched.Goals as goal
 pub returns-then-not-touches_any-clause-before : goal.returns-then-not-touches_any-clause-before

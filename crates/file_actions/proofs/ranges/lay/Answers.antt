@@ -1,4 +1,4 @@
-use Rattle.std.proofs.Common.{◌+◌, length, ◌∙◌, get_or, sym, subst, ◌<◌, arith}
+use Rattle.std.proofs.Common.{◌+◌, ◌∙◌, get_or, sym, subst, ◌<◌, arith}
 use Rattle.std.proofs.lemmas.List.Sums.{sum_by_more}
 use Rattle.nvm_base.specs.declared.units.Span.{Span}
 use Rattle.file_actions.proofs.DataLemmas.{laid-more}

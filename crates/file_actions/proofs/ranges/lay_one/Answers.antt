@@ -1,4 +1,3 @@
-use Rattle.std.proofs.Common.{arith}
 use Rattle.file_actions.proofs.DataLemmas.{laid_over}
 use Rattle.file_actions.proofs.ranges.lay_one.Goals as goal
 
