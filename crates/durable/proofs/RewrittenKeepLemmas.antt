@@ -9,7 +9,7 @@ use Rattle.nvm_model.specs.Cell.{Cell, cell_byte, covers}
 use Rattle.nvm_model.specs.Cell.Cell.{Bad, Kept}
 use Rattle.nvm_model.specs.Numbered.{is_among}
 use Rattle.nvm_model.specs.Page.{Page, byte_in, cell_of, is_bad_cell}
-use Rattle.file_actions.specs.Rewriting.{covers_any, data_of, durable_line, first_lost, is_lost, rewritten, rewritten_page, touches_any_page}
+use Rattle.file_actions.specs.Rewriting.{covers_any, byte_laid, durable_line, first_lost, is_lost, rewritten, rewritten_page, touches_any_page}
 use Rattle.durable.specs.Place.{line_has}
 use Rattle.durable.proofs.BadLineLemmas.{bad_within}
 use Rattle.durable.proofs.LineLemmas.{LineKeeps, MayBe, line_has-kept, line_keeps-flushed}
@@ -22,11 +22,11 @@ abbrev pub has_byte : List Span → ℕ → Bool
 has_byte ranges i = list_any (λ (range : Span). is_among range.start range.len i) ranges
 
 -- where none has, it is as before
-pub data-spared : (ranges : List Span) (bytes : List ℕ) (i old : ℕ) → has_byte ranges i ≡ false → data_of ranges bytes i old ≡ old
+pub data-spared : (ranges : List Span) (bytes : List ℕ) (i old : ℕ) → has_byte ranges i ≡ false → byte_laid ranges bytes i old ≡ old
 data-spared [] bytes i old out = refl
 data-spared (range ∷ ranges) bytes i old out =
     let parts = or_parts (is_among range.start range.len i) (has_byte ranges i) out in
-    ap (λ b. cond b (slice_index bytes (i - range.start)) (data_of ranges (drop range.len bytes) i old)) parts.0 ∙ data-spared ranges (drop range.len bytes) i old parts.1
+    ap (λ b. cond b (slice_index bytes (i - range.start)) (byte_laid ranges (drop range.len bytes) i old)) parts.0 ∙ data-spared ranges (drop range.len bytes) i old parts.1
 
 -- and no range covers its line
 not_covered : (start len i : ℕ) → is_among start len i ≡ false → covers start len (i / 64) ≡ false

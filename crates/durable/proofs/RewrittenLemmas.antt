@@ -17,7 +17,7 @@ use Rattle.nvm_model.specs.Storage.{File}
 use Rattle.nvm_model.proofs.LineLemmas.{byte_spelled}
 use Rattle.nvm_model.proofs.NumberedLemmas.{length-list_from, length-map_from, slice_get-list_from, slice_get-map_from}
 use Rattle.nvm_model.proofs.PageLemmas.{cell_of-discard}
-use Rattle.file_actions.specs.Rewriting.{data_of, durable_line, rewritten, rewritten_page, touches_any_page}
+use Rattle.file_actions.specs.Rewriting.{byte_laid, durable_line, rewritten, rewritten_page, touches_any_page}
 use Rattle.machine_host.specs.OnFileActions.{discarded_in, written_together}
 use Rattle.durable.specs.Place.{line_has}
 use Rattle.durable.specs.Durable.{HaveLines, IsLineThere}
@@ -27,7 +27,7 @@ use Rattle.durable.proofs.ThereLemmas.{by_pages}
 
 -- a byte of such a page
 abbrev pub byte_rewritten : List Span → List ℕ → List Page → ℕ → ℕ
-byte_rewritten ranges bytes pages at = data_of ranges bytes at (byte_in pages at)
+byte_rewritten ranges bytes pages at = byte_laid ranges bytes at (byte_in pages at)
 
 byte_at-small : (k n : ℕ) → byte_at k n < 256
 byte_at-small zero n = omega arith
@@ -38,13 +38,13 @@ cell-small None k = omega arith
 cell-small (Some Bad) k = omega arith
 cell-small (Some (Kept weak words)) k = byte_at-small (k % 8) (newest (slice_index_or words (k / 8) []))
 
-data-small : (ranges : List Span) (bytes : List ℕ) (at old : ℕ) → ((k : ℕ) → get_or bytes k 0 < 256) → old < 256 → data_of ranges bytes at old < 256
+data-small : (ranges : List Span) (bytes : List ℕ) (at old : ℕ) → ((k : ℕ) → get_or bytes k 0 < 256) → old < 256 → byte_laid ranges bytes at old < 256
 data-small [] bytes at old small low = low
 data-small (range ∷ ranges) bytes at old small low =
     by_test (is_among range.start range.len at)
     (data-small ranges (drop range.len bytes) at old (λ k. subst (λ n. n < 256) (sym (get_or-drop range.len bytes k 0)) (small (range.len + k))) low)
   where
-    by_test : (b : Bool) → data_of ranges (drop range.len bytes) at old < 256 → cond b (slice_index bytes (at - range.start)) (data_of ranges (drop range.len bytes) at old) < 256
+    by_test : (b : Bool) → byte_laid ranges (drop range.len bytes) at old < 256 → cond b (slice_index bytes (at - range.start)) (byte_laid ranges (drop range.len bytes) at old) < 256
     by_test true rest = small (at - range.start)
     by_test false rest = rest
 

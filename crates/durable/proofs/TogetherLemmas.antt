@@ -22,7 +22,7 @@ use Rattle.nvm_model.specs.Page.{Page, byte_in, cell_of, touches_page}
 use Rattle.nvm_model.specs.Storage.{File}
 use Rattle.file_actions.specs.Refusals.ActionRefusal.{Limit}
 use Rattle.file_actions.specs.Refusals.{ActionRefusal, extents_refusal, refused_if, together_refusal}
-use Rattle.file_actions.specs.Rewriting.{data_of, durable_line, pages_touched, rewritten, touches_any_page}
+use Rattle.file_actions.specs.Rewriting.{byte_laid, durable_line, pages_touched, rewritten, touches_any_page}
 use Rattle.script_text.specs.Action.Action.{FAtomic, FMulti}
 use Rattle.machine_host.specs.Machine.{Machine}
 use Rattle.machine_host.specs.OnFileActions.{action_answer, written_together}
@@ -52,15 +52,15 @@ apart r before after range i none among = by_test (is_among r.start r.len i) ref
     by_test false out = out
 
 data_in : (before after : List Span) (range : Span) (bytes : List ℕ) (i old : ℕ) → is_disjoint (before ++ range ∷ after) ≡ true → is_among range.start range.len i ≡ true
-    → data_of (before ++ range ∷ after) bytes i old ≡ slice_index bytes (total_of before + (i - range.start))
+    → byte_laid (before ++ range ∷ after) bytes i old ≡ slice_index bytes (total_of before + (i - range.start))
 data_in [] after range bytes i old disjoint among =
     let first : i - range.start ≡ total_of [] + (i - range.start) = omega arith in
-    ap (λ b. cond b (slice_index bytes (i - range.start)) (data_of after (drop range.len bytes) i old)) among ∙ ap (slice_index bytes) first
+    ap (λ b. cond b (slice_index bytes (i - range.start)) (byte_laid after (drop range.len bytes) i old)) among ∙ ap (slice_index bytes) first
 data_in (r ∷ before) after range bytes i old disjoint among =
     let parts = disjoint_parts r (before ++ range ∷ after) disjoint in
     let out = apart r before after range i (not-true _ parts.0) among in
     let place : r.len + (total_of before + (i - range.start)) ≡ total_of (r ∷ before) + (i - range.start) = omega (arith, total_of-cons r before) in
-    ap (λ b. cond b (slice_index bytes (i - r.start)) (data_of (before ++ range ∷ after) (drop r.len bytes) i old)) out
+    ap (λ b. cond b (slice_index bytes (i - r.start)) (byte_laid (before ++ range ∷ after) (drop r.len bytes) i old)) out
     ∙ data_in before after range (drop r.len bytes) i old parts.1 among ∙ get_or-drop r.len bytes (total_of before + (i - range.start)) 0 ∙ ap (slice_index bytes) place
 
 -- ranges that are not refused end within the file, and share no byte

@@ -1,3 +1,5 @@
 pub mod Rewriting
 pub mod Refusals
 pub mod Costs
+pub mod Checked
+pub mod Made

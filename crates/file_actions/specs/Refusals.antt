@@ -5,7 +5,7 @@ use Rattle.nvm_base.specs.declared.units.Span.{Span}
 use Rattle.line_device.specs.Medium.{Medium}
 use Rattle.line_words.specs.declared.interruption.Interruption.TheVariants as stop
 use Rattle.line_words.specs.Told.{Told}
-use Rattle.line_words.specs.Told.Told.{Refuses, Stops}
+use Rattle.line_words.specs.Told.Told.{Refuses, Starves, Stops}
 use Rattle.word_tables.specs.declared.geometry.Geometry.{Geometry}
 use Rattle.word_tables.specs.Layout.{meta_lines}
 use Rattle.page_table.specs.Pages.{used_pages}
@@ -14,6 +14,7 @@ use Rattle.nvm_model.specs.Page.{Page, presence_of}
 use Rattle.nvm_model.specs.Touched.{next_bad_touched}
 use Rattle.range_sets.specs.Ranges.{is_disjoint}
 use Rattle.file_journal.specs.Object.{JournalState}
+use Rattle.file_pages.specs.Refusals as pages
 use Rattle.file_actions.specs.Rewriting.{first_lost, pages_touched, touches_any_page}
 use Rattle.file_actions.specs.declared.fault.ActionFault.{ActionFault}
 use Rattle.file_actions.specs.declared.fault.ActionFault.TheVariants as fault
@@ -39,6 +40,20 @@ action_says (fault.Meta line) = Refuses (Meta line.0)
 action_says (fault.Poison offset) = Refuses (Poison offset)
 action_says fault.Device = Stops stop.Failed
 action_says fault.PowerLost = Stops stop.PowerLost
+
+-- why a call on pages is refused, of an action that makes it
+abbrev pub action_refusal : pages.PageRefusal → ActionRefusal
+action_refusal pages.PageRefusal.Range = Range
+action_refusal pages.PageRefusal.Length = Length
+action_refusal pages.PageRefusal.Full = Full
+action_refusal (pages.PageRefusal.Meta line) = Meta line
+action_refusal (pages.PageRefusal.Poison offset) = Poison offset
+
+-- what the fault of such a call tells of the action
+abbrev pub told_of_pages : Told pages.PageRefusal → Told ActionRefusal
+told_of_pages (Refuses why) = Refuses (action_refusal why)
+told_of_pages (Stops stop) = Stops stop
+told_of_pages Starves = Starves
 
 -- one refusal where a condition holds
 abbrev pub refused_if : Bool → ActionRefusal → Option ActionRefusal
@@ -79,11 +94,12 @@ write_refusal s m pages ranges =
     (first_there (full_refusal s (holes_touched ranges (presence_of pages)))
     (first_there (metadata_refusal s.geo m) (poisoned_at (first_lost ranges pages))))
 
--- a span of pages goes past the end, or has none
+-- of a file of so many pages: a span of them goes past the end, or has none
+abbrev pub pages_refusal : ℕ → Span → Option ActionRefusal
+pages_refusal pages span = first_there (refused_if (nat_lt pages (span.start + span.len)) Range) (refused_if (span.len == 0) Length)
+
 abbrev pub discard_refusal : JournalState → Medium → List Page → Span → Option ActionRefusal
-discard_refusal s m pages span =
-    first_there (refused_if (nat_lt (length pages) (span.start + span.len)) Range)
-    (first_there (refused_if (span.len == 0) Length) (metadata_refusal s.geo m))
+discard_refusal s m pages span = first_there (pages_refusal (length pages) span) (metadata_refusal s.geo m)
 
 -- all bytes that a file may have
 abbrev pub all_bytes : List Span

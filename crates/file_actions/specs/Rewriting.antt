@@ -1,5 +1,5 @@
 -- What an atomic write makes of a file's pages.
-use Rattle.std.specs.Prelude.{◌+◌, ◌-◌, ◌*◌, ◌/◌, ◌&&◌, ℕ, Bool, false, not, List, [], ◌∷◌, count_by, drop, length, Option, slice_index, if◌then◌else◌}
+use Rattle.std.specs.Prelude.{◌-◌, ◌*◌, ◌/◌, ◌&&◌, ℕ, Bool, false, not, List, [], ◌∷◌, count_by, drop, length, Option, slice_index, if◌then◌else◌}
 use Rattle.std.specs.List.{find, list_any, range_with_len}
 use Rattle.line_device.specs.Word.{word_at}
 use Rattle.nvm_base.specs.declared.units.Span.{Span}
@@ -21,10 +21,10 @@ abbrev pub pages_touched : List Span → ℕ → ℕ
 pages_touched ranges count = count_by (touches_any_page ranges) (range_with_len 0 count)
 
 -- a byte once those of ranges are over it, each of which has its part of them
-abbrev pub data_of : List Span → List ℕ → ℕ → ℕ → ℕ
-data_of [] bytes at old = old
-data_of (range ∷ ranges) bytes at old =
-    if is_among range.start range.len at then slice_index bytes (at - range.start) else data_of ranges (drop range.len bytes) at old
+abbrev pub byte_laid : List Span → List ℕ → ℕ → ℕ → ℕ
+byte_laid [] bytes at old = old
+byte_laid (range ∷ ranges) bytes at old =
+    if is_among range.start range.len at then slice_index bytes (at - range.start) else byte_laid ranges (drop range.len bytes) at old
 
 -- line n of these bytes, healthy, not weak and durable
 abbrev pub durable_line : (ℕ → ℕ) → ℕ → Cell
@@ -33,7 +33,7 @@ durable_line byte n = Kept false (list_from (λ w. word_at (list_from byte (64 *
 -- each page that ranges touch with its bytes as last stored, those of the ranges over them, and all of it durable
 abbrev pub rewritten_page : List Span → List ℕ → List Page → ℕ → Page → Page
 rewritten_page ranges bytes pages i page =
-    if touches_any_page ranges i then Present (list_from (durable_line (λ at. data_of ranges bytes at (byte_in pages at))) (64 * i) 64) else page
+    if touches_any_page ranges i then Present (list_from (durable_line (λ at. byte_laid ranges bytes at (byte_in pages at))) (64 * i) 64) else page
 
 unfoldable pub rewritten : List Span → List ℕ → List Page → List Page
 rewritten ranges bytes pages = map_from (rewritten_page ranges bytes pages) 0 pages

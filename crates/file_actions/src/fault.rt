@@ -1,5 +1,6 @@
 ghost use Rattle.std.specs.Prelude.{◌≡◌};
 
+use file_pages::PageFault;
 use line_words::Interruption;
 use nvm_base::LineNo;
 
@@ -36,6 +37,25 @@ impl From<Interruption> for ActionFault {
         match stop {
             Interruption::Failed => ActionFault::Device,
             Interruption::PowerLost => ActionFault::PowerLost,
+        }
+    }
+}
+
+impl From<PageFault> for ActionFault {
+    ghost use Rattle.file_pages.specs.Refusals.{page_says};
+    ghost use Rattle.file_actions.specs.Refusals.{action_says, told_of_pages};
+
+    ghost from_gives = { λ call fault. action_says fault ≡ told_of_pages (page_says call) };
+
+    fn from(call: PageFault) -> ActionFault {
+        match call {
+            PageFault::Range => ActionFault::Range,
+            PageFault::Length => ActionFault::Length,
+            PageFault::Full => ActionFault::Full,
+            PageFault::Meta(line) => ActionFault::Meta(line),
+            PageFault::Poison(offset) => ActionFault::Poison(offset),
+            PageFault::Device => ActionFault::Device,
+            PageFault::PowerLost => ActionFault::PowerLost,
         }
     }
 }

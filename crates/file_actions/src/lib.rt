@@ -5,9 +5,16 @@
 #![tactic(auto)]
 
 mod atomic;
+mod building;
+mod checks;
 mod discarding;
 mod fault;
+mod preparing;
+mod ranges;
+mod switching;
 mod syncing;
+#[cfg(test)]
+mod tests;
 
 pub use atomic::{atomic_multiwrite, atomic_write};
 pub use discarding::discard;

@@ -56,15 +56,15 @@ use Rattle.file_pages.proofs.SwitchedLemmas.{fresh_filled, fresh_own, fresh_page
 use Rattle.file_pages.proofs.WorkLemmas.{lines-marks, lines-outside, lines-serve, reads-left}
 
 -- two changes of a list by number, one after the other
-map_from-before : {A B C : Type 0} (g : ℕ → B → C) (f : A → B) (n : ℕ) (xs : List A) → map_from g n (map f xs) ≡ map_from (λ i x. g i (f x)) n xs
+pub map_from-before : {A B C : Type 0} (g : ℕ → B → C) (f : A → B) (n : ℕ) (xs : List A) → map_from g n (map f xs) ≡ map_from (λ i x. g i (f x)) n xs
 map_from-before g f n [] = refl
 map_from-before g f n (x ∷ xs) = ap (λ ys. g n (f x) ∷ ys) (map_from-before g f (suc n) xs)
 
-map_from-after : {A B C : Type 0} (g : B → C) (f : ℕ → A → B) (n : ℕ) (xs : List A) → map g (map_from f n xs) ≡ map_from (λ i x. g (f i x)) n xs
+pub map_from-after : {A B C : Type 0} (g : B → C) (f : ℕ → A → B) (n : ℕ) (xs : List A) → map g (map_from f n xs) ≡ map_from (λ i x. g (f i x)) n xs
 map_from-after g f n [] = refl
 map_from-after g f n (x ∷ xs) = ap (λ ys. g (f n x) ∷ ys) (map_from-after g f (suc n) xs)
 
-map_from-alike : {A B : Type 0} (f g : ℕ → A → B) (n : ℕ) (xs : List A) → ((j : ℕ) (y : A) → slice_get xs j ≡ Some y → f (n + j) y ≡ g (n + j) y) → map_from f n xs ≡ map_from g n xs
+pub map_from-alike : {A B : Type 0} (f g : ℕ → A → B) (n : ℕ) (xs : List A) → ((j : ℕ) (y : A) → slice_get xs j ≡ Some y → f (n + j) y ≡ g (n + j) y) → map_from f n xs ≡ map_from g n xs
 map_from-alike f g n [] same = refl
 map_from-alike f g n (x ∷ xs) same =
     let e : n + 0 ≡ n = omega arith in
@@ -73,7 +73,7 @@ map_from-alike f g n (x ∷ xs) same =
     (map_from-alike f g (suc n) xs (λ j y is. let e2 : n + suc j ≡ suc n + j = omega arith in sym (ap (λ k. f k y) e2) ∙ same (suc j) y is ∙ ap (λ k. g k y) e2))
 
 -- images that hold the tables before or after, where the device stands for the files of both
-either_images : (geo : Geometry) (m : Medium) (t after : Tables) (P : List File → Type 0) (files next : List File) → AreTables geo.fpages t → AreTables geo.fpages after
+pub either_images : (geo : Geometry) (m : Medium) (t after : Tables) (P : List File → Type 0) (files next : List File) → AreTables geo.fpages t → AreTables geo.fpages after
     → FilesStand geo m t files → FilesStand geo m after next → P files → P next → EachReadsTables geo m (IsEither t after) → EachReadsFiles geo m P
 either_images geo m t after P files next are right stand stands is is_next each image at =
     let reads = each image at in
@@ -83,7 +83,7 @@ either_images geo m t after P files next are right stand stands is is_next each 
     ]
 
 -- an inode that has pages is a file
-live_of : (size : ℕ) (t : Tables) (inode n : ℕ) → AreTables size t → inode < 64 → n < pages_at t.files inode → (name : List ℕ) × IsNamed t.files inode name
+pub live_of : (size : ℕ) (t : Tables) (inode n : ℕ) → AreTables size t → inode < 64 → n < pages_at t.files inode → (name : List ℕ) × IsNamed t.files inode name
 live_of size t inode n are low some = by_slot (slice_index_or t.files inode None) refl
   where
     by_slot : (o : Option FileEntry) → slice_index_or t.files inode None ≡ o → (name : List ℕ) × IsNamed t.files inode name

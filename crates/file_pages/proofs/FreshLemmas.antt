@@ -31,24 +31,24 @@ pub pushed_new : {A : Type 0} (xs : List A) (c : A) → slice_get (xs ++ c ∷ [
 pushed_new [] c = refl
 pushed_new (x ∷ xs) c = pushed_new xs c
 
-length-pushed : {A : Type 0} (xs : List A) (c : A) → length (xs ++ c ∷ []) ≡ length xs + 1
+pub length-pushed : {A : Type 0} (xs : List A) (c : A) → length (xs ++ c ∷ []) ≡ length xs + 1
 length-pushed [] c = omega arith
 length-pushed (x ∷ xs) c = let e = length-pushed xs c in omega (arith, e)
 
 -- a taken unit stays so, and the one that is taken becomes so
-taken_still : (free : List Bool) (u v : ℕ) → IsFree free u → IsTaken free v → IsTaken (set free u false) v
+pub taken_still : (free : List Bool) (u v : ℕ) → IsFree free u → IsTaken free v → IsTaken (set free u false) v
 taken_still free u v is_free taken =
     let within = slice_get_within free v false taken in
     let apart : v ≢ u = λ same. absurd (false≢true (same_Some false true (sym taken ∙ ap (slice_get free) same ∙ is_free))) in
     slice_get-get_or (set free u false) v false (omega (arith, within, length-set free u false))
     ∙ ap (λ (b : Bool). Some b) (get_or-set_other free u v false false apart ∙ get_or_from_slice_get free v false false taken)
 
-taken_now : (free : List Bool) (u : ℕ) → IsFree free u → IsTaken (set free u false) u
+pub taken_now : (free : List Bool) (u : ℕ) → IsFree free u → IsTaken (set free u false) u
 taken_now free u is_free =
     let within = slice_get_within free u true is_free in
     slice_get-get_or (set free u false) u false (omega (arith, within, length-set free u false)) ∙ ap (λ (b : Bool). Some b) (get_or-set_same free u false false within)
 
-not_both : (free : List Bool) (u : ℕ) → IsFree free u → IsTaken free u → ⊥
+pub not_both : (free : List Bool) (u : ℕ) → IsFree free u → IsTaken free u → ⊥
 not_both free u is_free taken = absurd (false≢true (same_Some false true (sym taken ∙ is_free)))
 
 -- no more are absent among fewer

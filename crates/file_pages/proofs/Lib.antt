@@ -1,15 +1,16 @@
 pub mod PlaceLemmas
 mod LineLemmas
-mod HoleLemmas
+pub mod HoleLemmas
 pub mod ListedLemmas
 pub mod PassLemmas
 pub mod FoundLemmas
 pub mod WorkLemmas
-mod FreshLemmas
-mod SwitchedLemmas
-mod FilledLemmas
+pub mod FreshLemmas
+pub mod SwitchedLemmas
+pub mod FilledLemmas
 mod FillLemmas
 mod StoreLemmas
 mod StretchLemmas
-mod RenewLemmas
+pub mod RenewLemmas
 mod LentLemmas
+mod DurableLemmas

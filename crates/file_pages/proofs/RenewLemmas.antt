@@ -16,14 +16,11 @@ use Rattle.file_journal.specs.Object.{JournalServes, JournalState}
 use Rattle.file_journal.specs.Standing.{EachReadsFiles, FilesStand}
 use Rattle.file_journal.specs.Tables.{AreTables, IsVacant}
 use Rattle.file_journal.proofs.StandingLemmas.{entry_of_unit, unit_line_in}
+use Rattle.file_pages.specs.Fresh.{IsOfUnit}
 use Rattle.file_pages.specs.Object.{KeepsMarks}
 use Rattle.file_pages.proofs.ListedLemmas.{files-beside}
 use Rattle.file_pages.proofs.PlaceLemmas.{unit_get}
 use Rattle.file_pages.proofs.WorkLemmas.{lines-marks, lines-outside, lines-serve, reads-left}
-
--- a line among 64
-abbrev pub IsOfUnit : ℕ → ℕ → Type 0
-IsOfUnit first n = (first ≤ n) × (n < first + 64)
 
 module _ (s : JournalState) (old new : Medium) (valid : IsValid s.geo) (are : AreTables s.geo.fpages s.tables) (serves : JournalServes s old) (unit : ℕ) (below : unit < s.geo.fpages) (vacant : IsVacant s.tables.pages unit)
     (x : WritesBackOthers (IsOfUnit (file_line s.geo unit)) old new) where

@@ -21,7 +21,7 @@ use Rattle.file_pages.specs.Fresh.{AreFresh, AreOwn, switch_units}
 use Rattle.file_pages.proofs.PlaceLemmas.{unit_get}
 
 -- where each item passes, all are counted
-all_counted : {A : Type 0} (p : A → Bool) (xs : List A) → ((i : ℕ) (x : A) → slice_get xs i ≡ Some x → p x ≡ true) → count_by p xs ≡ length xs
+pub all_counted : {A : Type 0} (p : A → Bool) (xs : List A) → ((i : ℕ) (x : A) → slice_get xs i ≡ Some x → p x ≡ true) → count_by p xs ≡ length xs
 all_counted {A} p [] all = refl
 all_counted {A} p (x ∷ xs) all =
     let count : A → ℕ = λ y. cond (p y) 1 0 in
@@ -30,7 +30,7 @@ all_counted {A} p (x ∷ xs) all =
     omega (arith, sum_by-cons count x xs, one, rest)
 
 -- the unit of a switch
-switched_unit : (switches : List (ℕ × Option ℕ)) (i u : ℕ) → slice_get (switch_units switches) i ≡ Some (Some u) → (p : ℕ) × IsSwitch switches i p (Some u)
+pub switched_unit : (switches : List (ℕ × Option ℕ)) (i u : ℕ) → slice_get (switch_units switches) i ≡ Some (Some u) → (p : ℕ) × IsSwitch switches i p (Some u)
 switched_unit switches i u is = by_item (slice_get switches i) refl (sym (slice_get-map (λ (c : ℕ × Option ℕ). c.1) switches i) ∙ is)
   where
     by_item : (o : Option (ℕ × Option ℕ)) → slice_get switches i ≡ o → option_map (λ (c : ℕ × Option ℕ). c.1) o ≡ Some (Some u) → (p : ℕ) × IsSwitch switches i p (Some u)

@@ -1,12 +1,24 @@
 -- Units for holes.
-use Rattle.std.specs.Prelude.{◌≡◌, ◌≢◌, ◌+◌, ◌<◌, ◌≤◌, ℕ, Bool, false, List, Option, Some, None, length, map, slice_index_or, slice_set}
+use Rattle.std.specs.Prelude.{◌≡◌, [], ◌∷◌, ◌≢◌, ◌+◌, ◌<◌, ◌≤◌, ℕ, Bool, false, List, Option, Some, None, length, map, slice_index_or, slice_set}
+use Rattle.line_device.specs.Word.{word_at}
 use Rattle.free_pool.specs.Units.{IsFree}
 use Rattle.word_tables.specs.declared.geometry.Geometry.{Geometry}
+use Rattle.nvm_model.specs.Cell.{Cell}
+use Rattle.nvm_model.specs.Cell.Cell.{Kept}
+use Rattle.nvm_model.specs.Numbered.{list_from}
 use Rattle.nvm_model.specs.Page.{absent_among}
 use Rattle.file_journal.specs.Object.{JournalState}
 use Rattle.file_journal.specs.Switches.{AreHeld, IsSwitch}
 use Rattle.file_journal.specs.Tables.{IsVacant, unit_at}
 use Rattle.file_pages.specs.Object.{pages_there, unit_place}
+
+-- a line among the 64 from one on, as those of a unit from its first one
+abbrev pub IsOfUnit : ℕ → ℕ → Type 0
+IsOfUnit first n = (first ≤ n) × (n < first + 64)
+
+-- a line of these bytes, healthy, not weak and durable
+abbrev pub durable_cell : List ℕ → Cell
+durable_cell bytes = Kept false (list_from (λ w. word_at bytes w ∷ []) 0 8)
 
 -- units are the device's, and each is listed once
 pub record AreOwn (size : ℕ) (units : List (Option ℕ)) : Type 0 where

@@ -6,6 +6,7 @@
 #![tactic(auto)]
 
 mod checks;
+mod durable;
 mod fault;
 mod filling;
 mod fresh;

@@ -4,7 +4,7 @@ ghost use Rattle.free_pool.specs.Units.{free_count};
 ghost use Rattle.line_device.specs.Panel.{Runs};
 ghost use Rattle.line_words.specs.Ending.{ended};
 ghost use Rattle.line_words.specs.Told.{Answers, is_done, outcome_by};
-ghost use Rattle.line_words.specs.Words.{HoldsLine};
+ghost use Rattle.nvm_model.specs.Cell.{CellStands};
 ghost use Rattle.nvm_model.specs.Storage.{File};
 ghost use Rattle.page_lines.specs.Turns.{WritesBackOthers};
 ghost use Rattle.word_tables.specs.Layout.{file_line};
@@ -12,15 +12,16 @@ ghost use Rattle.file_journal.specs.Area.{IsOfFiles};
 ghost use Rattle.file_journal.specs.Object.{JournalServes};
 ghost use Rattle.file_journal.specs.Standing.{EachReadsFiles, FilesStand};
 ghost use Rattle.file_journal.specs.Tables.{IsVacant};
-ghost use Rattle.file_pages.specs.Fresh.{Takes};
+ghost use Rattle.file_pages.specs.Fresh.{IsOfUnit, Takes, durable_cell};
 ghost use Rattle.file_pages.specs.Object.{KeepsMarks, PagesServe, is_settled};
 ghost use Rattle.file_pages.specs.Refusals.{page_says};
 
+use crate::durable::renew_lines;
 use crate::fresh::take;
 use crate::{FilePages, PageFault};
 use file_journal::Journal;
 use line_device::Lines;
-use line_words::{Interruption, renew_lines};
+use line_words::Interruption;
 
 impl FilePages {
     /// Takes a unit and gives it these bytes: its lines are healthy, not weak and durable. No page has it yet; where the call is
@@ -34,7 +35,8 @@ impl FilePages {
         ensures refused { Answers page_says None result }
         ensures unit { IfOk result (Takes self.old.journal self.new.journal) }
         ensures lines { IfOk result (λ unit. (k : ℕ) → k < 64
-            → HoldsLine (L.state dev.new).medium (file_line self.old.journal.geo unit + k) (take 64 (drop (64 * k) bytes.now))) }
+            → CellStands (L.state dev.new).medium (file_line self.old.journal.geo unit + k) (durable_cell (take 64 (drop (64 * k) bytes.now)))) }
+        ensures beside { IfOk result (λ unit. WritesBackOthers (IsOfUnit (file_line self.old.journal.geo unit)) (L.state dev.old).medium (L.state dev.new).medium) }
         ensures files { (files : List File) → FilesStand self.old.journal.geo (L.state dev.old).medium self.old.journal.tables files
             → FilesStand self.old.journal.geo (L.state dev.new).medium self.old.journal.tables files }
         ensures images { (files : List File) → FilesStand self.old.journal.geo (L.state dev.old).medium self.old.journal.tables files
@@ -67,7 +69,8 @@ fn renew_unit<L: Lines>(
     requires below { unit < journal.now.geo.fpages }
     requires vacant { IsVacant journal.now.tables.pages unit }
     ensures lines { OnOk result ((k : ℕ) → k < 64
-        → HoldsLine (L.state dev.new).medium (file_line journal.now.geo unit + k) (take 64 (drop (64 * k) bytes.now))) }
+        → CellStands (L.state dev.new).medium (file_line journal.now.geo unit + k) (durable_cell (take 64 (drop (64 * k) bytes.now)))) }
+    ensures beside { WritesBackOthers (IsOfUnit (file_line journal.now.geo unit)) (L.state dev.old).medium (L.state dev.new).medium }
     ensures files { (files : List File) → FilesStand journal.now.geo (L.state dev.old).medium journal.now.tables files
         → FilesStand journal.now.geo (L.state dev.new).medium journal.now.tables files }
     ensures images { (files : List File) → FilesStand journal.now.geo (L.state dev.old).medium journal.now.tables files

@@ -7,7 +7,7 @@ use Rattle.nvm_model.specs.Events.{count_in_page, count_in_pages, is_weak_cell}
 use Rattle.nvm_model.specs.Numbered.{is_among, list_from, map_from}
 use Rattle.nvm_model.specs.Page.{Page, byte_in, discard, discard_page}
 use Rattle.nvm_model.specs.Page.Page.{Absent, Present}
-use Rattle.file_actions.specs.Rewriting.{data_of, durable_line, rewritten, rewritten_page, touches_any_page}
+use Rattle.file_actions.specs.Rewriting.{byte_laid, durable_line, rewritten, rewritten_page, touches_any_page}
 use Rattle.machine_host.proofs.LineSumLemmas.{one_if}
 
 pages-weak : (f : ℕ → Page → Page) → ((i : ℕ) (page : Page) → count_in_page is_weak_cell (f i page) ≤ count_in_page is_weak_cell page)
@@ -36,7 +36,7 @@ pub rewritten-weak : (ranges : List Span) (bytes : List ℕ) (pages : List Page)
 unfolding rewritten
 rewritten-weak ranges bytes pages =
     pages-weak (rewritten_page ranges bytes pages)
-    (λ i page. chosen-weak _ page (durable-weak (λ at. data_of ranges bytes at (byte_in pages at)) (64 * i) 64) (touches_any_page ranges i)) 0 pages
+    (λ i page. chosen-weak _ page (durable-weak (λ at. byte_laid ranges bytes at (byte_in pages at)) (64 * i) 64) (touches_any_page ranges i)) 0 pages
 
 pub discard-weak : (first count : ℕ) (pages : List Page) → count_in_pages is_weak_cell (discard first count pages) ≤ count_in_pages is_weak_cell pages
 unfolding discard

@@ -1,0 +1,15 @@
+mod CountLemmas
+mod DataLemmas
+mod FindLemmas
+mod WitnessLemmas
+mod KeptLemmas
+mod RefusalLemmas
+mod LineLemmas
+mod PreparedLemmas
+mod MadeLemmas
+mod HoledLemmas
+mod SwitchingLemmas
+mod SyncedLemmas
+mod ToldLemmas
+mod RewrittenLemmas
+mod CommitLemmas
