@@ -58,7 +58,7 @@ module _ (h : Machine) (name : List ℕ) (file : File) (on : h.mode ≡ On) (has
 
   by_span : (past empty : Bool) (rest : Option ActionRefusal)
       → first_there (option_map Refused (if past then Some because.Range else (if empty then Some because.Length else None))) (first_there (option_map (action_answer name) rest) None)
-      ≡ option_map (action_answer name) (first_there (refused_if past Range) (first_there (refused_if empty Length) rest))
+      ≡ option_map (action_answer name) (first_there (first_there (refused_if past Range) (refused_if empty Length)) rest)
   by_span true empty rest = refl
   by_span false true rest = refl
   by_span false false None = refl
