@@ -52,7 +52,10 @@ def flushed(line):
 
 
 def rested(line, choice):
+    """A line after a restart that kept its last values, or any; a recovery leaves it."""
     bad, weak, words = line
+    if choice == "recover":
+        return line
     return bad, weak, tuple((last, last) if choice == "all" else (kept, kept) for last, kept in words)
 
 
@@ -90,6 +93,9 @@ class World:
 
     def __init__(self, files, handles=(), next_handle=0, queue=(), mode="on"):
         self.files, self.handles, self.next_handle, self.queue, self.mode = files, handles, next_handle, queue, mode
+
+    def key(self):
+        return tuple(sorted(self.files.items())), self.handles, self.next_handle, self.queue, self.mode
 
     def with_(self, **new):
         return World(**{**vars(self), **new})
@@ -244,7 +250,7 @@ def power(world, words, reply):
     if word == "restart":
         return mount(world, reply, words[1]) if world.mode == "off" else only(world, reply, "refused on")
     if word == "recover":
-        return mount(world, reply, "all") if world.mode == "unsettled" else only(world, reply, f"refused {world.mode}")
+        return mount(world, reply, "recover") if world.mode == "unsettled" else only(world, reply, f"refused {world.mode}")
     return only(world, reply, "ok")
 
 
@@ -371,7 +377,7 @@ def main():
                 left = [w for world in worlds for w in step(world, command, reply)]
                 if not left:
                     sys.exit(f"seed {seed}, run {run}, line {k + 1}: {command[:80]} was answered {reply[:80]}")
-                worlds = left
+                worlds = left if len(left) == 1 else list({w.key(): w for w in left}.values())
             worlds = [w.mounted("all") for w in worlds]
 
 

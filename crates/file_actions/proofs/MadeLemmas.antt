@@ -165,7 +165,7 @@ module _ (a b c : PagesState) (old mid new : Medium) (inode : ℕ) (ranges : Lis
       let below = subst (λ (g : Geometry). u < g.fpages) x.geo w.takes.below in
       let beside = subst (λ (g : Geometry). WritesBackOthers (IsOfUnit (file_line g u)) mid new) x.geo w.beside in
       let holds : HoldsPage a.journal old inode ranges bytes new k u = λ listed file at j lt.
-          subst (λ (g : Geometry). CellStands new (file_line g u + j) (durable_cell (new_line ranges bytes file.pages (64 * k + j)))) x.geo (w.holds listed file (file_still a b old mid x inode listed file at) j lt) in
+      subst (λ (g : Geometry). CellStands new (file_line g u + j) (durable_cell (new_line ranges bytes file.pages (64 * k + j)))) x.geo (w.holds listed file (file_still a b old mid x inode listed file at) j lt) in
       let more = made_more a.journal inode ranges k switches b.journal.free made within u w.touched w.takes.free vacant below in
       let lines = written_more a.journal inode ranges k switches b.journal.free made within u w.touched w.takes.free vacant below old mid new bytes written beside holds in
       let count = free_count-taken b.journal.free u w.takes.free in

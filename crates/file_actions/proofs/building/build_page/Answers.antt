@@ -60,7 +60,7 @@ loop-k-preserved g c =
     let after = c.in_ok-build_line.ensures in
     let here : IsNewLine s old inode ranges bytes (64 * c.args.page + k) c.build_line.new.out =
     λ listed file at.
-        after.ok listed file (subst (λ (j : JournalState). IsFileAt j now inode listed file) (sym before.journal) (file_at-write_back s old now inode listed file c.requires.tables before.lines at)) in
+    after.ok listed file (subst (λ (j : JournalState). IsFileAt j now inode listed file) (sym before.journal) (file_at-write_back s old now inode listed file c.requires.tables before.lines at)) in
     record {
       size =
           size_more s old inode ranges bytes (64 * c.args.page) k (64 * k) (64 * k + 64 - 64 * k) c.loop-k.out c.build_line.new.out before.size c.loop-k-test.true refl (omega arith) after.length

@@ -107,7 +107,7 @@ loop-page-preserved g c =
     let within : page < pages_at a.journal.tables.files inode = omega (arith, c.loop-page-test.true, c.loop-page.auto.page-end, all) in
     let more = counted-more (touches_any_page ranges) page in
     let step : AreMade a.journal inode ranges (page + 1) c.match-branch-2.switches.items d.journal.free × AreWritten a.journal old inode ranges bytes new c.match-branch-2.switches.items
-        × (free_count d.journal.free + length c.match-branch-2.switches.items ≡ free_count a.journal.free) =
+    × (free_count d.journal.free + length c.match-branch-2.switches.items ≡ free_count a.journal.free) =
     elim c.match-branch-2.branch as (λ _. AreMade a.journal inode ranges (page + 1) c.match-branch-2.switches.items d.journal.free × AreWritten a.journal old inode ranges bytes new c.match-branch-2.switches.items × (free_count d.journal.free + length c.match-branch-2.switches.items ≡ free_count a.journal.free)) [
       | in-Some w ↦
           step_written a b d old mid new inode ranges bytes page (free_count a.journal.free) c.loop-page.switches.items c.match-branch-2.switches.items before.before before.made before.written before.left w.in-Some.unit within

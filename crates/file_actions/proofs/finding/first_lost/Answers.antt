@@ -4,7 +4,7 @@ use Rattle.file_journal.specs.Object.{JournalState}
 use Rattle.file_journal.specs.Tables.{AreTables}
 use Rattle.file_journal.proofs.ReplaceLemmas.{pages_at_most}
 use Rattle.file_actions.proofs.KeptLemmas.{lost_first, lost_none}
-use Rattle.file_actions.proofs.checks.first_lost.Goals as goal
+use Rattle.file_actions.proofs.finding.first_lost.Goals as goal
 
 pub returns-then-is_lost-clause-lost : goal.returns-then-is_lost-clause-lost
 returns-then-is_lost-clause-lost g c = λ files file at.
