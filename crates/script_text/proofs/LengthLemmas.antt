@@ -1,5 +1,5 @@
 -- How long the words of a line can be.
-use Rattle.std.proofs.Common.{All, ◌≡◌, ℕ, suc, ◌-◌, ◌<◌, ◌≤◌, Bool, true, false, cond, nat_lt, List, [], ◌∷◌, length, take, filter, Option, Some, None, Result, Ok, Err, if◌then◌else◌, refl, subst, ap, arith, rules, tests}
+use Rattle.std.proofs.Common.{All, ◌≡◌, ℕ, ◌-◌, ◌<◌, ◌≤◌, Bool, true, false, cond, nat_lt, List, [], ◌∷◌, length, take, filter, if◌then◌else◌, refl, subst, arith, rules, tests}
 use Rattle.std.specs.List.{slice_split, onto_first}
 use Rattle.std.specs.Io.BufRead.{ends_with_byte, strip_last}
 use Rattle.std.proofs.lemmas.List.{length-take-le}
@@ -33,16 +33,14 @@ parts-within p (c ∷ cs) = go (p c) (slice_split p cs) (parts-within p cs)
 
 full-words : (parts : List (List ℕ)) → All (IsWithin 65536) parts → All IsWord (filter (λ word. nat_lt 0 (length word)) parts)
 full-words [] within = All-nil IsWord
-full-words (part ∷ parts) within = go (nat_lt 0 (length part)) refl
+full-words (part ∷ parts) within =
+    go (nat_lt 0 (length part)) refl (All-head (IsWithin 65536) part parts within) (filter (λ word. nat_lt 0 (length word)) parts) (full-words parts (All-tail (IsWithin 65536) part parts within))
   where
-    rest : All IsWord (filter (λ word. nat_lt 0 (length word)) parts)
-    rest = full-words parts (All-tail (IsWithin 65536) part parts within)
-
-    go : (b : Bool) → nat_lt 0 (length part) ≡ b → All IsWord (cond b (part ∷ filter (λ word. nat_lt 0 (length word)) parts) (filter (λ word. nat_lt 0 (length word)) parts))
-    go true t =
+    go : (b : Bool) → nat_lt 0 (length part) ≡ b → length part ≤ 65536 → (others : List (List ℕ)) → All IsWord others → All IsWord (cond b (part ∷ others) others)
+    go true t most others each =
         let some : 0 < length part = search (rules, tests) in
-        All-cons IsWord part _ (some, All-head (IsWithin 65536) part parts within) rest
-    go false t = rest
+        All-cons IsWord part others (some, most) each
+    go false t most others each = each
 
 -- the words of a text that is no longer than a line
 pub words_of-bounds : (text : List ℕ) → length text ≤ 65536 → All IsWord (words_of text)

@@ -69,6 +69,7 @@ enum Gave {
 }
 
 const SYNTAX: Gave = Gave::Fault(LineFault::Syntax);
+
 const TOO_LONG: Gave = Gave::Fault(LineFault::TooLong);
 
 fn parsed(alloc: Global, line: &[u8]) -> Gave {

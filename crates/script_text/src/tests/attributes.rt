@@ -21,7 +21,10 @@ fn any_word_names_an_attribute(rt: HostRuntime) {
         ("attr #", "#"),
         ("attr Größe\r\r", "Größe\r"),
     ] {
-        assert!(rt; is_named(rt.alloc(), line.as_bytes(), wanted.as_bytes()), "{line}");
+        assert!(rt;
+            is_named(rt.alloc(), line.as_bytes(), wanted.as_bytes()),
+            "{line}"
+        );
     }
     assert!(rt; is_named(rt.alloc(), b"attr \xff\x00,\x7f", b"\xff\x00,\x7f"));
 }
