@@ -73,8 +73,8 @@ IsSmallChoice Firsts = Unit {0}
 IsSmallChoice Lasts = Unit {0}
 IsSmallChoice (Seed n) = n < 2 ^ 32
 
--- numbers are below 2 ^ 32, names are names of files, but an attribute's 1 to 65,536 bytes, as DATA is, of pairs there is one, and ranges
--- have as many bytes as they are long
+-- numbers are below 2 ^ 32, names of files are such names, an attribute's name and DATA have 1 to 65,536 bytes, of pairs there is one,
+-- and ranges have as many bytes as they are long
 abbrev pub InBounds : Action → Type 0
 InBounds (BRead block count) = (block < 2 ^ 32) × (count < 2 ^ 32)
 InBounds (BWrite block bytes) = (block < 2 ^ 32) × (0 < length bytes) × (length bytes ≤ 65536)

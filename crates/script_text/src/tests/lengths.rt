@@ -6,7 +6,7 @@ use std::alloc::{AllocError, Global};
 fn filled(alloc: Global, front: &[u8], byte: u8) -> Result<(Gave, Gave), AllocError> {
     let mut line = Vec::new(alloc);
     line.extend_from_slice(front)?;
-    while line.len() < 65536 {
+    for _ in front.len()..65536 {
         line.push(byte)?;
     }
     let most = parsed(alloc, line.as_slice());
