@@ -1,5 +1,5 @@
 -- The lines of a workload.
-use Rattle.std.specs.Prelude.{ℕ, zero, suc, ◌+◌, ◌*◌, ◌/◌, ◌%◌, ◌^◌, ◌==◌, List, [], ◌∷◌, ◌++◌, replicate, slice_index_or, if◌then◌else◌, codes, decimal}
+use Rattle.std.specs.Prelude.{ℕ, zero, suc, ◌+◌, ◌*◌, ◌/◌, ◌%◌, ◌^◌, ◌==◌, ◌&&◌, Bool, List, [], ◌∷◌, ◌++◌, replicate, slice_index_or, if◌then◌else◌, codes, decimal}
 use Rattle.nvm_base.specs.Data.{data_text}
 
 -- the state after a draw
@@ -30,28 +30,32 @@ restart_line b = codes "restart seed " ++ decimal b
 abbrev pub cut_lines : ℕ → List (List ℕ)
 cut_lines b = codes "cut" ∷ restart_line b ∷ map_line ∷ []
 
--- what a round may do: ten kinds
-abbrev pub kinds : ℕ → ℕ → List (List (List ℕ))
+-- what a round may do in one line: ten kinds
+abbrev pub kinds : ℕ → ℕ → List (List ℕ)
 kinds a b =
-    (line (codes "bwrite ") (a % 64) (equal 512 b) ∷ [])
-    ∷ (line (codes "batomic ") (a % 63) (equal 1024 b) ∷ [])
-    ∷ (line (codes "bread ") (a % 64) (codes "1") ∷ [])
-    ∷ (line (codes "bdiscard ") (a % 64) (codes "1") ∷ [])
-    ∷ (line (codes "vstore ") (8 * (a % 4096)) (equal 8 b) ∷ [])
-    ∷ (line (codes "vsync ") (64 * (a % 512)) (codes "64") ∷ [])
-    ∷ (line (codes "store 0 ") (8 * (a % 8192)) (equal 8 b) ∷ [])
-    ∷ (line (codes "flush 0 ") (64 * (a % 1024)) (codes "64") ∷ [])
-    ∷ (line (codes "fatomic f1 ") (64 * (a % 1024)) (equal 64 b) ∷ [])
-    ∷ (if b % 2 == 0 then line (codes "fread f0 ") (64 * (a % 1024)) (codes "64") ∷ [] else cut_lines b)
+    line (codes "bwrite ") (a % 64) (equal 512 b)
+    ∷ line (codes "batomic ") (a % 63) (equal 1024 b)
+    ∷ line (codes "bread ") (a % 64) (codes "1")
+    ∷ line (codes "bdiscard ") (a % 64) (codes "1")
+    ∷ line (codes "vstore ") (8 * (a % 4096)) (equal 8 b)
+    ∷ line (codes "vsync ") (64 * (a % 512)) (codes "64")
+    ∷ line (codes "store 0 ") (8 * (a % 8192)) (equal 8 b)
+    ∷ line (codes "flush 0 ") (64 * (a % 1024)) (codes "64")
+    ∷ line (codes "fatomic f1 ") (64 * (a % 1024)) (equal 64 b)
+    ∷ line (codes "fread f0 ") (64 * (a % 1024)) (codes "64")
     ∷ []
 
--- the lines of a round: the first of its draws chooses the kind, the others tell the place and the byte
-unfoldable pub round : ℕ → ℕ → ℕ → List (List ℕ)
-round k a b = slice_index_or (kinds a b) (k % 10) []
+-- the line of the kind that the first draw chooses; the others tell its place and its byte
+unfoldable pub kind : ℕ → ℕ → ℕ → List ℕ
+kind k a b = slice_index_or (kinds a b) (k % 10) []
 
--- a round's first line
-abbrev pub first_of : List (List ℕ) → List ℕ
-first_of round = slice_index_or round 0 []
+-- in place of the last kind the power is cut, where the third draw is odd
+abbrev pub is_cut : ℕ → ℕ → Bool
+is_cut k b = (k % 10 == 9) && (b % 2 == 1)
+
+-- the lines of a round, by its three draws
+abbrev pub round : ℕ → ℕ → ℕ → List (List ℕ)
+round k a b = if is_cut k b then cut_lines b else kind k a b ∷ []
 
 -- the state after a round's three draws
 abbrev pub after_round : ℕ → ℕ

@@ -1,5 +1,5 @@
 -- What a summary counts.
-use Rattle.std.specs.Prelude.{ℕ, ◌+◌, ◌%◌, ◌^◌, ◌||◌, Bool, true, false, List, drop, length, sum, take, Option, Some, None, option_map, if◌then◌else◌, codes}
+use Rattle.std.specs.Prelude.{ℕ, ◌+◌, ◌%◌, ◌^◌, ◌||◌, Bool, true, false, List, drop, length, sum, take, Option, option_map, unwrap_or, if◌then◌else◌, codes}
 use Rattle.std.specs.Str.{bytes_eq}
 use Rattle.nvm_base.specs.Counts.{raised}
 use Rattle.nvm_base.specs.Data.{ByteRun, data_of, spelled}
@@ -30,9 +30,9 @@ is_ok reply = bytes_eq reply (codes "ok") || begins reply (codes "ok ")
 abbrev pub is_read : List ℕ → Bool
 is_read reply = begins reply (codes "data ")
 
--- the sum of the bytes that a reply tells
+-- the sum of the bytes that a reply tells; 0 where it tells none
 unfoldable pub told : List ℕ → ℕ
-told reply = if is_read reply then (elim (total_of (drop 5 reply)) [ Some total ↦ total | None ↦ 0 ]) else 0
+told reply = if is_read reply then unwrap_or (total_of (drop 5 reply)) 0 else 0
 
 -- the summary after one more line and its reply: each count stands still at its last value, and the sum wraps
 abbrev pub added : Summary → List ℕ → List ℕ → Summary

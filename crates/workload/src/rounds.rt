@@ -1,14 +1,21 @@
-// The first line of a round.
+// The lines of a round.
 ghost use Rattle.std.specs.Prelude.{◌≡◌, ◌++◌, OnOk};
 ghost use Rattle.nvm_base.specs.Data.{data_text};
-ghost use Rattle.workload.specs.Lines.{first_of, line, round};
+ghost use Rattle.workload.specs.Lines.{is_cut, kind, line};
 
 use nvm_base::{Bytes, print_bytes, print_number};
 use std::alloc::AllocError;
 
-// What a round does: its kind, its place and its byte are the remainders of three draws.
-pub(crate) fn print_round(k: u64, a: u64, b: u64, out: &mut Bytes) -> Result<(), AllocError>
-    ensures { OnOk result (out.new.items ≡ out.old.items ++ first_of (round k a b)) }
+// Whether the power is cut in place of the kind that the draw chooses.
+pub(crate) fn is_cut(k: u64, b: u64) -> bool
+    ensures { result ≡ is_cut k b }
+{
+    k % 10 == 9 && b % 2 == 1
+}
+
+// The line of the kind that the first draw chooses. Its place and its byte are remainders of the others.
+pub(crate) fn print_kind(k: u64, a: u64, b: u64, out: &mut Bytes) -> Result<(), AllocError>
+    ensures { OnOk result (out.new.items ≡ out.old.items ++ kind k a b) }
 {
     let byte = (b % 256) as u8;
     match k % 10 {
@@ -21,8 +28,7 @@ pub(crate) fn print_round(k: u64, a: u64, b: u64, out: &mut Bytes) -> Result<(),
         6 => print_equal(b"store 0 ", 8 * (a % 8192), &[byte; 8], out),
         7 => print_line(b"flush 0 ", 64 * (a % 1024), b"64", out),
         8 => print_equal(b"fatomic f1 ", 64 * (a % 1024), &[byte; 64], out),
-        _ if b % 2 == 0 => print_line(b"fread f0 ", 64 * (a % 1024), b"64", out),
-        _ => out.extend(b"cut"),
+        _ => print_line(b"fread f0 ", 64 * (a % 1024), b"64", out),
     }
 }
 

@@ -35,7 +35,7 @@ fn item_total(item: &[u8]) -> Option<u64>
             let byte = byte_of(*high, *low)?;
             match read_number(number) {
                 None | Some(0) => None,
-                Some(count) => Some(byte * count),
+                Some(count) => Some(byte.wrapping_mul(count)),
             }
         }
         pairs => pairs_total(pairs),

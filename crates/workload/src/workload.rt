@@ -1,10 +1,10 @@
 // A workload, line by line.
 ghost use Rattle.std.specs.Prelude.{◌≡◌, ℕ, List, ◌++◌, IfOk};
 ghost use Rattle.workload.specs.Due.{StartsWith};
-ghost use Rattle.workload.specs.Lines.{after_round, first_of, round, round_from};
+ghost use Rattle.workload.specs.Lines.{after_round, round_from};
 
 use crate::draws::Draws;
-use crate::rounds::print_round;
+use crate::rounds::{is_cut, print_kind};
 use nvm_base::{Bytes, print_number};
 use std::alloc::{AllocError, Global};
 use std::marker::Model;
@@ -98,17 +98,11 @@ fn begin_round(draws: Draws, line: &mut Bytes) -> Result<(Draws, Due), AllocErro
     let k = draws.draw();
     let a = draws.draw();
     let b = draws.draw();
-    print_round(k, a, b, line)?;
-    Ok((draws, due_in(k, b)))
-}
-
-// What a round has after its first line.
-fn due_in(k: u64, b: u64) -> Due
-    ensures { (a : ℕ) → StartsWith (first_of (round k a b)) result (round k a b) }
-{
-    if k % 10 == 9 && b % 2 == 1 {
-        Due::Restart(b)
+    if is_cut(k, b) {
+        line.extend(b"cut")?;
+        Ok((draws, Due::Restart(b)))
     } else {
-        Due::Round
+        print_kind(k, a, b, line)?;
+        Ok((draws, Due::Round))
     }
 }

@@ -2,11 +2,11 @@
 use Rattle.std.proofs.Common.{refl}
 use Rattle.std.specs.Fmt.{digits}
 use Rattle.nvm_base.specs.Data.{data_text}
-use Rattle.workload.specs.Lines.{lines, round}
+use Rattle.workload.specs.Lines.{kind, lines}
 use Rattle.workload.proofs.rows.worked_lines.Goals as goal
 
 pub returns : goal.returns
-unfolding digits data_text lines round
+unfolding digits data_text kind lines
 returns c = record {
   first_draw = refl;
   no_round = refl;
