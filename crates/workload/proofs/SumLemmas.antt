@@ -1,5 +1,5 @@
 -- Sums of bytes that wrap, taken part by part.
-use Rattle.std.proofs.Common.{◌≡◌, ℕ, ◌+◌, ◌*◌, ◌%◌, ◌^◌, ◌<◌, List, [], ◌∷◌, ◌++◌, replicate, sum, Option, Some, None, refl, sym, ap, ◌∙◌, arith, append-nil, mul_comm, drop, length, get_or}
+use Rattle.std.proofs.Common.{◌≡◌, ℕ, ◌+◌, ◌*◌, ◌%◌, ◌^◌, ◌<◌, List, [], ◌++◌, replicate, sum, Option, Some, None, refl, sym, ap, ◌∙◌, arith, append-nil, mul_comm, drop, length, get_or}
 use Rattle.std.proofs.lemmas.Option.{same_Some}
 use Rattle.std.proofs.lemmas.List.Sums.{sum_by-append}
 use Rattle.std.proofs.lemmas.List.Folds.{sum_by-replicate}

@@ -15,8 +15,8 @@ abbrev pub line : List ℕ → ℕ → List ℕ → List ℕ
 line words place rest = words ++ decimal place ++ 32 ∷ rest
 
 -- so many bytes of the value of that draw, as DATA
-abbrev pub equal : ℕ → ℕ → List ℕ
-equal count b = data_text (replicate count (b % 256))
+abbrev pub equal_bytes : ℕ → ℕ → List ℕ
+equal_bytes count b = data_text (replicate count (b % 256))
 
 -- where the first file is mapped
 abbrev pub map_line : List ℕ
@@ -33,15 +33,15 @@ cut_lines b = codes "cut" ∷ restart_line b ∷ map_line ∷ []
 -- what a round may do in one line: ten kinds
 abbrev pub kinds : ℕ → ℕ → List (List ℕ)
 kinds a b =
-    line (codes "bwrite ") (a % 64) (equal 512 b)
-    ∷ line (codes "batomic ") (a % 63) (equal 1024 b)
+    line (codes "bwrite ") (a % 64) (equal_bytes 512 b)
+    ∷ line (codes "batomic ") (a % 63) (equal_bytes 1024 b)
     ∷ line (codes "bread ") (a % 64) (codes "1")
     ∷ line (codes "bdiscard ") (a % 64) (codes "1")
-    ∷ line (codes "vstore ") (8 * (a % 4096)) (equal 8 b)
+    ∷ line (codes "vstore ") (8 * (a % 4096)) (equal_bytes 8 b)
     ∷ line (codes "vsync ") (64 * (a % 512)) (codes "64")
-    ∷ line (codes "store 0 ") (8 * (a % 8192)) (equal 8 b)
+    ∷ line (codes "store 0 ") (8 * (a % 8192)) (equal_bytes 8 b)
     ∷ line (codes "flush 0 ") (64 * (a % 1024)) (codes "64")
-    ∷ line (codes "fatomic f1 ") (64 * (a % 1024)) (equal 64 b)
+    ∷ line (codes "fatomic f1 ") (64 * (a % 1024)) (equal_bytes 64 b)
     ∷ line (codes "fread f0 ") (64 * (a % 1024)) (codes "64")
     ∷ []
 

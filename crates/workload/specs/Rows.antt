@@ -1,5 +1,5 @@
 -- Worked lines and summaries.
-use Rattle.std.specs.Prelude.{◌≡◌, ℕ, ◌^◌, ◌-◌, List, [], ◌∷◌, ◌++◌, codes}
+use Rattle.std.specs.Prelude.{◌≡◌, ℕ, List, [], ◌∷◌, codes}
 use Rattle.workload.specs.Lines.{drawn, lines, stepped}
 use Rattle.workload.specs.Summary.{added, told}
 use Rattle.workload.specs.declared.summary.Summary.{Summary}

@@ -68,8 +68,13 @@ const SEED_3: [&str; 9] = [
     "fread f0 54464 64",
 ];
 
-
-fn follow(rt: &impl Abort, alloc: Global, seed: u64, count: u64, lines: &[&str]) -> Result<(), Fail> {
+fn follow(
+    rt: &impl Abort,
+    alloc: Global,
+    seed: u64,
+    count: u64,
+    lines: &[&str],
+) -> Result<(), Fail> {
     let mut workload = Workload::new(seed, count);
     for line in lines {
         let given = workload.next(alloc)?.ok_or("too few lines")?;
@@ -90,7 +95,13 @@ fn lines_of_twenty_rounds(rt: HostRuntime) -> Result<(), Fail> {
 #[test]
 fn a_cut_is_followed_by_a_restart(rt: HostRuntime) -> Result<(), Fail> {
     follow(&rt, rt.alloc(), 3, 4, SEED_3.as_slice())?;
-    follow(&rt, rt.alloc(), u64::MAX, 0, &["create f0 16", "create f1 16", "map f0 0 65536 shared"])
+    follow(
+        &rt,
+        rt.alloc(),
+        u64::MAX,
+        0,
+        &["create f0 16", "create f1 16", "map f0 0 65536 shared"],
+    )
 }
 
 #[test]

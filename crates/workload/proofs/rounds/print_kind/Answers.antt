@@ -1,4 +1,4 @@
-use Rattle.std.proofs.Common.{◌≡◌, ◌%◌, arith, rules}
+use Rattle.std.proofs.Common.{◌≡◌, ◌%◌, arith}
 use Rattle.workload.proofs.RoundLemmas.{kind-is}
 use Rattle.workload.proofs.rounds.print_kind.Goals as goal
 

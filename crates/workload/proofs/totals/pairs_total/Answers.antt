@@ -1,4 +1,4 @@
-use Rattle.std.proofs.Common.{◌≡◌, ◌*◌, ◌%◌, ◌^◌, ◌<◌, lit<, sym, ◌∙◌, arith, get_or, sum}
+use Rattle.std.proofs.Common.{◌≡◌, ◌%◌, ◌^◌, ◌<◌, lit<, sym, ◌∙◌, arith, get_or, sum}
 use Rattle.nvm_base.specs.Data.{run, spelled}
 use Rattle.nvm_base.proofs.ReadingLemmas.{pairs_of-bad, pairs_of-more, tail}
 use Rattle.workload.proofs.SumLemmas.{Summed-bad, Summed-more, Summed-none, sum-run}

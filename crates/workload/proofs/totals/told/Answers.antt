@@ -1,4 +1,4 @@
-use Rattle.std.proofs.Common.{sym, ◌∙◌}
+use Rattle.std.proofs.Common.{◌∙◌}
 use Rattle.workload.proofs.TextLemmas.{told-none, told-of}
 use Rattle.workload.proofs.totals.told.Goals as goal
 
