@@ -45,7 +45,7 @@ pub other_named : (text name : List ℕ) (f : List Page → List Page) (files : 
     → bad_named name (change_file file_name text (on_pages f) files) n ≡ bad_named name files n
 other_named text name f files n apart = ap (λ p. is_bad_cell (cell_of p n)) (named-change name text apart (on_pages f) (λ x. refl) files)
 
-changed_no_worse : (text : List ℕ) (f : List Page → List Page) (files : List File) → ((pages : List Page) → PagesNoWorse pages (f pages))
+pub changed_no_worse : (text : List ℕ) (f : List Page → List Page) (files : List File) → ((pages : List Page) → PagesNoWorse pages (f pages))
     → NoWorse files (change_file file_name text (on_pages f) files)
 changed_no_worse text f files each name n bad = by_name (bytes_eq text name) refl
   where

@@ -9,29 +9,33 @@ use Rattle.nvm_base.specs.declared.units.Span.{Span}
 use Rattle.nvm_model.specs.Cell.{Cell, clear_cell, lose_cell, weaken_cell}
 use Rattle.nvm_model.specs.Files.{entry_of_file}
 use Rattle.nvm_model.specs.Listing.{AreAlike, file_name}
-use Rattle.nvm_model.specs.Page.{Page, change_line, fill, is_present, put}
+use Rattle.nvm_model.specs.Page.{Page, change_line, discard, fill, is_present, put}
 use Rattle.nvm_model.specs.Storage.{File, Mapping}
 use Rattle.nvm_model.specs.Interrupted.{MaySyncAll}
 use Rattle.nvm_model.specs.Touched.{persist_spans}
 use Rattle.nvm_model.proofs.FileLeftLemmas.{one_left-entries}
 use Rattle.nvm_model.proofs.MediaLemmas.{length-change}
 use Rattle.nvm_model.proofs.OneFileLemmas.{left-change}
-use Rattle.nvm_model.proofs.PageLemmas.{length-put_fill, length-read_pages}
+use Rattle.nvm_model.proofs.PageLemmas.{length-discard, length-put_fill, length-read_pages}
 use Rattle.nvm_model.proofs.SeveralLemmas.{length-spans}
 use Rattle.file_journal.specs.Files.{UnitFile, files_of, unit_file_name}
 use Rattle.file_journal.specs.Reading.{tables_read}
 use Rattle.file_journal.specs.Standing.{KeepsFile, KeepsFiles, file_read, files_read, line_of_file, pages_there}
+use Rattle.file_actions.specs.Refusals.{all_bytes}
+use Rattle.file_actions.specs.Rewriting.{rewritten}
 use Rattle.script_text.specs.Action.{Action}
-use Rattle.script_text.specs.Action.Action.{Create, Delete, Rename, Resize, FWrite, Load, Store, Sync, Flush, FlushVerify, DeepFlush, PoisonFile, WeakenFile, ClearFile}
+use Rattle.script_text.specs.Action.Action.{Create, Delete, Rename, Resize, FWrite, FAtomic, FMulti, FDiscard, FSync, Load, Store, Sync, Flush, FlushVerify, DeepFlush, PoisonFile, WeakenFile, ClearFile}
 use Rattle.machine_host.specs.Commands.{meaning}
 use Rattle.machine_host.specs.declared.look.Look.{Look}
 use Rattle.machine_host.specs.declared.look.Look.TheVariants.{Once, Again}
 use Rattle.machine_host.specs.OnFileErrors.{marked_in}
+use Rattle.machine_host.specs.OnFileActions.{discarded_in, written_together}
 use Rattle.machine_host.specs.OnFlushes.{all_moved, flush_file, flush_through, flush_with, nothing_done, synced_in}
 use Rattle.machine_host.specs.OnMappings.{load_through, read_copy, store_through, write_copy}
 use Rattle.machine_host.specs.OnPages.{fread, fwrite, stored_in}
 use Rattle.nvm_model.specs.Mappings.{is_shared, mapping_of}
 use Rattle.durable.specs.Files.{changes_files}
+use Rattle.durable.proofs.RewrittenLemmas.{length-rewritten}
 use Rattle.durable.proofs.StepKinds.{files_made}
 
 -- what a restart left of files is listed as what it may have left
@@ -70,6 +74,18 @@ marked_entries mark name offset files =
     one_left-entries name (λ old new. length new ≡ length old) (λ old new same. same) files (marked_in mark name offset files)
     (left-change name (change_line mark (offset / 64)) (λ old new. length new ≡ length old) (length-change mark (offset / 64)) files)
 
+-- pages of one written as a whole, or made holes
+rewritten_entries : (name : List ℕ) (ranges : List Span) (bytes : List ℕ) (files : List File)
+    → map entry_of_file (written_together name ranges bytes files) ≡ map entry_of_file files
+rewritten_entries name ranges bytes files =
+    one_left-entries name (λ old new. length new ≡ length old) (λ old new same. same) files (written_together name ranges bytes files)
+    (left-change name (rewritten ranges bytes) (λ old new. length new ≡ length old) (length-rewritten ranges bytes) files)
+
+discarded_entries : (name : List ℕ) (page count : ℕ) (files : List File) → map entry_of_file (discarded_in name page count files) ≡ map entry_of_file files
+discarded_entries name page count files =
+    one_left-entries name (λ old new. length new ≡ length old) (λ old new same. same) files (discarded_in name page count files)
+    (left-change name (discard page count) (λ old new. length new ≡ length old) (length-discard page count) files)
+
 flushed_entries : (look : Look) (handle : ℕ) (spans : List Span) (mappings : List Mapping) (files : List File)
     → map entry_of_file ((flush_with look handle spans).files mappings files) ≡ map entry_of_file files
 flushed_entries look handle spans mappings files = by_mapping (mapping_of handle mappings)
@@ -93,6 +109,10 @@ entries_same (Delete name) mappings files none = cc none
 entries_same (Rename name to) mappings files none = cc none
 entries_same (Resize name pages) mappings files none = cc none
 entries_same (FWrite name offset bytes) mappings files none = stored_entries name offset bytes files
+entries_same (FAtomic name offset bytes) mappings files none = rewritten_entries name (record { start = offset; len = length bytes } ∷ []) bytes files
+entries_same (FMulti name ranges bytes) mappings files none = rewritten_entries name ranges bytes files
+entries_same (FDiscard name page count) mappings files none = discarded_entries name page count files
+entries_same (FSync name) mappings files none = synced_entries name all_bytes files
 entries_same (Load handle offset len) mappings files none = by_mapping (mapping_of handle mappings)
   where
     by_kind : (m : Mapping) (shared : Bool) → map entry_of_file ((if shared then fread m.name (m.start + offset) len else read_copy m offset len).files mappings files) ≡ map entry_of_file files

@@ -31,7 +31,7 @@ use Rattle.durable.specs.Events.{AreAll, GoesBad, TellsLines, all_told, told_by}
 use Rattle.durable.proofs.BadLineLemmas.{NoWorse, bad_named, bad_within, other_named, same_no_worse}
 use Rattle.durable.proofs.FileLineLemmas.{named-marked_at}
 use Rattle.durable.proofs.NumberLemmas.{all_alike, all_none, all_one, all_passing}
-use Rattle.durable.proofs.RefusalLemmas.{is_refused}
+use Rattle.durable.proofs.RefusedAnswerLemmas.{is_refused}
 use Rattle.durable.proofs.VerifyLemmas.{synced-cell}
 
 -- names that differ

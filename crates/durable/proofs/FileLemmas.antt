@@ -28,7 +28,8 @@ use Rattle.durable.proofs.EntryLemmas.{entries_made, entries_read, entries_same,
 use Rattle.durable.proofs.KeepLemmas.{done_begun, stop_begun}
 use Rattle.durable.proofs.LawLemmas.{came_of, finishes, none-asked, not_done}
 use Rattle.durable.proofs.PassLemmas.{pass}
-use Rattle.durable.proofs.RefusalLemmas.{is_on, is_refused, refused_told}
+use Rattle.durable.proofs.RefusalLemmas.{is_on, refused_told}
+use Rattle.durable.proofs.RefusedAnswerLemmas.{is_refused}
 use Rattle.durable.proofs.WholeLemmas.{whole-heard, whole-run}
 
 module _ (P : List FileEntry → Type 0) where
@@ -71,7 +72,7 @@ module _ (P : List FileEntry → Type 0) where
       elim begun as (λ _. changes_files action ≡ false) [ inl done ↦ spares (done_begun answer done) | inr touches ↦ touches.files ] in
       inl (lists_free next (subst LeavesFiles (sym to.interrupted) (lists.settled (is_on h action to.needs none)))
       (subst P (sym (ap (map entry_of_file) to.files ∙ entries_made action h.mappings h.files leaves)) lists.now))
-  lists_step h action answer next spares lists (stops by is to) =
+  lists_step h action answer next spares lists (stops by is none to) =
       inl (lists_free next (subst LeavesFiles {x = Some action} (sym to.interrupted) (spares (ap is_begun is ∙ stop_begun by)))
       (subst (λ fs. P (map entry_of_file fs)) {x = h.files} (sym to.files) lists.now))
   lists_step h action answer next spares lists (returns covers back) =
@@ -126,11 +127,11 @@ files_done h next action does change =
     subst (FilesLast next) (ap (map entry_of_file) (came.to.files ∙ files_meant action h.mappings h.files change)) (files_last next (subst LeavesFiles {x = None} (sym free) tt))
 
 -- and one that was stopped
-not_stopped : (answer : Answer) → IsStopped (answer ∷ []) → is_refused answer ≡ false
+pub not_stopped : (answer : Answer) → IsStopped (answer ∷ []) → is_refused answer ≡ false
 not_stopped answer (inl is) = cc is
 not_stopped answer (inr is) = cc is
 
-done_or_stopped : (answer : Answer) → IsStopped (answer ∷ []) → IsDone answer → ⊥
+pub done_or_stopped : (answer : Answer) → IsStopped (answer ∷ []) → IsDone answer → ⊥
 done_or_stopped answer (inl is) (inl done) = cc (is, done)
 done_or_stopped answer (inl is) (inr done) = cc (is, done.2)
 done_or_stopped answer (inr is) (inl done) = cc (is, done)
@@ -142,10 +143,10 @@ stopped_by h action answer next change was (idles (inl why) to) = absurd (both_w
 stopped_by h action answer next change was (idles (inr none) to) = absurd (both_ways (changes_files action) none.files change)
 stopped_by h action answer next change was (alters (inl done) none to) = absurd (done_or_stopped answer was done)
 stopped_by h action answer next change was (alters (inr touches) none to) = absurd (both_ways (changes_files action) touches.files change)
-stopped_by h action answer next change was (stops by is to) = to
-stopped_by h action answer next change was (returns covers back) = absurd (both_ways (changes_files action) covers.files change)
-stopped_by h action answer next change was (remounts covers back) = absurd (both_ways (changes_files action) covers.files change)
-stopped_by h action answer next change was (empties covers to) = absurd (both_ways (changes_files action) covers.files change)
+stopped_by h action answer next change was (stops by is none to) = to
+stopped_by h action answer next change was (returns covers back) = absurd (both_ways (changes_files action) covers.0.files change)
+stopped_by h action answer next change was (remounts covers back) = absurd (both_ways (changes_files action) covers.0.files change)
+stopped_by h action answer next change was (empties covers to) = absurd (both_ways (changes_files action) covers.0.files change)
 
 lists_stopped : (h : Machine) (action : Action) (next : Machine) → Stops h action next
     → Lists (λ es. (es ≡ files_listed h) ⊎ (es ≡ files_after h action)) next

@@ -15,7 +15,7 @@ use Rattle.machine_host.specs.declared.look.Look.{Look}
 use Rattle.machine_host.specs.OnFileErrors.{marked_in}
 use Rattle.machine_host.specs.OnFlushes.{all_moved, flush_file, flush_through, flush_with, nothing_done, synced_in}
 use Rattle.machine_host.specs.OnPages.{pages_named}
-use Rattle.durable.specs.Touching.{flushed_by, flushed_lines, flushed_through, nothing}
+use Rattle.durable.specs.Region.{flushed_by, flushed_lines, flushed_through, nothing}
 use Rattle.durable.proofs.NamedPageLemmas.{named-own}
 
 -- The same pages are there, and the line of the byte is flushed.
@@ -39,7 +39,7 @@ spans-flushed spans i pages touched = record {
 no_line : (f : Cell → Cell) (n : ℕ) (pages : List Page) → pages ≡ [] → cell_of pages n ≡ option_map f (cell_of pages n)
 no_line f n pages none = ap (λ p. cell_of p n) none ∙ sym (ap (λ p. option_map f (cell_of p n)) none)
 
-synced-flushed : (spans : List Span) (name : List ℕ) (i : ℕ) (files : List File) → touches_any spans (i / 64) ≡ true
+pub synced-flushed : (spans : List Span) (name : List ℕ) (i : ℕ) (files : List File) → touches_any spans (i / 64) ≡ true
     → LineFlushed i (pages_named name files) (pages_named name (synced_in name spans files))
 synced-flushed spans name i files touched =
     elim (named-own name (persist_spans spans) files) as (λ _. LineFlushed i (pages_named name files) (pages_named name (synced_in name spans files))) [

@@ -10,7 +10,7 @@ use Rattle.nvm_model.specs.Files.{OneFileLeft, new_file, on_pages, with_name, wi
 use Rattle.nvm_model.specs.Cell.{Cell, clear_cell, lose_cell, weaken_cell}
 use Rattle.nvm_model.specs.Interrupted.{MayStore, MaySyncAll}
 use Rattle.nvm_model.specs.Listing.{change_file, file_name, file_of, is_before, is_named, put_file, put_some, rename_file, without_file}
-use Rattle.nvm_model.specs.Page.{Page, change_line, fill, put}
+use Rattle.nvm_model.specs.Page.{Page, change_line, discard, fill, put}
 use Rattle.nvm_model.specs.Page.Page.{Absent}
 use Rattle.nvm_model.specs.Mappings.{is_shared, mapping_of}
 use Rattle.nvm_model.specs.Storage.{File, Mapping}
@@ -19,8 +19,10 @@ use Rattle.nvm_model.proofs.ResizeLemmas.{replicate-item, resized-item}
 use Rattle.file_journal.specs.Files.{UnitFile, files_of}
 use Rattle.file_journal.specs.Reading.{tables_read}
 use Rattle.file_journal.specs.Standing.{file_read, files_read, line_of_file, pages_there}
+use Rattle.file_actions.specs.Refusals.{all_bytes}
+use Rattle.file_actions.specs.Rewriting.{rewritten}
 use Rattle.script_text.specs.Action.{Action}
-use Rattle.script_text.specs.Action.Action.{Create, Delete, Rename, Resize, FWrite, Load, Store, Sync, Flush, FlushVerify, DeepFlush, PoisonFile, WeakenFile, ClearFile}
+use Rattle.script_text.specs.Action.Action.{Create, Delete, Rename, Resize, FWrite, FAtomic, FMulti, FDiscard, FSync, Load, Store, Sync, Flush, FlushVerify, DeepFlush, PoisonFile, WeakenFile, ClearFile}
 use Rattle.machine_host.specs.Commands.{LeavesFiles, MayLeaveFiles, meaning}
 use Rattle.machine_host.specs.Meaning.{FilesLeft}
 use Rattle.machine_host.specs.Meaning.FilesLeft.{Unchanged, OldOrNew, StoredInPart, SyncedInPart}
@@ -34,8 +36,9 @@ use Rattle.machine_host.specs.OnPages.{fwrite, pages_named, stored_in}
 use Rattle.durable.specs.Durable.{AllHaveLines, HaveLines, IsLineThere}
 use Rattle.durable.proofs.FileKeepLemmas.{load-leaves}
 use Rattle.durable.proofs.PresenceLemmas.{has_lines, line_in, page_present}
+use Rattle.durable.proofs.RewrittenLemmas.{lines-rewritten}
 use Rattle.durable.proofs.StepKinds.{files_made}
-use Rattle.durable.proofs.ThereLemmas.{lines-change, lines-fill, lines-leaves, lines-may_spans, lines-put, lines-read, lines-spans, there-clear, there-weaken}
+use Rattle.durable.proofs.ThereLemmas.{lines-change, lines-discard, lines-fill, lines-leaves, lines-may_spans, lines-put, lines-read, lines-spans, there-clear, there-weaken}
 
 -- holes have no lines
 lines-holes : (count : ℕ) → HaveLines (replicate count Absent)
@@ -145,6 +148,12 @@ lines-files_meant (Delete name) mappings files all = lines-without name files al
 lines-files_meant (Rename name to) mappings files all = lines-renamed name to files all
 lines-files_meant (Resize name pages) mappings files all = lines-changed name (with_pages pages) (λ x has. lines-resized pages x.pages has) files all
 lines-files_meant (FWrite name offset bytes) mappings files all = lines-stored_in name offset bytes files all
+lines-files_meant (FAtomic name offset bytes) mappings files all =
+    lines-changed name (on_pages (rewritten (record { start = offset; len = length bytes } ∷ []) bytes)) (λ x has. lines-rewritten (record { start = offset; len = length bytes } ∷ []) bytes x.pages has) files all
+lines-files_meant (FMulti name ranges bytes) mappings files all =
+    lines-changed name (on_pages (rewritten ranges bytes)) (λ x has. lines-rewritten ranges bytes x.pages has) files all
+lines-files_meant (FDiscard name page count) mappings files all = lines-changed name (on_pages (discard page count)) (λ x has. lines-discard page count x.pages has) files all
+lines-files_meant (FSync name) mappings files all = lines-synced_in name all_bytes files all
 lines-files_meant (Load handle offset len) mappings files all = subst AllHaveLines {x = files} (sym (load-leaves handle offset len mappings files)) all
 lines-files_meant (Store handle offset bytes) mappings files all = by_mapping (mapping_of handle mappings)
   where

@@ -1,6 +1,7 @@
 -- What was stored in a file is what it has while the power stays on, and what lasts once it is flushed.
-use Rattle.std.proofs.Common.{◌≡◌, ◌⊎◌, inl, inr, ℕ, ◌+◌, ◌-◌, ◌*◌, ◌/◌, ◌%◌, ◌<◌, ◌≤◌, Bool, true, false, Option, Some, None, option_map, List, [], length, get_or, nat_lt, refl, ap, subst, ◌∙◌, arith}
+use Rattle.std.proofs.Common.{◌≡◌, ◌⊎◌, inl, inr, ℕ, ◌+◌, ◌-◌, ◌*◌, ◌/◌, ◌%◌, ◌<◌, ◌≤◌, Bool, true, false, Option, Some, None, option_map, List, [], length, get_or, nat_lt, refl, sym, ap, subst, ◌∙◌, arith}
 use Rattle.std.specs.Prelude.{slice_index}
+use Rattle.std.proofs.lemmas.Bool.{and_from, and_parts, both_ways}
 use Rattle.std.proofs.lemmas.Bool.Decides.{nat_tests}
 use Rattle.nvm_base.proofs.FirstLemmas.{not_mapped}
 use Rattle.nvm_model.specs.Cell.{Cell, clear_cell, flush_cell, touches}
@@ -17,16 +18,19 @@ use Rattle.machine_host.specs.OnFileErrors.{marked_in}
 use Rattle.machine_host.specs.OnPages.{page_answer, pages_named, stored_in}
 use Rattle.durable.specs.Place.{byte_at_place, is_weak_line, line_has}
 use Rattle.durable.specs.Place.Place.{of_file}
-use Rattle.durable.specs.Touching.{is_made_durable}
-use Rattle.durable.specs.Durable.{Does, Finishes, HaveLines, Lasts, LastsPowered}
-use Rattle.durable.proofs.LineLemmas.{flush_shown, zero_shown}
+use Rattle.durable.specs.Touching.{changes, is_made_durable, wears}
+use Rattle.durable.specs.Durable.{BringsBytes, Does, Finishes, HaveLines, IsComplete, KeepsByte, Lasts, LastsPowered}
+use Rattle.durable.proofs.LineLemmas.{MayBe, flush_shown, zero_shown}
 use Rattle.durable.proofs.FileLineLemmas.{LineFlushed}
 use Rattle.durable.proofs.FileKeepLemmas.{in_line}
-use Rattle.durable.proofs.CoverLemmas.{file-cleared, file_renewed, was_bad_in}
+use Rattle.durable.proofs.CoverLemmas.{file-cleared, file_renewed, same_worn, was_bad_in}
 use Rattle.durable.proofs.FileThereLemmas.{lines-named}
-use Rattle.durable.proofs.LawLemmas.{done_by, durable, finished_durable, lasts_powered}
+use Rattle.durable.proofs.LawLemmas.{Came, covers_unharmed, done_by, durable, finished_durable, lasts_powered}
 use Rattle.durable.proofs.NamedPageLemmas.{named-own}
 use Rattle.durable.proofs.RefusalLemmas.{is_on, places_none, unreadable_none}
+use Rattle.durable.proofs.KeepLemmas.{altered_place}
+use Rattle.durable.proofs.SparedLemmas.{keeps_bytes}
+use Rattle.durable.proofs.VolumeLemmas.{VolumeKeeps, byte-kept, there-kept}
 use Rattle.durable.proofs.ThereLemmas.{lines-fill}
 use Rattle.durable.proofs.WholeLemmas.{whole-heard}
 use Rattle.durable.proofs.WrittenLemmas.{bad_covered, filled_there, stored_byte, works_done}
@@ -105,19 +109,50 @@ flushed_shown i byte old new flushed strong has = ap (λ o. line_has o (i % 64))
     by_line (Some Bad) healthy shown = cc shown
     by_line (Some (Kept weak words)) healthy shown = flush_shown (Kept weak words) (i % 64) refl healthy ∙ shown
 
+-- a byte that a command kept, as it made it durable anew
+kept_anew : (h next : Machine) (action : Action) (name : List ℕ) (i : ℕ) (v : Option ℕ) → BringsBytes action → IsComplete h → byte_at_place h (of_file name i) ≡ v → Came h action next
+    → is_made_durable h action (of_file name i) ≡ true → (wears h action (of_file name i) ≡ false) × (changes action (of_file name i) ≡ false) → byte_at_place next (of_file name i) ≡ v
+kept_anew h next action name i v small whole has came covered anew =
+    elim (byte-kept since (pages_named name next.files) i v
+    (altered_place since h action next (of_file name i) v came.to (record {
+      change = anew.1;
+      brings = small;
+      poison = λ does. absurd (both_ways _ (covers_unharmed h action (of_file name i) covered) does);
+      weaken = λ does. refl;
+      cover = λ worn weak.
+          absurd (both_ways _ anew.0 (and_from _ _ (sym (same_worn h action) ∙ (and_parts _ _ worn).0) covered));
+    }) (keeps_bytes h action came.none) old)) as (λ _. byte_at_place next (of_file name i) ≡ v) [
+      | inl is ↦ is
+      | inr lost ↦ cc lost.1
+    ]
+  where
+    since : MayBe
+    since = record { weak = true; lost = false; cut = false }
+
+    old : VolumeKeeps since (pages_named name h.files) i v
+    old = subst (VolumeKeeps since (pages_named name h.files) i) has (there-kept since (pages_named name h.files) i refl (λ weak. refl) (lines-named name h.files whole.file_lines))
+
 -- what was stored, and then made durable
-pub flushed : (h stored next : Machine) (name : List ℕ) (at i : ℕ) (bytes : List ℕ) (action : Action) → ((k : ℕ) → get_or bytes k 0 < 256) → Does h (FWrite name at bytes) stored
-    → Finishes stored action next → is_made_durable stored action (of_file name i) ≡ true → is_among at (length bytes) i ≡ true
-    → is_weak_line (cell_of (pages_named name stored.files) (i / 64)) ≡ false → Lasts next (of_file name i) (Some (slice_index bytes (i - at)))
-flushed h stored next name at i bytes action small stores does covered among strong =
-    let came = done_by stored next action (of_file name i) does covered in
-    let has = stored_shown h stored name at i bytes small stores among in
-    let shown : byte_at_place next (of_file name i) ≡ Some (slice_index bytes (i - at)) =
-    elim (file_renewed stored action next name i covered came.none came.to) as (λ _. byte_at_place next (of_file name i) ≡ Some (slice_index bytes (i - at))) [
-      | inl made ↦ flushed_shown i (slice_index bytes (i - at)) (pages_named name stored.files) (pages_named name next.files) made strong has
-      | inr cleared ↦ cc (ap (λ o. line_has o (i % 64)) cleared.bad, has)
-    ] in
-    subst (Lasts next (of_file name i)) shown (finished_durable stored next action (of_file name i) does covered)
+pub flushed : (h stored next : Machine) (name : List ℕ) (at i : ℕ) (bytes : List ℕ) (action : Action) → ((k : ℕ) → get_or bytes k 0 < 256) → BringsBytes action
+    → Does h (FWrite name at bytes) stored → Finishes stored action next → is_made_durable stored action (of_file name i) ≡ true → is_among at (length bytes) i ≡ true
+    → KeepsByte stored action (of_file name i) → Lasts next (of_file name i) (Some (slice_index bytes (i - at)))
+flushed h stored next name at i bytes action small brings stores does covered among keeps =
+    subst (Lasts next (of_file name i)) (by_worn (wears stored action (of_file name i)) refl) (finished_durable stored next action (of_file name i) does covered)
+  where
+    came : Came stored action next
+    came = done_by stored next action (of_file name i) does covered
+
+    has : byte_at_place stored (of_file name i) ≡ Some (slice_index bytes (i - at))
+    has = stored_shown h stored name at i bytes small stores among
+
+    by_worn : (b : Bool) → wears stored action (of_file name i) ≡ b → byte_at_place next (of_file name i) ≡ Some (slice_index bytes (i - at))
+    by_worn true worn =
+        elim (file_renewed stored action next name i covered came.none came.to) as (λ _. byte_at_place next (of_file name i) ≡ Some (slice_index bytes (i - at))) [
+          | inl (inl made) ↦ flushed_shown i (slice_index bytes (i - at)) (pages_named name stored.files) (pages_named name next.files) made (keeps.0 worn) has
+          | inl (inr cleared) ↦ cc (ap (λ o. line_has o (i % 64)) cleared.bad, has)
+          | inr anew ↦ absurd (both_ways _ anew.0 (and_parts _ _ worn).0)
+        ]
+    by_worn false anew = kept_anew stored next action name i (Some (slice_index bytes (i - at))) brings does.whole has came covered (anew, keeps.1 anew)
 
 -- a line that is cleared has zeros
 pub cleared_in_file : (h next : Machine) (name : List ℕ) (offset i : ℕ) → Does h (ClearFile name offset) next → i / 64 ≡ offset / 64 → Lasts next (of_file name i) (Some 0)

@@ -30,13 +30,13 @@ module _ (since : MayBe) where
 
   -- the pages of a file changed by what keeps the byte
   pub keeps-changed_in : (text name : List ℕ) (i : ℕ) (v : Option ℕ) (f : List Page → List Page) (files : List File)
-      → (text ≡ name → (pages : List Page) → VolumeKeeps since pages i v → VolumeKeeps since (f pages) i v) → FileKeeps files name i v
+      → (text ≡ name → FileKeeps files name i v → VolumeKeeps since (f (pages_named name files)) i v) → FileKeeps files name i v
       → FileKeeps (change_file file_name text (on_pages f) files) name i v
   keeps-changed_in text name i v f files each keeps = by_name (bytes_eq text name) refl (bytes_eq-Decides text name)
     where
       own : text ≡ name → FileKeeps (change_file file_name name (on_pages f) files) name i v
       own same = elim (named-own name f files) as (λ _. FileKeeps (change_file file_name name (on_pages f) files) name i v) [
-        | inl is ↦ subst (λ p. VolumeKeeps since p i v) (sym is) (each same (pages_named name files) keeps)
+        | inl is ↦ subst (λ p. VolumeKeeps since p i v) (sym is) (each same keeps)
         | inr none ↦ same_pages name i v files (change_file file_name name (on_pages f) files) none.0 keeps
       ]
 
@@ -54,7 +54,7 @@ module _ (since : MayBe) where
           → FileKeeps ((if shared then flush_file look m.name (all_moved m.start spans) else nothing_done).files mappings files) name i v
       by_kind m true =
           keeps-changed_in m.name name i v (persist_spans (all_moved m.start spans)) files
-          (λ same pages kept. keeps-spans since (all_moved m.start spans) i v pages (λ touched. loses) kept) keeps
+          (λ same kept. keeps-spans since (all_moved m.start spans) i v (pages_named name files) (λ touched. loses) kept) keeps
       by_kind m false = keeps
 
       by_mapping : (o : Option Mapping) → FileKeeps (elim o [ None ↦ files | Some m ↦ (flush_through look spans m).files mappings files ]) name i v

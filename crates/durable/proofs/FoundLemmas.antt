@@ -25,7 +25,8 @@ use Rattle.durable.specs.Events.{AreAll, AreMounted, AreOfFile, AreOfFiles, Find
 use Rattle.durable.specs.Files.{IsStopped}
 use Rattle.durable.proofs.BadLineLemmas.{bad_within}
 use Rattle.durable.proofs.NumberLemmas.{all_passing}
-use Rattle.durable.proofs.RefusalLemmas.{is_refused, refused_told}
+use Rattle.durable.proofs.RefusalLemmas.{refused_told}
+use Rattle.durable.proofs.RefusedAnswerLemmas.{is_refused}
 
 -- those of a file
 found_all : (file : File) → AreAll (λ n. is_bad_cell (cell_of file.pages n) ≡ true) (bad_numbers file.pages)

@@ -24,12 +24,14 @@ use Rattle.pm_volume.specs.Presence.{presence_read}
 use Rattle.pm_volume.specs.Refusals.{physical_offset}
 use Rattle.durable.specs.Place.{Place, block_has, byte_at_place}
 use Rattle.durable.specs.Place.Place.{of_volume, of_blocks, of_file}
-use Rattle.durable.specs.Touching.{is_begun, touched_lines_at}
+use Rattle.durable.specs.Region.{touched_lines_at}
+use Rattle.durable.specs.Touching.{is_begun}
 use Rattle.durable.specs.Durable.{BringsBytes, HasNothing, IsDone}
 use Rattle.durable.proofs.StepKinds.{Alters, Remounts, Returns, Step, TouchesNothing, blocks_after, files_made, volume_after}
 use Rattle.durable.proofs.StepKinds.Step.{idles, alters, stops, returns, remounts, empties}
 use Rattle.durable.proofs.LineLemmas.{HasOrLost, MayBe}
-use Rattle.durable.proofs.SparedLemmas.{SparedBy, SparesPlace}
+use Rattle.durable.proofs.RefusalLemmas.{is_on}
+use Rattle.durable.proofs.SparedLemmas.{KeepsBytes, KeptBy, SparedBy, SparesPlace, keeps_bytes}
 use Rattle.durable.proofs.VolumeLemmas.{VolumeKeeps, byte-kept, keeps-clear, keeps-lose, keeps-weaken, keeps-persist, keeps-stored, keeps-may_store, keeps-may_sync, keeps-discard, keeps-may_discard, keeps-read}
 use Rattle.durable.proofs.BlockLemmas.{has-lost, nth-spared, nth-left}
 use Rattle.durable.proofs.FlushedFileLemmas.{FileKeeps}
@@ -55,6 +57,7 @@ module _ (since : MayBe) where
   pub record Keeps (h : Machine) (x : Place) (v : Option ℕ) : Type 0 where
     pub place : PlaceKeeps h x v
     pub spared : SparedBy since h.geometry h.interrupted x
+    pub fine : KeptBy h.interrupted h.files
     pub settled : h.mode ≡ On → h.interrupted ≡ None
 
   pub keeps_byte : (h : Machine) (x : Place) (v : Option ℕ) → Keeps h x v → HasOrLost since.lost (byte_at_place h x) v
@@ -127,35 +130,35 @@ module _ (since : MayBe) where
   same_place h next (of_blocks i) v blocks volume files keeps = subst (λ bs. HasOrLost since.lost (block_has (nth bs (i / 512)) (i % 512)) v) {x = h.blocks} (sym blocks) keeps
   same_place h next (of_file name i) v blocks volume files keeps = subst (λ fs. FileKeeps since fs name i v) {x = h.files} (sym files) keeps
 
-  altered_place : (h : Machine) (action : Action) (next : Machine) (x : Place) (v : Option ℕ) → Alters h action next → SparesPlace since h.geometry action x
+  pub altered_place : (h : Machine) (action : Action) (next : Machine) (x : Place) (v : Option ℕ) → Alters h action next → SparesPlace since h.geometry action x → KeepsBytes action h.files
       → PlaceKeeps h x v → PlaceKeeps next x v
-  altered_place h action next (of_volume i) v to spared keeps =
+  altered_place h action next (of_volume i) v to spared fine keeps =
       subst (λ p. VolumeKeeps since p i v) {x = volume_after h.geometry action h.volume} (sym to.volume) (altered_volume h.geometry action i v h.volume spared keeps)
-  altered_place h action next (of_blocks i) v to spared keeps =
+  altered_place h action next (of_blocks i) v to spared fine keeps =
       subst (λ bs. HasOrLost since.lost (block_has (nth bs (i / 512)) (i % 512)) v) {x = blocks_after action h.blocks} (sym to.blocks)
       (altered_blocks h.geometry action i v h.blocks spared keeps)
-  altered_place h action next (of_file name i) v to spared keeps =
-      subst (λ fs. FileKeeps since fs name i v) {x = files_made h.mappings action h.files} (sym to.files) (file_altered since h.geometry action name i v h.mappings h.files spared keeps)
+  altered_place h action next (of_file name i) v to spared fine keeps =
+      subst (λ fs. FileKeeps since fs name i v) {x = files_made h.mappings action h.files} (sym to.files) (file_altered since h.geometry action name i v h.mappings h.files spared fine keeps)
 
-  returned_place : (h next : Machine) (x : Place) (v : Option ℕ) → since.cut ≡ true → Returns h next → SparedBy since h.geometry h.interrupted x → PlaceKeeps h x v → PlaceKeeps next x v
-  returned_place h next (of_volume i) v cuts back spared keeps =
+  returned_place : (h next : Machine) (x : Place) (v : Option ℕ) → since.cut ≡ true → Returns h next → SparedBy since h.geometry h.interrupted x → KeptBy h.interrupted h.files → PlaceKeeps h x v → PlaceKeeps next x v
+  returned_place h next (of_volume i) v cuts back spared fine keeps =
       subst (λ p. VolumeKeeps since p i v) (sym back.volume)
       (keeps-read since back.choice (volume_line h.geometry) back.image (presence_read h.geometry back.image.word) i v back.may.left cuts
       (volume_left h.geometry h.interrupted i v h.volume back.may.left spared keeps back.may.may) back.may.there back.may.volume)
-  returned_place h next (of_blocks i) v cuts back spared keeps =
+  returned_place h next (of_blocks i) v cuts back spared fine keeps =
       subst (λ bs. HasOrLost since.lost (block_has (nth bs (i / 512)) (i % 512)) v) {x = blocks_read h.geometry back.image.is_bad back.image.word} (sym back.blocks)
       (subst (λ b. HasOrLost since.lost (block_has b (i % 512)) v) (sym (blocks_left h.geometry h.interrupted i h.blocks _ spared back.may.blocks)) keeps)
-  returned_place h next (of_file name i) v cuts back spared keeps =
+  returned_place h next (of_file name i) v cuts back spared fine keeps =
       subst (λ fs. FileKeeps since fs name i v) (sym back.files)
       (file_read since back.choice h.geometry back.image name i v back.may.files_left cuts back.may.files
-      (file_left since h.geometry h.mappings h.interrupted name i v h.files back.may.files_left spared back.may.may_files keeps))
+      (file_left since h.geometry h.mappings h.interrupted name i v h.files back.may.files_left spared fine back.may.may_files keeps))
 
-  remounted_place : (h next : Machine) (x : Place) (v : Option ℕ) → Remounts h next → SparedBy since h.geometry h.interrupted x → PlaceKeeps h x v → PlaceKeeps next x v
-  remounted_place h next (of_volume i) v back spared keeps = volume_left h.geometry h.interrupted i v h.volume next.volume spared keeps back.volume
-  remounted_place h next (of_blocks i) v back spared keeps =
+  remounted_place : (h next : Machine) (x : Place) (v : Option ℕ) → Remounts h next → SparedBy since h.geometry h.interrupted x → KeptBy h.interrupted h.files → PlaceKeeps h x v → PlaceKeeps next x v
+  remounted_place h next (of_volume i) v back spared fine keeps = volume_left h.geometry h.interrupted i v h.volume next.volume spared keeps back.volume
+  remounted_place h next (of_blocks i) v back spared fine keeps =
       subst (λ b. HasOrLost since.lost (block_has b (i % 512)) v) (sym (blocks_left h.geometry h.interrupted i h.blocks next.blocks spared back.blocks)) keeps
-  remounted_place h next (of_file name i) v back spared keeps =
-      file_left since h.geometry h.mappings h.interrupted name i v h.files next.files spared back.files keeps
+  remounted_place h next (of_file name i) v back spared fine keeps =
+      file_left since h.geometry h.mappings h.interrupted name i v h.files next.files spared fine back.files keeps
 
   -- an action that does nothing to any place, or was begun
   spared_when : (geo : Geometry) (action : Action) (x : Place) (answer : Answer) → BringsBytes action → (is_begun answer ≡ true → SparesPlace since geo action x)
@@ -175,6 +178,10 @@ module _ (since : MayBe) where
   spared_as h next x geometry interrupted spared =
       subst (λ g. SparedBy since g next.interrupted x) (sym geometry) (subst (λ o. SparedBy since h.geometry o x) (sym interrupted) spared)
 
+  fine_as : (h next : Machine) → next.files ≡ h.files → next.interrupted ≡ h.interrupted → KeptBy h.interrupted h.files → KeptBy next.interrupted next.files
+  fine_as h next files interrupted fine =
+      subst (KeptBy next.interrupted) {x = h.files} (sym files) (subst (λ o. KeptBy o h.files) (sym interrupted) fine)
+
   -- A step that spares the place keeps its byte, unless nothing is there after it.
   pub keeps-step : (h : Machine) (action : Action) (answer : Answer) (next : Machine) (x : Place) (v : Option ℕ) → BringsBytes action
       → (is_begun answer ≡ true → SparesPlace since h.geometry action x) → (h.mode ≡ Off → since.cut ≡ true) → Keeps h x v
@@ -182,27 +189,32 @@ module _ (since : MayBe) where
   keeps-step h action answer next x v small spares off keeps (idles why to) = inl (record {
     place = same_place h next x v to.blocks to.volume to.files keeps.place;
     spared = spared_as h next x to.geometry to.interrupted keeps.spared;
+    fine = fine_as h next to.files to.interrupted keeps.fine;
     settled = λ on. to.interrupted ∙ keeps.settled (to.mode on);
   })
   keeps-step h action answer next x v small spares off keeps (alters begun none to) = inl (record {
-    place = altered_place h action next x v to (spared_when h.geometry action x answer small spares begun) keeps.place;
+    place = altered_place h action next x v to (spared_when h.geometry action x answer small spares begun) (keeps_bytes h action none) keeps.place;
     spared = spared_as h next x to.geometry to.interrupted keeps.spared;
+    fine = subst (λ o. KeptBy o next.files) (sym (to.interrupted ∙ keeps.settled (is_on h action to.needs none))) tt;
     settled = λ on. to.interrupted ∙ keeps.settled (sym to.mode ∙ on);
   })
-  keeps-step h action answer next x v small spares off keeps (stops by is to) = inl (record {
+  keeps-step h action answer next x v small spares off keeps (stops by is none to) = inl (record {
     place = same_place h next x v to.blocks to.volume to.files keeps.place;
     spared = subst (λ g. SparedBy since g next.interrupted x) (sym to.geometry)
         (subst (λ o. SparedBy since h.geometry o x) {x = Some action} (sym to.interrupted) (spares (ap is_begun is ∙ stop_begun by)));
+    fine = subst (KeptBy next.interrupted) {x = h.files} (sym to.files) (subst (λ o. KeptBy o h.files) {x = Some action} (sym to.interrupted) (keeps_bytes h action none));
     settled = λ on. absurd (to.mode on);
   })
   keeps-step h action answer next x v small spares off keeps (returns covers_nothing back) = inl (record {
-    place = returned_place h next x v (off back.off) back keeps.spared keeps.place;
+    place = returned_place h next x v (off back.off) back keeps.spared keeps.fine keeps.place;
     spared = subst (λ o. SparedBy since next.geometry o x) (sym back.interrupted) tt;
+    fine = subst (λ o. KeptBy o next.files) (sym back.interrupted) tt;
     settled = λ on. back.interrupted;
   })
   keeps-step h action answer next x v small spares off keeps (remounts covers_nothing back) = inl (record {
-    place = remounted_place h next x v back keeps.spared keeps.place;
+    place = remounted_place h next x v back keeps.spared keeps.fine keeps.place;
     spared = subst (λ o. SparedBy since next.geometry o x) (sym back.interrupted) tt;
+    fine = subst (λ o. KeptBy o next.files) (sym back.interrupted) tt;
     settled = λ on. back.interrupted;
   })
   keeps-step h action answer next x v small spares off keeps (empties covers_nothing to) = inr to.nothing

@@ -6,7 +6,7 @@ use Rattle.line_words.specs.declared.interruption.Interruption.TheVariants.{Fail
 use Rattle.reply_text.specs.Answer.{Answer}
 use Rattle.reply_text.specs.Answer.Answer.{Done}
 use Rattle.script_text.specs.Action.{Action}
-use Rattle.script_text.specs.Action.Action.{PoisonMeta, Cut, CutIn, FailIn, Restart, Recover}
+use Rattle.script_text.specs.Action.Action.{PoisonBlock, PoisonFile, PoisonMeta, PoisonVolume, Cut, CutIn, FailIn, Restart, Recover}
 use Rattle.script_text.specs.Script.{Input}
 use Rattle.script_text.specs.Script.Input.{Skipped, Malformed, Asked}
 use Rattle.machine_host.specs.Machine.{Machine}
@@ -23,18 +23,20 @@ use Rattle.durable.proofs.PowerLemmas.{powered_first, powered_heard, powered_res
 use Rattle.durable.specs.Place.{Place, byte_at_place}
 use Rattle.durable.specs.Place.{is_weak_at}
 use Rattle.durable.specs.Place.Place.{of_volume, of_blocks, of_file}
-use Rattle.durable.specs.Touching.{changes, holds, is_begun, is_made_durable, may_be_made_durable, may_make_durable, poisons, weakens}
+use Rattle.durable.specs.Touching.{changes, is_begun, is_made_durable, may_make_durable, may_wear, poisons, weakens, wears_out}
 use Rattle.durable.specs.Durable.{BringBytes, BringsBytes, Does, Finishes, HasNothing, IsComplete, IsDone, IsDurable, Lasts, LastsPowered, NoneBegun, Remains, Spares, StaysPowered}
 use Rattle.durable.proofs.StepKinds.{Alters, CoversNothing, Step}
+use Rattle.durable.proofs.SuitLemmas.{nowhere}
 use Rattle.durable.proofs.StepLemmas.{geometry_run, geometry_step, nothing_run, step_of}
 use Rattle.durable.proofs.StepKinds.Step.{idles, alters, stops, returns, remounts, empties}
 use Rattle.durable.proofs.LineLemmas.{HasOrLost, MayBe}
 use Rattle.durable.proofs.VolumeLemmas.{there-kept}
-use Rattle.durable.proofs.SparedLemmas.{SparedBy, SparesPlace}
+use Rattle.durable.proofs.SparedLemmas.{KeptBy, SparedBy, SparesPlace}
 use Rattle.durable.proofs.KeepLemmas.{Keeps, PlaceKeeps, keeps-step, keeps_byte}
 use Rattle.durable.proofs.CoverLemmas.{covered_place}
 use Rattle.durable.proofs.ReadLemmas.{has}
-use Rattle.durable.proofs.RefusalLemmas.{is_on, is_refused, refused_told}
+use Rattle.durable.proofs.RefusalLemmas.{is_on, refused_told}
+use Rattle.durable.proofs.RefusedAnswerLemmas.{is_refused}
 use Rattle.durable.proofs.WholeLemmas.{whole-heard, whole-run}
 
 -- the answer of a first command, and those of the rest
@@ -64,6 +66,13 @@ covers_usable h (PoisonMeta line) (of_blocks i) covered = cc covered
 covers_usable h (PoisonMeta line) (of_file name i) covered = cc covered
 covers_usable h action x covered = refl
 
+-- nor does it make a line bad
+pub covers_unharmed : (h : Machine) (action : Action) (x : Place) → is_made_durable h action x ≡ true → poisons action x ≡ false
+covers_unharmed h (PoisonBlock block line) x covered = absurd (both_ways _ (nowhere x) covered)
+covers_unharmed h (PoisonVolume offset) x covered = absurd (both_ways _ (nowhere x) covered)
+covers_unharmed h (PoisonFile name offset) x covered = absurd (both_ways _ (nowhere x) covered)
+covers_unharmed h action x covered = nowhere x
+
 pub stop_done : (by : Interruption) → Done ≡ interrupted_answer by → ⊥
 stop_done Failed is = cc is
 stop_done Lost is = cc is
@@ -86,10 +95,10 @@ pub record Came (h : Machine) (action : Action) (next : Machine) : Type 0 where
 came_by : (h : Machine) (action : Action) (answer : Answer) (next : Machine) → (CoversNothing h action → ⊥) → IsDone answer → Step h action answer next → Came h action next
 came_by h action answer next some done (idles (inl why) to) = absurd (both_ways (is_refused answer) (done_allowed answer done) (refused_told h action answer why))
 came_by h action answer next some done (idles (inr none) to) = absurd (some none)
-came_by h action answer next some done (stops by is to) = absurd (not_stopped by (subst IsDone is done))
-came_by h action answer next some done (returns none back) = absurd (some none)
-came_by h action answer next some done (remounts none back) = absurd (some none)
-came_by h action answer next some done (empties none to) = absurd (some none)
+came_by h action answer next some done (stops by is none to) = absurd (not_stopped by (subst IsDone is done))
+came_by h action answer next some done (returns none back) = absurd (some none.0)
+came_by h action answer next some done (remounts none back) = absurd (some none.0)
+came_by h action answer next some done (empties none to) = absurd (some none.0)
 came_by h action answer next some done (alters begun none to) = record { none = none; to = to }
 
 pub came_of : (h next : Machine) (action : Action) → Finishes h action next → (CoversNothing h action → ⊥) → Came h action next
@@ -126,7 +135,7 @@ not_done false answer only begun = refl
 abbrev pub Allowed : MayBe → Geometry → Place → List Input → List Answer → Type 0
 Allowed since geo x inputs answers =
     Spares changes x inputs answers × SparesOr poisons (since.lost ≡ true) x inputs answers × SparesOr weakens (since.weak ≡ true) x inputs answers
-    × SparesOr (λ action y. holds (may_make_durable geo action) y) (since.weak ≡ true → since.lost ≡ true) x inputs answers
+    × SparesOr (λ action y. wears_out (may_make_durable geo action) y) (since.weak ≡ true → since.lost ≡ true) x inputs answers
 
 module _ (since : MayBe) where
   -- of a first command, and of the rest
@@ -138,7 +147,7 @@ module _ (since : MayBe) where
       let poison = may-asked poisons (since.lost ≡ true) action inputs first answer answers x is all.1 in
       let weaken = may-asked weakens (since.weak ≡ true) action inputs first answer answers x is all.2 in
       let cover =
-      may-asked (λ action y. holds (may_make_durable geo action) y) (since.weak ≡ true → since.lost ≡ true) action inputs first answer answers x is all.3 in (
+      may-asked (λ action y. wears_out (may_make_durable geo action) y) (since.weak ≡ true → since.lost ≡ true) action inputs first answer answers x is all.3 in (
         λ begun.
             record {
               change = not_done (changes action x) answer change.0 begun;
@@ -211,6 +220,7 @@ module _ (since : MayBe) where
       record {
         place = covered_place since h action next x does.whole covered came.none came.to;
         spared = subst (λ o. SparedBy since next.geometry o x) (sym free) tt;
+        fine = subst (λ o. KeptBy o next.files) (sym free) tt;
         settled = λ on. free;
       }
 
@@ -242,12 +252,12 @@ remains cut h x v whole keeps inputs said later bytes run power = record {
 }
   where
     by_harm : Spares changes x inputs said.answers → Spares poisons x inputs said.answers
-        → Spares weakens x inputs said.answers ⊎ Spares (may_be_made_durable later) x inputs said.answers → HasOrLost false (byte_at_place later x) v ⊎ HasNothing later
+        → Spares weakens x inputs said.answers ⊎ Spares (may_wear later) x inputs said.answers → HasOrLost false (byte_at_place later x) v ⊎ HasNothing later
     by_harm spares poison (inl weaken) =
         byte_or (unharmed_since cut) later x v
         (keeps-run (unharmed_since cut) inputs h later said x v bytes run power (spares, inl poison, inl weaken, inr (λ weak. cc weak)) (inl (keeps false false)))
     by_harm spares poison (inr cover) =
-        let synced = subst (λ g. Spares (λ action y. holds (may_make_durable g action) y) x inputs said.answers) (geometry_run inputs h later said run) cover in
+        let synced = subst (λ g. Spares (λ action y. wears_out (may_make_durable g action) y) x inputs said.answers) (geometry_run inputs h later said run) cover in
         byte_or (weak_since cut) later x v
         (keeps-run (weak_since cut) inputs h later said x v bytes run power (spares, inl poison, inr refl, inl synced) (inl (keeps true false)))
 
@@ -269,6 +279,7 @@ lasts_powered h x whole on strong inputs said later bytes run powered =
     (λ weak lost. record {
       place = there h x weak lost whole strong;
       spared = subst (λ o. SparedBy (record { weak = weak; lost = lost; cut = false }) h.geometry o x) (sym (whole.settled on)) tt;
+      fine = subst (λ o. KeptBy o h.files) (sym (whole.settled on)) tt;
       settled = whole.settled;
     })
     inputs said later bytes run (inr (λ off. cc (on, off), powered))

@@ -1,7 +1,7 @@
 -- What is lost, and that it stays lost.
 use Rattle.std.proofs.Common.{◌≡◌, inl, inr, ℕ, ◌+◌, ◌*◌, ◌/◌, ◌%◌, ◌≤◌, true, false, nat_le, nat_lt, Option, Some, None, option_map, List, slice_index_or, refl, sym, ap, subst, ◌∙◌, arith}
 use Rattle.std.specs.Prelude.{slice_index}
-use Rattle.std.proofs.lemmas.Bool.{both_ways, eqb-true, or_parts}
+use Rattle.std.proofs.lemmas.Bool.{and_parts, both_ways, eqb-true, or_parts}
 use Rattle.std.proofs.lemmas.Bool.Decides.{nat_tests}
 use Rattle.nvm_model.specs.Blocks.{lose, lose_at, lose_line, nth}
 use Rattle.nvm_model.specs.Cell.{Cell, flush_cell, lose_cell}
@@ -27,22 +27,25 @@ use Rattle.machine_host.specs.Run.{Takes}
 use Rattle.pm_volume.specs.Refusals.{physical_offset}
 use Rattle.durable.specs.Place.{Place, block_has, byte_at_place, is_weak_at, is_weak_line, line_has}
 use Rattle.durable.specs.Place.Place.{of_volume, of_blocks, of_file}
-use Rattle.durable.specs.Touching.{is_made_durable, touched_lines_at}
+use Rattle.durable.specs.Region.{touched_lines_at}
+use Rattle.durable.specs.Touching.{is_made_durable, wears}
 use Rattle.durable.specs.Durable.{Does, Finishes, IsComplete, Lasts}
 use Rattle.durable.proofs.StepKinds.{volume_after}
 use Rattle.durable.proofs.FileLineLemmas.{LineFlushed, named-marked, persist-flushed}
-use Rattle.durable.proofs.SparedLemmas.{SparedBy}
+use Rattle.durable.proofs.SparedLemmas.{KeptBy, SparedBy}
 use Rattle.durable.proofs.KeepLemmas.{PlaceKeeps}
 use Rattle.durable.proofs.CoverLemmas.{file_renewed, may_cover, was_bad}
 use Rattle.durable.proofs.LineLemmas.{MayBe, lost-kept}
 use Rattle.durable.proofs.BlockLemmas.{lost_there}
 use Rattle.durable.proofs.LawLemmas.{done_by, lasts}
-use Rattle.durable.proofs.RefusalLemmas.{is_refused, line_none, places_none, refused_told, within_none}
+use Rattle.durable.proofs.RefusalLemmas.{line_none, places_none, refused_told, within_none}
+use Rattle.durable.proofs.RefusedAnswerLemmas.{is_refused}
 
 pub stays_lost : (h : Machine) (x : Place) → IsComplete h → h.mode ≡ On → byte_at_place h x ≡ None → Lasts h x None
 stays_lost h x whole on lost = lasts h x None whole (λ since. record {
   place = by_place since x lost;
   spared = subst (λ o. SparedBy since h.geometry o x) (sym (whole.settled on)) tt;
+  fine = subst (λ o. KeptBy o h.files) (sym (whole.settled on)) tt;
   settled = whole.settled;
 })
   where
@@ -134,13 +137,16 @@ worn_in_volume h next (FlushVerify handle spans) i covered weak none to = let no
 worn_in_volume h next (DeepFlush handle spans) i covered weak none to = let no = may_cover h (DeepFlush handle spans) (of_volume i) covered in cc no
 worn_in_volume h next action i covered weak none to = cc covered
 
-pub worn_out : (h next : Machine) (action : Action) (x : Place) → Finishes h action next → is_made_durable h action x ≡ true → is_weak_at h x ≡ true → byte_at_place next x ≡ None
-worn_out h next action (of_volume i) does covered weak =
+pub worn_out : (h next : Machine) (action : Action) (x : Place) → Finishes h action next → wears h action x ≡ true → is_weak_at h x ≡ true → byte_at_place next x ≡ None
+worn_out h next action (of_volume i) does worn weak =
+    let covered = (and_parts _ _ worn).1 in
     let came = done_by h next action (of_volume i) does covered in worn_in_volume h next action i covered weak came.none came.to.volume
-worn_out h next action (of_blocks i) does covered weak = cc weak
-worn_out h next action (of_file name i) does covered weak =
+worn_out h next action (of_blocks i) does worn weak = cc weak
+worn_out h next action (of_file name i) does worn weak =
+    let covered = (and_parts _ _ worn).1 in
     let came = done_by h next action (of_file name i) does covered in
     elim (file_renewed h action next name i covered came.none came.to) as (λ _. byte_at_place next (of_file name i) ≡ None) [
-      | inl flushed ↦ worn_line i (pages_named name h.files) (pages_named name next.files) flushed weak
-      | inr cleared ↦ absurd (both_ways (is_weak_line (cell_of (pages_named name h.files) (i / 64))) (ap is_weak_line cleared.bad) weak)
+      | inl (inl flushed) ↦ worn_line i (pages_named name h.files) (pages_named name next.files) flushed weak
+      | inl (inr cleared) ↦ absurd (both_ways (is_weak_line (cell_of (pages_named name h.files) (i / 64))) (ap is_weak_line cleared.bad) weak)
+      | inr anew ↦ absurd (both_ways _ anew.0 (and_parts _ _ worn).0)
     ]

@@ -38,7 +38,8 @@ use Rattle.durable.specs.Place.Place.{of_volume, of_blocks, of_file}
 use Rattle.durable.specs.Touching.{is_begun, unmounts}
 use Rattle.durable.specs.Durable.{HasNothing, IsDone, Spares}
 use Rattle.durable.proofs.HandleLemmas.{flush_done, of_flush, of_load, of_map, of_store}
-use Rattle.durable.proofs.RefusalLemmas.{is_refused, refused_told}
+use Rattle.durable.proofs.RefusalLemmas.{refused_told}
+use Rattle.durable.proofs.RefusedAnswerLemmas.{is_refused}
 
 -- a command that made a line of metadata bad
 record Poisoned (h : Machine) (action : Action) (answer : Answer) (next : Machine) : Type 0 where

@@ -34,7 +34,8 @@ use Rattle.durable.specs.Durable.{Has, HasNothing, IsComplete, Reads}
 use Rattle.machine_host.specs.declared.mode.Mode.TheVariants.{On}
 use Rattle.machine_host.specs.declared.needs.Needs.TheVariants.{Usable}
 use Rattle.durable.proofs.LineLemmas.{HasOrLost}
-use Rattle.durable.proofs.RefusalLemmas.{Refuses, is_on, is_refused, refused_told, refuses_before, refuses_early}
+use Rattle.durable.proofs.RefusalLemmas.{is_on, refused_told, refuses_before}
+use Rattle.durable.proofs.RefusedAnswerLemmas.{Refuses, is_refused, refuses_early}
 use Rattle.durable.proofs.NamingLemmas.{names_line, names_line_of_file, names_obstacle}
 
 -- what a read shows

@@ -1,179 +1,46 @@
 -- What a refusal is answered, and what is known where there is none.
-use Rattle.std.proofs.Common.{◌≡◌, ◌+◌, ◌*◌, ℕ, length, Bool, true, false, cond, Option, Some, None, option_map, option_and_then, List, [], ◌∷◌, refl, ◌∙◌, sym, ap, if◌then◌else◌}
+use Rattle.std.proofs.Common.{◌≡◌, ◌+◌, ◌-◌, ◌*◌, ℕ, length, nat_lt, Bool, true, false, cond, Option, Some, None, option_map, List, [], ◌∷◌, refl, ◌∙◌, sym, ap, if◌then◌else◌}
 use Rattle.nvm_base.specs.declared.units.Span.{Span}
-use Rattle.nvm_model.specs.Blocks.{Obstacle, first_there, first_obstacle}
-use Rattle.nvm_model.specs.Blocks.Obstacle.{scar, bad_line}
+use Rattle.nvm_model.specs.Blocks.{first_there, first_obstacle}
 use Rattle.block_device.specs.Refusals.{Refusal}
-use Rattle.block_device.specs.Refusals.Refusal.{Range, Length, Limit, Overlap, Meta, Unreadable}
 use Rattle.pm_volume.specs.Refusals.{VolumeRefusal, physical_offset, poisoned_at}
-use Rattle.pm_volume.specs.Refusals.VolumeRefusal.{Range as Past, Length as Empty, Address, Meta as BadMeta, Poison}
 use Rattle.nvm_model.specs.Page.{first_bad_line, first_uncovered_line}
-use Rattle.word_tables.specs.declared.geometry.Geometry.{Geometry}
 use Rattle.reply_text.specs.declared.reply.Why.{Why}
 use Rattle.reply_text.specs.Answer.{Answer}
-use Rattle.reply_text.specs.Answer.Answer.{Done, DoneBad, Bytes, Ranges, Files, Handle, Happened, NoEvent, BadLines, VerifyFile, Yes, No, Scarred, PoisonBlock as PoisonedBlock, PoisonVolume as PoisonedVolume, PoisonFile as PoisonedFile, DeviceFailed, PowerLost, Stopped as MountStopped, Refused, RefusedMeta}
+use Rattle.reply_text.specs.Answer.Answer.{PoisonFile as PoisonedFile, Refused}
 use Rattle.reply_text.specs.declared.reply.Why.TheVariants as because
 use Rattle.script_text.specs.Action.{Action}
-use Rattle.script_text.specs.Action.Action.{BRead, BWrite, BAtomic, BMulti, BDiscard, BDiscardIf, BExists, BScar, VLoad, VStore, VSync, VRanges, VPSync, VDiscard, VDiscardIf, VExists, Create, Delete, Rename, Resize, ListFiles, FRead, FWrite, Map, Unmap, Load, Store, Sync, Flush, FlushVerify, DeepFlush, NextEvent, CheckFile, PoisonBlock, PoisonVolume, PoisonFile, PoisonMeta, WeakenFile, WeakenVolume, ClearFile, ClearVolume, Cut, CutIn, FailIn, Restart, Recover}
+use Rattle.script_text.specs.Action.Action.{BRead, BWrite, BAtomic, BMulti, BDiscard, BDiscardIf, BExists, BScar, VLoad, VStore, VSync, VRanges, VPSync, VDiscard, VDiscardIf, VExists, Create, Delete, Rename, Resize, ListFiles, FRead, FWrite, FAtomic, FMulti, FDiscard, FSync, Map, Unmap, Load, Store, Sync, Flush, FlushVerify, DeepFlush, NextEvent, CheckFile, PoisonBlock, PoisonVolume, PoisonFile, PoisonMeta, WeakenFile, WeakenVolume, ClearFile, ClearVolume, Cut, CutIn, FailIn, Restart, Recover}
 use Rattle.machine_host.specs.declared.look.Look.{Look}
 use Rattle.machine_host.specs.declared.look.Look.TheVariants.{Once, Again}
 use Rattle.machine_host.specs.declared.mode.Mode.{Mode}
 use Rattle.machine_host.specs.declared.mode.Mode.TheVariants.{On, Off, Unsettled, Stopped}
 use Rattle.machine_host.specs.Machine.{Machine}
 use Rattle.machine_host.specs.Meaning.{Reasons, first_reason, metadata_refusal, mode_refusal, most_refusal, no_reasons, span_refusal}
-use Rattle.machine_host.specs.declared.needs.Needs.{Needs}
-use Rattle.machine_host.specs.declared.needs.Needs.TheVariants.{Usable, Anytime, Powered, Unpowered, Failed}
+use Rattle.machine_host.specs.declared.needs.Needs.TheVariants.{Usable, Unpowered}
 use Rattle.scrub.specs.Refusals.{ScrubRefusal}
-use Rattle.scrub.specs.Refusals.ScrubRefusal.{Range as Beyond, Nothing, NotPoisoned}
+use Rattle.scrub.specs.Refusals.ScrubRefusal.{Range as Beyond}
 use Rattle.machine_host.specs.OnMedia.{line_answer}
 use Rattle.machine_host.specs.OnBlocks.{refusal_answer}
 use Rattle.machine_host.specs.OnVolume.{volume_answer}
 use Rattle.machine_host.specs.OnFiles.{if_exists, if_mapped, if_missing}
 use Rattle.machine_host.specs.OnFlushes.{all_moved, flush_file, flush_through, flush_with, nothing_done, spans_refusal}
 use Rattle.machine_host.specs.OnMappings.{if_full_of_mappings, load_through, read_copy, store_through, within_mapping, write_copy}
-use Rattle.machine_host.specs.OnPages.{fread, fwrite, page_answer, pages_named}
+use Rattle.machine_host.specs.OnPages.{fread, fwrite, if_full, pages_named, pages_used}
 use Rattle.nvm_model.specs.Mappings.{is_full, is_mapped, is_shared, mapping_of}
 use Rattle.nvm_model.specs.Listing.{file_name, has_file}
 use Rattle.nvm_model.specs.Storage.{Mapping}
-use Rattle.file_pages.specs.Refusals.{PageRefusal}
-use Rattle.file_pages.specs.Refusals.PageRefusal.{Range as NoBytes, Length as NoLength, Full as NoRoom, Meta as NoMeta, Poison as PoisonedLine}
-use Rattle.machine_host.specs.Commands.{early_refusal, meaning, refusal}
+use Rattle.file_actions.specs.Refusals.{ActionRefusal}
+use Rattle.machine_host.specs.OnFileActions.{action_answer}
+use Rattle.machine_host.specs.Commands.{meaning, refusal}
 use Rattle.durable.specs.Naming.{refused_before}
-
--- the answers of refusals
-abbrev pub is_refused : Answer → Bool
-is_refused Done = false
-is_refused (DoneBad n) = false
-is_refused (Bytes bytes) = false
-is_refused (Ranges ranges) = false
-is_refused (Files files) = false
-is_refused (Handle n) = false
-is_refused (Happened event) = false
-is_refused NoEvent = false
-is_refused (BadLines lines) = false
-is_refused Yes = false
-is_refused No = false
-is_refused (Scarred block) = true
-is_refused (PoisonedBlock block line) = true
-is_refused (PoisonedVolume offset) = true
-is_refused (PoisonedFile name offset) = true
-is_refused (VerifyFile name offset) = false
-is_refused DeviceFailed = false
-is_refused PowerLost = false
-is_refused (MountStopped line) = false
-is_refused (Refused why) = true
-is_refused (RefusedMeta line) = true
-
--- none, or one of a refusal
-abbrev pub Refuses : Option Answer → Type 0
-Refuses None = Unit {0}
-Refuses (Some answer) = is_refused answer ≡ true
+use Rattle.durable.proofs.RefusedAnswerLemmas.{Refuses, is_refused, refuses_actions, refuses_blocks, refuses_copy, refuses_first, refuses_line, refuses_metadata, refuses_mode, refuses_obstacle, refuses_pages, refuses_span, refuses_unless, refuses_volume, refuses_where, refuses_why}
 
 record RefusingReasons (r : Reasons) : Type 0 where
   named : Refuses r.named
   places : Refuses r.places
   full : Refuses r.full
   unreadable : Refuses r.unreadable
-
-refuses_first : (a b : Option Answer) → Refuses a → Refuses b → Refuses (first_there a b)
-refuses_first None b first second = second
-refuses_first (Some answer) b first second = first
-
-refuses_why : (o : Option Why) → Refuses (option_map Refused o)
-refuses_why None = tt
-refuses_why (Some why) = refl
-
-refuses_refusal : (why : Refusal) → is_refused (refusal_answer why) ≡ true
-refuses_refusal Range = refl
-refuses_refusal Length = refl
-refuses_refusal Limit = refl
-refuses_refusal Overlap = refl
-refuses_refusal (Meta line) = refl
-refuses_refusal (Unreadable (scar block)) = refl
-refuses_refusal (Unreadable (bad_line block line)) = refl
-
-refuses_blocks : (o : Option Refusal) → Refuses (option_map refusal_answer o)
-refuses_blocks None = tt
-refuses_blocks (Some why) = refuses_refusal why
-
-refuses_obstacle : (o : Option Obstacle) → Refuses (option_map (λ obstacle. refusal_answer (Unreadable obstacle)) o)
-refuses_obstacle None = tt
-refuses_obstacle (Some obstacle) = refuses_refusal (Unreadable obstacle)
-
-refuses_volume_refusal : (why : VolumeRefusal) → is_refused (volume_answer why) ≡ true
-refuses_volume_refusal Past = refl
-refuses_volume_refusal Empty = refl
-refuses_volume_refusal Address = refl
-refuses_volume_refusal (BadMeta line) = refl
-refuses_volume_refusal (Poison offset) = refl
-
-refuses_volume : (o : Option VolumeRefusal) → Refuses (option_map volume_answer o)
-refuses_volume None = tt
-refuses_volume (Some why) = refuses_volume_refusal why
-
-refuses_page_refusal : (name : List ℕ) (why : PageRefusal) → is_refused (page_answer name why) ≡ true
-refuses_page_refusal name NoBytes = refl
-refuses_page_refusal name NoLength = refl
-refuses_page_refusal name NoRoom = refl
-refuses_page_refusal name (NoMeta line) = refl
-refuses_page_refusal name (PoisonedLine offset) = refl
-
-refuses_pages : (name : List ℕ) (o : Option PageRefusal) → Refuses (option_map (page_answer name) o)
-refuses_pages name None = tt
-refuses_pages name (Some why) = refuses_page_refusal name why
-
-refuses_copy : (name : List ℕ) (shared : Bool) (o : Option PageRefusal) → Refuses (cond shared None (option_map (page_answer name) o))
-refuses_copy name true o = tt
-refuses_copy name false o = refuses_pages name o
-
-refuses_line : (o : Option ScrubRefusal) → Refuses (option_map line_answer o)
-refuses_line None = tt
-refuses_line (Some Beyond) = refl
-refuses_line (Some Nothing) = refl
-refuses_line (Some NotPoisoned) = refl
-
-refuses_span : (f : ℕ → Option VolumeRefusal) (o : Option ℕ) → Refuses (option_and_then (λ offset. option_map volume_answer (f offset)) o)
-refuses_span f None = tt
-refuses_span f (Some offset) = refuses_volume (f offset)
-
-refuses_metadata : (changes : Bool) (lines : List ℕ) → Refuses (metadata_refusal changes lines)
-refuses_metadata false lines = tt
-refuses_metadata true [] = tt
-refuses_metadata true (line ∷ lines) = refl
-
-refuses_mode : (mode : Mode) (bad_meta : List ℕ) (needs : Needs) → Refuses (mode_refusal mode bad_meta needs)
-refuses_mode On bad_meta Usable = tt
-refuses_mode On bad_meta Anytime = tt
-refuses_mode On bad_meta Powered = tt
-refuses_mode On bad_meta Unpowered = refl
-refuses_mode On bad_meta Failed = refl
-refuses_mode Off bad_meta Usable = refl
-refuses_mode Off bad_meta Anytime = tt
-refuses_mode Off bad_meta Powered = refl
-refuses_mode Off bad_meta Unpowered = tt
-refuses_mode Off bad_meta Failed = refl
-refuses_mode Unsettled bad_meta Usable = refl
-refuses_mode Unsettled bad_meta Anytime = tt
-refuses_mode Unsettled bad_meta Powered = tt
-refuses_mode Unsettled bad_meta Unpowered = refl
-refuses_mode Unsettled bad_meta Failed = tt
-refuses_mode Stopped bad_meta Usable = refl
-refuses_mode Stopped bad_meta Anytime = tt
-refuses_mode Stopped bad_meta Powered = tt
-refuses_mode Stopped bad_meta Unpowered = refl
-refuses_mode Stopped bad_meta Failed = refl
-
-pub refuses_early : (mode : Mode) (bad_meta : List ℕ) (geo : Geometry) (action : Action) → Refuses (early_refusal mode bad_meta geo action)
-unfolding early_refusal
-refuses_early mode bad_meta geo action = refuses_first _ _ (refuses_mode mode bad_meta (meaning action).needs) (refuses_why ((meaning action).checked geo))
-
-refuses_unless : (why : Why) (b : Bool) → Refuses (cond b None (Some (Refused why)))
-refuses_unless why true = tt
-refuses_unless why false = refl
-
-refuses_where : (why : Why) (b : Bool) → Refuses (cond b (Some (Refused why)) None)
-refuses_where why true = refl
-refuses_where why false = tt
 
 blocks_reasons : (o : Option Refusal) → RefusingReasons (record { named = None; places = option_map refusal_answer o; full = None; changes_metadata = true; unreadable = None })
 blocks_reasons o = record { named = tt; places = refuses_blocks o; full = tt; unreadable = tt }
@@ -218,6 +85,22 @@ file_line_reasons : (h : Machine) (name : List ℕ) (o : Option ScrubRefusal)
     → RefusingReasons (record no_reasons { named = if_missing name h.files; places = option_map line_answer o })
 file_line_reasons h name o = record { named = refuses_unless because.Missing (has_file file_name name h.files); places = refuses_line o; full = tt; unreadable = tt }
 
+-- a write as a whole to pages of a file
+together_reasons : (h : Machine) (name : List ℕ) (places unreadable : Option ActionRefusal) (holes : ℕ)
+    → RefusingReasons (record no_reasons {
+      named = if_missing name h.files;
+      places = option_map (action_answer name) places;
+      full = if_full h holes;
+      changes_metadata = true;
+      unreadable = option_map (action_answer name) unreadable;
+    })
+together_reasons h name places unreadable holes = record {
+  named = refuses_unless because.Missing (has_file file_name name h.files);
+  places = refuses_actions name places;
+  full = refuses_where because.Full (nat_lt (h.geometry.fpages - 16) (pages_used h.files + holes));
+  unreadable = refuses_actions name unreadable;
+}
+
 refusing_reasons : (h : Machine) (action : Action) → RefusingReasons ((meaning action).reasons h)
 refusing_reasons h (BRead block count) =
     record { named = tt; places = refuses_why _; full = tt; unreadable = refuses_obstacle (first_obstacle h.blocks block count) }
@@ -259,6 +142,10 @@ refusing_reasons h ListFiles = why_reasons None
 refusing_reasons h (FRead name offset len) = record { named = refuses_unless because.Missing _; places = refuses_why _; full = tt; unreadable = refuses_pages name _ }
 refusing_reasons h (FWrite name offset bytes) =
     record { named = refuses_unless because.Missing _; places = refuses_pages name _; full = refuses_where because.Full _; unreadable = refuses_pages name _ }
+refusing_reasons h (FAtomic name offset bytes) = together_reasons h name _ _ _
+refusing_reasons h (FMulti name ranges bytes) = together_reasons h name _ _ _
+refusing_reasons h (FDiscard name page count) = record { named = refuses_unless because.Missing _; places = refuses_why _; full = tt; unreadable = tt }
+refusing_reasons h (FSync name) = record { named = refuses_unless because.Missing _; places = tt; full = tt; unreadable = refuses_poison name _ }
 refusing_reasons h (Map name span kind) = record {
   named = refuses_unless because.Missing _;
   places = refuses_first (option_map Refused (span_refusal (4096 * length (pages_named name h.files)) span.start span.len)) (if_full_of_mappings h)
@@ -329,9 +216,9 @@ refused_told h action answer is =
     by_answer (Some a) un same = let e : a ≡ answer = cc same in sym (ap is_refused e) ∙ un
 
 -- what is not refused: its mode, and its places
-first_none : (a b : Option Answer) → first_there a b ≡ None → (a ≡ None) × (b ≡ None)
+pub first_none : {A : Type 0} (a b : Option A) → first_there a b ≡ None → (a ≡ None) × (b ≡ None)
 first_none None b none = (refl, none)
-first_none (Some answer) b none = cc none
+first_none (Some x) b none = cc none
 
 usable_on : (mode : Mode) (bad_meta : List ℕ) → mode_refusal mode bad_meta Usable ≡ None → mode ≡ On
 usable_on On bad_meta none = refl

@@ -1,132 +1,22 @@
 -- What a script stores are bytes.
-use Rattle.std.proofs.Common.{◌≡◌, ℕ, zero, suc, ◌+◌, ◌*◌, ◌<◌, ◌&&◌, ◌==◌, Bool, true, false, cond, ltb, Option, Some, None, option_map, option_and_then, Result, Ok, Err, List, [], ◌∷◌, ◌++◌, length, get_or, replicate, nat_lt, nat_le, refl, arith}
+use Rattle.std.proofs.Common.{ℕ, ◌<◌, Bool, true, false, cond, Option, Some, None, option_map, option_and_then, Result, Ok, Err, List, [], ◌∷◌, ◌++◌, length, get_or, nat_lt, nat_le}
 use Rattle.std.specs.Prelude.{codes}
-use Rattle.std.specs.Char.{digit_value}
-use Rattle.std.specs.List.{slice_split}
 use Rattle.std.specs.Io.BufRead.{strip_last}
 use Rattle.std.specs.Str.{bytes_eq}
-use Rattle.std.proofs.lemmas.Bool.{and_parts, ltb-true}
 use Rattle.nvm_base.specs.declared.units.Span.{Span}
 use Rattle.nvm_base.specs.declared.reading.TextFault.{TextFault}
-use Rattle.nvm_base.specs.declared.reading.TextFault.TheVariants.{TooLong}
 use Rattle.line_device.specs.declared.line.Choice.TheVariants.{Firsts, Lasts, Seed}
-use Rattle.nvm_base.specs.Data.{ByteRun, byte_count, data_within, followed, item_of, items_of, pair_of, pairs_of, repeated, run, runs_of, spelled, within}
+use Rattle.nvm_base.specs.Data.{data_of, data_within}
 use Rattle.nvm_base.specs.Numbers.{number_of}
 use Rattle.nvm_base.specs.Names.{name_of}
 use Rattle.nvm_base.specs.declared.files.Kind.{Kind}
 use Rattle.script_text.specs.Action.{Action}
-use Rattle.script_text.specs.Action.Action.{BRead, BWrite, BAtomic, BMulti, BDiscard, BDiscardIf, BExists, BScar, VLoad, VStore, VSync, VRanges, VPSync, VDiscard, VDiscardIf, VExists, Create, Delete, Rename, Resize, ListFiles, FRead, FWrite, Map, Unmap, Load, Store, Sync, Flush, FlushVerify, DeepFlush, NextEvent, CheckFile, PoisonBlock, PoisonVolume, PoisonFile, PoisonMeta, WeakenFile, WeakenVolume, ClearFile, ClearVolume, CutIn, FailIn, Restart, Recover}
-use Rattle.script_text.specs.Operands.{bare_action, data_action, fitting, placed_action, kind_action, kind_of, name_action, named_action, names_action, number_action, numbered_action, of_both, of_data, ranges_action, ranges_of, sized_action, span_action, spans_action, spans_of}
-use Rattle.script_text.specs.Script.{Input, asked, command_action, cut_action, fail_action, files_action, inputs, inputs_of, is_comment, line_input, lines_of, media_action, plain_action, poison_action, power_action, restart_action, volume_action, words_input, words_of, map_action, mapped_action, flushing_action, storing_action}
+use Rattle.script_text.specs.Action.Action.{BRead, BWrite, BAtomic, BMulti, BDiscard, BDiscardIf, BExists, BScar, VLoad, VStore, VSync, VRanges, VPSync, VDiscard, VDiscardIf, VExists, Create, Delete, Rename, Resize, ListFiles, FRead, FWrite, FAtomic, FMulti, FDiscard, FSync, Map, Unmap, Load, Store, Sync, Flush, FlushVerify, DeepFlush, NextEvent, CheckFile, PoisonBlock, PoisonVolume, PoisonFile, PoisonMeta, WeakenFile, WeakenVolume, ClearFile, ClearVolume, CutIn, FailIn, Restart, Recover}
+use Rattle.script_text.specs.Operands.{bare_action, data_action, fitting, placed_action, kind_action, kind_of, name_action, named_action, names_action, number_action, numbered_action, of_both, of_data, ranges_action, ranges_of, sized_action, span_action, spans_action, spans_of, with_range}
+use Rattle.script_text.specs.Script.{Input, asked, command_action, cut_action, fail_action, files_action, inputs, inputs_of, is_comment, line_input, lines_of, media_action, plain_action, poison_action, power_action, restart_action, volume_action, words_input, words_of, map_action, mapped_action, flushing_action, storing_action, writing_action}
 use Rattle.script_text.specs.Script.Input.{Skipped, Malformed, Asked}
 use Rattle.durable.specs.Durable.{BringBytes, BringsBytes}
-
--- each number is below 256, and that of each run
-abbrev AllBytes : List ℕ → Type 0
-AllBytes [] = Unit {0}
-AllBytes (b ∷ bytes) = (b < 256) × AllBytes bytes
-
-bytes-append : (xs ys : List ℕ) → AllBytes xs → AllBytes ys → AllBytes (xs ++ ys)
-bytes-append [] ys first second = second
-bytes-append (x ∷ xs) ys first second = (first.0, bytes-append xs ys first.1 second)
-
-bytes-replicate : (n b : ℕ) → b < 256 → AllBytes (replicate n b)
-bytes-replicate zero b small = tt
-bytes-replicate (suc n) b small = (small, bytes-replicate n b small)
-
-bytes-at : (bytes : List ℕ) → AllBytes bytes → (k : ℕ) → get_or bytes k 0 < 256
-bytes-at [] small k = omega arith
-bytes-at (b ∷ bytes) small zero = small.0
-bytes-at (b ∷ bytes) small (suc k) = bytes-at bytes small.1 k
-
-abbrev AllRuns : List ByteRun → Type 0
-AllRuns [] = Unit {0}
-AllRuns (r ∷ rs) = (r.byte < 256) × AllRuns rs
-
-runs-append : (xs ys : List ByteRun) → AllRuns xs → AllRuns ys → AllRuns (xs ++ ys)
-runs-append [] ys first second = second
-runs-append (x ∷ xs) ys first second = (first.0, runs-append xs ys first.1 second)
-
-abbrev AreByteRuns : Option (List ByteRun) → Type 0
-AreByteRuns None = Unit {0}
-AreByteRuns (Some runs) = AllRuns runs
-
-runs-followed : (a b : Option (List ByteRun)) → AreByteRuns a → AreByteRuns b → AreByteRuns (followed a b)
-runs-followed None b first second = tt
-runs-followed (Some xs) None first second = tt
-runs-followed (Some xs) (Some ys) first second = runs-append xs ys first second
-
-abbrev IsOneByte : Option ℕ → Type 0
-IsOneByte None = Unit {0}
-IsOneByte (Some byte) = byte < 256
-
-byte-pair : (high low : ℕ) → IsOneByte (pair_of high low)
-byte-pair high low = by_test (ltb (digit_value high) 16 && ltb (digit_value low) 16) (λ t. t)
-  where
-    by_test : (b : Bool) → (b ≡ true → (ltb (digit_value high) 16 && ltb (digit_value low) 16) ≡ true)
-        → IsOneByte (cond b (Some (16 * digit_value high + digit_value low)) None)
-    by_test true is =
-        let parts = and_parts (ltb (digit_value high) 16) (ltb (digit_value low) 16) (is refl) in
-        omega (arith, ltb-true (digit_value high) 16 parts.0, ltb-true (digit_value low) 16 parts.1)
-    by_test false is = tt
-
-runs-pair : (o : Option ℕ) → IsOneByte o → AreByteRuns (option_map (λ byte. run byte 1) o)
-runs-pair None small = tt
-runs-pair (Some byte) small = (small, tt)
-
-runs-pairs : (text : List ℕ) → AreByteRuns (pairs_of text)
-runs-pairs [] = tt
-runs-pairs (a ∷ []) = tt
-runs-pairs (a ∷ b ∷ text) =
-    runs-followed (option_map (λ byte. run byte 1) (pair_of a b)) (pairs_of text) (runs-pair (pair_of a b) (byte-pair a b)) (runs-pairs text)
-
-runs-repeated : (byte count : Option ℕ) → IsOneByte byte → AreByteRuns (repeated byte count)
-runs-repeated None count small = tt
-runs-repeated (Some byte) None small = tt
-runs-repeated (Some byte) (Some count) small = by_test (nat_lt 0 count)
-  where
-    by_test : (b : Bool) → AreByteRuns (cond b (Some (run byte count)) None)
-    by_test true = (small, tt)
-    by_test false = tt
-
-runs-item : (item : List ℕ) → AreByteRuns (item_of item)
-runs-item [] = tt
-runs-item (a ∷ []) = tt
-runs-item (a ∷ b ∷ []) = runs-pairs (a ∷ b ∷ [])
-runs-item (a ∷ b ∷ c ∷ text) = by_test (c == 42)
-  where
-    by_test : (t : Bool) → AreByteRuns (elim t [ true ↦ repeated (pair_of a b) (number_of text) | false ↦ pairs_of (a ∷ b ∷ c ∷ text) ])
-    by_test true = runs-repeated (pair_of a b) (number_of text) (byte-pair a b)
-    by_test false = runs-pairs (a ∷ b ∷ c ∷ text)
-
-runs-items : (items : List (List ℕ)) → AreByteRuns (items_of items)
-runs-items [] = tt
-runs-items (item ∷ items) = runs-followed (item_of item) (items_of items) (runs-item item) (runs-items items)
-
-runs-text : (text : List ℕ) → AreByteRuns (runs_of text)
-unfolding runs_of
-runs-text text = runs-items (slice_split (λ c. c == 44) text)
-
-bytes-spelled : (runs : List ByteRun) → AllRuns runs → AllBytes (spelled runs)
-bytes-spelled [] small = tt
-bytes-spelled (r ∷ rs) small = bytes-append (replicate r.count r.byte) (spelled rs) (bytes-replicate r.count r.byte small.0) (bytes-spelled rs small.1)
-
--- the bytes of DATA
-abbrev AreBytes : Result (List ℕ) TextFault → Type 0
-AreBytes (Ok bytes) = AllBytes bytes
-AreBytes (Err fault) = Unit {0}
-
-data-bytes : (room : ℕ) (text : List ℕ) → AreBytes (data_within room text)
-unfolding data_within
-data-bytes room text = by_runs (runs_of text) (runs-text text)
-  where
-    by_runs : (o : Option (List ByteRun)) → AreByteRuns o → AreBytes (within room o)
-    by_runs None small = tt
-    by_runs (Some runs) small = by_room (nat_le (byte_count runs) room)
-      where
-        by_room : (b : Bool) → AreBytes (elim b [ true ↦ Ok (spelled runs) | false ↦ Err TooLong ])
-        by_room true = bytes-spelled runs small
-        by_room false = tt
+use Rattle.durable.proofs.DataLemmas.{AllBytes, AreBytes, AreSomeBytes, bytes-append, bytes-at, data-bytes, some-bytes}
 
 -- the action, if there is one, stores bytes
 abbrev Brings : Option Action → Type 0
@@ -220,9 +110,41 @@ brings-spans : (make : List Span → Action) (words : List (List ℕ)) → ((spa
 brings-spans make [] each = tt
 brings-spans make (x ∷ words) each = brings-map make (spans_of (x ∷ words)) each
 
-brings-ranges : (words : List (List ℕ)) → Brings (ranges_action BMulti words)
-brings-ranges [] = tt
-brings-ranges (x ∷ words) = brings-map (λ (p : List Span × List ℕ). BMulti p.0 p.1) (fitting 65536 (ranges_of (x ∷ words))) (λ p. tt)
+abbrev BringsRanges : (List Span → List ℕ → Action) → Type 0
+BringsRanges make = (ranges : List Span) (bytes : List ℕ) → ((k : ℕ) → get_or bytes k 0 < 256) → BringsBytes (make ranges bytes)
+
+-- ranges, and bytes
+abbrev AreRangeBytes : Option (List Span × List ℕ) → Type 0
+AreRangeBytes None = Unit {0}
+AreRangeBytes (Some p) = AllBytes p.1
+
+bytes-range : (a : Option ℕ) (text : Option (List ℕ)) (rest : Option (List Span × List ℕ)) → AreSomeBytes text → AreRangeBytes rest → AreRangeBytes (with_range a text rest)
+bytes-range None text rest first more = tt
+bytes-range (Some a) None rest first more = tt
+bytes-range (Some a) (Some bytes) None first more = tt
+bytes-range (Some a) (Some bytes) (Some p) first more = bytes-append bytes p.1 first more
+
+bytes-ranges : (words : List (List ℕ)) → AreRangeBytes (ranges_of words)
+bytes-ranges [] = tt
+bytes-ranges (x ∷ []) = tt
+bytes-ranges (x ∷ text ∷ words) = bytes-range (number_of x) (data_of text) (ranges_of words) (some-bytes text) (bytes-ranges words)
+
+bytes-fitting : (room : ℕ) (o : Option (List Span × List ℕ)) → AreRangeBytes o → AreRangeBytes (fitting room o)
+bytes-fitting room None small = tt
+bytes-fitting room (Some p) small = by_room (nat_le (length p.1) room)
+  where
+    by_room : (b : Bool) → AreRangeBytes (cond b (Some p) None)
+    by_room true = small
+    by_room false = tt
+
+brings-of_ranges : (make : List Span → List ℕ → Action) (o : Option (List Span × List ℕ)) → BringsRanges make → AreRangeBytes o → Brings (option_map (λ p. make p.0 p.1) o)
+brings-of_ranges make None each small = tt
+brings-of_ranges make (Some p) each small = each p.0 p.1 (bytes-at p.1 small)
+
+brings-ranges : (make : List Span → List ℕ → Action) (words : List (List ℕ)) → BringsRanges make → Brings (ranges_action make words)
+brings-ranges make [] each = tt
+brings-ranges make (x ∷ words) each =
+    brings-of_ranges make (fitting 65536 (ranges_of (x ∷ words))) each (bytes-fitting 65536 (ranges_of (x ∷ words)) (bytes-ranges (x ∷ words)))
 
 brings-cut : (words : List (List ℕ)) → Brings (cut_action words)
 brings-cut [] = tt
@@ -291,7 +213,10 @@ brings-files name words =
     (brings-cond (bytes_eq name (codes "resize")) (sized_action Resize words) _ (brings-sized Resize words (λ a b. tt))
     (brings-cond (bytes_eq name (codes "list")) (bare_action ListFiles words) _ (brings-bare ListFiles words tt)
     (brings-cond (bytes_eq name (codes "fread")) (named_action (λ file. span_action (FRead file)) words) _
-    (brings-named (λ file. span_action (FRead file)) words (λ file rest. brings-span (FRead file) rest (λ a b. tt))) (brings-mapped name words))))))
+    (brings-named (λ file. span_action (FRead file)) words (λ file rest. brings-span (FRead file) rest (λ a b. tt)))
+    (brings-cond (bytes_eq name (codes "fdiscard")) (named_action (λ file. span_action (FDiscard file)) words) _
+    (brings-named (λ file. span_action (FDiscard file)) words (λ file rest. brings-span (FDiscard file) rest (λ a b. tt)))
+    (brings-cond (bytes_eq name (codes "fsync")) (name_action FSync words) _ (brings-name FSync words (λ a. tt)) (brings-mapped name words))))))))
 
 brings-volume : (name : List ℕ) (words : List (List ℕ)) → Brings (volume_action name words)
 brings-volume name words =
@@ -324,6 +249,15 @@ brings-storing name words =
     brings-cond (bytes_eq name (codes "store")) (numbered_action (λ handle. data_action (Store handle)) words) _
     (brings-numbered (λ handle. data_action (Store handle)) words (λ handle rest. brings-data (Store handle) rest (λ a bytes small. small))) (brings-flushing name words)
 
+brings-writing : (name : List ℕ) (words : List (List ℕ)) → Brings (writing_action name words)
+brings-writing name words =
+    brings-cond (bytes_eq name (codes "fwrite")) (named_action (λ file. data_action (FWrite file)) words) _
+    (brings-named (λ file. data_action (FWrite file)) words (λ file rest. brings-data (FWrite file) rest (λ a bytes small. small)))
+    (brings-cond (bytes_eq name (codes "fatomic")) (named_action (λ file. data_action (FAtomic file)) words) _
+    (brings-named (λ file. data_action (FAtomic file)) words (λ file rest. brings-data (FAtomic file) rest (λ a bytes small. small)))
+    (brings-cond (bytes_eq name (codes "fmulti")) (named_action (λ file. ranges_action (FMulti file)) words) _
+    (brings-named (λ file. ranges_action (FMulti file)) words (λ file rest. brings-ranges (FMulti file) rest (λ ranges bytes small. small))) (brings-storing name words)))
+
 brings-command : (name : List ℕ) (words : List (List ℕ)) → Brings (command_action name words)
 unfolding command_action
 brings-command name words =
@@ -331,9 +265,7 @@ brings-command name words =
     (brings-cond (bytes_eq name (codes "vstore")) (data_action VStore words) _ (brings-data VStore words (λ a bytes small. small))
     (brings-cond (bytes_eq name (codes "bscar")) (spans_action BScar words) _ (brings-spans BScar words (λ spans. tt))
     (brings-cond (bytes_eq name (codes "batomic")) (data_action BAtomic words) _ (brings-data BAtomic words (λ a bytes small. tt))
-    (brings-cond (bytes_eq name (codes "bmulti")) (ranges_action BMulti words) _ (brings-ranges words)
-    (brings-cond (bytes_eq name (codes "fwrite")) (named_action (λ file. data_action (FWrite file)) words) _
-    (brings-named (λ file. data_action (FWrite file)) words (λ file rest. brings-data (FWrite file) rest (λ a bytes small. small))) (brings-storing name words))))))
+    (brings-cond (bytes_eq name (codes "bmulti")) (ranges_action BMulti words) _ (brings-ranges BMulti words (λ ranges bytes small. tt)) (brings-writing name words)))))
 
 -- one input before others that do
 bring-asked : (o : Option Action) (rest : List Input) → Brings o → BringBytes rest → BringBytes (asked o ∷ rest)

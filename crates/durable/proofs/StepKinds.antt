@@ -24,9 +24,10 @@ use Rattle.machine_host.specs.Interrupted.{interrupted_answer}
 use Rattle.machine_host.specs.OnFileErrors.{marked_in}
 use Rattle.machine_host.specs.Restarting.{MayLeaveStorage}
 use Rattle.durable.specs.Place.{Place}
-use Rattle.durable.specs.Touching.{changes, holds, is_made_durable, may_make_durable, poisons, weakens}
+use Rattle.durable.specs.Touching.{changes, is_made_durable, may_make_durable, poisons, weakens, wears_out}
 use Rattle.durable.specs.Files.{changes_files}
 use Rattle.durable.specs.Durable.{HasNothing, IsDone}
+use Rattle.durable.specs.Whole.{IsMount}
 
 -- it leaves blocks, volume, files and mappings, and what is interrupted
 pub record Idles (h next : Machine) : Type 0 where
@@ -76,6 +77,7 @@ pub record Stops (h : Machine) (action : Action) (next : Machine) : Type 0 where
   pub metadata : next.bad_meta ≡ h.bad_meta
   pub mode : next.mode ≢ On
   pub stopped : next.mode ≢ Stopped
+  pub needs : (meaning action).needs ≡ Usable
 
 -- the power returned
 pub record Returns (h next : Machine) : Type 0 where
@@ -116,13 +118,13 @@ pub record TouchesNothing (action : Action) : Type 0 where
   pub change : (x : Place) → changes action x ≡ false
   pub poison : (x : Place) → poisons action x ≡ false
   pub weaken : (x : Place) → weakens action x ≡ false
-  pub cover : (geo : Geometry) (x : Place) → holds (may_make_durable geo action) x ≡ false
+  pub cover : (geo : Geometry) (x : Place) → wears_out (may_make_durable geo action) x ≡ false
   pub files : changes_files action ≡ false
 
 pub data Step (h : Machine) (action : Action) (answer : Answer) (next : Machine) : Type 0 where
   idles : (refusal h action ≡ Some answer) ⊎ CoversNothing h action → Idles h next → Step h action answer next
   alters : IsDone answer ⊎ TouchesNothing action → refusal h action ≡ None → Alters h action next → Step h action answer next
-  stops : (by : Interruption) → answer ≡ interrupted_answer by → Stops h action next → Step h action answer next
-  returns : CoversNothing h action → Returns h next → Step h action answer next
-  remounts : CoversNothing h action → Remounts h next → Step h action answer next
-  empties : CoversNothing h action → Empties h next → Step h action answer next
+  stops : (by : Interruption) → answer ≡ interrupted_answer by → refusal h action ≡ None → Stops h action next → Step h action answer next
+  returns : CoversNothing h action × IsMount action → Returns h next → Step h action answer next
+  remounts : CoversNothing h action × IsMount action → Remounts h next → Step h action answer next
+  empties : CoversNothing h action × IsMount action → Empties h next → Step h action answer next

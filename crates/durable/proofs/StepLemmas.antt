@@ -20,11 +20,12 @@ use Rattle.script_text.specs.Script.{Input}
 use Rattle.script_text.specs.Script.Input.{Skipped, Malformed, Asked}
 use Rattle.durable.specs.Durable.{HasNothing, IsDone}
 use Rattle.durable.proofs.RefusalLemmas.{is_off, is_on}
-use Rattle.durable.proofs.StepKinds.{Alters, CoversNothing, Idles, Stops, Step, TouchesNothing}
+use Rattle.durable.proofs.StepKinds.{Alters, CoversNothing, Empties, Idles, Remounts, Returns, Stops, Step, TouchesNothing}
+use Rattle.durable.specs.Whole.{IsMount}
 use Rattle.durable.proofs.StepKinds.Step.{idles, alters, stops, returns, remounts, empties}
 use Rattle.durable.proofs.SuitLemmas.{Suits, same, suits}
 
-stops_on : (by : Interruption) → interrupted_mode by ≡ On → ⊥
+pub stops_on : (by : Interruption) → interrupted_mode by ≡ On → ⊥
 stops_on Failed on = cc on
 stops_on Lost on = cc on
 
@@ -66,7 +67,7 @@ ended : (h : Machine) (action : Action) (good : Answer) (to : Machine) (answer :
     → Ends good to (while_interrupted h action) answer next → Step h action answer next
 ended h action good to answer next none begun done (inl end) =
     alters (elim begun as (λ _. IsDone answer ⊎ TouchesNothing action) [ inl is ↦ inl (subst IsDone (sym end.0) is) | inr none ↦ inr none ]) none (altered_at h action to next done end.1)
-ended h action good to answer next none begun done (inr end) = stops end.0 end.1 (record {
+ended h action good to answer next none begun done (inr end) = stops end.0 end.1 none (record {
   geometry = ap (λ m. m.geometry) end.2.state;
   blocks = ap (λ m. m.blocks) end.2.state;
   volume = ap (λ m. m.volume) end.2.state;
@@ -76,6 +77,7 @@ ended h action good to answer next none begun done (inr end) = stops end.0 end.1
   metadata = ap (λ m. m.bad_meta) end.2.state;
   mode = λ on. stops_on end.0 (sym (ap (λ m. m.mode) end.2.state) ∙ on);
   stopped = λ is. stops_stopped end.0 (sym (ap (λ m. m.mode) end.2.state) ∙ is);
+  needs = done.needs;
 })
 
 -- a state that is read from a medium, or was interrupted there
@@ -110,10 +112,14 @@ is_read read to good answer next of (inr end) = record {
   mode = inr (end.0, ap (λ m. m.mode) end.2.state);
 }
 
-returned : (h : Machine) (action : Action) (choice : Choice) (image : Image) (answer : Answer) (next : Machine) → CoversNothing h action → h.mode ≡ Off → RestartMayLeave choice image h
-    → Ends (mounted_answer (restarted h image)) (restarted h image) (restarted h image) answer next → Step h action answer next
+-- a restart, as it was asked for
+abbrev pub ReadsBack : Choice → Machine → Machine → Type 0
+ReadsBack choice h next = ((back : Returns h next) × (back.choice ≡ choice)) ⊎ Empties h next
+
+pub reads_back : (h : Machine) (choice : Choice) (image : Image) (answer : Answer) (next : Machine) → h.mode ≡ Off → RestartMayLeave choice image h
+    → Ends (mounted_answer (restarted h image)) (restarted h image) (restarted h image) answer next → ReadsBack choice h next
 unfolding reading
-returned h action choice image answer next covers off may ends = by_metadata h.bad_meta refl
+reads_back h choice image answer next off may ends = by_metadata h.bad_meta refl
   where
     from : IsRead (reading h.geometry image) next
     from = is_read (reading h.geometry image) (restarted h image) (mounted_answer (restarted h image)) answer next refl ends
@@ -121,10 +127,10 @@ returned h action choice image answer next covers off may ends = by_metadata h.b
     read_as : (bad : List ℕ) → h.bad_meta ≡ bad → IsRead (read_with bad h.geometry image) next
     read_as bad is = subst (λ b. IsRead (read_with b h.geometry image) next) (may.metadata ∙ is) from
 
-    by_metadata : (bad : List ℕ) → h.bad_meta ≡ bad → Step h action answer next
+    by_metadata : (bad : List ℕ) → h.bad_meta ≡ bad → ReadsBack choice h next
     by_metadata [] is =
         let read = read_as [] is in
-        returns covers (record {
+        let back : Returns h next = record {
           off = off;
           metadata = is;
           choice = choice;
@@ -136,10 +142,11 @@ returned h action choice image answer next covers off may ends = by_metadata h.b
           files = read.files;
           interrupted = read.interrupted;
           stopped = λ at. elim read.mode as (λ _. ⊥) [ inl on ↦ cc (at, on) | inr by ↦ stops_stopped by.0 (sym by.1 ∙ at) ];
-        })
+        } in
+        inl (back, refl)
     by_metadata (line ∷ lines) is =
         let read = read_as (line ∷ lines) is in
-        empties covers (record {
+        inr (record {
           geometry = read.geometry;
           nothing = record {
             metadata = λ none. cc (none, read.metadata);
@@ -150,10 +157,14 @@ returned h action choice image answer next covers off may ends = by_metadata h.b
           };
         })
 
+returned : (h : Machine) (action : Action) (choice : Choice) (image : Image) (answer : Answer) (next : Machine) → CoversNothing h action × IsMount action → h.mode ≡ Off → RestartMayLeave choice image h
+    → Ends (mounted_answer (restarted h image)) (restarted h image) (restarted h image) answer next → Step h action answer next
+returned h action choice image answer next covers off may ends =
+    elim (reads_back h choice image answer next off may ends) as (λ _. Step h action answer next) [ inl back ↦ returns covers back.0 | inr gone ↦ empties covers gone ]
+
 -- a recovery
-remounted : (h : Machine) (action : Action) (answer : Answer) (next : Machine) → CoversNothing h action → (bad : List ℕ) → h.bad_meta ≡ bad → RecoversTo bad h next
-    → Step h action answer next
-remounted h action answer next covers [] is to = remounts covers (record {
+pub mounts_anew : (h next : Machine) (bad : List ℕ) → h.bad_meta ≡ bad → RecoversTo bad h next → Remounts h next ⊎ Empties h next
+mounts_anew h next [] is to = inl (record {
   metadata = is;
   geometry = ap (λ m. m.geometry) to.state;
   blocks = to.blocks;
@@ -162,7 +173,7 @@ remounted h action answer next covers [] is to = remounts covers (record {
   interrupted = ap (λ m. m.interrupted) to.state;
   stopped = λ at. cc (at, ap (λ m. m.mode) to.state);
 })
-remounted h action answer next covers (line ∷ lines) is to = empties covers (record {
+mounts_anew h next (line ∷ lines) is to = inr (record {
   geometry = ap (λ m. m.geometry) to;
   nothing = record {
     metadata = λ none. cc (none, ap (λ m. m.bad_meta) to);
@@ -172,6 +183,11 @@ remounted h action answer next covers (line ∷ lines) is to = empties covers (r
     files = ap (λ m. m.files) to;
   };
 })
+
+remounted : (h : Machine) (action : Action) (answer : Answer) (next : Machine) → CoversNothing h action × IsMount action → (bad : List ℕ) → h.bad_meta ≡ bad → RecoversTo bad h next
+    → Step h action answer next
+remounted h action answer next covers bad is to =
+    elim (mounts_anew h next bad is to) as (λ _. Step h action answer next) [ inl back ↦ remounts covers back | inr gone ↦ empties covers gone ]
 
 -- or one that was interrupted
 unmounted : (by : Interruption) (h next : Machine) → Interrupts by h next → Idles h next
@@ -200,13 +216,13 @@ by_fate h action (Orders order to) said next none suit takes =
 by_fate h action (Cuts to) said next none suit takes =
     record { answer = Done; answers = ap (λ s. s.answers) takes.0; step = idles (inr suit.0) (idle_at h to next suit.1 takes.1) }
 by_fate h action (Restarts choice) said next none suit takes =
-    record { answer = takes.1; answers = ap (λ s. s.answers) takes.2; step = returned h action choice takes.0.image takes.1 next suit.0 (is_off h action suit.1 none) takes.4 takes.5 }
+    record { answer = takes.1; answers = ap (λ s. s.answers) takes.2; step = returned h action choice takes.0.image takes.1 next (suit.0, inl (choice, suit.2)) (is_off h action suit.1 none) takes.4 takes.5 }
 by_fate h action Recovers said next none suit takes = record {
   answer = takes.0;
   answers = ap (λ s. s.answers) takes.1;
   step = elim takes.2 as (λ _. Step h action takes.0 next) [
-    | inl end ↦ remounted h action takes.0 next suit h.bad_meta refl end.1
-    | inr end ↦ idles (inr suit) (unmounted end.0 h next end.2)
+    | inl end ↦ remounted h action takes.0 next (suit.0, inr suit.1) h.bad_meta refl end.1
+    | inr end ↦ idles (inr suit.0) (unmounted end.0 h next end.2)
   ];
 }
 
@@ -222,7 +238,7 @@ step_of h action said next = by_refusal (refusal h action) refl
 pub geometry_step : (h : Machine) (action : Action) (answer : Answer) (next : Machine) → Step h action answer next → next.geometry ≡ h.geometry
 geometry_step h action answer next (idles why to) = to.geometry
 geometry_step h action answer next (alters begun none to) = to.geometry
-geometry_step h action answer next (stops by is to) = to.geometry
+geometry_step h action answer next (stops by is none to) = to.geometry
 geometry_step h action answer next (returns none back) = back.geometry
 geometry_step h action answer next (remounts none back) = back.geometry
 geometry_step h action answer next (empties none to) = to.geometry
@@ -247,7 +263,7 @@ nothing_stopped h action next to gone =
 pub nothing_step : (h : Machine) (action : Action) (answer : Answer) (next : Machine) → HasNothing h → Step h action answer next → HasNothing next
 nothing_step h action answer next gone (idles why to) = nothing_idle h next to gone
 nothing_step h action answer next gone (alters begun none to) = absurd (gone.mode (is_on h action to.needs none))
-nothing_step h action answer next gone (stops by is to) = nothing_stopped h action next to gone
+nothing_step h action answer next gone (stops by is none to) = nothing_stopped h action next to gone
 nothing_step h action answer next gone (returns none back) = absurd (gone.metadata back.metadata)
 nothing_step h action answer next gone (remounts none back) = absurd (gone.metadata back.metadata)
 nothing_step h action answer next gone (empties none to) = to.nothing

@@ -2,7 +2,7 @@
 use Rattle.std.proofs.Common.{◌≡◌, ◌⊎◌, inl, inr, ℕ, ◌+◌, ◌==◌, Bool, true, false, cond, nat_lt, Option, Some, None, List, [], ◌∷◌, refl, sym, ap, ◌∙◌, if◌then◌else◌}
 use Rattle.reply_text.specs.Answer.Answer.{Done, Handle}
 use Rattle.script_text.specs.Action.{Action}
-use Rattle.script_text.specs.Action.Action.{BRead, BWrite, BAtomic, BMulti, BDiscard, BDiscardIf, BExists, BScar, VLoad, VStore, VSync, VRanges, VPSync, VDiscard, VDiscardIf, VExists, Create, Delete, Rename, Resize, ListFiles, FRead, FWrite, Map, Unmap, Load, Store, Sync, Flush, FlushVerify, DeepFlush, NextEvent, CheckFile, PoisonBlock, PoisonVolume, PoisonFile, PoisonMeta, WeakenFile, WeakenVolume, ClearFile, ClearVolume, Cut, CutIn, FailIn, Restart, Recover}
+use Rattle.script_text.specs.Action.Action.{BRead, BWrite, BAtomic, BMulti, BDiscard, BDiscardIf, BExists, BScar, VLoad, VStore, VSync, VRanges, VPSync, VDiscard, VDiscardIf, VExists, Create, Delete, Rename, Resize, ListFiles, FRead, FWrite, FAtomic, FMulti, FDiscard, FSync, Map, Unmap, Load, Store, Sync, Flush, FlushVerify, DeepFlush, NextEvent, CheckFile, PoisonBlock, PoisonVolume, PoisonFile, PoisonMeta, WeakenFile, WeakenVolume, ClearFile, ClearVolume, Cut, CutIn, FailIn, Restart, Recover}
 use Rattle.machine_host.specs.declared.needs.Needs.TheVariants.{Usable, Unpowered}
 use Rattle.machine_host.specs.Machine.{Machine, Fate}
 use Rattle.machine_host.specs.OnMappings.{load_through, read_copy, store_through, with_mapping, write_copy}
@@ -20,7 +20,8 @@ use Rattle.durable.specs.Place.{Place}
 use Rattle.durable.specs.Place.Place.{of_volume, of_blocks, of_file}
 use Rattle.durable.specs.Durable.{IsDone}
 use Rattle.durable.specs.Files.{changes_files}
-use Rattle.durable.specs.Touching.{flushed_by, flushed_lines, holds, made_durable, nothing}
+use Rattle.durable.specs.Region.{flushed_by, flushed_lines, holds, nothing}
+use Rattle.durable.specs.Touching.{made_durable}
 use Rattle.durable.proofs.HandleLemmas.{flush_done}
 use Rattle.durable.proofs.StepKinds.{Alters, CoversNothing, Idles, TouchesNothing, blocks_after, files_made, volume_after}
 
@@ -30,10 +31,10 @@ Suits h action (Gives good to) = (CoversNothing h action × Idles h to) ⊎ ((Is
 Suits h action (Works good to) = (IsDone good ⊎ TouchesNothing action) × Alters h action to
 Suits h action (Orders order to) = CoversNothing h action × Idles h to
 Suits h action (Cuts to) = CoversNothing h action × Idles h to
-Suits h action (Restarts choice) = CoversNothing h action × ((meaning action).needs ≡ Unpowered)
-Suits h action Recovers = CoversNothing h action
+Suits h action (Restarts choice) = CoversNothing h action × ((meaning action).needs ≡ Unpowered) × (action ≡ Restart choice)
+Suits h action Recovers = CoversNothing h action × (action ≡ Recover)
 
-nowhere : (x : Place) → holds nothing x ≡ false
+pub nowhere : (x : Place) → holds nothing x ≡ false
 nowhere (of_volume i) = refl
 nowhere (of_blocks i) = refl
 nowhere (of_file name i) = refl
@@ -81,7 +82,7 @@ with_line-some line (next ∷ lines) is = by_order (nat_lt line next) (line == n
     by_order false false is = cc is
 
 -- a flush, which each of four commands is
-flush_suits : (h : Machine) (action : Action) (look : Look) (handle : ℕ) (spans : List Span) → made_durable h.geometry h.mappings action ≡ flushed_by spans (mapping_of handle h.mappings)
+flush_suits : (h : Machine) (action : Action) (look : Look) (handle : ℕ) (spans : List Span) → (made_durable h.geometry h.mappings action).region ≡ flushed_by spans (mapping_of handle h.mappings)
     → changes_files action ≡ false → h.blocks ≡ blocks_after action h.blocks → h.volume ≡ volume_after h.geometry action h.volume
     → (flush_with look handle spans).files h.mappings h.files ≡ files_made h.mappings action h.files → (meaning action).needs ≡ Usable
     → Suits h action ((flush_with look handle spans).comes h)
@@ -103,7 +104,7 @@ flush_suits h action look handle spans region stay blocks volume files needs = b
     by_mapping (Some m) is = by_kind m is (is_shared m.kind) refl
 
 pub suits : (h : Machine) (action : Action) → Suits h action ((meaning action).comes h)
-suits h (BRead block count) = (inr (record { change = nowhere; poison = nowhere; weaken = nowhere; cover = λ geo. nowhere; files = refl }), works h h (BRead block count) refl refl refl refl refl refl refl)
+suits h (BRead block count) = (inr (record { change = nowhere; poison = nowhere; weaken = nowhere; cover = λ geo x. refl; files = refl }), works h h (BRead block count) refl refl refl refl refl refl refl)
 suits h (BWrite block bytes) = (inl (inl refl), works h _ (BWrite block bytes) refl refl refl refl refl refl refl)
 suits h (BAtomic block bytes) = (inl (inl refl), works h _ (BAtomic block bytes) refl refl refl refl refl refl refl)
 suits h (BMulti ranges bytes) = (inl (inl refl), works h _ (BMulti ranges bytes) refl refl refl refl refl refl refl)
@@ -111,7 +112,7 @@ suits h (BDiscard block count) = (inl (inl refl), works h _ (BDiscard block coun
 suits h (BDiscardIf block count) = (inl (inl refl), works h _ (BDiscardIf block count) refl refl refl refl refl refl refl)
 suits h (BExists block) = inl (record { bytes = nowhere; files = refl }, same h)
 suits h (BScar ranges) = (inl (inl refl), works h _ (BScar ranges) refl refl refl refl refl refl refl)
-suits h (VLoad offset len) = (inr (record { change = nowhere; poison = nowhere; weaken = nowhere; cover = λ geo. nowhere; files = refl }), works h h (VLoad offset len) refl refl refl refl refl refl refl)
+suits h (VLoad offset len) = (inr (record { change = nowhere; poison = nowhere; weaken = nowhere; cover = λ geo x. refl; files = refl }), works h h (VLoad offset len) refl refl refl refl refl refl refl)
 suits h (VStore offset bytes) = (inl (inl refl), works h _ (VStore offset bytes) refl refl refl refl refl refl refl)
 suits h (VSync offset len) = (inl (inl refl), works h _ (VSync offset len) refl refl refl refl refl refl refl)
 suits h VRanges = inl (record { bytes = nowhere; files = refl }, same h)
@@ -124,15 +125,19 @@ suits h (Delete name) = (inl (inl refl), works h _ (Delete name) refl refl refl 
 suits h (Rename name to) = (inl (inl refl), works h _ (Rename name to) refl refl refl refl refl refl refl)
 suits h (Resize name pages) = (inl (inl refl), works h _ (Resize name pages) refl refl refl refl refl refl refl)
 suits h ListFiles = inl (record { bytes = nowhere; files = refl }, same h)
-suits h (FRead name offset len) = (inr (record { change = nowhere; poison = nowhere; weaken = nowhere; cover = λ geo. nowhere; files = refl }), works h h (FRead name offset len) refl refl refl refl refl refl refl)
+suits h (FRead name offset len) = (inr (record { change = nowhere; poison = nowhere; weaken = nowhere; cover = λ geo x. refl; files = refl }), works h h (FRead name offset len) refl refl refl refl refl refl refl)
 suits h (FWrite name offset bytes) = (inl (inl refl), works h _ (FWrite name offset bytes) refl refl refl refl refl refl refl)
+suits h (FAtomic name offset bytes) = (inl (inl refl), works h _ (FAtomic name offset bytes) refl refl refl refl refl refl refl)
+suits h (FMulti name ranges bytes) = (inl (inl refl), works h _ (FMulti name ranges bytes) refl refl refl refl refl refl refl)
+suits h (FDiscard name page count) = (inl (inl refl), works h _ (FDiscard name page count) refl refl refl refl refl refl refl)
+suits h (FSync name) = (inl (inl refl), works h _ (FSync name) refl refl refl refl refl refl refl)
 suits h (Map name span kind) = by_kind (is_shared kind)
   where
     to : Machine
     to = with_mapping name span kind h
 
     touches : TouchesNothing (Map name span kind)
-    touches = record { change = nowhere; poison = nowhere; weaken = nowhere; cover = λ geo. nowhere; files = refl }
+    touches = record { change = nowhere; poison = nowhere; weaken = nowhere; cover = λ geo x. refl; files = refl }
 
     by_kind : (shared : Bool) → Suits h (Map name span kind) (if shared then Gives (Handle h.next_handle) to else Works (Handle h.next_handle) to)
     by_kind true = inr (inr touches, works h to (Map name span kind) refl refl refl refl refl refl refl)
@@ -141,7 +146,7 @@ suits h (Unmap handle) = inr (inl (inl refl), works h _ (Unmap handle) refl refl
 suits h (Load handle offset len) = by_mapping (mapping_of handle h.mappings) refl
   where
     touches : TouchesNothing (Load handle offset len)
-    touches = record { change = nowhere; poison = nowhere; weaken = nowhere; cover = λ geo. nowhere; files = refl }
+    touches = record { change = nowhere; poison = nowhere; weaken = nowhere; cover = λ geo x. refl; files = refl }
 
     none : CoversNothing h (Load handle offset len)
     none = record { bytes = nowhere; files = refl }
@@ -210,5 +215,5 @@ suits h Cut =
     (record { bytes = nowhere; files = refl }, record { geometry = refl; blocks = refl; volume = refl; files = refl; mappings = refl; interrupted = refl; metadata = λ bad. bad; mode = λ on. cc on; stopped = λ is. cc is })
 suits h (CutIn calls) = (record { bytes = nowhere; files = refl }, armed h _ refl refl refl refl refl refl refl refl)
 suits h (FailIn calls) = (record { bytes = nowhere; files = refl }, armed h _ refl refl refl refl refl refl refl refl)
-suits h (Restart choice) = (record { bytes = nowhere; files = refl }, refl)
-suits h Recover = record { bytes = nowhere; files = refl }
+suits h (Restart choice) = (record { bytes = nowhere; files = refl }, refl, refl)
+suits h Recover = (record { bytes = nowhere; files = refl }, refl)

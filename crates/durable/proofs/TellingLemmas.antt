@@ -1,5 +1,5 @@
 -- What each command tells, and which events come by it.
-use Rattle.std.proofs.Common.{◌≡◌, ℕ, ◌*◌, ◌/◌, Bool, true, false, Option, Some, None, option_map, List, [], ◌∷◌, ◌++◌, drop, refl, ap, if◌then◌else◌}
+use Rattle.std.proofs.Common.{◌≡◌, ℕ, ◌*◌, ◌/◌, Bool, true, false, Option, Some, None, option_map, List, [], ◌∷◌, ◌++◌, drop, length, refl, ap, if◌then◌else◌}
 use Rattle.std.proofs.lemmas.Bool.{false≢true}
 use Rattle.std.proofs.lemmas.List.{append-nil}
 use Rattle.nvm_base.specs.declared.units.Span.{Span}
@@ -8,12 +8,13 @@ use Rattle.nvm_model.specs.Mappings.{is_shared, mapping_of}
 use Rattle.nvm_model.specs.Page.{cell_of}
 use Rattle.nvm_model.specs.Storage.{Event, Mapping}
 use Rattle.nvm_model.specs.Touched.{next_bad_touched}
+use Rattle.file_actions.specs.Refusals.{all_bytes}
 use Rattle.scrub.specs.Refusals.{cell_refusal}
 use Rattle.reply_text.specs.Answer.Answer.{Done, No, PoisonFile as PoisonedFile, Refused, Yes}
 use Rattle.reply_text.specs.declared.reply.Why.TheVariants as because
 use Rattle.machine_host.specs.Meaning.{Reasons, no_reasons}
 use Rattle.script_text.specs.Action.{Action}
-use Rattle.script_text.specs.Action.Action.{BExists, VExists, Create, Delete, Rename, Resize, FWrite, Map, Load, Store, Sync, Flush, FlushVerify, DeepFlush, NextEvent, PoisonFile, WeakenFile, ClearFile, Restart, Recover}
+use Rattle.script_text.specs.Action.Action.{BExists, VExists, Create, Delete, Rename, Resize, FWrite, FAtomic, FMulti, FDiscard, FSync, Map, Load, Store, Sync, Flush, FlushVerify, DeepFlush, NextEvent, PoisonFile, WeakenFile, ClearFile, Restart, Recover}
 use Rattle.machine_host.specs.declared.look.Look.{Look}
 use Rattle.machine_host.specs.declared.look.Look.TheVariants.{Once, Again}
 use Rattle.machine_host.specs.Commands.{meaning, refusal}
@@ -25,6 +26,7 @@ use Rattle.machine_host.specs.OnPages.{pages_named}
 use Rattle.durable.specs.Events.{TellsLines, all_told, told_by}
 use Rattle.durable.specs.Files.{changes_files}
 use Rattle.durable.proofs.BadLineLemmas.{cleared_no_worse, stored_no_worse, weakened_no_worse}
+use Rattle.durable.proofs.RewrittenLemmas.{discarded_no_worse, rewritten_no_worse}
 use Rattle.durable.proofs.EventLemmas.{flush_tells, none_went, poison_tells, quiet, unchanged}
 use Rattle.durable.proofs.HandleLemmas.{of_load, of_map, of_store}
 use Rattle.durable.proofs.RefusalLemmas.{line_none, places_none, unreadable_none, within_none}
@@ -84,6 +86,11 @@ tells h (Delete name) none stay = cc stay
 tells h (Rename name to) none stay = cc stay
 tells h (Resize name pages) none stay = cc stay
 tells h (FWrite name offset bytes) none stay = quiet h _ Done refl refl (stored_no_worse name offset bytes h.files)
+tells h (FAtomic name offset bytes) none stay = quiet h _ Done refl refl (rewritten_no_worse name (record { start = offset; len = length bytes } ∷ []) bytes h.files)
+tells h (FMulti name ranges bytes) none stay = quiet h _ Done refl refl (rewritten_no_worse name ranges bytes h.files)
+tells h (FDiscard name page count) none stay = quiet h _ Done refl refl (discarded_no_worse name page count h.files)
+tells h (FSync name) none stay =
+    flush_tells h name all_bytes (poison_none name (next_bad_touched all_bytes (pages_named name h.files) 0) (unreadable_none h (FSync name) none)) Once
 tells h (Map name span kind) none stay = of_map (TellsAt h (Map name span kind)) h name span kind (unchanged h _ _ refl refl refl) (unchanged h _ _ refl refl refl)
 tells h (Load handle offset len) none stay =
     of_load (TellsAt h (Load handle offset len)) h handle offset len (unchanged h h Done refl refl refl) (λ name place. unchanged h h _ refl refl refl)

@@ -44,7 +44,7 @@ there-put at n bytes (Some Bad) there = by_test (covers at (length bytes) n)
     by_test false = tt
 
 -- pages each of which was changed by its number
-by_pages : (f : ℕ → Page → Page) (pages : List Page) → HaveLines pages
+pub by_pages : (f : ℕ → Page → Page) (pages : List Page) → HaveLines pages
     → ((i n : ℕ) (page : Page) → (is_present page ≡ true → IsLineThere (cell_in page (n % 64))) → is_present (f i page) ≡ true → IsLineThere (cell_in (f i page) (n % 64)))
     → HaveLines (map_from f 0 pages)
 by_pages f pages whole each n there =
@@ -72,7 +72,7 @@ lines-fill at len pages whole = by_pages (fill_page at len) pages whole by_page
         by_test false none = cc none
     by_page i n (Present cells) was there = was refl
 
-lines-discard : (first count : ℕ) (pages : List Page) → HaveLines pages → HaveLines (discard first count pages)
+pub lines-discard : (first count : ℕ) (pages : List Page) → HaveLines pages → HaveLines (discard first count pages)
 unfolding discard
 lines-discard first count pages whole = by_pages (discard_page first count) pages whole by_page
   where
@@ -110,7 +110,7 @@ lines-persist_at : (o : Option ℕ) (len : ℕ) (pages : List Page) → HaveLine
 lines-persist_at None len pages whole = whole
 lines-persist_at (Some start) len pages whole = lines-persist start len pages whole
 
-is_there : (there : List Bool) (k : ℕ) → slice_index_or there k false ≡ true → slice_get there k ≡ Some true
+pub is_there : (there : List Bool) (k : ℕ) → slice_index_or there k false ≡ true → slice_get there k ≡ Some true
 is_there [] k none = cc none
 is_there (b ∷ there) zero is = ap Some is
 is_there (b ∷ there) (suc k) is = is_there there k is

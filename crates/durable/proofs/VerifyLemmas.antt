@@ -29,12 +29,14 @@ use Rattle.machine_host.specs.OnPages.{pages_named}
 use Rattle.machine_host.specs.Run.{Hears, Takes, Transcript}
 use Rattle.durable.specs.Place.{byte_at_place, line_has}
 use Rattle.durable.specs.Place.Place.{of_file}
-use Rattle.durable.specs.Touching.{flushed_by, flushed_lines, is_made_durable, nothing}
+use Rattle.durable.specs.Region.{flushed_by, flushed_lines, nothing}
+use Rattle.durable.specs.Touching.{is_made_durable}
 use Rattle.durable.specs.Durable.{Does}
 use Rattle.durable.proofs.HandleLemmas.{of_flush}
 use Rattle.durable.proofs.LawLemmas.{stop_done}
 use Rattle.durable.proofs.NamedPageLemmas.{named-own}
-use Rattle.durable.proofs.RefusalLemmas.{is_refused, refused_told}
+use Rattle.durable.proofs.RefusalLemmas.{refused_told}
+use Rattle.durable.proofs.RefusedAnswerLemmas.{is_refused}
 
 -- a line of a file after a flush of it
 pub synced-cell : (text : List ℕ) (moved : List Span) (files : List File) (n : ℕ)

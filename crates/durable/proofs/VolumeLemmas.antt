@@ -18,7 +18,7 @@ use Rattle.std.proofs.lemmas.Bool.{cases_eq}
 use Rattle.nvm_model.proofs.PageLemmas.{cell_of-fill, cell_of-persist, cell_of-put, cell_of-read_pages, presence_of-persist, presence_of-put, presence_of-read_pages}
 use Rattle.durable.specs.Place.{is_line_present, is_weak_line, line_has}
 use Rattle.durable.specs.Durable.{HaveLines, IsLineThere}
-use Rattle.durable.proofs.PresenceLemmas.{has_lines, line_in, page_present, zero_at}
+use Rattle.durable.proofs.PresenceLemmas.{absent_line, has_lines, line_in, page_present, zero_at}
 use Rattle.durable.proofs.LineLemmas.{HasOrLost, LineKeeps, MayBe, line_has-kept, line_keeps-flush, line_keeps-may_put, line_keeps-put, line_keeps-read, line_keeps-there, line_keeps-zero}
 
 module _ (since : MayBe) where
@@ -30,15 +30,6 @@ module _ (since : MayBe) where
   -- The byte i of the volume has v, whatever a cut leaves.
   abbrev pub VolumeKeeps : List Page → ℕ → Option ℕ → Type 0
   VolumeKeeps pages i v = AbsentKeeps pages i v ⊎ LineKeeps since (cell_of pages (i / 64)) (i % 64) v
-
-  -- an absent page has no line
-  absent_line : (pages : List Page) (n : ℕ) → is_line_present pages n ≡ false → cell_of pages n ≡ None
-  absent_line pages n absent = by_page (slice_get pages (n / 64)) (sym (page_present pages n) ∙ absent)
-    where
-      by_page : (o : Option Page) → has_lines o ≡ false → line_in n o ≡ None
-      by_page None none = refl
-      by_page (Some Absent) none = refl
-      by_page (Some (Present cells)) there = cc there
 
   pub byte-kept : (pages : List Page) (i : ℕ) (v : Option ℕ) → VolumeKeeps pages i v → HasOrLost since.lost (line_has (cell_of pages (i / 64)) (i % 64)) v
   byte-kept pages i v (inl keeps) = inl (ap (λ o. line_has o (i % 64)) (absent_line pages (i / 64) keeps.absent) ∙ sym keeps.zero)
@@ -216,7 +207,7 @@ module _ (since : MayBe) where
   keeps-clear n i v pages out keeps = keeps-change clear_cell n i v pages (λ cell same line. absurd (out same)) keeps
 
   -- pages that have the page of the byte
-  same_page : (i : ℕ) (v : Option ℕ) (pages new : List Page) → slice_get new (i / 64 / 64) ≡ slice_get pages (i / 64 / 64) → VolumeKeeps pages i v → VolumeKeeps new i v
+  pub same_page : (i : ℕ) (v : Option ℕ) (pages new : List Page) → slice_get new (i / 64 / 64) ≡ slice_get pages (i / 64 / 64) → VolumeKeeps pages i v → VolumeKeeps new i v
   same_page i v pages new is (inl keeps) =
       inl (record { absent = page_present new (i / 64) ∙ ap has_lines is ∙ sym (page_present pages (i / 64)) ∙ keeps.absent; zero = keeps.zero })
   same_page i v pages new is (inr keeps) = inr (subst (λ o. LineKeeps since (line_in (i / 64) o) (i % 64) v) (sym is) keeps)

@@ -211,7 +211,7 @@ pub whole-step : (h : Machine) (action : Action) (answer : Answer) (next : Machi
 whole-step h action answer next whole (idles why to) =
     same_storage h next whole to.geometry to.blocks to.volume to.files (nothing_idle h next to) (λ on. to.interrupted ∙ whole.settled (to.mode on)) to.stopped
 whole-step h action answer next whole (alters begun none to) = whole-altered h action next whole (is_on h action to.needs none) to
-whole-step h action answer next whole (stops by is to) =
+whole-step h action answer next whole (stops by is none to) =
     same_storage h next whole to.geometry to.blocks to.volume to.files (nothing_stopped h action next to) (λ on. absurd (to.mode on)) (λ at. absurd (to.stopped at))
 whole-step h action answer next whole (returns covered back) = whole-returned h next back
 whole-step h action answer next whole (remounts covered back) = whole-remounted h next whole back

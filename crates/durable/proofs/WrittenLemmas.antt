@@ -38,11 +38,13 @@ use Rattle.machine_host.specs.OnVolume.{persist_at, volume_answer}
 use Rattle.machine_host.specs.Run.{Takes}
 use Rattle.durable.specs.Place.{block_has, byte_at_place, is_line_present, is_weak_line, line_has}
 use Rattle.durable.specs.Place.Place.{of_volume, of_blocks}
-use Rattle.durable.specs.Touching.{is_made_durable, touched_lines_at}
+use Rattle.durable.specs.Region.{touched_lines_at}
+use Rattle.durable.specs.Touching.{is_made_durable}
 use Rattle.durable.specs.Durable.{Does, HaveLines, IsLineThere, Lasts, LastsPowered}
 use Rattle.script_text.specs.Script.Input.{Asked}
 use Rattle.durable.proofs.PresenceLemmas.{has_lines, line_in, page_present, zero_at}
-use Rattle.durable.proofs.RefusalLemmas.{is_on, is_refused, places_none, refused_told, unreadable_none}
+use Rattle.durable.proofs.RefusalLemmas.{first_none, is_on, places_none, refused_told, unreadable_none}
+use Rattle.durable.proofs.RefusedAnswerLemmas.{is_refused}
 use Rattle.durable.proofs.CoverLemmas.{was_bad}
 use Rattle.durable.proofs.LawLemmas.{durable, lasts_powered, stop_done}
 use Rattle.durable.proofs.LineLemmas.{flush_shown, zero_shown}
@@ -68,12 +70,8 @@ blocks_none : (o : Option Refusal) → option_map refusal_answer o ≡ None → 
 blocks_none None none = refl
 blocks_none (Some why) none = cc none
 
-first_none : (a b : Option Refusal) → first_there a b ≡ None → a ≡ None
-first_none None b none = refl
-first_none (Some why) b none = cc none
-
 bytes_within : (count block len : ℕ) → bytes_refusal count block len ≡ None → block + len / 512 ≤ count
-bytes_within count block len none = by_test (nat_lt count (block + blocks_touched len)) refl (first_none (where_ (nat_lt count (block + blocks_touched len)) Range) _ none)
+bytes_within count block len none = by_test (nat_lt count (block + blocks_touched len)) refl (first_none (where_ (nat_lt count (block + blocks_touched len)) Range) _ none).0
   where
     by_test : (b : Bool) → nat_lt count (block + blocks_touched len) ≡ b → where_ b Range ≡ None → block + len / 512 ≤ count
     by_test true is none_there = cc none_there
@@ -131,7 +129,7 @@ written_together h next block i bytes does among =
     let done = works_done h (BAtomic block bytes) (record h { blocks = write block bytes h.blocks }) next refl does in
     let places = blocks_none _ (places_none h (BAtomic block bytes) done.0) in
     let fits = bytes_within h.geometry.blocks block (length bytes)
-    (first_none (bytes_refusal h.geometry.blocks block (length bytes)) (where_ (nat_lt 64 (length bytes / 512)) Limit) places) in
+    (first_none (bytes_refusal h.geometry.blocks block (length bytes)) (where_ (nat_lt 64 (length bytes / 512)) Limit) places).0 in
     let is : byte_at_place next (of_blocks i) ≡ Some (slice_index bytes (i - 512 * block)) =
     ap (λ m. byte_at_place m (of_blocks i)) done.1 ∙ written_byte block i bytes h.blocks among (omega (arith, fits, (counted_on h does.whole (is_on h (BAtomic block bytes) refl done.0)).blocks)) in
     subst (Lasts next (of_blocks i)) is (durable h next (BAtomic block bytes) (of_blocks i) does (or_true _ among))

@@ -10,15 +10,15 @@ use Rattle.nvm_model.specs.Storage.Block.{Absent, Scarred, Data}
 use Rattle.reply_text.specs.Answer.{Answer}
 use Rattle.reply_text.specs.Answer.Answer.{Done, Bytes, PowerLost, VerifyFile}
 use Rattle.script_text.specs.Action.{Action}
-use Rattle.script_text.specs.Action.Action.{BRead, BWrite, BAtomic, BMulti, BDiscard, BDiscardIf, BExists, BScar, VLoad, VStore, VSync, VRanges, VPSync, VDiscard, VDiscardIf, VExists, Create, Delete, Rename, Resize, ListFiles, FRead, FWrite, Map, Unmap, Load, Store, Sync, Flush, FlushVerify, DeepFlush, NextEvent, CheckFile, PoisonBlock, PoisonVolume, PoisonFile, PoisonMeta, WeakenFile, WeakenVolume, ClearFile, ClearVolume, Cut, CutIn, FailIn, Restart, Recover}
+use Rattle.script_text.specs.Action.Action.{BRead, BWrite, BAtomic, BMulti, BDiscard, BDiscardIf, BExists, BScar, VLoad, VStore, VSync, VRanges, VPSync, VDiscard, VDiscardIf, VExists, Create, Delete, Rename, Resize, ListFiles, FRead, FWrite, FAtomic, FMulti, FDiscard, FSync, Map, Unmap, Load, Store, Sync, Flush, FlushVerify, DeepFlush, NextEvent, CheckFile, PoisonBlock, PoisonVolume, PoisonFile, PoisonMeta, WeakenFile, WeakenVolume, ClearFile, ClearVolume, Cut, CutIn, FailIn, Restart, Recover}
 use Rattle.script_text.specs.Script.{Input}
 use Rattle.script_text.specs.Script.Input.{Skipped, Malformed, Asked}
 use Rattle.machine_host.specs.declared.mode.Mode.TheVariants.{On, Stopped}
 use Rattle.machine_host.specs.Machine.{Machine}
 use Rattle.machine_host.specs.Run.{Transcript, Hears, Run}
-use Rattle.durable.specs.Place.{Place, byte_at_place, is_line_present}
+use Rattle.durable.specs.Place.{Place, byte_at_place, is_line_present, is_weak_at}
 use Rattle.durable.specs.Place.Place.{of_volume, of_blocks, of_file}
-use Rattle.durable.specs.Touching.{changes, is_begun, is_made_durable, may_be_made_durable, poisons, weakens}
+use Rattle.durable.specs.Touching.{changes, is_begun, is_made_durable, may_wear, poisons, weakens, wears}
 
 -- a line of the volume is there: it is bad, or has its eight words
 abbrev pub IsLineThere : Option Cell → Type 0
@@ -92,6 +92,10 @@ BringsBytes (Resize name pages) = Unit {0}
 BringsBytes ListFiles = Unit {0}
 BringsBytes (FRead name offset len) = Unit {0}
 BringsBytes (FWrite name offset bytes) = (k : ℕ) → slice_index bytes k < 256
+BringsBytes (FAtomic name offset bytes) = (k : ℕ) → slice_index bytes k < 256
+BringsBytes (FMulti name ranges bytes) = (k : ℕ) → slice_index bytes k < 256
+BringsBytes (FDiscard name page count) = Unit {0}
+BringsBytes (FSync name) = Unit {0}
 BringsBytes (Map name span kind) = Unit {0}
 BringsBytes (Unmap handle) = Unit {0}
 BringsBytes (Load handle offset len) = Unit {0}
@@ -156,17 +160,21 @@ pub record Has (h : Machine) (x : Place) (byte : Option ℕ) : Type 0 where
   pub shown : IfSome byte (Reads h x)
 
 -- What these inputs, answered so, left of a byte that none of them changed: the place has it still, or was lost, or nothing is
--- there. It was not lost where none poisoned its line, and none made the line weak or none may have made it durable: which file a
--- later handle is of, the states between tell, so any flush may have.
+-- there. It was not lost where none poisoned its line, and none made the line weak or none may have made it durable in place: which
+-- file a later handle is of, the states between tell, so any flush may have.
 pub record Remains (inputs : List Input) (answers : List Answer) (later : Machine) (x : Place) (byte : Option ℕ) : Type 0 where
   pub has : Spares changes x inputs answers → Has later x byte
   pub unharmed : Spares changes x inputs answers → Spares poisons x inputs answers
-      → Spares weakens x inputs answers ⊎ Spares (may_be_made_durable later) x inputs answers → (byte_at_place later x ≡ byte) ⊎ HasNothing later
+      → Spares weakens x inputs answers ⊎ Spares (may_wear later) x inputs answers → (byte_at_place later x ≡ byte) ⊎ HasNothing later
 
 -- so it is in every later state of every run, whatever is cut, fails, and is restarted or recovered
 abbrev pub Lasts : Machine → Place → Option ℕ → Type 0
 Lasts h x byte = (inputs : List Input) (said : Transcript) (later : Machine) → BringBytes inputs → Run h inputs said later
     → Remains inputs said.answers later x byte
+
+-- a command that makes the place durable keeps its byte: its line is not weak, where that is done in place, and else it is not changed
+abbrev pub KeepsByte : Machine → Action → Place → Type 0
+KeepsByte h action x = (wears h action x ≡ true → is_weak_at h x ≡ false) × (wears h action x ≡ false → changes action x ≡ false)
 
 -- no command was stopped by a loss of power
 abbrev pub LostNone : List Answer → Type 0

@@ -1,156 +1,98 @@
 -- Which bytes a command makes durable, which it changes, of which it makes the line bad or weak, and which it keeps from mounts.
-use Rattle.std.specs.Prelude.{◌+◌, ◌*◌, ◌/◌, ◌==◌, ◌&&◌, ◌||◌, ℕ, Bool, true, false, List, [], ◌∷◌, Option, Some, None, length, if◌then◌else◌}
-use Rattle.std.specs.List.{list_any}
-use Rattle.std.specs.Str.{bytes_eq}
+use Rattle.std.specs.Prelude.{◌+◌, ◌*◌, ◌/◌, ◌&&◌, ℕ, Bool, true, false, List, [], ◌∷◌, length}
 use Rattle.nvm_base.specs.declared.units.Span.{Span}
-use Rattle.nvm_model.specs.Cell.{touches}
-use Rattle.nvm_model.specs.Mappings.{is_shared, mapping_of}
-use Rattle.nvm_model.specs.Numbered.{is_among}
 use Rattle.nvm_model.specs.Storage.{Mapping}
-use Rattle.nvm_model.specs.Touched.{touches_any}
 use Rattle.block_device.specs.Refusals.{block_spans}
+use Rattle.file_actions.specs.Refusals.{all_bytes}
 use Rattle.pm_volume.specs.Refusals.{physical_offset}
 use Rattle.reply_text.specs.Answer.{Answer}
 use Rattle.reply_text.specs.Answer.Answer.{Done, DoneBad, Bytes, Ranges, Files, Handle, Happened, NoEvent, BadLines, VerifyFile, Yes, No, Scarred, PoisonBlock as PoisonedBlock, PoisonVolume as PoisonedVolume, PoisonFile as PoisonedFile, DeviceFailed, PowerLost, Stopped, Refused, RefusedMeta}
 use Rattle.script_text.specs.Action.{Action}
-use Rattle.script_text.specs.Action.Action.{BRead, BWrite, BAtomic, BMulti, BDiscard, BDiscardIf, BExists, BScar, VLoad, VStore, VSync, VRanges, VPSync, VDiscard, VDiscardIf, VExists, Create, Delete, Rename, Resize, ListFiles, FRead, FWrite, Map, Unmap, Load, Store, Sync, Flush, FlushVerify, DeepFlush, NextEvent, CheckFile, PoisonBlock, PoisonVolume, PoisonFile, PoisonMeta, WeakenFile, WeakenVolume, ClearFile, ClearVolume, Cut, CutIn, FailIn, Restart, Recover}
+use Rattle.script_text.specs.Action.Action.{BRead, BWrite, BAtomic, BMulti, BDiscard, BDiscardIf, BExists, BScar, VLoad, VStore, VSync, VRanges, VPSync, VDiscard, VDiscardIf, VExists, Create, Delete, Rename, Resize, ListFiles, FRead, FWrite, FAtomic, FMulti, FDiscard, FSync, Map, Unmap, Load, Store, Sync, Flush, FlushVerify, DeepFlush, NextEvent, CheckFile, PoisonBlock, PoisonVolume, PoisonFile, PoisonMeta, WeakenFile, WeakenVolume, ClearFile, ClearVolume, Cut, CutIn, FailIn, Restart, Recover}
 use Rattle.machine_host.specs.OnBlocks.{blocks_from}
-use Rattle.machine_host.specs.OnFlushes.{all_moved}
 use Rattle.machine_host.specs.Machine.{Machine}
 use Rattle.word_tables.specs.declared.geometry.Geometry.{Geometry}
 use Rattle.durable.specs.Place.{Place}
-use Rattle.durable.specs.Place.Place.{of_volume, of_blocks, of_file}
+use Rattle.durable.specs.Region.{Region, discarded_pages, everything, all_files, file_bytes, flushed_lines, flushed_through, holds, line_of_blocks, line_of_file, line_of_volume, nothing, pages_bytes, ranges_bytes, rewritten_bytes, spanned, stored_bytes, touched_lines, touched_lines_at, two_files, whole_file}
 
--- a part of storage: which bytes of the volume, which of the blocks, and which of the file of a name
-pub record Region : Type 0 where
-  pub volume : ℕ → Bool
-  pub blocks : ℕ → Bool
-  pub files : List ℕ → ℕ → Bool
+-- The bytes that a command makes durable: in place, where a weak line is lost by that, or anew, in lines that are not weak.
+pub record Covered : Type 0 where
+  pub region : Region
+  pub worn : Bool
 
-abbrev pub nothing : Region
-nothing = record { volume = λ i. false; blocks = λ i. false; files = λ name i. false }
+abbrev pub uncovered : Covered
+uncovered = record { region = nothing; worn = false }
 
-abbrev pub everything : Region
-everything = record { volume = λ i. true; blocks = λ i. true; files = λ name i. true }
+abbrev pub in_place : Region → Covered
+in_place region = record { region = region; worn = true }
 
--- the bytes of blocks of some spans
-abbrev pub spanned : List Span → Region
-spanned spans = record nothing { blocks = λ i. list_any (λ (span : Span). is_among span.start span.len (i / 512)) spans }
+abbrev pub anew : Region → Covered
+anew region = record { region = region; worn = false }
 
--- bytes of the volume, and those of pages
-abbrev pub stored_bytes : ℕ → ℕ → Region
-stored_bytes offset len = record nothing { volume = is_among offset len }
-
-abbrev pub discarded_pages : ℕ → ℕ → Region
-discarded_pages page count = record nothing { volume = λ i. is_among page count (i / 4096) }
-
--- all bytes of the file of a name, of two names, and some bytes of one
-abbrev pub whole_file : List ℕ → Region
-whole_file file = record nothing { files = λ name i. bytes_eq file name }
-
-abbrev pub two_files : List ℕ → List ℕ → Region
-two_files file other = record nothing { files = λ name i. bytes_eq file name || bytes_eq other name }
-
-abbrev pub file_bytes : List ℕ → ℕ → ℕ → Region
-file_bytes file offset len = record nothing { files = λ name i. bytes_eq file name && is_among offset len i }
-
--- all bytes of all files: which file a handle is of, the state alone tells
-abbrev pub all_files : Region
-all_files = record nothing { files = λ name i. true }
-
--- all bytes of a line of the volume, of the blocks, or of the file of a name
-abbrev pub line_of_volume : ℕ → Region
-line_of_volume n = record nothing { volume = λ i. i / 64 == n }
-
-abbrev pub line_of_blocks : ℕ → Region
-line_of_blocks n = record nothing { blocks = λ i. i / 64 == n }
-
-abbrev pub line_of_file : List ℕ → ℕ → Region
-line_of_file file n = record nothing { files = λ name i. bytes_eq file name && (i / 64 == n) }
-
--- all bytes of the lines that a span of the volume touches
-abbrev pub touched_lines : ℕ → ℕ → Region
-touched_lines offset len = record nothing { volume = λ i. touches offset len (i / 64) }
-
--- the same where a span of addresses begins at this offset
-abbrev pub touched_lines_at : Option ℕ → ℕ → Region
-touched_lines_at None len = nothing
-touched_lines_at (Some offset) len = touched_lines offset len
-
--- all bytes of the lines that one or more spans of a file touch
-abbrev pub flushed_lines : List ℕ → List Span → Region
-flushed_lines file spans = record nothing { files = λ name i. bytes_eq file name && touches_any spans (i / 64) }
-
--- the same of spans of a mapping that shows its file; nothing where it is a copy, or there is none
-abbrev pub flushed_by : List Span → Option Mapping → Region
-flushed_by spans None = nothing
-flushed_by spans (Some m) = if is_shared m.kind then flushed_lines m.name (all_moved m.start spans) else nothing
-
--- and of the mapping that has a handle
-abbrev pub flushed_through : List Mapping → ℕ → List Span → Region
-flushed_through mappings handle spans = flushed_by spans (mapping_of handle mappings)
-
-abbrev pub holds : Region → Place → Bool
-holds region (of_volume i) = region.volume i
-holds region (of_blocks i) = region.blocks i
-holds region (of_file name i) = region.files name i
+-- the place is of the region, and a weak line there is lost
+abbrev pub wears_out : Covered → Place → Bool
+wears_out covered x = covered.worn && holds covered.region x
 
 -- What is durable once a command is done on storage of these sizes: the blocks that it writes, the lines that it syncs, one that it
--- clears, and those that it flushes through a handle, of which this region is told.
-abbrev pub covered_by : (ℕ → List Span → Region) → Geometry → Action → Region
-covered_by flushed geo (BRead block count) = nothing
-covered_by flushed geo (BWrite block bytes) = spanned (blocks_from block (length bytes / 512))
-covered_by flushed geo (BAtomic block bytes) = spanned (blocks_from block (length bytes / 512))
-covered_by flushed geo (BMulti ranges bytes) = spanned (block_spans ranges)
-covered_by flushed geo (BDiscard block count) = nothing
-covered_by flushed geo (BDiscardIf block count) = nothing
-covered_by flushed geo (BExists block) = nothing
-covered_by flushed geo (BScar ranges) = nothing
-covered_by flushed geo (VLoad offset len) = nothing
-covered_by flushed geo (VStore offset bytes) = nothing
-covered_by flushed geo (VSync offset len) = touched_lines offset len
-covered_by flushed geo VRanges = nothing
-covered_by flushed geo (VPSync address len) = touched_lines_at (physical_offset geo address len) len
-covered_by flushed geo (VDiscard page count) = nothing
-covered_by flushed geo (VDiscardIf page count) = nothing
-covered_by flushed geo (VExists page) = nothing
-covered_by flushed geo (Create name pages) = nothing
-covered_by flushed geo (Delete name) = nothing
-covered_by flushed geo (Rename name to) = nothing
-covered_by flushed geo (Resize name pages) = nothing
-covered_by flushed geo ListFiles = nothing
-covered_by flushed geo (FRead name offset len) = nothing
-covered_by flushed geo (FWrite name offset bytes) = nothing
-covered_by flushed geo (Map name span kind) = nothing
-covered_by flushed geo (Unmap handle) = nothing
-covered_by flushed geo (Load handle offset len) = nothing
-covered_by flushed geo (Store handle offset bytes) = nothing
-covered_by flushed geo (Sync handle offset len) = flushed handle (record { start = offset; len = len } ∷ [])
-covered_by flushed geo (Flush handle spans) = flushed handle spans
-covered_by flushed geo (FlushVerify handle spans) = flushed handle spans
-covered_by flushed geo (DeepFlush handle spans) = flushed handle spans
-covered_by flushed geo NextEvent = nothing
-covered_by flushed geo (CheckFile name offset len) = nothing
-covered_by flushed geo (PoisonBlock block line) = nothing
-covered_by flushed geo (PoisonVolume offset) = nothing
-covered_by flushed geo (PoisonFile name offset) = nothing
-covered_by flushed geo (PoisonMeta line) = nothing
-covered_by flushed geo (WeakenFile name offset) = nothing
-covered_by flushed geo (WeakenVolume offset) = nothing
-covered_by flushed geo (ClearFile name offset) = line_of_file name (offset / 64)
-covered_by flushed geo (ClearVolume offset) = line_of_volume (offset / 64)
-covered_by flushed geo Cut = nothing
-covered_by flushed geo (CutIn calls) = nothing
-covered_by flushed geo (FailIn calls) = nothing
-covered_by flushed geo (Restart choice) = nothing
-covered_by flushed geo Recover = nothing
+-- clears, those that it flushes through a handle, of which this region is told, and the pages that it writes as a whole.
+abbrev pub covered_by : (ℕ → List Span → Region) → Geometry → Action → Covered
+covered_by flushed geo (BRead block count) = uncovered
+covered_by flushed geo (BWrite block bytes) = in_place (spanned (blocks_from block (length bytes / 512)))
+covered_by flushed geo (BAtomic block bytes) = in_place (spanned (blocks_from block (length bytes / 512)))
+covered_by flushed geo (BMulti ranges bytes) = in_place (spanned (block_spans ranges))
+covered_by flushed geo (BDiscard block count) = uncovered
+covered_by flushed geo (BDiscardIf block count) = uncovered
+covered_by flushed geo (BExists block) = uncovered
+covered_by flushed geo (BScar ranges) = uncovered
+covered_by flushed geo (VLoad offset len) = uncovered
+covered_by flushed geo (VStore offset bytes) = uncovered
+covered_by flushed geo (VSync offset len) = in_place (touched_lines offset len)
+covered_by flushed geo VRanges = uncovered
+covered_by flushed geo (VPSync address len) = in_place (touched_lines_at (physical_offset geo address len) len)
+covered_by flushed geo (VDiscard page count) = uncovered
+covered_by flushed geo (VDiscardIf page count) = uncovered
+covered_by flushed geo (VExists page) = uncovered
+covered_by flushed geo (Create name pages) = uncovered
+covered_by flushed geo (Delete name) = uncovered
+covered_by flushed geo (Rename name to) = uncovered
+covered_by flushed geo (Resize name pages) = uncovered
+covered_by flushed geo ListFiles = uncovered
+covered_by flushed geo (FRead name offset len) = uncovered
+covered_by flushed geo (FWrite name offset bytes) = uncovered
+covered_by flushed geo (FAtomic name offset bytes) = anew (rewritten_bytes name (record { start = offset; len = length bytes } ∷ []))
+covered_by flushed geo (FMulti name ranges bytes) = anew (rewritten_bytes name ranges)
+covered_by flushed geo (FDiscard name page count) = uncovered
+covered_by flushed geo (FSync name) = in_place (flushed_lines name all_bytes)
+covered_by flushed geo (Map name span kind) = uncovered
+covered_by flushed geo (Unmap handle) = uncovered
+covered_by flushed geo (Load handle offset len) = uncovered
+covered_by flushed geo (Store handle offset bytes) = uncovered
+covered_by flushed geo (Sync handle offset len) = in_place (flushed handle (record { start = offset; len = len } ∷ []))
+covered_by flushed geo (Flush handle spans) = in_place (flushed handle spans)
+covered_by flushed geo (FlushVerify handle spans) = in_place (flushed handle spans)
+covered_by flushed geo (DeepFlush handle spans) = in_place (flushed handle spans)
+covered_by flushed geo NextEvent = uncovered
+covered_by flushed geo (CheckFile name offset len) = uncovered
+covered_by flushed geo (PoisonBlock block line) = uncovered
+covered_by flushed geo (PoisonVolume offset) = uncovered
+covered_by flushed geo (PoisonFile name offset) = uncovered
+covered_by flushed geo (PoisonMeta line) = uncovered
+covered_by flushed geo (WeakenFile name offset) = uncovered
+covered_by flushed geo (WeakenVolume offset) = uncovered
+covered_by flushed geo (ClearFile name offset) = in_place (line_of_file name (offset / 64))
+covered_by flushed geo (ClearVolume offset) = in_place (line_of_volume (offset / 64))
+covered_by flushed geo Cut = uncovered
+covered_by flushed geo (CutIn calls) = uncovered
+covered_by flushed geo (FailIn calls) = uncovered
+covered_by flushed geo (Restart choice) = uncovered
+covered_by flushed geo Recover = uncovered
 
 -- so where the mappings are these
-abbrev pub made_durable : Geometry → List Mapping → Action → Region
+abbrev pub made_durable : Geometry → List Mapping → Action → Covered
 made_durable geo mappings action = covered_by (flushed_through mappings) geo action
 
 -- An upper bound where they are not known: a flush through any handle counts for all bytes of all files.
-abbrev pub may_make_durable : Geometry → Action → Region
+abbrev pub may_make_durable : Geometry → Action → Covered
 may_make_durable geo action = covered_by (λ handle spans. all_files) geo action
 
 -- what a command writes, discards, scars, stores or clears; and all of a file that it makes, renames, resizes or deletes
@@ -178,6 +120,10 @@ region_changed (Resize name pages) = whole_file name
 region_changed ListFiles = nothing
 region_changed (FRead name offset len) = nothing
 region_changed (FWrite name offset bytes) = file_bytes name offset (length bytes)
+region_changed (FAtomic name offset bytes) = file_bytes name offset (length bytes)
+region_changed (FMulti name ranges bytes) = ranges_bytes name ranges
+region_changed (FDiscard name page count) = pages_bytes name page count
+region_changed (FSync name) = nothing
 region_changed (Map name span kind) = nothing
 region_changed (Unmap handle) = nothing
 region_changed (Load handle offset len) = nothing
@@ -237,6 +183,10 @@ harm_done (Resize name pages) = no_harm
 harm_done ListFiles = no_harm
 harm_done (FRead name offset len) = no_harm
 harm_done (FWrite name offset bytes) = no_harm
+harm_done (FAtomic name offset bytes) = no_harm
+harm_done (FMulti name ranges bytes) = no_harm
+harm_done (FDiscard name page count) = no_harm
+harm_done (FSync name) = no_harm
 harm_done (Map name span kind) = no_harm
 harm_done (Unmap handle) = no_harm
 harm_done (Load handle offset len) = no_harm
@@ -262,10 +212,17 @@ harm_done (Restart choice) = no_harm
 harm_done Recover = no_harm
 
 abbrev pub is_made_durable : Machine → Action → Place → Bool
-is_made_durable h action x = holds (made_durable h.geometry h.mappings action) x
+is_made_durable h action x = holds (made_durable h.geometry h.mappings action).region x
 
 abbrev pub may_be_made_durable : Machine → Action → Place → Bool
-may_be_made_durable h action x = holds (may_make_durable h.geometry action) x
+may_be_made_durable h action x = holds (may_make_durable h.geometry action).region x
+
+-- and of which a weak line would be lost by that
+abbrev pub wears : Machine → Action → Place → Bool
+wears h action x = wears_out (made_durable h.geometry h.mappings action) x
+
+abbrev pub may_wear : Machine → Action → Place → Bool
+may_wear h action x = wears_out (may_make_durable h.geometry action) x
 
 abbrev pub changes : Action → Place → Bool
 changes action x = holds (region_changed action) x

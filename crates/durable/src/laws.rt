@@ -1,22 +1,25 @@
 // Laws of whole runs, each a function without a body.
-ghost use Rattle.std.specs.Prelude.{◌≡◌, ◌≢◌, ◌+◌, ◌-◌, ◌*◌, ◌/◌, ℕ, true, false, List, [], ◌∷◌, ◌++◌, length, slice_index, Some, None};
+ghost use Rattle.std.specs.Prelude.{◌≡◌, ◌≢◌, ◌⊎◌, ◌+◌, ◌-◌, ◌*◌, ◌/◌, ℕ, true, false, List, [], ◌∷◌, ◌++◌, length, slice_index, Some, None};
 ghost use Rattle.word_tables.specs.declared.geometry.Geometry.{Geometry};
 ghost use Rattle.std.specs.List.{Contains};
-ghost use Rattle.durable.specs.Touching.{is_made_durable, may_be_made_durable, unmounts};
+ghost use Rattle.durable.specs.Touching.{is_made_durable, may_be_made_durable, may_wear, unmounts, wears};
 ghost use Rattle.nvm_base.specs.declared.files.FileEntry.{FileEntry};
 ghost use Rattle.nvm_base.specs.declared.units.Span.{Span};
 ghost use Rattle.reply_text.specs.Answer.Answer.{Files, RefusedMeta, Stopped as StoppedMeta, VerifyFile};
 ghost use Rattle.nvm_model.specs.Cell.{covers, touches};
 ghost use Rattle.nvm_model.specs.Numbered.{is_among};
 ghost use Rattle.nvm_model.specs.Page.{cell_of, touches_absent};
+ghost use Rattle.nvm_model.specs.Storage.{File};
+ghost use Rattle.range_sets.specs.Ranges.{total_of};
 ghost use Rattle.line_device.specs.Panel.{Image};
 ghost use Rattle.word_tables.specs.Layout.{volume_line};
 ghost use Rattle.pm_volume.specs.Presence.{presence_read};
 ghost use Rattle.pm_volume.specs.Refusals.{physical_offset};
 ghost use Rattle.script_text.specs.Action.{Action};
-ghost use Rattle.script_text.specs.Action.Action.{BRead, BWrite, BAtomic, VLoad, VStore, VSync, VPSync, FRead, FWrite, FlushVerify, PoisonBlock, PoisonFile, PoisonVolume, ClearFile, ClearVolume, Cut, Restart, ListFiles, NextEvent};
+ghost use Rattle.script_text.specs.Action.Action.{BRead, BWrite, BAtomic, VLoad, VStore, VSync, VPSync, FRead, FWrite, FAtomic, FMulti, FlushVerify, PoisonBlock, PoisonFile, PoisonVolume, ClearFile, ClearVolume, Cut, Recover, Restart, ListFiles, NextEvent};
 ghost use Rattle.script_text.specs.Script.{Input, inputs};
 ghost use Rattle.script_text.specs.Script.Input.{Asked};
+ghost use Rattle.line_device.specs.declared.line.Choice.{Choice};
 ghost use Rattle.line_device.specs.declared.line.Choice.TheVariants.{Firsts};
 ghost use Rattle.machine_host.specs.declared.mode.Mode.TheVariants.{On, Stopped};
 ghost use Rattle.machine_host.specs.declared.needs.Needs.TheVariants.{Usable};
@@ -29,9 +32,11 @@ ghost use Rattle.machine_host.specs.Run.{Hears, Transcript, Run};
 ghost use Rattle.durable.specs.Place.{Place, byte_at_place, is_weak_at, is_weak_line};
 ghost use Rattle.durable.specs.Naming.{Names, NamesLine, NamesLineOf, NamesObstacle, refused_before};
 ghost use Rattle.durable.specs.Place.Place.{of_volume, of_blocks, of_file};
-ghost use Rattle.durable.specs.Durable.{BringBytes, BringsBytes, Does, Finishes, HasNothing, IsDurable, IsComplete, KeepsThrough, Lasts, LastsPowered, Spares};
-ghost use Rattle.durable.specs.Events.{FindsAnew, Mounts, NoneMounts, TellsInOrder, TellsLines, TellsOldest, all_told};
-ghost use Rattle.durable.specs.Files.{BreaksOff, FilesLast, FilesSettle, FilesThrough, LeavesFiles, changes_files, files_after, files_listed};
+ghost use Rattle.durable.specs.Durable.{BringBytes, BringsBytes, Does, Finishes, HasNothing, IsDurable, IsComplete, KeepsByte, KeepsThrough, Lasts, LastsPowered, Spares};
+ghost use Rattle.durable.specs.Whole.{BreaksOffFor, HasEither, ShowsEither, ShowsFiles, WholeWrite, command, files_written};
+ghost use Rattle.durable.specs.Whole.WholeWrite.{atomic, together, discards};
+ghost use Rattle.durable.specs.Events.{AreMounted, FindsAnew, Mounts, NoneMounts, TellsInOrder, TellsLines, TellsOldest, all_told};
+ghost use Rattle.durable.specs.Files.{BreaksOff, FilesLast, FilesSettle, FilesThrough, IsStopped, LeavesFiles, changes_files, files_after, files_listed};
 
 /// A command that covers a byte of the blocks, the volume or a file was done, a flush also where it lost a line: in every later state,
 /// whatever is cut, fails, and is restarted or recovered, the byte is the same or its line is lost, until a command that changes it is
@@ -40,13 +45,15 @@ ghost use Rattle.durable.specs.Files.{BreaksOff, FilesLast, FilesSettle, FilesTh
 pub fn what_was_made_durable_stays()
     ensures stays { (h next : Machine) (action : Action) (x : Place) → Finishes h action next → is_made_durable h action x ≡ true → IsDurable next x }
     ensures bounded { (h : Machine) (action : Action) (x : Place) → is_made_durable h action x ≡ true → may_be_made_durable h action x ≡ true }
+    ensures bounded_in_place { (h : Machine) (action : Action) (x : Place) → wears h action x ≡ true → may_wear h action x ≡ true }
     ensures whole { (h end : Machine) (before after : List Input) (action : Action) (said : Transcript) (x : Place) → IsComplete h
         → BringBytes after → Run h (before ++ Asked action ∷ after) said end → KeepsThrough h before action after said end x }
     ensures scripts { (script : List ℕ) → BringBytes (inputs script) }
 {}
 
 /// The bytes that were written are the ones that last: those of a write of blocks, those of a store to the volume or in a file that
-/// is then made durable, but in a weak line, and the zeros of a line that is cleared.
+/// is then made durable, but in a weak line that is made so in place, and the zeros of a line that is cleared; and at once those of a
+/// write of ranges of a file as a whole, in weak lines too.
 pub fn what_was_written_lasts()
     ensures write { (h next : Machine) (block i : ℕ) (bytes : List ℕ) → Does h (BWrite block bytes) next
         → is_among block (length bytes / 512) (i / 512) ≡ true
@@ -68,11 +75,18 @@ pub fn what_was_written_lasts()
     ensures cleared { (h next : Machine) (offset i : ℕ) → Does h (ClearVolume offset) next → i / 64 ≡ offset / 64
         → Lasts next (of_volume i) (Some 0) }
     ensures flushed { (h stored next : Machine) (name : List ℕ) (offset i : ℕ) (bytes : List ℕ) (action : Action) → BringsBytes (FWrite name offset bytes)
-        → Does h (FWrite name offset bytes) stored → Finishes stored action next → is_made_durable stored action (of_file name i) ≡ true
-        → is_among offset (length bytes) i ≡ true → is_weak_line (cell_of (pages_named name stored.files) (i / 64)) ≡ false
+        → BringsBytes action → Does h (FWrite name offset bytes) stored → Finishes stored action next
+        → is_made_durable stored action (of_file name i) ≡ true → is_among offset (length bytes) i ≡ true → KeepsByte stored action (of_file name i)
         → Lasts next (of_file name i) (Some (slice_index bytes (i - offset))) }
     ensures cleared_in_file { (h next : Machine) (name : List ℕ) (offset i : ℕ) → Does h (ClearFile name offset) next → i / 64 ≡ offset / 64
         → Lasts next (of_file name i) (Some 0) }
+    ensures in_one_range { (h next : Machine) (name : List ℕ) (offset i : ℕ) (bytes : List ℕ) → BringsBytes (FAtomic name offset bytes)
+        → Does h (FAtomic name offset bytes) next → is_among offset (length bytes) i ≡ true
+        → Lasts next (of_file name i) (Some (slice_index bytes (i - offset))) }
+    ensures in_ranges { (h next : Machine) (name : List ℕ) (i : ℕ) (before after : List Span) (range : Span) (bytes : List ℕ)
+        → BringsBytes (FMulti name (before ++ range ∷ after) bytes) → Does h (FMulti name (before ++ range ∷ after) bytes) next
+        → is_among range.start range.len i ≡ true
+        → Lasts next (of_file name i) (Some (slice_index bytes (total_of before + (i - range.start)))) }
 {}
 
 /// While the power stays on, whatever calls fail and however often the storage is recovered, a byte is the one that was last
@@ -99,7 +113,7 @@ pub fn what_is_lost_stays_lost()
         → byte_at_place next (of_file name i) ≡ None }
     ensures of_a_block { (h next : Machine) (block line i : ℕ) → Does h (PoisonBlock block line) next → i / 64 ≡ 8 * block + line
         → byte_at_place next (of_blocks i) ≡ None }
-    ensures worn_out { (h next : Machine) (action : Action) (x : Place) → Finishes h action next → is_made_durable h action x ≡ true
+    ensures worn_out { (h next : Machine) (action : Action) (x : Place) → Finishes h action next → wears h action x ≡ true
         → is_weak_at h x ≡ true → byte_at_place next x ≡ None }
     ensures verified { (h next : Machine) (handle offset i : ℕ) (spans : List Span) (name : List ℕ) (said : Transcript)
         → Hears h (Asked (FlushVerify handle spans)) said next → said.answers ≡ VerifyFile name offset ∷ [] → i / 64 ≡ offset / 64
@@ -159,6 +173,27 @@ pub fn what_files_there_are_stays()
         → FilesSettle next (files_listed h) (files_after h action) }
     ensures whole { (h end : Machine) (before after : List Input) (action : Action) (said : Transcript) → IsComplete h
         → changes_files action ≡ true → Run h (before ++ Asked action ∷ after) said end → FilesThrough h before action after said end }
+{}
+
+/// An atomic write or a discard of pages of a file that was stopped is done as a whole or not at all. The next recovery
+/// leaves the files as before, or as they were to be, where it is done. So does the next restart, where each byte shows a value that its
+/// word had since it was last durable, the last one where that was asked for: what was written shows as it was written, and holes as zeros.
+pub fn a_stopped_write_is_whole_or_not()
+    ensures recovered { (write : WholeWrite) (h next later : Machine) (said : Transcript) → BreaksOffFor h (command write) next
+        → Hears next (Asked Recover) said later → AreMounted said.answers → HasEither write h later }
+    ensures restarted { (write : WholeWrite) (h next later : Machine) (choice : Choice) (said : Transcript) → BreaksOffFor h (command write) next
+        → Hears next (Asked (Restart choice)) said later → AreMounted said.answers ⊎ IsStopped said.answers → ShowsEither choice write h later }
+    ensures shown { (h next later : Machine) (name : List ℕ) (i : ℕ) (before after : List Span) (range : Span) (bytes : List ℕ) (choice : Choice)
+        → BringsBytes (FMulti name (before ++ range ∷ after) bytes) → BreaksOff h (FMulti name (before ++ range ∷ after) bytes) next
+        → ShowsFiles choice (files_written (together name (before ++ range ∷ after) bytes) h.files) later → is_among range.start range.len i ≡ true
+        → byte_at_place later (of_file name i) ≡ Some (slice_index bytes (total_of before + (i - range.start))) }
+    ensures shown_alone { (h next later : Machine) (name : List ℕ) (offset i : ℕ) (bytes : List ℕ) (choice : Choice)
+        → BringsBytes (FAtomic name offset bytes) → BreaksOff h (FAtomic name offset bytes) next
+        → ShowsFiles choice (files_written (atomic name offset bytes) h.files) later → is_among offset (length bytes) i ≡ true
+        → byte_at_place later (of_file name i) ≡ Some (slice_index bytes (i - offset)) }
+    ensures shown_holes { (later : Machine) (name : List ℕ) (page count i : ℕ) (files : List File) (choice : Choice)
+        → ShowsFiles choice (files_written (discards name page count) files) later → is_among page count (i / 4096) ≡ true
+        → byte_at_place later (of_file name i) ≡ Some 0 }
 {}
 
 /// Media errors of files are told once, in the order in which they came, and are found anew at a mount. While nothing is mounted anew,

@@ -1,4 +1,4 @@
-use Rattle.durable.proofs.CoverLemmas.{may_cover}
+use Rattle.durable.proofs.CoverLemmas.{may_cover, may_wear_out}
 use Rattle.durable.proofs.LawLemmas.{finished_durable}
 use Rattle.durable.proofs.PassLemmas.{keeps_through}
 use Rattle.durable.proofs.ScriptLemmas.{bring-script}
@@ -9,6 +9,9 @@ returns-clause-stays c = finished_durable
 
 pub returns-clause-bounded : goal.returns-clause-bounded
 returns-clause-bounded c = may_cover
+
+pub returns-clause-bounded_in_place : goal.returns-clause-bounded_in_place
+returns-clause-bounded_in_place c = may_wear_out
 
 pub returns-clause-scripts : goal.returns-clause-scripts
 returns-clause-scripts c = bring-script

@@ -1,4 +1,5 @@
 use Rattle.durable.proofs.FileWrittenLemmas.{cleared_in_file, flushed}
+use Rattle.durable.proofs.TogetherLemmas.{in_one_range, in_ranges}
 use Rattle.durable.proofs.WrittenLemmas.{cleared, synced, synced_by_address, written, written_together}
 use Rattle.durable.proofs.laws.what_was_written_lasts.Goals as goal
 
@@ -22,3 +23,9 @@ returns-clause-flushed c = flushed
 
 pub returns-clause-cleared_in_file : goal.returns-clause-cleared_in_file
 returns-clause-cleared_in_file c = cleared_in_file
+
+pub returns-clause-in_one_range : goal.returns-clause-in_one_range
+returns-clause-in_one_range c = in_one_range
+
+pub returns-clause-in_ranges : goal.returns-clause-in_ranges
+returns-clause-in_ranges c = in_ranges

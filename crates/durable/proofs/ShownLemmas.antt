@@ -1,0 +1,74 @@
+-- What a write as a whole shows after a restart that took it.
+use Rattle.std.proofs.Common.{◌≡◌, inl, inr, ℕ, ◌+◌, ◌-◌, ◌/◌, ◌%◌, ◌<◌, true, cond, Option, Some, None, option_map, List, [], ◌∷◌, ◌++◌, get_or, length, slice_get, refl, ap, subst, ◌∙◌, arith}
+use Rattle.std.specs.Prelude.{slice_index}
+use Rattle.line_device.specs.declared.line.Choice.{Choice}
+use Rattle.nvm_base.specs.declared.units.Span.{Span}
+use Rattle.nvm_base.proofs.FirstLemmas.{not_mapped}
+use Rattle.range_sets.specs.Ranges.{total_of}
+use Rattle.nvm_model.specs.Numbered.{is_among}
+use Rattle.nvm_model.specs.Page.{Page, cell_of, discard, discard_page}
+use Rattle.nvm_model.specs.Page.Page.{Absent}
+use Rattle.nvm_model.specs.Storage.{File}
+use Rattle.nvm_model.proofs.NumberedLemmas.{slice_get-map_from}
+use Rattle.file_actions.specs.Refusals.{together_refusal}
+use Rattle.script_text.specs.Action.Action.{FAtomic, FMulti}
+use Rattle.machine_host.specs.Machine.{Machine}
+use Rattle.machine_host.specs.OnFileActions.{action_answer, discarded_in}
+use Rattle.machine_host.specs.OnPages.{pages_named}
+use Rattle.durable.specs.Place.{byte_at_place}
+use Rattle.durable.specs.Place.Place.{of_file}
+use Rattle.durable.specs.Files.{BreaksOff}
+use Rattle.durable.specs.Whole.{MayShow, ShowsFiles, files_written}
+use Rattle.durable.specs.Whole.WholeWrite.{atomic, together, discards}
+use Rattle.durable.proofs.NamedPageLemmas.{named-own}
+use Rattle.durable.proofs.PresenceLemmas.{line_in}
+use Rattle.durable.proofs.RefusalLemmas.{places_none}
+use Rattle.durable.proofs.TogetherLemmas.{restart_shows}
+use Rattle.durable.proofs.WholeWriteLemmas.{broken}
+
+-- a byte of one of several ranges
+pub shown : (h next later : Machine) (name : List ℕ) (i : ℕ) (before after : List Span) (range : Span) (bytes : List ℕ) (choice : Choice) → ((k : ℕ) → get_or bytes k 0 < 256)
+    → BreaksOff h (FMulti name (before ++ range ∷ after) bytes) next → ShowsFiles choice (files_written (together name (before ++ range ∷ after) bytes) h.files) later
+    → is_among range.start range.len i ≡ true → byte_at_place later (of_file name i) ≡ Some (slice_index bytes (total_of before + (i - range.start)))
+shown h next later name i before after range bytes choice small breaks shows among =
+    let ranges : List Span = before ++ range ∷ after in
+    let at = broken (together name ranges bytes) h next breaks in
+    let none = not_mapped (action_answer name) (together_refusal (length (pages_named name h.files)) ranges) (places_none h (FMulti name ranges bytes) at.none) in
+    restart_shows before after range bytes i small among choice name h.files later none shows
+
+-- of one alone
+pub shown_alone : (h next later : Machine) (name : List ℕ) (offset i : ℕ) (bytes : List ℕ) (choice : Choice) → ((k : ℕ) → get_or bytes k 0 < 256)
+    → BreaksOff h (FAtomic name offset bytes) next → ShowsFiles choice (files_written (atomic name offset bytes) h.files) later
+    → is_among offset (length bytes) i ≡ true → byte_at_place later (of_file name i) ≡ Some (slice_index bytes (i - offset))
+shown_alone h next later name offset i bytes choice small breaks shows among =
+    let range : Span = record { start = offset; len = length bytes } in
+    let at = broken (atomic name offset bytes) h next breaks in
+    let none = not_mapped (action_answer name) (together_refusal (length (pages_named name h.files)) (range ∷ [])) (places_none h (FAtomic name offset bytes) at.none) in
+    let place : total_of [] + (i - offset) ≡ i - offset = omega arith in
+    restart_shows [] [] range bytes i small among choice name h.files later none shows ∙ ap (λ k. Some (slice_index bytes k)) place
+
+-- and of a page that was made a hole
+hole : (page count n : ℕ) (pages : List Page) → is_among page count (n / 64) ≡ true → cell_of (discard page count pages) n ≡ None
+unfolding discard
+hole page count n pages among = ap (line_in n) (slice_get-map_from (discard_page page count) 0 pages (n / 64)) ∙ by_page (slice_get pages (n / 64))
+  where
+    number : 0 + n / 64 ≡ n / 64
+    number = omega arith
+
+    by_page : (o : Option Page) → line_in n (option_map (discard_page page count (0 + n / 64)) o) ≡ None
+    by_page None = refl
+    by_page (Some p) = ap (λ b. line_in n (Some (cond b Absent p))) (ap (is_among page count) number ∙ among)
+
+hole_in : (name : List ℕ) (page count i : ℕ) (files : List File) → is_among page count (i / 4096) ≡ true → cell_of (pages_named name (discarded_in name page count files)) (i / 64) ≡ None
+hole_in name page count i files among =
+    elim (named-own name (discard page count) files) as (λ _. cell_of (pages_named name (discarded_in name page count files)) (i / 64) ≡ None) [
+      | inl is ↦
+          let number : i / 64 / 64 ≡ i / 4096 = omega arith in
+          ap (λ p. cell_of p (i / 64)) is ∙ hole page count (i / 64) (pages_named name files) (ap (is_among page count) number ∙ among)
+      | inr none ↦ ap (λ p. cell_of p (i / 64)) (none.0 ∙ none.1)
+    ]
+
+pub shown_holes : (later : Machine) (name : List ℕ) (page count i : ℕ) (files : List File) (choice : Choice) → ShowsFiles choice (files_written (discards name page count) files) later
+    → is_among page count (i / 4096) ≡ true → byte_at_place later (of_file name i) ≡ Some 0
+shown_holes later name page count i files choice shows among =
+    subst (λ o. MayShow choice o (i % 64) (byte_at_place later (of_file name i))) (hole_in name page count i files among) (shows name i)

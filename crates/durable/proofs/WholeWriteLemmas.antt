@@ -1,0 +1,207 @@
+-- What is there once a write as a whole was stopped, and the storage is mounted.
+use Rattle.std.proofs.Common.{◌≡◌, ◌⊎◌, ◌*◌, inl, inr, ℕ, ◌+◌, ◌/◌, ◌%◌, Bool, true, false, cond, Option, Some, None, List, [], ◌∷◌, slice_index_or, refl, sym, ap, subst, ◌∙◌, arith}
+use Rattle.std.specs.Int.{byte_at}
+use Rattle.std.proofs.lemmas.Bool.{both_ways}
+use Rattle.std.proofs.lemmas.Option.{get_or_from_slice_get, slice_get-get_or}
+use Rattle.line_device.specs.History.{newest}
+use Rattle.line_device.specs.Panel.{Image}
+use Rattle.line_device.specs.declared.line.Choice.{Choice}
+use Rattle.nvm_model.specs.Cell.{Cell, KeepsCell}
+use Rattle.nvm_model.specs.Cell.Cell.{Bad, Kept}
+use Rattle.nvm_model.specs.Numbered.{list_from}
+use Rattle.nvm_model.specs.Page.{KeepsPages, Page, cell_of, presence_of, read_pages}
+use Rattle.nvm_model.specs.Storage.{File}
+use Rattle.nvm_model.proofs.NumberedLemmas.{slice_get-list_from}
+use Rattle.nvm_model.proofs.PageLemmas.{cell_of-read_pages, presence_of-read_pages}
+use Rattle.reply_text.specs.Answer.{Answer}
+use Rattle.reply_text.specs.Answer.Answer.{Done, DoneBad, Stopped as MountStopped}
+use Rattle.script_text.specs.Action.{Action}
+use Rattle.script_text.specs.Action.Action.{Recover, Restart}
+use Rattle.script_text.specs.Script.{Input}
+use Rattle.script_text.specs.Script.Input.{Skipped, Malformed, Asked}
+use Rattle.machine_host.specs.Commands.{MayLeaveFiles, meaning, refusal, unless_refused}
+use Rattle.std.specs.Prelude.{◌≢◌}
+use Rattle.machine_host.specs.declared.mode.Mode.TheVariants.{On}
+use Rattle.machine_host.specs.Machine.{Machine}
+use Rattle.machine_host.specs.Machine.Fate.{Works}
+use Rattle.machine_host.specs.OnPages.{pages_named}
+use Rattle.machine_host.specs.Run.{Hears, Run, Takes, Transcript}
+use Rattle.durable.specs.Place.{byte_at_place, is_line_present, line_has}
+use Rattle.durable.specs.Place.Place.{of_file}
+use Rattle.durable.specs.Durable.{AllHaveLines, HaveLines, IsLineThere}
+use Rattle.durable.specs.Events.{AreMounted}
+use Rattle.durable.specs.Files.{BreaksOff, IsStopped}
+use Rattle.durable.specs.Whole.{BreaksOffFor, HasEither, IsMount, NoMountAsked, MayShow, ShowsEither, ShowsFiles, WholeWrite, command, files_written}
+use Rattle.durable.specs.Whole.WholeWrite.{atomic, together, discards}
+use Rattle.durable.proofs.FileLemmas.{done_or_stopped, not_stopped}
+use Rattle.durable.proofs.FileThereLemmas.{lines-files_left, lines-named}
+use Rattle.durable.proofs.NamedPageLemmas.{named-read}
+use Rattle.durable.proofs.PresenceLemmas.{absent_line}
+use Rattle.durable.proofs.RefusalLemmas.{is_off, is_on, refused_told}
+use Rattle.durable.proofs.RefusedAnswerLemmas.{is_refused}
+use Rattle.durable.proofs.StepKinds.{Returns, Step}
+use Rattle.durable.proofs.StepKinds.Step.{idles, alters, stops, returns, remounts, empties}
+use Rattle.durable.proofs.StepLemmas.{mounts_anew, reads_back, step_of, stops_on}
+use Rattle.durable.proofs.ThereLemmas.{is_there}
+
+-- it is done by a change of the files alone
+works_on : (write : WholeWrite) (h : Machine) → (meaning (command write)).comes h ≡ Works Done (record h { files = files_written write h.files })
+works_on (atomic name offset bytes) h = refl
+works_on (together name ranges bytes) h = refl
+works_on (discards name page count) h = refl
+
+-- it was begun, and stopped
+pub record IsBroken (h : Machine) (action : Action) (next : Machine) : Type 0 where
+  pub none : refusal h action ≡ None
+  mode : next.mode ≢ On
+  files : next.files ≡ h.files
+  mappings : next.mappings ≡ h.mappings
+  interrupted : next.interrupted ≡ Some action
+
+pub broken : (write : WholeWrite) (h next : Machine) → BreaksOff h (command write) next → IsBroken h (command write) next
+broken write h next breaks = by_refusal (refusal h (command write)) refl breaks.came
+  where
+    by_refusal : (o : Option Answer) → refusal h (command write) ≡ o → Takes h (command write) (unless_refused h o ((meaning (command write)).comes h)) breaks.said next
+        → IsBroken h (command write) next
+    by_refusal (Some answer) is took =
+        absurd (both_ways (is_refused answer) (not_stopped answer (subst IsStopped (ap (λ s. s.answers) took.0) breaks.stopped)) (refused_told h (command write) answer is))
+    by_refusal None is took =
+        let t = subst (λ f. Takes h (command write) f breaks.said next) (works_on write h) took in
+        elim t.2 as (λ _. IsBroken h (command write) next) [
+          | inl end ↦ absurd (done_or_stopped t.0 (subst IsStopped (ap (λ s. s.answers) t.1) breaks.stopped) (inl end.0))
+          | inr end ↦ record { none = is; mode = λ on. stops_on end.0 (sym (ap (λ m. m.mode) end.2.state) ∙ on); files = ap (λ m. m.files) end.2.state; mappings = ap (λ m. m.mappings) end.2.state; interrupted = ap (λ m. m.interrupted) end.2.state }
+        ]
+
+-- and stays so while none asks for a mount
+broken_step : (h m next : Machine) (action other : Action) (answer : Answer) → (IsMount other → ⊥) → IsBroken h action m → Step m other answer next → IsBroken h action next
+broken_step h m next action other answer waits at (idles why to) = record {
+  none = at.none;
+  mode = λ on. at.mode (to.mode on);
+  files = to.files ∙ at.files;
+  mappings = to.mappings ∙ at.mappings;
+  interrupted = to.interrupted ∙ at.interrupted;
+}
+broken_step h m next action other answer waits at (alters begun none to) = absurd (at.mode (is_on m other to.needs none))
+broken_step h m next action other answer waits at (stops by is none to) = absurd (at.mode (is_on m other to.needs none))
+broken_step h m next action other answer waits at (returns covers back) = absurd (waits covers.1)
+broken_step h m next action other answer waits at (remounts covers back) = absurd (waits covers.1)
+broken_step h m next action other answer waits at (empties covers to) = absurd (waits covers.1)
+
+broken_run : (inputs : List Input) (h m next : Machine) (action : Action) (said : Transcript) → NoMountAsked inputs → IsBroken h action m → Run m inputs said next → IsBroken h action next
+broken_run [] h m next action said waits at run = subst (IsBroken h action) (sym run.1) at
+broken_run (Skipped ∷ inputs) h m next action said waits at run =
+    broken_run inputs h run.2 next action run.1 waits (subst (IsBroken h action) (sym run.4.1) at) run.5
+broken_run (Malformed ∷ inputs) h m next action said waits at run =
+    broken_run inputs h run.2 next action run.1 waits (subst (IsBroken h action) (sym run.4.1) at) run.5
+broken_run (Asked other ∷ inputs) h m next action said waits at run =
+    let taken = step_of m other run.0 run.2 run.4 in
+    broken_run inputs h run.2 next action run.1 waits.1 (broken_step h m run.2 action other taken.answer waits.0 at taken.step) run.5
+
+broken_for : (write : WholeWrite) (h next : Machine) → BreaksOffFor h (command write) next → IsBroken h (command write) next
+broken_for write h next breaks = broken_run breaks.inputs h breaks.at next (command write) breaks.said breaks.waits (broken write h breaks.at breaks.broke) breaks.run
+
+-- so a mount finds the files old or new
+old_or_new : (write : WholeWrite) (h next : Machine) (left : List File) → IsBroken h (command write) next → MayLeaveFiles next.mappings next.interrupted next.files left
+    → (left ≡ h.files) ⊎ (left ≡ files_written write h.files)
+old_or_new write h next left at may =
+    by_write write (subst (λ o. MayLeaveFiles h.mappings o h.files left) at.interrupted
+    (subst (λ ms. MayLeaveFiles ms next.interrupted h.files left) at.mappings (subst (λ old. MayLeaveFiles next.mappings next.interrupted old left) at.files may)))
+  where
+    by_write : (w : WholeWrite) → MayLeaveFiles h.mappings (Some (command w)) h.files left → (left ≡ h.files) ⊎ (left ≡ files_written w h.files)
+    by_write (atomic name offset bytes) may = may
+    by_write (together name ranges bytes) may = may
+    by_write (discards name page count) may = may
+
+-- a mount that was done was not refused
+mounted_allowed : (answer : Answer) → AreMounted (answer ∷ []) → is_refused answer ≡ false
+mounted_allowed answer (inl done) = let same : answer ≡ DoneBad done.0 = cc done.1 in ap is_refused same
+mounted_allowed answer (inr bad) = let same : answer ≡ MountStopped bad.0 = cc bad.1 in ap is_refused same
+
+pub recovered : (write : WholeWrite) (h next later : Machine) (said : Transcript) → BreaksOffFor h (command write) next → Hears next (Asked Recover) said later → AreMounted said.answers
+    → HasEither write h later
+recovered write h next later said breaks heard mounted = by_refusal (refusal next Recover) refl heard
+  where
+    at : IsBroken h (command write) next
+    at = broken_for write h next breaks
+
+    by_refusal : (o : Option Answer) → refusal next Recover ≡ o → Takes next Recover (unless_refused next o ((meaning Recover).comes next)) said later → HasEither write h later
+    by_refusal (Some answer) is took =
+        absurd (both_ways (is_refused answer) (mounted_allowed answer (subst AreMounted (ap (λ s. s.answers) took.0) mounted)) (refused_told next Recover answer is))
+    by_refusal None is took = elim took.2 as (λ _. HasEither write h later) [
+      | inl end ↦ elim (mounts_anew next later next.bad_meta refl end.1) as (λ _. HasEither write h later) [ inl back ↦ inl (old_or_new write h next later.files at back.files) | inr gone ↦ inr gone.nothing ]
+      | inr end ↦ inl (inl (ap (λ m. m.files) end.2.state ∙ at.files))
+    ]
+
+-- what a restart reads of pages
+shows_read : (choice : Choice) (place : ℕ → ℕ) (image : Image) (pages : List Page) (i : ℕ) → HaveLines pages → KeepsPages choice place image pages
+    → MayShow choice (cell_of pages (i / 64)) (i % 64) (line_has (cell_of (read_pages place image (presence_of pages)) (i / 64)) (i % 64))
+shows_read choice place image pages i lines keeps = by_presence (is_line_present pages (i / 64)) refl
+  where
+    read : List Page
+    read = read_pages place image (presence_of pages)
+
+    word : ℕ → List ℕ
+    word p = image.word p ∷ []
+
+    value : ℕ
+    value = image.word (8 * place (i / 64) + (i % 64) / 8)
+
+    by_cell : (o : Option Cell) → IsLineThere o → ((cell : Cell) → o ≡ Some cell → KeepsCell choice image (place (i / 64)) cell)
+        → MayShow choice o (i % 64) (line_has (Some (cond (image.is_bad (place (i / 64))) Bad (Kept (image.is_weak (place (i / 64))) (list_from word (8 * place (i / 64)) 8)))) (i % 64))
+    by_cell None none kept = absurd none
+    by_cell (Some Bad) size kept = ap (λ b. line_has (Some (cond b Bad (Kept (image.is_weak (place (i / 64))) (list_from word (8 * place (i / 64)) 8)))) (i % 64)) (kept Bad refl)
+    by_cell (Some (Kept weak words)) size kept =
+        let keeps_cell = kept (Kept weak words) refl in (
+          value,
+          keeps_cell.2 ((i % 64) / 8) (slice_index_or words ((i % 64) / 8) []) (slice_get-get_or words ((i % 64) / 8) [] (omega (arith, size))),
+          ap (λ b. line_has (Some (cond b Bad (Kept (image.is_weak (place (i / 64))) (list_from word (8 * place (i / 64)) 8)))) (i % 64)) keeps_cell.0
+              ∙ ap (λ h. Some (byte_at (i % 64 % 8) (newest h)))
+              (get_or_from_slice_get (list_from word (8 * place (i / 64)) 8) ((i % 64) / 8) (value ∷ []) [] (slice_get-list_from word (8 * place (i / 64)) 8 ((i % 64) / 8) (omega arith))),
+        )
+
+    by_presence : (b : Bool) → is_line_present pages (i / 64) ≡ b → MayShow choice (cell_of pages (i / 64)) (i % 64) (line_has (cell_of read (i / 64)) (i % 64))
+    by_presence true there =
+        subst (λ o. MayShow choice (cell_of pages (i / 64)) (i % 64) (line_has o (i % 64))) (sym (cell_of-read_pages place image (presence_of pages) (i / 64) (is_there (presence_of pages) (i / 64 / 64) there)))
+        (by_cell (cell_of pages (i / 64)) (lines (i / 64) there) (keeps (i / 64)))
+    by_presence false absent =
+        subst (λ o. MayShow choice o (i % 64) (line_has (cell_of read (i / 64)) (i % 64))) (sym (absent_line pages (i / 64) absent))
+        (ap (λ o. line_has o (i % 64)) (absent_line read (i / 64) (ap (λ bs. slice_index_or bs (i / 64 / 64) false) (presence_of-read_pages place image (presence_of pages)) ∙ absent)))
+
+shows_files : (choice : Choice) (next later : Machine) (back : Returns next later) → back.choice ≡ choice → AllHaveLines next.files → ShowsFiles choice back.may.files_left later
+shows_files choice next later back same lines name i =
+    let left : List File = back.may.files_left in
+    let read = named-read back.choice next.geometry back.image name left back.may.files in
+    let whole = lines-named name left (lines-files_left next.mappings next.interrupted next.files left lines back.may.may_files) in
+    let shown : byte_at_place later (of_file name i) ≡ line_has (cell_of (read_pages read.place back.image (presence_of (pages_named name left))) (i / 64)) (i % 64) =
+    ap (λ fs. line_has (cell_of (pages_named name fs) (i / 64)) (i % 64)) back.files ∙ ap (λ p. line_has (cell_of p (i / 64)) (i % 64)) read.is in
+    subst (λ c. MayShow c (cell_of (pages_named name left) (i / 64)) (i % 64) (byte_at_place later (of_file name i))) same
+    (subst (MayShow back.choice (cell_of (pages_named name left) (i / 64)) (i % 64)) (sym shown) (shows_read back.choice read.place back.image (pages_named name left) i whole read.keeps))
+
+pub restarted : (write : WholeWrite) (h next later : Machine) (choice : Choice) (said : Transcript) → BreaksOffFor h (command write) next → Hears next (Asked (Restart choice)) said later
+    → AreMounted said.answers ⊎ IsStopped said.answers → ShowsEither choice write h later
+restarted write h next later choice said breaks heard mounted = by_refusal (refusal next (Restart choice)) refl heard
+  where
+    at : IsBroken h (command write) next
+    at = broken_for write h next breaks
+
+    allowed : (answer : Answer) → said.answers ≡ answer ∷ [] → AreMounted said.answers ⊎ IsStopped said.answers → is_refused answer ≡ false
+    allowed answer is (inl done) = mounted_allowed answer (subst AreMounted is done)
+    allowed answer is (inr stopped) = not_stopped answer (subst IsStopped is stopped)
+
+    by_back : (back : Returns next later) → back.choice ≡ choice → ShowsEither choice write h later
+    by_back back same =
+        let shows = shows_files choice next later back same (subst AllHaveLines (sym at.files) breaks.broke.whole.file_lines) in
+        elim (old_or_new write h next back.may.files_left at back.may.may_files) as (λ _. ShowsEither choice write h later) [
+          | inl old ↦ inl (inl (subst (λ fs. ShowsFiles choice fs later) old shows))
+          | inr new ↦ inl (inr (subst (λ fs. ShowsFiles choice fs later) new shows))
+        ]
+
+    by_refusal : (o : Option Answer) → refusal next (Restart choice) ≡ o → Takes next (Restart choice) (unless_refused next o ((meaning (Restart choice)).comes next)) said later
+        → ShowsEither choice write h later
+    by_refusal (Some answer) is took =
+        absurd (both_ways (is_refused answer) (allowed answer (ap (λ s. s.answers) took.0) mounted) (refused_told next (Restart choice) answer is))
+    by_refusal None is took =
+        elim (reads_back next choice took.0.image took.1 later (is_off next (Restart choice) refl is) took.4 took.5) as (λ _. ShowsEither choice write h later) [
+          | inl back ↦ by_back back.0 back.1
+          | inr gone ↦ inr gone.nothing
+        ]
