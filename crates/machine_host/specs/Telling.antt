@@ -53,7 +53,8 @@ counted_by after [] count = count
 counted_by after (answer ∷ answers) count = counted_by after answers (after (stop_in answer) count)
 
 -- The device tells what was said to it: the starts, in how many restarts, the last order, how often it was armed and how often
--- it was told to write back. Its failures and losses of power are at least those that were answered, its power was cut by no other command, and it was asked for no more than the commands need.
+-- it was told to write back. Its failures and losses of power are at least those that were answered, its power was cut by no
+-- other command, and it was asked for no more than the commands need.
 pub record Tells (said : Transcript) (old new : Panel) : Type 0 where
   pub starts : new.starts ≡ told old.starts said.starts
   pub restarts : new.counts.restarts ≡ bumped_by said.starts old.counts.restarts
