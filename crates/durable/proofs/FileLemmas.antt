@@ -11,7 +11,7 @@ use Rattle.reply_text.specs.Answer.Answer.{Files as FilesAre}
 use Rattle.script_text.specs.Action.{Action}
 use Rattle.script_text.specs.Action.Action.{ListFiles}
 use Rattle.script_text.specs.Script.{Input}
-use Rattle.script_text.specs.Script.Input.{Skipped, Malformed, Asked}
+use Rattle.script_text.specs.Script.Input.{Skipped, Malformed, Overlong, Asked}
 use Rattle.machine_host.specs.declared.mode.Mode.TheVariants.{On}
 use Rattle.machine_host.specs.Machine.{Machine}
 use Rattle.machine_host.specs.Commands.{MayLeaveFiles, meaning, refusal, unless_refused, LeavesFiles as LeftFiles}
@@ -90,6 +90,10 @@ module _ (P : List FileEntry → Type 0) where
   lists_heard Malformed inputs h next first answers heard none lists = (
     inl (subst Lists (sym heard.1) lists),
     subst (λ (s : Transcript). NoneBegun changes_files (Malformed ∷ inputs) (s.answers ++ answers)) heard.0 none,
+  )
+  lists_heard Overlong inputs h next first answers heard none lists = (
+    inl (subst Lists (sym heard.1) lists),
+    subst (λ (s : Transcript). NoneBegun changes_files (Overlong ∷ inputs) (s.answers ++ answers)) heard.0 none,
   )
   lists_heard (Asked action) inputs h next first answers heard none lists =
       let taken = step_of h action first next heard in

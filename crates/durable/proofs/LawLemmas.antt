@@ -6,9 +6,9 @@ use Rattle.line_words.specs.declared.interruption.Interruption.TheVariants.{Fail
 use Rattle.reply_text.specs.Answer.{Answer}
 use Rattle.reply_text.specs.Answer.Answer.{Done}
 use Rattle.script_text.specs.Action.{Action}
-use Rattle.script_text.specs.Action.Action.{PoisonBlock, PoisonFile, PoisonMeta, PoisonVolume, Cut, CutIn, FailIn, Restart, Recover}
+use Rattle.script_text.specs.Action.Action.{PoisonBlock, PoisonFile, PoisonMeta, PoisonVolume, Cut, CutIn, FailIn, Restart, Recover, Attr}
 use Rattle.script_text.specs.Script.{Input}
-use Rattle.script_text.specs.Script.Input.{Skipped, Malformed, Asked}
+use Rattle.script_text.specs.Script.Input.{Skipped, Malformed, Overlong, Asked}
 use Rattle.machine_host.specs.Machine.{Machine}
 use Rattle.word_tables.specs.declared.geometry.Geometry.{Geometry}
 use Rattle.machine_host.specs.Commands.{meaning, refusal}
@@ -61,6 +61,9 @@ covers_usable h (Restart choice) (of_file name i) covered = cc covered
 covers_usable h Recover (of_volume i) covered = cc covered
 covers_usable h Recover (of_blocks i) covered = cc covered
 covers_usable h Recover (of_file name i) covered = cc covered
+covers_usable h (Attr name) (of_volume i) covered = cc covered
+covers_usable h (Attr name) (of_blocks i) covered = cc covered
+covers_usable h (Attr name) (of_file file i) covered = cc covered
 covers_usable h (PoisonMeta line) (of_volume i) covered = cc covered
 covers_usable h (PoisonMeta line) (of_blocks i) covered = cc covered
 covers_usable h (PoisonMeta line) (of_file name i) covered = cc covered
@@ -189,6 +192,12 @@ module _ (since : MayBe) where
     inl (subst (λ m. Keeps since m x v) (sym heard.1) keeps),
     subst (λ m. Allowed since m.geometry x inputs answers) (sym heard.1)
         (subst (λ (s : Transcript). Allowed since h.geometry x (Malformed ∷ inputs) (s.answers ++ answers)) heard.0 all),
+    bytes,
+  )
+  keeps-heard Overlong inputs h next first answers x v bytes off heard all keeps = (
+    inl (subst (λ m. Keeps since m x v) (sym heard.1) keeps),
+    subst (λ m. Allowed since m.geometry x inputs answers) (sym heard.1)
+        (subst (λ (s : Transcript). Allowed since h.geometry x (Overlong ∷ inputs) (s.answers ++ answers)) heard.0 all),
     bytes,
   )
   keeps-heard (Asked action) inputs h next first answers x v bytes off heard all keeps =

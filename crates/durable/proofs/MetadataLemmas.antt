@@ -22,14 +22,16 @@ use Rattle.nvm_model.specs.Storage.{Event}
 use Rattle.nvm_model.specs.Touched.{next_bad_touched, persist_spans}
 use Rattle.machine_host.specs.declared.mode.Mode.TheVariants.{Stopped}
 use Rattle.script_text.specs.Action.{Action}
-use Rattle.script_text.specs.Action.Action.{BExists, VRanges, VExists, ListFiles, Load, Map, Sync, Flush, FlushVerify, DeepFlush, NextEvent, CheckFile, PoisonBlock, PoisonVolume, PoisonFile, PoisonMeta, WeakenFile, WeakenVolume, Cut, CutIn, FailIn, Restart, Recover, Store, Unmap}
+use Rattle.script_text.specs.Action.Action.{BExists, VRanges, VExists, ListFiles, Load, Map, Sync, Flush, FlushVerify, DeepFlush, NextEvent, CheckFile, PoisonBlock, PoisonVolume, PoisonFile, PoisonMeta, WeakenFile, WeakenVolume, Cut, CutIn, FailIn, Restart, Recover, Attr, Evict, Store, Unmap}
 use Rattle.script_text.specs.Script.{Input}
-use Rattle.script_text.specs.Script.Input.{Skipped, Malformed, Asked}
+use Rattle.script_text.specs.Script.Input.{Skipped, Malformed, Overlong, Asked}
 use Rattle.machine_host.specs.Machine.{Machine, Fate}
 use Rattle.machine_host.specs.Machine.Fate.{Gives, Works, Orders, Cuts, Restarts, Recovers}
 use Rattle.machine_host.specs.Commands.{fate, meaning, refusal, unless_refused}
 use Rattle.machine_host.specs.Lines.{bad_metadata, lowest}
 use Rattle.machine_host.specs.OnMedia.{with_line}
+use Rattle.machine_host.specs.OnAttributes.{told_value}
+use Rattle.attributes.specs.Attributes.{attribute}
 use Rattle.machine_host.specs.Restarting.{mounted_answer, read_with, reading, restarted}
 use Rattle.machine_host.specs.Recovering.{RecoversTo}
 use Rattle.machine_host.specs.Run.{Hears, Run, Takes, Transcript}
@@ -83,6 +85,7 @@ marks h (PoisonFile name offset) = inl refl
 marks h (PoisonMeta line) = inr (record { line = line; is = refl; done = refl; metadata = refl })
 marks h (WeakenFile name offset) = inl refl
 marks h (WeakenVolume offset) = inl refl
+marks h (Attr name) = inl refl
 marks h (Restart choice) = tt
 marks h Recover = tt
 marks h action = refl
@@ -155,6 +158,8 @@ same_heard : (h next : Machine) (input : Input) (inputs : List Input) (said : Tr
 same_heard h next Skipped inputs said answers x heard spares = (ap (λ m. m.bad_meta) heard.1, subst (λ (s : Transcript). Spares unmounts x inputs (s.answers ++ answers)) heard.0 spares)
 same_heard h next Malformed inputs said answers x heard spares =
     (ap (λ m. m.bad_meta) heard.1, subst (λ (s : Transcript). Spares unmounts x (Malformed ∷ inputs) (s.answers ++ answers)) heard.0 spares)
+same_heard h next Overlong inputs said answers x heard spares =
+    (ap (λ m. m.bad_meta) heard.1, subst (λ (s : Transcript). Spares unmounts x (Overlong ∷ inputs) (s.answers ++ answers)) heard.0 spares)
 same_heard h next (Asked action) inputs said answers x heard spares =
     let mark = marked h action said next heard in
     let each = subst (λ s. Spares unmounts x (Asked action ∷ inputs) (s ++ answers)) mark.answers spares in (
@@ -198,6 +203,7 @@ contains-with_line line x (next ∷ lines) has = by_order (contains-with_line li
 contains_heard : (line : ℕ) (h next : Machine) (input : Input) (said : Transcript) → Contains h.bad_meta line → Hears h input said next → Contains next.bad_meta line
 contains_heard line h next Skipped said has heard = subst (λ (m : Machine). Contains m.bad_meta line) (sym heard.1) has
 contains_heard line h next Malformed said has heard = subst (λ (m : Machine). Contains m.bad_meta line) (sym heard.1) has
+contains_heard line h next Overlong said has heard = subst (λ (m : Machine). Contains m.bad_meta line) (sym heard.1) has
 contains_heard line h next (Asked action) said has heard =
     elim (marked h action said next heard).marks as (λ _. Contains next.bad_meta line) [
       | inl same ↦ subst (λ bad. Contains bad line) (sym same) has
@@ -237,6 +243,10 @@ told-stop : (events : List Event) (line : ℕ) → told_event events ≢ Stopped
 told-stop [] line is = cc is
 told-stop (event ∷ events) line is = cc is
 
+value-stop : (o : Option ℕ) (line : ℕ) → told_value o ≢ StoppedMeta line
+value-stop None line is = cc is
+value-stop (Some value) line is = cc is
+
 no_stop : (h : Machine) (action : Action) → NoStop ((meaning action).comes h)
 no_stop h (BExists block) = yes_or_no-stop _
 no_stop h (VExists page) = yes_or_no-stop _
@@ -245,6 +255,8 @@ no_stop h (CutIn calls) = tt
 no_stop h (FailIn calls) = tt
 no_stop h (Restart choice) = tt
 no_stop h Recover = tt
+no_stop h (Attr name) = value-stop (attribute name h.geometry)
+no_stop h (Evict lines) = tt
 no_stop h (Map name span kind) = of_map NoStop h name span kind (λ line is. cc is) (λ line is. cc is)
 no_stop h (Load handle offset len) = of_load NoStop h handle offset len (λ line is. cc is) (λ name place line is. cc is) (λ m line is. cc is)
 no_stop h (Store handle offset bytes) = of_store NoStop h handle offset bytes (λ line is. cc is) (λ name place line is. cc is) (λ line is. cc is)

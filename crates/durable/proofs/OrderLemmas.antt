@@ -9,7 +9,7 @@ use Rattle.nvm_model.specs.Storage.{Event, Mapping}
 use Rattle.reply_text.specs.Answer.{Answer}
 use Rattle.script_text.specs.Action.{Action}
 use Rattle.script_text.specs.Script.{Input}
-use Rattle.script_text.specs.Script.Input.{Skipped, Malformed, Asked}
+use Rattle.script_text.specs.Script.Input.{Skipped, Malformed, Overlong, Asked}
 use Rattle.machine_host.specs.Machine.{Machine}
 use Rattle.machine_host.specs.Run.{Hears, Run, Transcript}
 use Rattle.durable.specs.Events.{Mounts, NoneMounts, TellsInOrder, all_told, is_line_mapped, line_told, live_events, told_by}
@@ -78,6 +78,10 @@ split h next Skipped inputs said other heard mounts = record {
 split h next Malformed inputs said other heard mounts = record {
   first = still h next said.answers (ap (λ (s : Transcript). all_told s.answers) heard.0) (ap (λ m. m.events) heard.1);
   rest = subst (λ (s : Transcript). NoneMounts (Malformed ∷ inputs) (s.answers ++ other)) heard.0 mounts;
+}
+split h next Overlong inputs said other heard mounts = record {
+  first = still h next said.answers (ap (λ (s : Transcript). all_told s.answers) heard.0) (ap (λ m. m.events) heard.1);
+  rest = subst (λ (s : Transcript). NoneMounts (Overlong ∷ inputs) (s.answers ++ other)) heard.0 mounts;
 }
 split h next (Asked action) inputs said other heard mounts =
     let step = ordered h next action said heard in

@@ -9,7 +9,7 @@ use Rattle.reply_text.specs.Answer.{Answer}
 use Rattle.script_text.specs.Action.{Action}
 use Rattle.script_text.specs.Action.Action.{Cut, DeepFlush, Flush, FlushVerify, Load, Map, Recover, Restart, Store, Sync}
 use Rattle.script_text.specs.Script.{Input}
-use Rattle.script_text.specs.Script.Input.{Skipped, Malformed, Asked}
+use Rattle.script_text.specs.Script.Input.{Skipped, Malformed, Overlong, Asked}
 use Rattle.machine_host.specs.declared.look.Look.TheVariants.{Once, Again}
 use Rattle.machine_host.specs.declared.mode.Mode.TheVariants.{Off}
 use Rattle.machine_host.specs.Machine.{Machine, Fate}
@@ -103,6 +103,7 @@ by_fate h action Recovers said next same on powered takes off = elim takes.2 as 
 pub powered_heard : (h next : Machine) (input : Input) (said : Transcript) → h.mode ≢ Off → StaysPowered said → Hears h input said next → next.mode ≢ Off
 powered_heard h next Skipped said on powered heard = λ off. on (sym (ap (λ m. m.mode) heard.1) ∙ off)
 powered_heard h next Malformed said on powered heard = λ off. on (sym (ap (λ m. m.mode) heard.1) ∙ off)
+powered_heard h next Overlong said on powered heard = λ off. on (sym (ap (λ m. m.mode) heard.1) ∙ off)
 powered_heard h next (Asked action) said on powered heard = by_refusal (refusal h action) heard
   where
     by_refusal : (o : Option Answer) → Takes h action (unless_refused h o ((meaning action).comes h)) said next → next.mode ≢ Off

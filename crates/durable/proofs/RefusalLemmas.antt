@@ -10,7 +10,7 @@ use Rattle.reply_text.specs.Answer.{Answer}
 use Rattle.reply_text.specs.Answer.Answer.{PoisonFile as PoisonedFile, Refused}
 use Rattle.reply_text.specs.declared.reply.Why.TheVariants as because
 use Rattle.script_text.specs.Action.{Action}
-use Rattle.script_text.specs.Action.Action.{BRead, BWrite, BAtomic, BMulti, BDiscard, BDiscardIf, BExists, BScar, VLoad, VStore, VSync, VRanges, VPSync, VDiscard, VDiscardIf, VExists, Create, Delete, Rename, Resize, ListFiles, FRead, FWrite, FAtomic, FMulti, FDiscard, FSync, Map, Unmap, Load, Store, Sync, Flush, FlushVerify, DeepFlush, NextEvent, CheckFile, PoisonBlock, PoisonVolume, PoisonFile, PoisonMeta, WeakenFile, WeakenVolume, ClearFile, ClearVolume, Cut, CutIn, FailIn, Restart, Recover}
+use Rattle.script_text.specs.Action.Action.{BRead, BWrite, BAtomic, BMulti, BDiscard, BDiscardIf, BExists, BScar, VLoad, VStore, VSync, VRanges, VPSync, VDiscard, VDiscardIf, VExists, Create, Delete, Rename, Resize, ListFiles, FRead, FWrite, FAtomic, FMulti, FDiscard, FSync, Map, Unmap, Load, Store, Sync, Flush, FlushVerify, DeepFlush, NextEvent, CheckFile, PoisonBlock, PoisonVolume, PoisonFile, PoisonMeta, WeakenFile, WeakenVolume, ClearFile, ClearVolume, Cut, CutIn, FailIn, Restart, Recover, Attr, Evict}
 use Rattle.machine_host.specs.declared.look.Look.{Look}
 use Rattle.machine_host.specs.declared.look.Look.TheVariants.{Once, Again}
 use Rattle.machine_host.specs.declared.mode.Mode.{Mode}
@@ -32,6 +32,8 @@ use Rattle.nvm_model.specs.Listing.{file_name, has_file}
 use Rattle.nvm_model.specs.Storage.{Mapping}
 use Rattle.file_actions.specs.Refusals.{ActionRefusal}
 use Rattle.machine_host.specs.OnFileActions.{action_answer}
+use Rattle.machine_host.specs.OnAttributes.{unknown}
+use Rattle.attributes.specs.Attributes.{attribute}
 use Rattle.machine_host.specs.Commands.{meaning, refusal}
 use Rattle.durable.specs.Naming.{refused_before}
 use Rattle.durable.proofs.RefusedAnswerLemmas.{Refuses, is_refused, refuses_actions, refuses_blocks, refuses_copy, refuses_first, refuses_line, refuses_metadata, refuses_mode, refuses_obstacle, refuses_pages, refuses_span, refuses_unless, refuses_volume, refuses_where, refuses_why}
@@ -67,6 +69,10 @@ if_there_unmapped h name =
 refuses_poison : (name : List ℕ) (o : Option ℕ) → Refuses (option_map (λ n. PoisonedFile name (64 * n)) o)
 refuses_poison name None = tt
 refuses_poison name (Some n) = refl
+
+refuses_unknown : (o : Option ℕ) → Refuses (unknown o)
+refuses_unknown None = refl
+refuses_unknown (Some value) = tt
 
 -- a flush, and a command on a line of a file
 flush_reasons : (h : Machine) (look : Look) (handle : ℕ) (spans : List Span) → RefusingReasons ((flush_with look handle spans).reasons h)
@@ -193,6 +199,8 @@ refusing_reasons h (CutIn calls) = why_reasons _
 refusing_reasons h (FailIn calls) = why_reasons _
 refusing_reasons h (Restart choice) = why_reasons None
 refusing_reasons h Recover = why_reasons None
+refusing_reasons h (Attr name) = record { named = refuses_unknown (attribute name h.geometry); places = tt; full = tt; unreadable = tt }
+refusing_reasons h (Evict lines) = why_reasons None
 
 pub refuses_before : (h : Machine) (action : Action) → Refuses (refused_before h action)
 refuses_before h action =

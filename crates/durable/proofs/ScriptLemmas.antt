@@ -11,10 +11,10 @@ use Rattle.nvm_base.specs.Numbers.{number_of}
 use Rattle.nvm_base.specs.Names.{name_of}
 use Rattle.nvm_base.specs.declared.files.Kind.{Kind}
 use Rattle.script_text.specs.Action.{Action}
-use Rattle.script_text.specs.Action.Action.{BRead, BWrite, BAtomic, BMulti, BDiscard, BDiscardIf, BExists, BScar, VLoad, VStore, VSync, VRanges, VPSync, VDiscard, VDiscardIf, VExists, Create, Delete, Rename, Resize, ListFiles, FRead, FWrite, FAtomic, FMulti, FDiscard, FSync, Map, Unmap, Load, Store, Sync, Flush, FlushVerify, DeepFlush, NextEvent, CheckFile, PoisonBlock, PoisonVolume, PoisonFile, PoisonMeta, WeakenFile, WeakenVolume, ClearFile, ClearVolume, CutIn, FailIn, Restart, Recover}
-use Rattle.script_text.specs.Operands.{bare_action, data_action, fitting, placed_action, kind_action, kind_of, name_action, named_action, names_action, number_action, numbered_action, of_both, of_data, ranges_action, ranges_of, sized_action, span_action, spans_action, spans_of, with_range}
+use Rattle.script_text.specs.Action.Action.{BRead, BWrite, BAtomic, BMulti, BDiscard, BDiscardIf, BExists, BScar, VLoad, VStore, VSync, VRanges, VPSync, VDiscard, VDiscardIf, VExists, Create, Delete, Rename, Resize, ListFiles, FRead, FWrite, FAtomic, FMulti, FDiscard, FSync, Map, Unmap, Load, Store, Sync, Flush, FlushVerify, DeepFlush, NextEvent, CheckFile, PoisonBlock, PoisonVolume, PoisonFile, PoisonMeta, WeakenFile, WeakenVolume, ClearFile, ClearVolume, CutIn, FailIn, Restart, Recover, Attr, Evict}
+use Rattle.script_text.specs.Operands.{bare_action, data_action, fitting, placed_action, kind_action, kind_of, name_action, named_action, names_action, number_action, numbered_action, of_both, of_data, ranges_action, ranges_of, sized_action, span_action, spans_action, spans_of, with_range, word_action}
 use Rattle.script_text.specs.Script.{Input, asked, command_action, cut_action, fail_action, files_action, inputs, inputs_of, is_comment, line_input, lines_of, media_action, plain_action, poison_action, power_action, restart_action, volume_action, words_input, words_of, map_action, mapped_action, flushing_action, storing_action, writing_action}
-use Rattle.script_text.specs.Script.Input.{Skipped, Malformed, Asked}
+use Rattle.script_text.specs.Script.Input.{Skipped, Malformed, Overlong, Asked}
 use Rattle.durable.specs.Durable.{BringBytes, BringsBytes}
 use Rattle.durable.proofs.DataLemmas.{AllBytes, AreBytes, AreSomeBytes, bytes-append, bytes-at, data-bytes, some-bytes}
 
@@ -46,6 +46,11 @@ brings-number : (make : ℕ → Action) (words : List (List ℕ)) → ((a : ℕ)
 brings-number make [] each = tt
 brings-number make (x ∷ []) each = brings-map make (number_of x) each
 brings-number make (x ∷ y ∷ more) each = tt
+
+brings-word : (make : List ℕ → Action) (words : List (List ℕ)) → ((a : List ℕ) → BringsBytes (make a)) → Brings (word_action make words)
+brings-word make [] each = tt
+brings-word make (x ∷ []) each = each x
+brings-word make (x ∷ y ∷ more) each = tt
 
 brings-name : (make : List ℕ → Action) (words : List (List ℕ)) → ((a : List ℕ) → BringsBytes (make a)) → Brings (name_action make words)
 brings-name make [] each = tt
@@ -185,7 +190,8 @@ brings-power name words =
     brings-cond (bytes_eq name (codes "cut")) (cut_action words) _ (brings-cut words)
     (brings-cond (bytes_eq name (codes "fail")) (fail_action words) _ (brings-fail words)
     (brings-cond (bytes_eq name (codes "restart")) (restart_action words) _ (brings-restart words)
-    (brings-cond (bytes_eq name (codes "recover")) (bare_action Recover words) None (brings-bare Recover words tt) tt)))
+    (brings-cond (bytes_eq name (codes "recover")) (bare_action Recover words) _ (brings-bare Recover words tt)
+    (brings-cond (bytes_eq name (codes "evict")) (number_action Evict words) None (brings-number Evict words (λ a. tt)) tt))))
 
 brings-media : (name : List ℕ) (words : List (List ℕ)) → Brings (media_action name words)
 brings-media name words =
@@ -265,7 +271,8 @@ brings-command name words =
     (brings-cond (bytes_eq name (codes "vstore")) (data_action VStore words) _ (brings-data VStore words (λ a bytes small. small))
     (brings-cond (bytes_eq name (codes "bscar")) (spans_action BScar words) _ (brings-spans BScar words (λ spans. tt))
     (brings-cond (bytes_eq name (codes "batomic")) (data_action BAtomic words) _ (brings-data BAtomic words (λ a bytes small. tt))
-    (brings-cond (bytes_eq name (codes "bmulti")) (ranges_action BMulti words) _ (brings-ranges BMulti words (λ ranges bytes small. tt)) (brings-writing name words)))))
+    (brings-cond (bytes_eq name (codes "bmulti")) (ranges_action BMulti words) _ (brings-ranges BMulti words (λ ranges bytes small. tt))
+    (brings-cond (bytes_eq name (codes "attr")) (word_action Attr words) _ (brings-word Attr words (λ word. tt)) (brings-writing name words))))))
 
 -- one input before others that do
 bring-asked : (o : Option Action) (rest : List Input) → Brings o → BringBytes rest → BringBytes (asked o ∷ rest)
@@ -284,7 +291,7 @@ bring-line : (line : List ℕ) (rest : List Input) → BringBytes rest → Bring
 unfolding line_input
 bring-line line rest more = by_test (nat_lt 65536 (length line))
   where
-    by_test : (b : Bool) → BringBytes (cond b Malformed (words_input (words_of (strip_last 13 line))) ∷ rest)
+    by_test : (b : Bool) → BringBytes (cond b Overlong (words_input (words_of (strip_last 13 line))) ∷ rest)
     by_test true = more
     by_test false = bring-words (words_of (strip_last 13 line)) rest more
 
@@ -297,6 +304,7 @@ pub bring-rest : (before : List Input) (action : Action) (after : List Input) �
 bring-rest [] action after all = all.1
 bring-rest (Skipped ∷ before) action after all = bring-rest before action after all
 bring-rest (Malformed ∷ before) action after all = bring-rest before action after all
+bring-rest (Overlong ∷ before) action after all = bring-rest before action after all
 bring-rest (Asked first ∷ before) action after all = bring-rest before action after all.1
 
 pub bring-script : (script : List ℕ) → BringBytes (inputs script)

@@ -17,7 +17,7 @@ use Rattle.machine_host.specs.Restarting.{RestartMayLeave, mounted_answer, read_
 use Rattle.machine_host.specs.Recovering.{RecoversTo}
 use Rattle.machine_host.specs.Run.{Ends, Hears, Run, Takes, Transcript}
 use Rattle.script_text.specs.Script.{Input}
-use Rattle.script_text.specs.Script.Input.{Skipped, Malformed, Asked}
+use Rattle.script_text.specs.Script.Input.{Skipped, Malformed, Overlong, Asked}
 use Rattle.durable.specs.Durable.{HasNothing, IsDone}
 use Rattle.durable.proofs.RefusalLemmas.{is_off, is_on}
 use Rattle.durable.proofs.StepKinds.{Alters, CoversNothing, Empties, Idles, Remounts, Returns, Stops, Step, TouchesNothing}
@@ -271,6 +271,7 @@ nothing_step h action answer next gone (empties none to) = to.nothing
 pub nothing_heard : (h : Machine) (input : Input) (said : Transcript) (next : Machine) → HasNothing h → Hears h input said next → HasNothing next
 nothing_heard h Skipped said next gone heard = subst HasNothing (sym heard.1) gone
 nothing_heard h Malformed said next gone heard = subst HasNothing (sym heard.1) gone
+nothing_heard h Overlong said next gone heard = subst HasNothing (sym heard.1) gone
 nothing_heard h (Asked action) said next gone heard =
     let taken = step_of h action said next heard in nothing_step h action taken.answer next gone taken.step
 
@@ -282,6 +283,7 @@ nothing_run h later (input ∷ inputs) said gone run =
 geometry_heard : (h : Machine) (input : Input) (said : Transcript) (next : Machine) → Hears h input said next → next.geometry ≡ h.geometry
 geometry_heard h Skipped said next heard = ap (λ m. m.geometry) heard.1
 geometry_heard h Malformed said next heard = ap (λ m. m.geometry) heard.1
+geometry_heard h Overlong said next heard = ap (λ m. m.geometry) heard.1
 geometry_heard h (Asked action) said next heard = let taken = step_of h action said next heard in geometry_step h action taken.answer next taken.step
 
 pub geometry_run : (inputs : List Input) (h later : Machine) (said : Transcript) → Run h inputs said later → later.geometry ≡ h.geometry

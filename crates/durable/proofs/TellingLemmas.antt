@@ -14,13 +14,15 @@ use Rattle.reply_text.specs.Answer.Answer.{Done, No, PoisonFile as PoisonedFile,
 use Rattle.reply_text.specs.declared.reply.Why.TheVariants as because
 use Rattle.machine_host.specs.Meaning.{Reasons, no_reasons}
 use Rattle.script_text.specs.Action.{Action}
-use Rattle.script_text.specs.Action.Action.{BExists, VExists, Create, Delete, Rename, Resize, FWrite, FAtomic, FMulti, FDiscard, FSync, Map, Load, Store, Sync, Flush, FlushVerify, DeepFlush, NextEvent, PoisonFile, WeakenFile, ClearFile, Restart, Recover}
+use Rattle.script_text.specs.Action.Action.{BExists, VExists, Create, Delete, Rename, Resize, FWrite, FAtomic, FMulti, FDiscard, FSync, Map, Load, Store, Sync, Flush, FlushVerify, DeepFlush, NextEvent, PoisonFile, WeakenFile, ClearFile, Restart, Recover, Attr}
 use Rattle.machine_host.specs.declared.look.Look.{Look}
 use Rattle.machine_host.specs.declared.look.Look.TheVariants.{Once, Again}
 use Rattle.machine_host.specs.Commands.{meaning, refusal}
 use Rattle.machine_host.specs.Machine.{Fate, Machine}
 use Rattle.machine_host.specs.Machine.Fate.{Gives, Works, Orders, Cuts, Restarts, Recovers}
 use Rattle.machine_host.specs.OnEvents.{told_event}
+use Rattle.machine_host.specs.OnAttributes.{told_value}
+use Rattle.attributes.specs.Attributes.{attribute}
 use Rattle.machine_host.specs.OnFlushes.{all_moved, flush_file, flush_through, flush_with, nothing_done}
 use Rattle.machine_host.specs.OnPages.{pages_named}
 use Rattle.durable.specs.Events.{TellsLines, all_told, told_by}
@@ -44,6 +46,11 @@ TellsAt h action Recovers = action ≡ Recover
 yes_silent : (there : Bool) → told_by (if there then Yes else No) ≡ []
 yes_silent true = refl
 yes_silent false = refl
+
+-- what an attribute tells
+value_silent : (o : Option ℕ) → told_by (told_value o) ≡ []
+value_silent None = refl
+value_silent (Some value) = refl
 
 -- the oldest event is told, or none
 next_order : (events : List Event) → events ++ [] ≡ all_told (told_event events ∷ []) ++ drop 1 events
@@ -110,6 +117,7 @@ tells h (WeakenFile name offset) none stay = quiet h _ Done refl refl (weakened_
 tells h (ClearFile name offset) none stay = quiet h _ Done refl refl (cleared_no_worse name offset h.files)
 tells h (Restart choice) none stay = refl
 tells h Recover none stay = refl
+tells h (Attr name) none stay = unchanged h h _ (value_silent (attribute name h.geometry)) refl refl
 tells h action none stay = unchanged h _ _ refl refl refl
 
 -- one that changes it tells nothing, and no event comes by it

@@ -20,7 +20,7 @@ use Rattle.reply_text.specs.Answer.{Answer}
 use Rattle.script_text.specs.Action.{Action}
 use Rattle.script_text.specs.Action.Action.{BWrite, BAtomic, BMulti, BDiscard, BDiscardIf, BScar, VStore, VSync, VPSync, VDiscard, VDiscardIf, PoisonBlock, PoisonVolume, WeakenVolume, ClearVolume}
 use Rattle.script_text.specs.Script.{Input}
-use Rattle.script_text.specs.Script.Input.{Skipped, Malformed, Asked}
+use Rattle.script_text.specs.Script.Input.{Skipped, Malformed, Overlong, Asked}
 use Rattle.machine_host.specs.Machine.{Machine}
 use Rattle.machine_host.specs.Commands.{LeavesBlocks, LeavesVolume, MayLeaveBlocks, MayLeaveVolume, meaning}
 use Rattle.machine_host.specs.Lines.{bad_metadata}
@@ -221,6 +221,7 @@ whole-step h action answer next whole (empties covered to) = whole-nothing next 
 pub whole-heard : (h : Machine) (input : Input) (said : Transcript) (next : Machine) → IsComplete h → Hears h input said next → IsComplete next
 whole-heard h Skipped said next whole heard = subst IsComplete (sym heard.1) whole
 whole-heard h Malformed said next whole heard = subst IsComplete (sym heard.1) whole
+whole-heard h Overlong said next whole heard = subst IsComplete (sym heard.1) whole
 whole-heard h (Asked action) said next whole heard =
     let taken = step_of h action said next heard in whole-step h action taken.answer next whole taken.step
 

@@ -18,7 +18,7 @@ use Rattle.reply_text.specs.Answer.Answer.{Done, DoneBad, Stopped as MountStoppe
 use Rattle.script_text.specs.Action.{Action}
 use Rattle.script_text.specs.Action.Action.{Recover, Restart}
 use Rattle.script_text.specs.Script.{Input}
-use Rattle.script_text.specs.Script.Input.{Skipped, Malformed, Asked}
+use Rattle.script_text.specs.Script.Input.{Skipped, Malformed, Overlong, Asked}
 use Rattle.machine_host.specs.Commands.{MayLeaveFiles, meaning, refusal, unless_refused}
 use Rattle.std.specs.Prelude.{◌≢◌}
 use Rattle.machine_host.specs.declared.mode.Mode.TheVariants.{On}
@@ -92,6 +92,8 @@ broken_run [] h m next action said waits at run = subst (IsBroken h action) (sym
 broken_run (Skipped ∷ inputs) h m next action said waits at run =
     broken_run inputs h run.2 next action run.1 waits (subst (IsBroken h action) (sym run.4.1) at) run.5
 broken_run (Malformed ∷ inputs) h m next action said waits at run =
+    broken_run inputs h run.2 next action run.1 waits (subst (IsBroken h action) (sym run.4.1) at) run.5
+broken_run (Overlong ∷ inputs) h m next action said waits at run =
     broken_run inputs h run.2 next action run.1 waits (subst (IsBroken h action) (sym run.4.1) at) run.5
 broken_run (Asked other ∷ inputs) h m next action said waits at run =
     let taken = step_of m other run.0 run.2 run.4 in

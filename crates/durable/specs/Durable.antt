@@ -10,9 +10,9 @@ use Rattle.nvm_model.specs.Storage.Block.{Absent, Scarred, Data}
 use Rattle.reply_text.specs.Answer.{Answer}
 use Rattle.reply_text.specs.Answer.Answer.{Done, Bytes, PowerLost, VerifyFile}
 use Rattle.script_text.specs.Action.{Action}
-use Rattle.script_text.specs.Action.Action.{BRead, BWrite, BAtomic, BMulti, BDiscard, BDiscardIf, BExists, BScar, VLoad, VStore, VSync, VRanges, VPSync, VDiscard, VDiscardIf, VExists, Create, Delete, Rename, Resize, ListFiles, FRead, FWrite, FAtomic, FMulti, FDiscard, FSync, Map, Unmap, Load, Store, Sync, Flush, FlushVerify, DeepFlush, NextEvent, CheckFile, PoisonBlock, PoisonVolume, PoisonFile, PoisonMeta, WeakenFile, WeakenVolume, ClearFile, ClearVolume, Cut, CutIn, FailIn, Restart, Recover}
+use Rattle.script_text.specs.Action.Action.{BRead, BWrite, BAtomic, BMulti, BDiscard, BDiscardIf, BExists, BScar, VLoad, VStore, VSync, VRanges, VPSync, VDiscard, VDiscardIf, VExists, Create, Delete, Rename, Resize, ListFiles, FRead, FWrite, FAtomic, FMulti, FDiscard, FSync, Map, Unmap, Load, Store, Sync, Flush, FlushVerify, DeepFlush, NextEvent, CheckFile, PoisonBlock, PoisonVolume, PoisonFile, PoisonMeta, WeakenFile, WeakenVolume, ClearFile, ClearVolume, Cut, CutIn, FailIn, Restart, Recover, Attr, Evict}
 use Rattle.script_text.specs.Script.{Input}
-use Rattle.script_text.specs.Script.Input.{Skipped, Malformed, Asked}
+use Rattle.script_text.specs.Script.Input.{Skipped, Malformed, Overlong, Asked}
 use Rattle.machine_host.specs.declared.mode.Mode.TheVariants.{On, Stopped}
 use Rattle.machine_host.specs.Machine.{Machine}
 use Rattle.machine_host.specs.Run.{Transcript, Hears, Run}
@@ -119,12 +119,15 @@ BringsBytes (CutIn calls) = Unit {0}
 BringsBytes (FailIn calls) = Unit {0}
 BringsBytes (Restart choice) = Unit {0}
 BringsBytes Recover = Unit {0}
+BringsBytes (Attr name) = Unit {0}
+BringsBytes (Evict lines) = Unit {0}
 
 -- the same of all commands that are asked for
 abbrev pub BringBytes : List Input → Type 0
 BringBytes [] = Unit {0}
 BringBytes (Skipped ∷ inputs) = BringBytes inputs
 BringBytes (Malformed ∷ inputs) = BringBytes inputs
+BringBytes (Overlong ∷ inputs) = BringBytes inputs
 BringBytes (Asked action ∷ inputs) = BringsBytes action × BringBytes inputs
 
 -- no command of these that does so was begun, by what they were answered
@@ -133,6 +136,8 @@ NoneBegun does [] answers = Unit {0}
 NoneBegun does (Skipped ∷ inputs) answers = NoneBegun does inputs answers
 NoneBegun does (Malformed ∷ inputs) [] = Unit {0}
 NoneBegun does (Malformed ∷ inputs) (answer ∷ answers) = NoneBegun does inputs answers
+NoneBegun does (Overlong ∷ inputs) [] = Unit {0}
+NoneBegun does (Overlong ∷ inputs) (answer ∷ answers) = NoneBegun does inputs answers
 NoneBegun does (Asked action ∷ inputs) [] = Unit {0}
 NoneBegun does (Asked action ∷ inputs) (answer ∷ answers) =
     (does action ≡ true → is_begun answer ≡ false) × NoneBegun does inputs answers

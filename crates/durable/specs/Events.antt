@@ -9,11 +9,11 @@ use Rattle.nvm_model.specs.Mappings.{is_shared}
 use Rattle.nvm_model.specs.Page.{cell_of, is_bad_cell}
 use Rattle.nvm_model.specs.Storage.{Event, File, Mapping}
 use Rattle.reply_text.specs.Answer.{Answer}
-use Rattle.reply_text.specs.Answer.Answer.{Done, DoneBad, Bytes, Ranges, Files, Handle, Happened, NoEvent, BadLines, VerifyFile, Yes, No, Scarred, PoisonBlock, PoisonVolume, PoisonFile, DeviceFailed, PowerLost, Stopped, Refused, RefusedMeta}
+use Rattle.reply_text.specs.Answer.Answer.{Done, DoneBad, Bytes, Ranges, Files, Handle, Happened, NoEvent, BadLines, Attribute, VerifyFile, Yes, No, Scarred, PoisonBlock, PoisonVolume, PoisonFile, DeviceFailed, PowerLost, Stopped, Refused, RefusedMeta}
 use Rattle.script_text.specs.Action.{Action}
 use Rattle.script_text.specs.Action.Action.{Restart, Recover}
 use Rattle.script_text.specs.Script.{Input}
-use Rattle.script_text.specs.Script.Input.{Skipped, Malformed, Asked}
+use Rattle.script_text.specs.Script.Input.{Skipped, Malformed, Overlong, Asked}
 use Rattle.machine_host.specs.Machine.{Machine}
 use Rattle.machine_host.specs.OnPages.{pages_named}
 use Rattle.durable.specs.Files.{IsStopped}
@@ -33,6 +33,8 @@ NoneMounts [] answers = Unit {0}
 NoneMounts (Skipped ∷ inputs) answers = NoneMounts inputs answers
 NoneMounts (Malformed ∷ inputs) [] = Unit {0}
 NoneMounts (Malformed ∷ inputs) (answer ∷ answers) = NoneMounts inputs answers
+NoneMounts (Overlong ∷ inputs) [] = Unit {0}
+NoneMounts (Overlong ∷ inputs) (answer ∷ answers) = NoneMounts inputs answers
 NoneMounts (Asked action ∷ inputs) [] = Unit {0}
 NoneMounts (Asked action ∷ inputs) (answer ∷ answers) = (Mounts action (answer ∷ []) → ⊥) × NoneMounts inputs answers
 
@@ -47,6 +49,7 @@ told_by (Handle n) = []
 told_by (Happened event) = event ∷ []
 told_by NoEvent = []
 told_by (BadLines lines) = []
+told_by (Attribute value) = []
 told_by Yes = []
 told_by No = []
 told_by (Scarred block) = []

@@ -6,9 +6,9 @@ use Rattle.block_device.specs.Refusals.{block_spans}
 use Rattle.file_actions.specs.Refusals.{all_bytes}
 use Rattle.pm_volume.specs.Refusals.{physical_offset}
 use Rattle.reply_text.specs.Answer.{Answer}
-use Rattle.reply_text.specs.Answer.Answer.{Done, DoneBad, Bytes, Ranges, Files, Handle, Happened, NoEvent, BadLines, VerifyFile, Yes, No, Scarred, PoisonBlock as PoisonedBlock, PoisonVolume as PoisonedVolume, PoisonFile as PoisonedFile, DeviceFailed, PowerLost, Stopped, Refused, RefusedMeta}
+use Rattle.reply_text.specs.Answer.Answer.{Done, DoneBad, Bytes, Ranges, Files, Handle, Happened, NoEvent, BadLines, Attribute, VerifyFile, Yes, No, Scarred, PoisonBlock as PoisonedBlock, PoisonVolume as PoisonedVolume, PoisonFile as PoisonedFile, DeviceFailed, PowerLost, Stopped, Refused, RefusedMeta}
 use Rattle.script_text.specs.Action.{Action}
-use Rattle.script_text.specs.Action.Action.{BRead, BWrite, BAtomic, BMulti, BDiscard, BDiscardIf, BExists, BScar, VLoad, VStore, VSync, VRanges, VPSync, VDiscard, VDiscardIf, VExists, Create, Delete, Rename, Resize, ListFiles, FRead, FWrite, FAtomic, FMulti, FDiscard, FSync, Map, Unmap, Load, Store, Sync, Flush, FlushVerify, DeepFlush, NextEvent, CheckFile, PoisonBlock, PoisonVolume, PoisonFile, PoisonMeta, WeakenFile, WeakenVolume, ClearFile, ClearVolume, Cut, CutIn, FailIn, Restart, Recover}
+use Rattle.script_text.specs.Action.Action.{BRead, BWrite, BAtomic, BMulti, BDiscard, BDiscardIf, BExists, BScar, VLoad, VStore, VSync, VRanges, VPSync, VDiscard, VDiscardIf, VExists, Create, Delete, Rename, Resize, ListFiles, FRead, FWrite, FAtomic, FMulti, FDiscard, FSync, Map, Unmap, Load, Store, Sync, Flush, FlushVerify, DeepFlush, NextEvent, CheckFile, PoisonBlock, PoisonVolume, PoisonFile, PoisonMeta, WeakenFile, WeakenVolume, ClearFile, ClearVolume, Cut, CutIn, FailIn, Restart, Recover, Attr, Evict}
 use Rattle.machine_host.specs.OnBlocks.{blocks_from}
 use Rattle.machine_host.specs.Machine.{Machine}
 use Rattle.word_tables.specs.declared.geometry.Geometry.{Geometry}
@@ -86,6 +86,8 @@ covered_by flushed geo (CutIn calls) = uncovered
 covered_by flushed geo (FailIn calls) = uncovered
 covered_by flushed geo (Restart choice) = uncovered
 covered_by flushed geo Recover = uncovered
+covered_by flushed geo (Attr name) = uncovered
+covered_by flushed geo (Evict lines) = uncovered
 
 -- so where the mappings are these
 abbrev pub made_durable : Geometry → List Mapping → Action → Covered
@@ -147,6 +149,8 @@ region_changed (CutIn calls) = nothing
 region_changed (FailIn calls) = nothing
 region_changed (Restart choice) = nothing
 region_changed Recover = nothing
+region_changed (Attr name) = nothing
+region_changed (Evict lines) = nothing
 
 -- the line that a command makes bad at once, and the one that it makes weak, which a sync makes bad; and what no mount finds any
 -- more, as a line of metadata is bad
@@ -210,6 +214,8 @@ harm_done (CutIn calls) = no_harm
 harm_done (FailIn calls) = no_harm
 harm_done (Restart choice) = no_harm
 harm_done Recover = no_harm
+harm_done (Attr name) = no_harm
+harm_done (Evict lines) = no_harm
 
 abbrev pub is_made_durable : Machine → Action → Place → Bool
 is_made_durable h action x = holds (made_durable h.geometry h.mappings action).region x
@@ -247,6 +253,7 @@ is_begun (Handle n) = false
 is_begun (Happened event) = false
 is_begun NoEvent = false
 is_begun (BadLines lines) = false
+is_begun (Attribute value) = false
 is_begun Yes = false
 is_begun No = false
 is_begun (Scarred block) = false

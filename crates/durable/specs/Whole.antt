@@ -10,7 +10,7 @@ use Rattle.nvm_model.specs.Storage.{File}
 use Rattle.script_text.specs.Action.{Action}
 use Rattle.script_text.specs.Action.Action.{FAtomic, FMulti, FDiscard, Recover, Restart}
 use Rattle.script_text.specs.Script.{Input}
-use Rattle.script_text.specs.Script.Input.{Skipped, Malformed, Asked}
+use Rattle.script_text.specs.Script.Input.{Skipped, Malformed, Overlong, Asked}
 use Rattle.machine_host.specs.Machine.{Machine}
 use Rattle.machine_host.specs.OnFileActions.{discarded_in, written_together}
 use Rattle.machine_host.specs.OnPages.{pages_named}
@@ -62,6 +62,7 @@ abbrev pub NoMountAsked : List Input → Type 0
 NoMountAsked [] = Unit {0}
 NoMountAsked (Skipped ∷ inputs) = NoMountAsked inputs
 NoMountAsked (Malformed ∷ inputs) = NoMountAsked inputs
+NoMountAsked (Overlong ∷ inputs) = NoMountAsked inputs
 NoMountAsked (Asked action ∷ inputs) = (IsMount action → ⊥) × NoMountAsked inputs
 
 -- it was stopped in h, and others came that ask for no mount

@@ -26,11 +26,11 @@ use Rattle.file_journal.specs.Reading.{tables_of, words_read as file_words}
 use Rattle.file_journal.specs.Standing.{files_read, KeepsFiles}
 use Rattle.reply_text.specs.Answer.{Answer, answer_line, reply_text}
 use Rattle.reply_text.specs.Answer.Answer.{Done, Refused}
-use Rattle.reply_text.specs.declared.reply.Why.TheVariants.{Syntax}
+use Rattle.reply_text.specs.declared.reply.Why.TheVariants.{Syntax, TooLong}
 use Rattle.script_text.specs.Action.{Action}
 use Rattle.script_text.specs.Action.Action.{BRead, FailIn, Recover}
 use Rattle.script_text.specs.Script.{Input, inputs, lines_of, words_of, command_action, line_input}
-use Rattle.script_text.specs.Script.Input.{Skipped, Malformed, Asked}
+use Rattle.script_text.specs.Script.Input.{Skipped, Malformed, Overlong, Asked}
 use Rattle.machine_host.specs.declared.mode.Mode.TheVariants as modes
 use Rattle.machine_host.specs.Lines.{bad_metadata}
 use Rattle.machine_host.specs.Machine.{Machine, Fate}
@@ -139,6 +139,7 @@ abbrev pub play : Machine → List Input → List Turn → Performance
 play h [] turns = record { said = silence; state = h }
 play h (Skipped ∷ inputs) turns = play h inputs turns
 play h (Malformed ∷ inputs) turns = after (answered (Refused Syntax)) (play h inputs turns)
+play h (Overlong ∷ inputs) turns = after (answered (Refused TooLong)) (play h inputs turns)
 play h (Asked action ∷ inputs) [] = record { said = silence; state = h }
 play h (Asked action ∷ inputs) (turn ∷ turns) = go_on (step h action (fate h action) turn) (λ k. play k inputs turns)
 
@@ -146,6 +147,7 @@ abbrev pub MayAll : Machine → List Input → List Turn → Type 0
 MayAll h [] turns = Unit {0}
 MayAll h (Skipped ∷ inputs) turns = MayAll h inputs turns
 MayAll h (Malformed ∷ inputs) turns = MayAll h inputs turns
+MayAll h (Overlong ∷ inputs) turns = MayAll h inputs turns
 MayAll h (Asked action ∷ inputs) [] = ⊥
 MayAll h (Asked action ∷ inputs) (turn ∷ turns) = May h (fate h action) turn × MayAll (step h action (fate h action) turn).state inputs turns
 
@@ -154,6 +156,7 @@ run_played h [] turns may = (refl, refl)
 run_played h (Skipped ∷ inputs) turns may =
     (silence, (play h inputs turns).said, h, sym (followed_by-silence (play h inputs turns).said), (refl, refl), run_played h inputs turns may)
 run_played h (Malformed ∷ inputs) turns may = (answered (Refused Syntax), (play h inputs turns).said, h, refl, (refl, refl), run_played h inputs turns may)
+run_played h (Overlong ∷ inputs) turns may = (answered (Refused TooLong), (play h inputs turns).said, h, refl, (refl, refl), run_played h inputs turns may)
 run_played h (Asked action ∷ inputs) [] may = absurd may
 run_played h (Asked action ∷ inputs) (turn ∷ turns) may =
     let one = step h action (fate h action) turn in

@@ -68,6 +68,7 @@ pub mod LoadLemmas
 pub mod MediaLemmas
 pub mod PoisonLemmas
 mod NextEventLemmas
+mod AttributeLemmas
 mod NewsLemmas
 mod FileNewsLemmas
 mod WeakenLemmas

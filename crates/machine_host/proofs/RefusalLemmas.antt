@@ -10,7 +10,7 @@ use Rattle.nvm_model.specs.Storage.{Block}
 use Rattle.block_device.specs.Refusals.{Refusal}
 use Rattle.block_device.specs.Refusals.Refusal.{Unreadable}
 use Rattle.script_text.specs.Action.{Action}
-use Rattle.script_text.specs.Action.Action.{BRead, BWrite, BAtomic, BMulti, BDiscard, BDiscardIf, BExists, BScar, VLoad, VStore, VSync, VRanges, VPSync, VDiscard, VDiscardIf, VExists, Create, Delete, Rename, Resize, ListFiles, FRead, FWrite, FAtomic, FMulti, FDiscard, FSync, Map, Unmap, Load, Store, Sync, Flush, FlushVerify, DeepFlush, NextEvent, CheckFile, PoisonBlock, PoisonVolume, PoisonFile, PoisonMeta, WeakenFile, WeakenVolume, ClearFile, ClearVolume, Cut, CutIn, FailIn, Restart, Recover}
+use Rattle.script_text.specs.Action.Action.{BRead, BWrite, BAtomic, BMulti, BDiscard, BDiscardIf, BExists, BScar, VLoad, VStore, VSync, VRanges, VPSync, VDiscard, VDiscardIf, VExists, Create, Delete, Rename, Resize, ListFiles, FRead, FWrite, FAtomic, FMulti, FDiscard, FSync, Map, Unmap, Load, Store, Sync, Flush, FlushVerify, DeepFlush, NextEvent, CheckFile, PoisonBlock, PoisonVolume, PoisonFile, PoisonMeta, WeakenFile, WeakenVolume, ClearFile, ClearVolume, Cut, CutIn, FailIn, Restart, Recover, Attr, Evict}
 use Rattle.reply_text.specs.declared.reply.Why.{Why}
 use Rattle.reply_text.specs.declared.reply.Why.TheVariants.{Range, Length, Limit}
 use Rattle.reply_text.specs.declared.reply.Why.TheVariants as because
@@ -195,6 +195,8 @@ places_refused h (CutIn calls) why is = (refl, ap (option_map Refused) is)
 places_refused h (FailIn calls) why is = (refl, ap (option_map Refused) is)
 places_refused h (Restart choice) why is = cc is
 places_refused h Recover why is = cc is
+places_refused h (Attr name) why is = cc is
+places_refused h (Evict lines) why is = cc is
 
 -- an answer that can be printed and tells of no interruption
 pub record IsPlain (answer : Answer) : Type 0 where
@@ -281,6 +283,9 @@ always_allowed On bad_meta = refl
 always_allowed Off bad_meta = refl
 always_allowed Unsettled bad_meta = refl
 always_allowed Stopped bad_meta = refl
+
+pub usable_on : (mode : Mode) → mode ≡ On → (bad_meta : List ℕ) → mode_refusal mode bad_meta Usable ≡ None
+usable_on mode on bad_meta = ap (λ m. mode_refusal m bad_meta Usable) on
 
 -- the first of reasons, as it is answered
 pub mapped_first : {R : Type 0} (answer : R → Answer) (a b : Option R) → first_there (option_map answer a) (option_map answer b) ≡ option_map answer (first_there a b)

@@ -4,11 +4,11 @@ use Rattle.nvm_base.specs.Counts.{raised}
 use Rattle.line_device.specs.Panel.{Panel, Start, told, ordered}
 use Rattle.line_device.specs.declared.order.Order.{Order}
 use Rattle.line_device.specs.declared.line.Choice.{Choice}
-use Rattle.reply_text.specs.declared.reply.Why.TheVariants.{Syntax}
+use Rattle.reply_text.specs.declared.reply.Why.TheVariants.{Syntax, TooLong}
 use Rattle.reply_text.specs.Answer.{Answer, answer_line, reply_text}
 use Rattle.reply_text.specs.Answer.Answer.{Done, Refused}
 use Rattle.script_text.specs.Script.{Input}
-use Rattle.script_text.specs.Script.Input.{Skipped, Malformed, Asked}
+use Rattle.script_text.specs.Script.Input.{Skipped, Malformed, Overlong, Asked}
 use Rattle.machine_host.specs.Machine.{Machine, Fate}
 use Rattle.machine_host.specs.Commands.{fate, spending}
 use Rattle.machine_host.specs.Machine.Fate.{Gives, Works, Orders, Cuts, Restarts, Recovers}
@@ -16,7 +16,7 @@ use Rattle.machine_host.specs.Restarting.{RestartMayLeave, mounted_answer, resta
 use Rattle.machine_host.specs.Run.{Transcript, Hears, Run, Takes, answered, followed_by, silence, with_cut, with_order, with_start, worked}
 use Rattle.machine_host.specs.Performing.{Performance, Allows, after, perform}
 use Rattle.machine_host.specs.Interrupted.{stop_in}
-use Rattle.machine_host.specs.Telling.{Tells, bumped_by, counted_by, cuts_after, faults_after, last_of}
+use Rattle.machine_host.specs.Telling.{Tells, arms_after, bumped_by, counted_by, cuts_after, evicts_after, faults_after, last_of, ordered_by}
 use Rattle.line_words.specs.declared.interruption.Interruption.{Interruption}
 use Rattle.line_words.specs.declared.interruption.Interruption.TheVariants.{Failed, PowerLost}
 use Rattle.script_text.specs.Action.{Action}
@@ -95,6 +95,8 @@ run_performed h (Skipped ∷ inputs) starts ok =
     (silence, (perform h inputs starts).said, h, sym (followed_by-silence (perform h inputs starts).said), (refl, refl), run_performed h inputs starts ok)
 run_performed h (Malformed ∷ inputs) starts ok =
     (answered (Refused Syntax), (perform h inputs starts).said, h, refl, (refl, refl), run_performed h inputs starts ok)
+run_performed h (Overlong ∷ inputs) starts ok =
+    (answered (Refused TooLong), (perform h inputs starts).said, h, refl, (refl, refl), run_performed h inputs starts ok)
 run_performed h (Asked action ∷ inputs) starts ok = by_fate (λ k others. run_performed k inputs others) (fate h action) refl ok
   where
     by_start : ((k : Machine) (others : List Start) → Allows k inputs others → Run k inputs (perform k inputs others).said (perform k inputs others).state)
@@ -143,6 +145,10 @@ told-append before (start ∷ s) t = told-append _ s t
 bumped_by-append : {A : Type 0} (s t : List A) (n : ℕ) → bumped_by (s ++ t) n ≡ bumped_by t (bumped_by s n)
 bumped_by-append [] t n = refl
 bumped_by-append (x ∷ s) t n = bumped_by-append s t (raised n)
+
+ordered_by-append : (after : Order → ℕ → ℕ) (s t : List Order) (n : ℕ) → ordered_by after (s ++ t) n ≡ ordered_by after t (ordered_by after s n)
+ordered_by-append after [] t n = refl
+ordered_by-append after (order ∷ s) t n = ordered_by-append after s t (after order n)
 
 last_of-append : (s t : List Order) (before : Option (Option Order)) → last_of (s ++ t) before ≡ last_of t (last_of s before)
 last_of-append [] t before = refl
@@ -194,13 +200,13 @@ tells_then s t p q r a b = record {
   starts = b.starts ∙ ap (λ before. told before t.starts) a.starts ∙ sym (told-append p.starts s.starts t.starts);
   restarts = b.restarts ∙ ap (bumped_by t.starts) a.restarts ∙ sym (bumped_by-append s.starts t.starts p.counts.restarts);
   orders = b.orders ∙ ap (last_of t.orders) a.orders ∙ sym (last_of-append s.orders t.orders p.last_order);
-  arms = b.arms ∙ ap (bumped_by t.orders) a.arms ∙ sym (bumped_by-append s.orders t.orders p.counts.arms);
+  arms = b.arms ∙ ap (ordered_by arms_after t.orders) a.arms ∙ sym (ordered_by-append arms_after s.orders t.orders p.counts.arms);
   offs = omega (arith, a.offs, b.offs);
   faults = counted_then faults_after faults_higher s.answers t.answers _ _ _ a.faults b.faults;
   cuts = counted_then cuts_after cuts_higher s.answers t.answers _ _ _ a.cuts b.cuts;
   calls = omega (arith, a.calls, b.calls);
   persists = omega (arith, a.persists, b.persists);
-  evicts = b.evicts ∙ a.evicts;
+  evicts = b.evicts ∙ ap (ordered_by evicts_after t.orders) a.evicts ∙ sym (ordered_by-append evicts_after s.orders t.orders p.counts.evicts);
   setups = omega (arith, a.setups, b.setups);
   disarms = b.disarms ∙ a.disarms;
 }

@@ -2,9 +2,9 @@
 use Rattle.std.proofs.Common.{◌≡◌, ℕ, ◌≤◌, inl, inr, true, false, Some, None, option_map, Result, Ok, Err, OnErr, List, [], refl, sym, ap, subst, ◌∙◌, arith}
 use Rattle.line_device.specs.Medium.{Medium, WritesBack}
 use Rattle.line_device.proofs.WriteBackLemmas.{write_back-refl}
-use Rattle.line_device.specs.Panel.{Runs, after_arm_cut, after_arm_fail, after_power_off}
+use Rattle.line_device.specs.Panel.{Runs, after_arm_cut, after_arm_fail, after_evict, after_power_off}
 use Rattle.line_device.specs.declared.order.Order.{Order}
-use Rattle.line_device.specs.declared.order.Order.TheVariants.{Cut as ForCut, Fail as ForFailure}
+use Rattle.line_device.specs.declared.order.Order.TheVariants.{Cut as ForCut, Evict as ForWriteBack, Fail as ForFailure}
 use Rattle.line_device.specs.Panel.Outcome.{went}
 use Rattle.line_device.specs.Device.{Device}
 use Rattle.line_words.specs.declared.interruption.Interruption.{Interruption}
@@ -24,7 +24,7 @@ use Rattle.pm_volume.specs.Area.{IsOfVolume}
 use Rattle.file_journal.specs.Area.{IsOfFiles}
 use Rattle.file_journal.specs.Standing.{EachReadsFiles, FilesStand}
 use Rattle.script_text.specs.Action.{Action}
-use Rattle.script_text.specs.Action.Action.{Cut, CutIn, FailIn}
+use Rattle.script_text.specs.Action.Action.{Cut, CutIn, FailIn, Evict}
 use Rattle.reply_text.specs.Answer.{Answer}
 use Rattle.reply_text.specs.Answer.Answer.{Done, Refused}
 use Rattle.machine_host.specs.Machine.{Machine}
@@ -316,6 +316,27 @@ comes_of_fail_in host old new h calls stands serves write_back panel =
       disarms = refl;
     }))
     refl (ap (λ p. p.power) panel) (ap (λ p. p.cut_armed) panel ∙ stands.device.cut_armed) (ap (λ p. p.fail_armed) panel)
+
+-- A write-back comes to the state that there was.
+pub comes_of_evict : (host : HostState) (old new : Device) (h : Machine) (lines : ℕ) → Stands host old h → HostServes host old → WritesBack old.medium new.medium
+    → new.panel ≡ after_evict old.panel lines → Comes h (Evict lines) (Orders (ForWriteBack lines) h) Done host old new
+comes_of_evict host old new h lines stands serves write_back panel =
+    comes_of_order host old new h h (Evict lines) (ForWriteBack lines) stands serves write_back
+    (subst (Tells (with_order (ForWriteBack lines) Done) old.panel) (sym panel) (record {
+      starts = refl;
+      restarts = refl;
+      orders = refl;
+      arms = refl;
+      offs = omega arith;
+      faults = omega arith;
+      cuts = omega arith;
+      calls = omega arith;
+      persists = omega arith;
+      evicts = refl;
+      setups = omega arith;
+      disarms = refl;
+    }))
+    refl (ap (λ p. p.power) panel) (ap (λ p. p.cut_armed) panel ∙ stands.device.cut_armed) (ap (λ p. p.fail_armed) panel ∙ stands.device.fail_armed)
 
 -- What comes of a command where mode and places are right.
 pub comes_placed : (host after : HostState) (old new : Device) (h : Machine) (action : Action) (answer : Answer) → Stands host old h → ((bad_meta : List ℕ) → mode_refusal host.mode bad_meta (meaning action).needs ≡ None)

@@ -9,7 +9,7 @@ use Rattle.nvm_model.specs.Storage.{Block, File, Mapping}
 use Rattle.block_device.specs.Images.{IsEither}
 use Rattle.word_tables.specs.declared.geometry.Geometry.{Geometry}
 use Rattle.script_text.specs.Action.{Action}
-use Rattle.script_text.specs.Action.Action.{BRead, BWrite, BAtomic, BMulti, BDiscard, BDiscardIf, BExists, BScar, VLoad, VStore, VSync, VRanges, VPSync, VDiscard, VDiscardIf, VExists, Create, Delete, Rename, Resize, ListFiles, FRead, FWrite, FAtomic, FMulti, FDiscard, FSync, Map, Unmap, Load, Store, Sync, Flush, FlushVerify, DeepFlush, NextEvent, CheckFile, PoisonBlock, PoisonVolume, PoisonFile, PoisonMeta, WeakenFile, WeakenVolume, ClearFile, ClearVolume, Cut, CutIn, FailIn, Restart, Recover}
+use Rattle.script_text.specs.Action.Action.{BRead, BWrite, BAtomic, BMulti, BDiscard, BDiscardIf, BExists, BScar, VLoad, VStore, VSync, VRanges, VPSync, VDiscard, VDiscardIf, VExists, Create, Delete, Rename, Resize, ListFiles, FRead, FWrite, FAtomic, FMulti, FDiscard, FSync, Map, Unmap, Load, Store, Sync, Flush, FlushVerify, DeepFlush, NextEvent, CheckFile, PoisonBlock, PoisonVolume, PoisonFile, PoisonMeta, WeakenFile, WeakenVolume, ClearFile, ClearVolume, Cut, CutIn, FailIn, Restart, Recover, Attr, Evict}
 use Rattle.reply_text.specs.Answer.{Answer}
 use Rattle.reply_text.specs.Answer.Answer.{Refused}
 use Rattle.machine_host.specs.declared.mode.Mode.{Mode}
@@ -31,6 +31,7 @@ use Rattle.machine_host.specs.OnMedia as on_media
 use Rattle.machine_host.specs.OnEvents as on_events
 use Rattle.machine_host.specs.OnFileErrors as on_file_errors
 use Rattle.machine_host.specs.OnPower as on_power
+use Rattle.machine_host.specs.OnAttributes as on_attributes
 
 abbrev pub meaning : Action → Meaning
 meaning (BRead block count) = on_blocks.bread block count
@@ -83,6 +84,8 @@ meaning (CutIn calls) = on_power.cut_in calls
 meaning (FailIn calls) = on_power.fail_in calls
 meaning (Restart choice) = on_power.restart choice
 meaning Recover = on_power.recover
+meaning (Attr name) = on_attributes.attr name
+meaning (Evict lines) = on_power.evict lines
 
 -- what a command is answered where it is refused, None where it is done
 unfoldable pub refusal : Machine → Action → Option Answer

@@ -14,6 +14,7 @@ pub mod OnFileActions
 pub mod OnMedia
 pub mod OnFileErrors
 pub mod OnPower
+pub mod OnAttributes
 pub mod Commands
 pub mod Interrupted
 pub mod Restarting
@@ -36,5 +37,6 @@ pub mod MappingRows
 pub mod FlushRows
 pub mod FileErrorRows
 pub mod EventRows
+pub mod AttributeRows
 pub mod PageRows
 pub mod FileActionRows

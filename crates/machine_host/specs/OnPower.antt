@@ -1,12 +1,12 @@
--- Cuts, failures, restarts and recoveries. What a restart or a recovery leaves, the medium decides.
+-- Cuts, failures, write-backs, restarts and recoveries. What a restart or a recovery leaves, the medium decides.
 use Rattle.std.specs.Prelude.{◌==◌, ℕ, true, false, Some, None, Option, if◌then◌else◌}
 use Rattle.line_device.specs.declared.line.Choice.{Choice}
-use Rattle.line_device.specs.declared.order.Order.TheVariants.{Cut as ForCut, Fail as ForFailure}
+use Rattle.line_device.specs.declared.order.Order.TheVariants.{Cut as ForCut, Evict as ForWriteBack, Fail as ForFailure}
 use Rattle.word_tables.specs.declared.geometry.Geometry.{Geometry}
 use Rattle.reply_text.specs.declared.reply.Why.{Why}
 use Rattle.reply_text.specs.declared.reply.Why.TheVariants as because
 use Rattle.machine_host.specs.declared.mode.Mode.TheVariants as modes
-use Rattle.machine_host.specs.declared.needs.Needs.TheVariants.{Anytime, Powered, Unpowered, Failed}
+use Rattle.machine_host.specs.declared.needs.Needs.TheVariants.{Usable, Anytime, Powered, Unpowered, Failed}
 use Rattle.machine_host.specs.Costs.{mount_calls, mount_persists}
 use Rattle.machine_host.specs.Machine.Fate.{Orders, Cuts, Restarts, Recovers}
 use Rattle.machine_host.specs.Meaning.{Meaning, anywhere, quiet}
@@ -24,6 +24,10 @@ cut_in calls = quiet Anytime (in_calls calls) (λ h. Orders (ForCut calls) (reco
 
 abbrev pub fail_in : ℕ → Meaning
 fail_in calls = quiet Anytime (in_calls calls) (λ h. Orders (ForFailure calls) (record h { fail_armed = true }))
+
+-- the device may write back, which changes nothing that is read; any number of lines is asked for
+abbrev pub evict : ℕ → Meaning
+evict lines = quiet Usable anywhere (λ h. Orders (ForWriteBack lines) h)
 
 abbrev pub restart : Choice → Meaning
 restart choice = record (quiet Unpowered anywhere (λ h. Restarts choice)) {

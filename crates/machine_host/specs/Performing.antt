@@ -1,10 +1,10 @@
 -- Runs that nothing interrupts: what the machine writes, given what each restart left. There is nothing to recover from in them.
 use Rattle.std.specs.Prelude.{◌≡◌, List, [], ◌∷◌}
 use Rattle.line_device.specs.Panel.{Start}
-use Rattle.reply_text.specs.declared.reply.Why.TheVariants.{Syntax}
+use Rattle.reply_text.specs.declared.reply.Why.TheVariants.{Syntax, TooLong}
 use Rattle.reply_text.specs.Answer.Answer.{Done, Refused}
 use Rattle.script_text.specs.Script.{Input}
-use Rattle.script_text.specs.Script.Input.{Skipped, Malformed, Asked}
+use Rattle.script_text.specs.Script.Input.{Skipped, Malformed, Overlong, Asked}
 use Rattle.machine_host.specs.Machine.{Machine}
 use Rattle.machine_host.specs.Commands.{fate, spending}
 use Rattle.machine_host.specs.Machine.Fate.{Gives, Works, Orders, Cuts, Restarts, Recovers}
@@ -25,6 +25,7 @@ abbrev pub perform : Machine → List Input → List Start → Performance
 perform h [] starts = record { said = silence; state = h }
 perform h (Skipped ∷ inputs) starts = perform h inputs starts
 perform h (Malformed ∷ inputs) starts = after (answered (Refused Syntax)) (perform h inputs starts)
+perform h (Overlong ∷ inputs) starts = after (answered (Refused TooLong)) (perform h inputs starts)
 perform h (Asked action ∷ inputs) starts = elim (fate h action) [
   | Gives answer next ↦ after (answered answer) (perform next inputs starts)
   | Works answer next ↦ after (worked (spending h action) answer) (perform next inputs starts)
@@ -42,6 +43,7 @@ abbrev pub Allows : Machine → List Input → List Start → Type 0
 Allows h [] starts = starts ≡ []
 Allows h (Skipped ∷ inputs) starts = Allows h inputs starts
 Allows h (Malformed ∷ inputs) starts = Allows h inputs starts
+Allows h (Overlong ∷ inputs) starts = Allows h inputs starts
 Allows h (Asked action ∷ inputs) starts = elim (fate h action) as (λ _. Type 0) [
   | Gives answer next ↦ Allows next inputs starts
   | Works answer next ↦ Allows next inputs starts

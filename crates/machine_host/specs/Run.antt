@@ -3,12 +3,12 @@ use Rattle.std.specs.Prelude.{◌≡◌, ◌⊎◌, ◌+◌, ℕ, List, [], ◌�
 use Rattle.line_device.specs.Panel.{Start}
 use Rattle.line_device.specs.declared.order.Order.{Order}
 use Rattle.line_words.specs.declared.interruption.Interruption.{Interruption}
-use Rattle.reply_text.specs.declared.reply.Why.TheVariants.{Syntax}
+use Rattle.reply_text.specs.declared.reply.Why.TheVariants.{Syntax, TooLong}
 use Rattle.reply_text.specs.Answer.{Answer}
 use Rattle.reply_text.specs.Answer.Answer.{Done, Refused}
 use Rattle.script_text.specs.Action.{Action}
 use Rattle.script_text.specs.Script.{Input}
-use Rattle.script_text.specs.Script.Input.{Skipped, Malformed, Asked}
+use Rattle.script_text.specs.Script.Input.{Skipped, Malformed, Overlong, Asked}
 use Rattle.machine_host.specs.Costs.{Spending, no_spending, spent_with}
 use Rattle.machine_host.specs.Machine.{Machine, Fate}
 use Rattle.machine_host.specs.Commands.{fate, spending, while_interrupted}
@@ -79,6 +79,7 @@ Takes h action Recovers said next =
 abbrev pub Hears : Machine → Input → Transcript → Machine → Type 0
 Hears h Skipped said next = (said ≡ silence) × (next ≡ h)
 Hears h Malformed said next = (said ≡ answered (Refused Syntax)) × (next ≡ h)
+Hears h Overlong said next = (said ≡ answered (Refused TooLong)) × (next ≡ h)
 Hears h (Asked action) said next = Takes h action (fate h action) said next
 
 -- A run over inputs, one after another.

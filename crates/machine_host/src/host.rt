@@ -1,5 +1,6 @@
 // The host: it refuses a command, or performs it on the device and answers it by one line.
 mod actions;
+mod attribute;
 mod blocks;
 mod commands;
 mod events;

@@ -10,6 +10,7 @@ ghost use Rattle.machine_host.specs.MappingRows.{MappingRows};
 ghost use Rattle.machine_host.specs.FlushRows.{FlushRows};
 ghost use Rattle.machine_host.specs.FileErrorRows.{FileErrorRows};
 ghost use Rattle.machine_host.specs.EventRows.{EventRows};
+ghost use Rattle.machine_host.specs.AttributeRows.{AttributeRows};
 ghost use Rattle.machine_host.specs.FileActionRows.{FileActionRows, FileActionRuns};
 
 /// What the machine writes for the worked scripts.
@@ -69,4 +70,9 @@ pub fn worked_file_actions()
 /// What it writes for those that are told of bad lines of files.
 pub fn worked_events()
     ensures events { EventRows }
+{}
+
+/// What it writes for those that ask for attributes and for write-back.
+pub fn worked_attributes()
+    ensures attributes { AttributeRows }
 {}

@@ -67,6 +67,7 @@ fn perform_line<D: LineDevice>(
         Ok(None) => Ok(()),
         Ok(Some(command)) => host.step(device, &command, out),
         Err(LineFault::Syntax) => print(&Reply::Refused(Why::Syntax), out),
+        Err(LineFault::TooLong) => print(&Reply::Refused(Why::TooLong), out),
         Err(LineFault::Memory) => Err(AllocError),
     }
 }

@@ -139,6 +139,17 @@ fn a_script_gets_its_replies_whatever_pieces_it_comes_in(rt: HostRuntime) -> Res
 }
 
 #[test]
+fn a_line_has_at_most_65536_bytes(rt: HostRuntime) -> Result<(), Fail> {
+    let alloc = rt.alloc();
+    for (count, replies) in [(65536, "attr 2\n"), (65537, "refused toolong\nattr 2\n")] {
+        let script = repeated(alloc, "#", count, "\nattr volume.ranges\n")?;
+        let sink = replies_to(alloc, &mut Module::new(alloc), script, 65536)?;
+        assert!(rt; sink.written() == replies.as_bytes());
+    }
+    Ok(())
+}
+
+#[test]
 fn a_recorder_of_a_module_gets_the_module_s_replies(rt: HostRuntime) -> Result<(), Fail> {
     let alloc = rt.alloc();
     let script = drawn(alloc, 11, 5000, stories::LAST_LINES)?;

@@ -22,6 +22,7 @@ pub data Answer : Type 0 where
   Happened : Event → Answer
   NoEvent : Answer
   BadLines : List ℕ → Answer
+  Attribute : ℕ → Answer
   Scarred : ℕ → Answer
   PoisonBlock : ℕ → ℕ → Answer
   PoisonVolume : ℕ → Answer
@@ -46,6 +47,7 @@ answer_of (reply.Handle handle) = Handle handle
 answer_of (reply.Happened event) = Happened (event_of event)
 answer_of reply.NoEvent = NoEvent
 answer_of (reply.BadLines offsets) = BadLines offsets.items
+answer_of (reply.Attribute n) = Attribute n
 answer_of (reply.Scarred block) = Scarred block
 answer_of (reply.PoisonBlock block line) = PoisonBlock block line
 answer_of (reply.PoisonVolume offset) = PoisonVolume offset
@@ -60,6 +62,7 @@ answer_of (reply.RefusedMeta line) = RefusedMeta line
 -- a refusal's word
 abbrev pub why_text : Why → List ℕ
 why_text why.Syntax = codes "syntax"
+why_text why.TooLong = codes "toolong"
 why_text why.Off = codes "off"
 why_text why.On = codes "on"
 why_text why.Recover = codes "recover"
@@ -76,6 +79,7 @@ why_text why.Slots = codes "slots"
 why_text why.Full = codes "full"
 why_text why.Nothing = codes "nothing"
 why_text why.NotPoisoned = codes "notpoisoned"
+why_text why.Unknown = codes "unknown"
 
 -- a range behind its offset: where it begins, and its length
 abbrev pub range_text : ℕ → Span → List ℕ
@@ -132,6 +136,7 @@ answer_text (Handle handle) = codes "handle " ++ decimal handle
 answer_text (Happened event) = codes "event " ++ event_text event
 answer_text NoEvent = codes "none"
 answer_text (BadLines offsets) = codes "bad " ++ (decimal (length offsets) ++ offsets_text offsets)
+answer_text (Attribute n) = codes "attr " ++ decimal n
 answer_text (Scarred block) = codes "scarred " ++ decimal block
 answer_text (PoisonBlock block line) = codes "poison block " ++ decimal block ++ 32 ∷ decimal line
 answer_text (PoisonVolume offset) = codes "poison volume " ++ decimal offset ++ codes " 64"
@@ -165,6 +170,7 @@ IsPrintable (Handle handle) = Unit {0}
 IsPrintable (Happened event) = Unit {0}
 IsPrintable NoEvent = Unit {0}
 IsPrintable (BadLines offsets) = Unit {0}
+IsPrintable (Attribute n) = Unit {0}
 IsPrintable (Scarred block) = Unit {0}
 IsPrintable (PoisonBlock block line) = Unit {0}
 IsPrintable (PoisonVolume offset) = Unit {0}

@@ -3,7 +3,7 @@ use Rattle.std.specs.Prelude.{ℕ, ◌+◌, ◌*◌, ◌^◌, ◌<◌, ◌≤◌
 use Rattle.nvm_base.specs.declared.units.Span.{Span}
 use Rattle.nvm_base.specs.declared.files.FileEntry.{FileEntry}
 use Rattle.reply_text.specs.Answer.{Answer}
-use Rattle.reply_text.specs.Answer.Answer.{Done, DoneBad, Bytes, Ranges, Files, Yes, No, Handle, Happened, NoEvent, BadLines, Scarred, PoisonBlock, PoisonVolume, PoisonFile, VerifyFile, DeviceFailed, PowerLost, Stopped, Refused, RefusedMeta}
+use Rattle.reply_text.specs.Answer.Answer.{Done, DoneBad, Bytes, Ranges, Files, Yes, No, Handle, Happened, NoEvent, BadLines, Attribute, Scarred, PoisonBlock, PoisonVolume, PoisonFile, VerifyFile, DeviceFailed, PowerLost, Stopped, Refused, RefusedMeta}
 
 -- the most bytes of an answer's line: the most of its DATA, of its ranges, files or offsets, of an event, or of an answer
 -- that has none of them, a name and its line among these
@@ -19,6 +19,7 @@ most_of (Handle handle) = 72
 most_of (Happened event) = 128
 most_of NoEvent = 72
 most_of (BadLines offsets) = 28 + 21 * length offsets
+most_of (Attribute n) = 72
 most_of (Scarred block) = 72
 most_of (PoisonBlock block line) = 72
 most_of (PoisonVolume offset) = 72

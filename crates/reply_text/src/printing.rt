@@ -58,6 +58,7 @@ fn print_text(reply: &Reply, out: &mut Bytes) -> Result<(), AllocError>
         Reply::Happened(event) => print_event(event, out),
         Reply::NoEvent => out.extend(b"none"),
         Reply::BadLines(offsets) => print_bad_lines(offsets.as_slice(), out),
+        Reply::Attribute(n) => print_counted(b"attr ", *n, out),
         Reply::Scarred(block) => print_counted(b"scarred ", *block, out),
         Reply::PoisonBlock(block, line) => print_two(b"poison block ", *block, *line, out),
         Reply::PoisonVolume(offset) => print_volume_line(*offset, out),
@@ -110,6 +111,7 @@ fn word_of(why: Why) -> &'static [u8]
 {
     match why {
         Why::Syntax => b"syntax",
+        Why::TooLong => b"toolong",
         Why::Off => b"off",
         Why::On => b"on",
         Why::Recover => b"recover",
@@ -126,5 +128,6 @@ fn word_of(why: Why) -> &'static [u8]
         Why::Full => b"full",
         Why::Nothing => b"nothing",
         Why::NotPoisoned => b"notpoisoned",
+        Why::Unknown => b"unknown",
     }
 }

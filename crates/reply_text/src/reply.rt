@@ -5,6 +5,8 @@ use nvm_base::{Bytes, FileList, Name, Spans, Words};
 #[derive(Clone, Copy, Debug, PartialEq, Eq)]
 pub enum Why {
     Syntax,
+    /// The line is longer than a line may be.
+    TooLong,
     Off,
     On,
     Recover,
@@ -28,6 +30,8 @@ pub enum Why {
     /// The place holds no line.
     Nothing,
     NotPoisoned,
+    /// Nothing has that name.
+    Unknown,
 }
 
 /// What a command is answered.
@@ -51,6 +55,8 @@ pub enum Reply {
     NoEvent,
     /// Offsets of a file's bad lines.
     BadLines(Words),
+    /// The value of an attribute.
+    Attribute(u64),
     /// This block was made unreadable.
     Scarred(u64),
     /// In this block that line is bad.

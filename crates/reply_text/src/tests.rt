@@ -15,6 +15,9 @@ fn each_reply_has_its_line(rt: HostRuntime) -> Result<(), AllocError> {
     print(&Reply::Handle(1), &mut out)?;
     print(&Reply::Handle(4294967295), &mut out)?;
     print(&Reply::NoEvent, &mut out)?;
+    print(&Reply::Attribute(0), &mut out)?;
+    print(&Reply::Attribute(1000000), &mut out)?;
+    print(&Reply::Attribute(18446744073709551615), &mut out)?;
     print(&Reply::Scarred(4095), &mut out)?;
     print(&Reply::PoisonBlock(10, 7), &mut out)?;
     print(&Reply::PoisonVolume(4032), &mut out)?;
@@ -28,7 +31,7 @@ fn each_reply_has_its_line(rt: HostRuntime) -> Result<(), AllocError> {
     print(&Reply::Bytes(bytes), &mut out)?;
     assert_eq!(rt;
         out.as_slice(),
-        b"ok\nok bad 0\nok bad 118016\nyes\nno\nhandle 1\nhandle 4294967295\nnone\nscarred 4095\npoison block 10 7\npoison volume 4032 64\nrefused meta 2303\nrefused device\npower lost\nstopped meta 2303\nstopped meta 18446744073709551615\ndata 07*2,ff\n".as_slice()
+        b"ok\nok bad 0\nok bad 118016\nyes\nno\nhandle 1\nhandle 4294967295\nnone\nattr 0\nattr 1000000\nattr 18446744073709551615\nscarred 4095\npoison block 10 7\npoison volume 4032 64\nrefused meta 2303\nrefused device\npower lost\nstopped meta 2303\nstopped meta 18446744073709551615\ndata 07*2,ff\n".as_slice()
     );
     Ok(())
 }
@@ -131,6 +134,7 @@ fn bad_lines_are_counted_and_listed(rt: HostRuntime) -> Result<(), AllocError> {
 fn each_refusal_has_its_word(rt: HostRuntime) -> Result<(), AllocError> {
     for (why, line) in [
         (Why::Syntax, "refused syntax\n"),
+        (Why::TooLong, "refused toolong\n"),
         (Why::Off, "refused off\n"),
         (Why::On, "refused on\n"),
         (Why::Recover, "refused recover\n"),
@@ -147,6 +151,7 @@ fn each_refusal_has_its_word(rt: HostRuntime) -> Result<(), AllocError> {
         (Why::Full, "refused full\n"),
         (Why::Nothing, "refused nothing\n"),
         (Why::NotPoisoned, "refused notpoisoned\n"),
+        (Why::Unknown, "refused unknown\n"),
     ] {
         let mut out = Bytes::new(rt.alloc());
         print(&Reply::Refused(why), &mut out)?;

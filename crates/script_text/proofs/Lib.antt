@@ -4,4 +4,5 @@ pub mod DataLemmas
 pub mod RangeLemmas
 pub mod OperandLemmas
 pub mod PairLemmas
+pub mod LengthLemmas
 pub mod BoundLemmas

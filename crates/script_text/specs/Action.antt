@@ -57,6 +57,8 @@ pub data Action : Type 0 where
   FailIn : ℕ → Action
   Restart : Choice → Action
   Recover : Action
+  Attr : List ℕ → Action
+  Evict : ℕ → Action
 
 -- what a command asks for
 abbrev pub action_of : Command → Action
@@ -110,3 +112,5 @@ action_of (command.CutIn calls) = CutIn calls
 action_of (command.FailIn calls) = FailIn calls
 action_of (command.Restart choice) = Restart choice
 action_of command.Recover = Recover
+action_of (command.Attr name) = Attr name.items
+action_of (command.Evict lines) = Evict lines

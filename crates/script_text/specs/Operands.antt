@@ -21,11 +21,15 @@ of_data make (Some a) (Ok bytes) = Some (make a bytes)
 of_data make (Some a) (Err e) = None
 of_data make None bytes = None
 
--- The words: none, one number, two, one name, two, a name and a number, a number and DATA, a mapping's kind, pairs of
+-- The words: none, one of any bytes, one number, two, one name, two, a name and a number, a number and DATA, a mapping's kind, pairs of
 -- numbers, pairs of a number and DATA, or a name or a number before any of these.
 abbrev pub bare_action : Action → List (List ℕ) → Option Action
 bare_action action [] = Some action
 bare_action action (word ∷ words) = None
+
+abbrev pub word_action : (List ℕ → Action) → List (List ℕ) → Option Action
+word_action make (a ∷ []) = Some (make a)
+word_action make _ = None
 
 abbrev pub number_action : (ℕ → Action) → List (List ℕ) → Option Action
 number_action make (a ∷ []) = option_map make (number_of a)

@@ -1,10 +1,10 @@
 -- Worked lines: what they ask for.
 use Rattle.std.specs.Prelude.{◌≡◌, ℕ, [], ◌∷◌, ◌++◌, replicate, codes}
 use Rattle.nvm_base.specs.declared.units.Span.{Span}
-use Rattle.script_text.specs.Action.Action.{BAtomic, BMulti, VRanges, VPSync, VDiscard, VDiscardIf, VExists, Create, Delete, Rename, Resize, ListFiles, FRead, FWrite, FAtomic, FMulti, FDiscard, FSync, PoisonBlock, PoisonVolume, PoisonMeta, WeakenVolume, ClearVolume, Cut, CutIn, FailIn, Restart, Recover}
+use Rattle.script_text.specs.Action.Action.{BAtomic, BMulti, VRanges, VPSync, VDiscard, VDiscardIf, VExists, Create, Delete, Rename, Resize, ListFiles, FRead, FWrite, FAtomic, FMulti, FDiscard, FSync, PoisonBlock, PoisonVolume, PoisonMeta, WeakenVolume, ClearVolume, Cut, CutIn, FailIn, Restart, Recover, Attr, Evict}
 use Rattle.line_device.specs.declared.line.Choice.TheVariants.{Firsts, Seed}
 use Rattle.script_text.specs.Script.{line_input}
-use Rattle.script_text.specs.Script.Input.{Malformed, Asked}
+use Rattle.script_text.specs.Script.Input.{Malformed, Overlong, Asked}
 
 -- a range from its first block or byte and its length in bytes
 abbrev pub range : ℕ → ℕ → Span
@@ -103,3 +103,12 @@ pub record LineRows : Type 0 where
   pub restart_all_by_a_seed : line_input (codes "restart all 1") ≡ Malformed
   pub recovery : line_input (codes "recover") ≡ Asked Recover
   pub recovery_and_a_number : line_input (codes "recover 1") ≡ Malformed
+  pub attribute_asked_for : line_input (codes "attr pm.error_range") ≡ Asked (Attr (codes "pm.error_range"))
+  pub attribute_of_any_name : line_input (codes "attr x.y") ≡ Asked (Attr (codes "x.y"))
+  pub attribute_without_a_name : line_input (codes "attr") ≡ Malformed
+  pub two_attributes : line_input (codes "attr a b") ≡ Malformed
+  pub lines_evicted : line_input (codes "evict 1000000") ≡ Asked (Evict 1000000)
+  pub too_many_lines_evicted : line_input (codes "evict 4294967296") ≡ Malformed
+  pub lines_not_counted : line_input (codes "evict") ≡ Malformed
+  pub longest_line : line_input (replicate 65536 97) ≡ Malformed
+  pub longer_line : line_input (replicate 65537 97) ≡ Overlong

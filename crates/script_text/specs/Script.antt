@@ -5,13 +5,14 @@ use Rattle.std.specs.Str.{bytes_eq}
 use Rattle.std.specs.Io.BufRead.{strip_last}
 use Rattle.line_device.specs.declared.line.Choice.TheVariants.{Firsts, Lasts, Seed}
 use Rattle.script_text.specs.Action.{Action}
-use Rattle.script_text.specs.Action.Action.{BRead, BWrite, BDiscard, BDiscardIf, BExists, BScar, BAtomic, BMulti, VLoad, VStore, VSync, VRanges, VPSync, VDiscard, VDiscardIf, VExists, Create, Delete, Rename, Resize, ListFiles, FRead, FWrite, FAtomic, FMulti, FDiscard, FSync, Map, Unmap, Load, Store, Sync, Flush, FlushVerify, DeepFlush, NextEvent, CheckFile, PoisonBlock, PoisonVolume, PoisonFile, PoisonMeta, WeakenFile, WeakenVolume, ClearFile, ClearVolume, Cut, CutIn, FailIn, Restart, Recover}
-use Rattle.script_text.specs.Operands.{bare_action, number_action, span_action, name_action, names_action, sized_action, data_action, named_action, numbered_action, kind_action, spans_action, ranges_action, placed_action}
+use Rattle.script_text.specs.Action.Action.{BRead, BWrite, BDiscard, BDiscardIf, BExists, BScar, BAtomic, BMulti, VLoad, VStore, VSync, VRanges, VPSync, VDiscard, VDiscardIf, VExists, Create, Delete, Rename, Resize, ListFiles, FRead, FWrite, FAtomic, FMulti, FDiscard, FSync, Map, Unmap, Load, Store, Sync, Flush, FlushVerify, DeepFlush, NextEvent, CheckFile, PoisonBlock, PoisonVolume, PoisonFile, PoisonMeta, WeakenFile, WeakenVolume, ClearFile, ClearVolume, Cut, CutIn, FailIn, Restart, Recover, Attr, Evict}
+use Rattle.script_text.specs.Operands.{bare_action, word_action, number_action, span_action, name_action, names_action, sized_action, data_action, named_action, numbered_action, kind_action, spans_action, ranges_action, placed_action}
 
--- a line: nothing to do, no command, or what it asks for
+-- a line: nothing to do, no command, longer than a line may be, or what it asks for
 pub data Input : Type 0 where
   Skipped : Input
   Malformed : Input
+  Overlong : Input
   Asked : Action → Input
 
 -- the lines of a script: each ends at a newline, the last one also at the script's end
@@ -62,7 +63,8 @@ power_action name words =
     if bytes_eq name (codes "cut") then cut_action words
     else (if bytes_eq name (codes "fail") then fail_action words
     else (if bytes_eq name (codes "restart") then restart_action words
-    else (if bytes_eq name (codes "recover") then bare_action Recover words else None)))
+    else (if bytes_eq name (codes "recover") then bare_action Recover words
+    else (if bytes_eq name (codes "evict") then number_action Evict words else None))))
 
 abbrev pub media_action : List ℕ → List (List ℕ) → Option Action
 media_action name words =
@@ -128,7 +130,8 @@ command_action name words =
     else (if bytes_eq name (codes "vstore") then data_action VStore words
     else (if bytes_eq name (codes "bscar") then spans_action BScar words
     else (if bytes_eq name (codes "batomic") then data_action BAtomic words
-    else (if bytes_eq name (codes "bmulti") then ranges_action BMulti words else writing_action name words))))
+    else (if bytes_eq name (codes "bmulti") then ranges_action BMulti words
+    else (if bytes_eq name (codes "attr") then word_action Attr words else writing_action name words)))))
 
 abbrev pub asked : Option Action → Input
 asked None = Malformed
@@ -143,9 +146,9 @@ abbrev pub words_input : List (List ℕ) → Input
 words_input [] = Skipped
 words_input (name ∷ words) = if is_comment name then Skipped else asked (command_action name words)
 
--- A line of over 65,536 bytes is no command, whatever it has. One carriage return at its end is dropped.
+-- A line of over 65,536 bytes is too long, whatever it has. One carriage return at its end is dropped.
 unfoldable pub line_input : List ℕ → Input
-line_input line = if nat_lt 65536 (length line) then Malformed else words_input (words_of (strip_last 13 line))
+line_input line = if nat_lt 65536 (length line) then Overlong else words_input (words_of (strip_last 13 line))
 
 -- what lines ask for, one by one
 abbrev pub inputs_of : List (List ℕ) → List Input

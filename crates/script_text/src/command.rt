@@ -213,4 +213,12 @@ pub enum Command {
     },
     /// A mount of the device with its power left on.
     Recover,
+    /// What the attribute of that name tells. Any word is a name here.
+    Attr {
+        name: Bytes,
+    },
+    /// So many of the oldest dirty lines are written back.
+    Evict {
+        lines: u64,
+    },
 }

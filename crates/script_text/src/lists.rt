@@ -1,12 +1,12 @@
-// Commands that bring a list.
+// Commands that bring a list or a word of any length.
 ghost use Rattle.std.specs.Prelude.{◌≡◌, IfErr};
 ghost use Rattle.script_text.specs.Action.{action_of};
-ghost use Rattle.script_text.specs.Action.Action.{BAtomic, BMulti, BScar, BWrite, VStore};
-ghost use Rattle.script_text.specs.Operands.{data_action, ranges_action, spans_action};
+ghost use Rattle.script_text.specs.Action.Action.{Attr, BAtomic, BMulti, BScar, BWrite, VStore};
+ghost use Rattle.script_text.specs.Operands.{data_action, ranges_action, spans_action, word_action};
 ghost use Rattle.script_text.specs.Parsing.{IsLong, ParsesAs};
 ghost use Rattle.script_text.specs.Script.{command_action, words_of};
 
-use crate::operands::read_data;
+use crate::operands::{read_data, read_word};
 use crate::ranges::read_ranges;
 use crate::spans::read_spans;
 use crate::writes::read_writing;
@@ -29,6 +29,8 @@ pub(crate) fn read_command(alloc: Global, name: &[u8], words: &[u8]) -> Result<C
         read_atomic(alloc, words)
     } else if name == b"bmulti".as_slice() {
         read_multi(alloc, words)
+    } else if name == b"attr".as_slice() {
+        read_attribute(alloc, words)
     } else {
         read_writing(alloc, name, words)
     }
@@ -75,6 +77,15 @@ fn read_multi(alloc: Global, words: &[u8]) -> Result<Command, LineFault>
 {
     match read_ranges(alloc, words) {
         Ok((ranges, bytes)) => Ok(Command::BMulti { ranges, bytes }),
+        Err(fault) => Err(fault),
+    }
+}
+
+fn read_attribute(alloc: Global, words: &[u8]) -> Result<Command, LineFault>
+    ensures { ParsesAs action_of (word_action Attr (words_of words.now)) result }
+{
+    match read_word(alloc, words) {
+        Ok(name) => Ok(Command::Attr { name }),
         Err(fault) => Err(fault),
     }
 }

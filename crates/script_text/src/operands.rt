@@ -1,7 +1,7 @@
 // What stands behind a command's name.
 ghost use Rattle.std.specs.Prelude.{◌≡◌, ℕ, List, option_map};
 ghost use Rattle.script_text.specs.Action.{Action, action_of};
-ghost use Rattle.script_text.specs.Operands.{bare_action, data_action, name_action, named_action, names_action, number_action, numbered_action, sized_action, span_action};
+ghost use Rattle.script_text.specs.Operands.{bare_action, data_action, name_action, named_action, names_action, number_action, numbered_action, sized_action, span_action, word_action};
 ghost use Rattle.script_text.specs.Parsing.{ParsesAs};
 ghost use Rattle.script_text.specs.Script.{words_of};
 
@@ -24,6 +24,20 @@ pub(crate) fn read_data(alloc: Global, words: &[u8]) -> Result<(u64, Bytes), Lin
         Ok(bytes) => Ok((number, bytes)),
         Err(TextFault::Bad | TextFault::TooLong) => Err(LineFault::Syntax),
         Err(TextFault::Memory) => Err(LineFault::Memory),
+    }
+}
+
+// A word of any bytes, where it stands alone.
+pub(crate) fn read_word(alloc: Global, words: &[u8]) -> Result<Bytes, LineFault>
+    ensures { (make : List ℕ → Action) → ParsesAs (λ word. make word.items) (word_action make (words_of words.now)) result }
+{
+    let Some(text) = only_word(words) else {
+        return Err(LineFault::Syntax);
+    };
+    let mut word = Bytes::new(alloc);
+    match word.extend(text) {
+        Ok(()) => Ok(word),
+        Err(_) => Err(LineFault::Memory),
     }
 }
 

@@ -1,5 +1,5 @@
 // What a line asks for.
-ghost use Rattle.std.specs.Prelude.{◌≡◌, IfOk, IfErr, IfSome};
+ghost use Rattle.std.specs.Prelude.{◌≡◌, ◌↔◌, ◌<◌, Err, IfOk, IfErr, IfSome, length};
 ghost use Rattle.std.specs.Io.BufRead.{strip_last};
 ghost use Rattle.script_text.specs.Action.{action_of};
 ghost use Rattle.script_text.specs.Parsing.{BringsMore, InBounds, Parses};
@@ -15,6 +15,8 @@ use std::alloc::Global;
 #[derive(Clone, Copy, Debug, PartialEq, Eq)]
 pub enum LineFault {
     Syntax,
+    /// It has more than `MOST` bytes.
+    TooLong,
     Memory,
 }
 
@@ -22,12 +24,13 @@ pub enum LineFault {
 #[tactic(auto, unfolding(crate::specs::Script::line_input))]
 pub fn parse(alloc: Global, line: &[u8]) -> Result<Option<Command>, LineFault>
     ensures input { Parses (line_input line.now) result }
+    ensures long { (result ≡ Err LineFault.TooLong) ↔ (65536 < length line.now) }
     ensures memory { IfErr result
         (λ e. e ≡ LineFault.Memory → BringsMore (words_of (strip_last 13 line.now))) }
     ensures bounds { IfOk result (λ parsed. IfSome parsed (λ command. InBounds (action_of command))) }
 {
     if line.len() as u64 > MOST {
-        return Err(LineFault::Syntax);
+        return Err(LineFault::TooLong);
     }
     parse_words(alloc, without_return(line))
 }

@@ -1,4 +1,4 @@
-// Commands on the power, and on failures of the device.
+// Commands on the power, on failures of the device and on its cache.
 ghost use Rattle.std.specs.Prelude.{◌≡◌, option_map};
 ghost use Rattle.script_text.specs.Action.{action_of};
 ghost use Rattle.script_text.specs.Script.{cut_action, fail_action, power_action, restart_action, words_of};
@@ -19,6 +19,8 @@ pub(crate) fn read_power(name: &[u8], words: &[u8]) -> Option<Command>
         read_restart(words)
     } else if name == b"recover".as_slice() {
         read_bare(Command::Recover, words)
+    } else if name == b"evict".as_slice() {
+        read_only(words).map(|lines| Command::Evict { lines })
     } else {
         None
     }

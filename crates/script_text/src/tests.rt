@@ -1,9 +1,11 @@
 use crate::{Command, LineFault, parse, split_line};
 use line_device::Choice;
 use nvm_base::{Kind, Name, Span};
-use std::alloc::{AllocError, Global};
+use std::alloc::Global;
 
+mod attributes;
 mod files;
+mod lengths;
 mod mappings;
 mod natives;
 
@@ -62,9 +64,13 @@ enum Gave {
     FailIn(u64),
     Restart(Choice),
     Recover,
+    Attr(u64),
+    Evict(u64),
 }
 
 const SYNTAX: Gave = Gave::Fault(LineFault::Syntax);
+
+const TOO_LONG: Gave = Gave::Fault(LineFault::TooLong);
 
 fn parsed(alloc: Global, line: &[u8]) -> Gave {
     match parse(alloc, line) {
@@ -150,6 +156,8 @@ fn given(command: &Command) -> Gave {
         Command::FailIn { calls } => Gave::FailIn(*calls),
         Command::Restart { choice } => Gave::Restart(*choice),
         Command::Recover => Gave::Recover,
+        Command::Attr { name } => Gave::Attr(name.len()),
+        Command::Evict { lines } => Gave::Evict(*lines),
     }
 }
 
@@ -315,21 +323,6 @@ fn numbers_and_bytes_have_limits(rt: HostRuntime) {
     ] {
         assert_eq!(rt; parsed(rt.alloc(), line.as_bytes()), wanted, "{line}");
     }
-}
-
-#[test]
-fn a_line_has_at_most_65536_bytes(rt: HostRuntime) -> Result<(), AllocError> {
-    let mut line = vec![in rt.alloc(); b'#'; 65535]?;
-    line.push(b'\r')?;
-    assert_eq!(rt; parsed(rt.alloc(), line.as_slice()), Gave::Nothing);
-    line.push(b'\r')?;
-    assert_eq!(rt; parsed(rt.alloc(), line.as_slice()), SYNTAX);
-    let mut line = vec![in rt.alloc(); b' '; 65533]?;
-    line.extend_from_slice(b"cut")?;
-    assert_eq!(rt; parsed(rt.alloc(), line.as_slice()), Gave::Cut);
-    line.push(b' ')?;
-    assert_eq!(rt; parsed(rt.alloc(), line.as_slice()), SYNTAX);
-    Ok(())
 }
 
 #[test]

@@ -73,7 +73,9 @@ pub fn longest_reply(command: &Command) -> u64
         | Command::CutIn { .. }
         | Command::FailIn { .. }
         | Command::Restart { .. }
-        | Command::Recover => 72,
+        | Command::Recover
+        | Command::Attr { .. }
+        | Command::Evict { .. } => 72,
     }
 }
 
@@ -188,6 +190,8 @@ impl Host {
             Command::FailIn { calls } => Ok(self.fail_in(device, *calls)),
             Command::Restart { choice } => self.restart(device, *choice),
             Command::Recover => self.recover(device),
+            Command::Attr { name } => Ok(self.attr(device, name.as_slice())),
+            Command::Evict { lines } => Ok(self.evict(device, *lines)),
         }
     }
 }

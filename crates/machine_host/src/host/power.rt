@@ -1,7 +1,7 @@
-// Cuts, failures, restarts and recoveries, and what an interrupted command is answered.
+// Cuts, failures, write-backs, restarts and recoveries, and what an interrupted command is answered.
 ghost use Rattle.std.specs.Prelude.{◌≡◌, ◌≤◌, MatchResult};
 ghost use Rattle.machine_host.specs.declared.mode.Mode.TheVariants.{On, Off, Unsettled};
-ghost use Rattle.script_text.specs.Action.Action.{Cut, CutIn, FailIn, Restart, Recover};
+ghost use Rattle.script_text.specs.Action.Action.{Cut, CutIn, FailIn, Restart, Recover, Evict};
 ghost use Rattle.reply_text.specs.Answer.{answer_of};
 ghost use Rattle.block_device.specs.Object.{BlocksServe};
 ghost use Rattle.file_journal.specs.Object.{JournalServes};
@@ -48,6 +48,15 @@ impl Host {
         ensures { Answered (FailIn calls) (answer_of result) self.now self.now (D.state device.old) (D.state device.new) }
     {
         device.arm_fail(calls);
+        Reply::Done
+    }
+
+    pub(super) fn evict<D: LineDevice>(&self, device: &mut D, lines: u64) -> Reply
+        requires serves { HostServes self.now (D.state device.old) }
+        requires on { self.now.mode ≡ On }
+        ensures { Answered (Evict lines) (answer_of result) self.now self.now (D.state device.old) (D.state device.new) }
+    {
+        device.evict(lines);
         Reply::Done
     }
 

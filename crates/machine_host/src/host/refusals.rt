@@ -121,10 +121,12 @@ fn needs(command: &Command) -> Needs
         | Command::WeakenFile { .. }
         | Command::WeakenVolume { .. }
         | Command::ClearFile { .. }
-        | Command::ClearVolume { .. } => Needs::Usable,
-        Command::PoisonMeta { .. } | Command::CutIn { .. } | Command::FailIn { .. } => {
-            Needs::Anytime
-        }
+        | Command::ClearVolume { .. }
+        | Command::Evict { .. } => Needs::Usable,
+        Command::PoisonMeta { .. }
+        | Command::CutIn { .. }
+        | Command::FailIn { .. }
+        | Command::Attr { .. } => Needs::Anytime,
         Command::Cut => Needs::Powered,
         Command::Restart { .. } => Needs::Unpowered,
         Command::Recover => Needs::Failed,
@@ -187,7 +189,9 @@ fn place_refusal(geo: Geometry, command: &Command) -> Option<Why>
         | Command::ClearVolume { .. }
         | Command::Cut
         | Command::Restart { .. }
-        | Command::Recover => None,
+        | Command::Recover
+        | Command::Attr { .. }
+        | Command::Evict { .. } => None,
     }
 }
 

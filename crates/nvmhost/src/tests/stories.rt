@@ -95,7 +95,7 @@ pub const LAST_LINES: &str =
     "restart all\nrecover\npoison meta 9\nbread 0 1\nvload 0 8\nbscar 0 1\ncut\nrestart all\npoison meta 5\nbread 0 1\n";
 
 /// Each script with its replies.
-pub static STORIES: [(&str, &str); 51] = [
+pub static STORIES: [(&str, &str); 53] = [
     // What is not synced may be lost, or kept.
     (
         "vstore 0 07*8\ncut\nrestart none\nvload 0 8\n",
@@ -313,6 +313,15 @@ pub static STORIES: [(&str, &str); 51] = [
     (
         "create a 1\npoison meta 154\ncreate a 1\ncreate b 1\ndelete b\nrename a b\nlist\ncut\nrestart all\nlist\n",
         "ok\nok\nrefused exists\nrefused meta 154\nrefused missing\nrefused meta 154\nfiles a:1\nok\nstopped meta 154\nrefused meta 154\n",
+    ),
+    // Attributes are told in each mode, and what is written back is there after a cut.
+    (
+        "attr block.count\nattr x.y\ncut\nattr volume.size\nattr x.y\nevict 1\nrestart all\nattr file.pages\n",
+        "attr 8\nrefused unknown\nok\nattr 8192\nrefused unknown\nrefused off\nok bad 0\nattr 16\n",
+    ),
+    (
+        "vstore 0 ff*8\nevict 1000000\nvstore 64 01\nevict 0\ncut\nrestart none\nvload 0 8\nvload 64 1\n",
+        "ok\nok\nok\nok\nok\nok bad 0\ndata ff*8\ndata 00\n",
     ),
     (ALL_KINDS, TO_ALL_KINDS),
 ];

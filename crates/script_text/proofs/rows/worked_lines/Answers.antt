@@ -98,4 +98,13 @@ returns c = record {
   restart_all_by_a_seed = refl;
   recovery = refl;
   recovery_and_a_number = refl;
+  attribute_asked_for = refl;
+  attribute_of_any_name = refl;
+  attribute_without_a_name = refl;
+  two_attributes = refl;
+  lines_evicted = refl;
+  too_many_lines_evicted = refl;
+  lines_not_counted = refl;
+  longest_line = refl;
+  longer_line = refl;
 }

@@ -1,0 +1,6 @@
+ghost use Rattle.attributes.specs.Rows.{AttributeRows};
+
+/// What the attributes of a small medium tell.
+pub fn worked_attributes()
+    ensures { AttributeRows }
+{}
