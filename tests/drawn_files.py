@@ -13,7 +13,9 @@ import tempfile
 SIZES = {"f0": 8, "f1": 6, "f2": 4}  # pages; of 32 units 16 may be used
 ROOM = 16
 ZERO = frozenset([bytes(8)])
-GOOD = (False, False, ((ZERO, ZERO),) * 8)  # bad, weak (None: not known), and of each word what is read and what may last
+# Whether the line is bad and whether it is weak (None: not known), and of each word what may be read, and what a cut may leave, None
+# where that is what is read.
+GOOD = (False, False, ((ZERO, None),) * 8)
 HOLE = None
 
 
@@ -40,7 +42,7 @@ def put(line, n, at, data, whole=True):
     new = []
     for w, (last, kept) in enumerate(words):
         stored = frozenset(over(v, at, data, 64 * n + 8 * w) for v in last)
-        new.append((stored if whole else last | stored, kept | stored))
+        new.append((stored if whole else last | stored, (kept or last) | stored))
     return bad, weak, tuple(new)
 
 
@@ -48,7 +50,7 @@ def flushed(line):
     bad, weak, words = line
     if bad or weak:
         return True, weak, words
-    return False, False, tuple((last, last) for last, _ in words)
+    return False, False, tuple((last, None) for last, _ in words)
 
 
 def rested(line, choice):
@@ -56,7 +58,7 @@ def rested(line, choice):
     bad, weak, words = line
     if choice == "recover":
         return line
-    return bad, weak, tuple((last, last) if choice == "all" else (kept, kept) for last, kept in words)
+    return bad, weak, tuple((last if choice == "all" else kept or last, None) for last, kept in words)
 
 
 def lines_of(pages):
@@ -167,7 +169,7 @@ def write_together(world, reply, name, ranges):
     new = filled(pages, numbers)
     for at, data in ranges:
         new = changed(new, touched(at, len(data)), lambda n, line: put(line, n, at, data))
-    new = changed(new, lines, lambda n, line: (False, False, tuple((last, last) for last, _ in line[2])))
+    new = changed(new, lines, lambda n, line: (False, False, tuple((last, None) for last, _ in line[2])))
     return ends(world, reply, world.with_file(name, new), stopped=[world, world.with_file(name, new)])
 
 
@@ -200,11 +202,7 @@ def read(world, reply, name, at, size):
             return []
 
     def narrowed(n, line):
-        words = []
-        for w, (last, kept) in enumerate(line[2]):
-            now = frozenset([seen(n, w)])
-            words.append((now, now if kept == last else kept))
-        return line[0], line[1], tuple(words)
+        return line[0], line[1], tuple((frozenset([seen(n, w)]), kept) for w, (_, kept) in enumerate(line[2]))
 
     return [world.with_file(name, changed(pages, touched(at, size), narrowed))]
 
