@@ -4,17 +4,20 @@
 mod command;
 mod files;
 mod flushing;
+mod held;
 mod lines;
 mod lists;
 mod mapped;
 mod media;
 mod operands;
 mod parsing;
+mod piece;
 mod plain;
 mod power;
 mod ranges;
 mod rows;
 mod spans;
+mod streaming;
 #[cfg(test)]
 mod tests;
 mod words;
@@ -24,3 +27,4 @@ pub use command::Command;
 pub use lines::split_line;
 pub use parsing::{LineFault, parse};
 pub use rows::{worked_flush_lines, worked_lines, worked_mapped_lines};
+pub use streaming::{InputFault, LineReader, NextLine};

@@ -8,6 +8,7 @@ mod files;
 mod lengths;
 mod mappings;
 mod natives;
+mod streaming;
 
 // What a line gave. Of bytes and of spans it tells how many there are.
 #[derive(Clone, Copy, Debug, PartialEq, Eq)]
