@@ -1,3 +1,5 @@
+pub mod StreamLemmas
+pub mod StepLemmas
 pub mod LineLemmas
 pub mod WordLemmas
 pub mod DataLemmas

@@ -2,7 +2,7 @@
 ghost use Rattle.std.specs.Prelude.{◌≡◌, ◌≤◌, [], drop, length, IfOk, OnOk, OnErr, take};
 ghost use Rattle.std.specs.Io.KnownBytes.{Keeps};
 ghost use Rattle.nvm_base.specs.Counts.{Rose};
-ghost use Rattle.script_text.specs.Streaming.{FillsPiece};
+ghost use Rattle.script_text.specs.StreamSteps.{FillsPiece};
 
 use host_io::{ReadFailed, Source};
 use std::alloc::{AllocError, Global};

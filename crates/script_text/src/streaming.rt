@@ -1,7 +1,8 @@
 // Reading a script line by line.
 ghost use Rattle.std.specs.Prelude.{◌≡◌, ◌↔◌, ◌≤◌, [], ◌++◌, IfErr, IfOk, IfSome, IsTrue, IsFalse};
 ghost use Rattle.nvm_base.specs.Counts.{Rose};
-ghost use Rattle.script_text.specs.Streaming.{IsUnbroken, ReadsLine, ReadsOn, ReadsOut, TakesPart, stream_start};
+ghost use Rattle.script_text.specs.Streaming.{IsUnbroken, ReadsLine, stream_start};
+ghost use Rattle.script_text.specs.StreamSteps.{ReadsOn, ReadsOut, TakesPart};
 
 use crate::held::Held;
 use crate::piece::Piece;
