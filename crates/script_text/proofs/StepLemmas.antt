@@ -9,7 +9,7 @@ use Rattle.script_text.specs.declared.streaming.InputFault.{InputFault}
 use Rattle.script_text.specs.declared.streaming.InputFault.TheVariants.{Failed, TooLarge}
 use Rattle.script_text.specs.declared.streaming.NextLine.TheVariants.{Line, TooLong}
 use Rattle.script_text.specs.Script.{lines_of}
-use Rattle.script_text.specs.Streaming.{Stream, IsFirstLine, IsUnbroken, ReadsLine, kept}
+use Rattle.script_text.specs.Streaming.{Stream, IsFirstLine, IsUnbroken, ReadsLine, ahead, kept}
 use Rattle.script_text.specs.StreamSteps.{FirstLine, GivesOut, ReadsOn, ReadsOut, TakesPart}
 use Rattle.script_text.proofs.StreamLemmas.{from_kept-none, from_kept-some, kept-some, lines_of-ended, lines_of-unended, unbroken-append}
 
@@ -76,8 +76,12 @@ whole-first : (ended : Bool) (bytes begun now part rest : List ℕ) → bytes �
     → IsFirstLine ended bytes (begun ++ part) rest
 whole-first ended bytes begun now part rest split newline a b more _ =
     let is : bytes ++ more ≡ (begun ++ part) ++ 10 ∷ (rest ++ more) =
-        ap (λ l. l ++ more) (split ∙ ap (λ l. begun ++ l) newline ∙ sym (append_assoc begun part (10 ∷ rest))) ∙ append_assoc (begun ++ part) (10 ∷ rest) more in
+    ap (λ l. l ++ more) (split ∙ ap (λ l. begun ++ l) newline ∙ sym (append_assoc begun part (10 ∷ rest))) ∙ append_assoc (begun ++ part) (10 ∷ rest) more in
     ap lines_of is ∙ lines_of-ended (begun ++ part) (rest ++ more) (unbroken-append begun part a b)
+
+whole-shorter : (bytes begun now part rest : List ℕ) → bytes ≡ begun ++ now → now ≡ part ++ 10 ∷ rest → length rest < length bytes
+whole-shorter bytes begun now part rest split newline =
+    omega (arith, ap length split, ap length newline, length-append begun now, length-append part (10 ∷ rest))
 
 pub reads-whole : (old now new : Stream) (a b : Option (List ℕ)) → Reading old now a b → TakesPart now new true → ReadsOut old new a b (Ok true)
 reads-whole old now new a b before part = record {
@@ -88,6 +92,7 @@ reads-whole old now new a b before part = record {
     line = before.begun ++ part.part;
     first = whole-first new.ended _ before.begun now.waiting part.part new.waiting before.split part.split before.unbroken part.unbroken;
     kept = part.line before.begun before.line;
+    shorter = whole-shorter _ before.begun now.waiting part.part new.waiting before.split part.split;
   };
   stays = λ is. ((before.stays is).0, part.ended ∙ (before.stays is).1);
   ends = λ at_end is. before.ends at_end (sym part.ended ∙ is);
@@ -118,6 +123,7 @@ gives-last bytes begun new false split none unbroken line ended most e =
       line = begun;
       first = last-first new.ended bytes begun new.waiting split none unbroken some ended;
       kept = line;
+      shorter = omega (arith, some, ap length split, length-append begun new.waiting);
     }
 
 -- no more comes after the begun line
@@ -190,3 +196,7 @@ next-long old new a b out none = record {
   stays = out.stays;
   ends = out.ends;
 }
+
+-- one line fewer can come
+pub ahead-fewer : (old new : Stream) (a b : Option (List ℕ)) → ReadsOut old new a b (Ok true) → new.taken < 1073807360 → ahead new < ahead old
+ahead-fewer old new a b out most = omega (arith, most, out.count, out.gives.shorter, length-append old.waiting out.taken)

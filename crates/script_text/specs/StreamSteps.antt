@@ -46,6 +46,7 @@ pub record FirstLine (bytes : List ℕ) (new : Stream) : Type 0 where
   pub line : List ℕ
   pub first : IsFirstLine new.ended bytes line new.waiting
   pub kept : new.line ≡ kept line
+  pub shorter : length new.waiting < length bytes
 
 abbrev pub GivesOut : List ℕ → Stream → Result Bool InputFault → Type 0
 GivesOut bytes new (Ok true) = FirstLine bytes new

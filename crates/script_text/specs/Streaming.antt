@@ -1,5 +1,5 @@
 -- Reading a script line by line.
-use Rattle.std.specs.Prelude.{◌≡◌, ◌≢◌, ◌≤◌, ◌<◌, ◌+◌, ℕ, Bool, false, IsTrue, IsFalse, List, [], ◌∷◌, ◌++◌, length, nat_lt, Option, Some, None, Result, Ok, Err, All, IsSomeAnd, if◌then◌else◌}
+use Rattle.std.specs.Prelude.{◌≡◌, ◌≢◌, ◌≤◌, ◌<◌, ◌+◌, ◌-◌, ℕ, Bool, false, IsTrue, IsFalse, List, [], ◌∷◌, ◌++◌, length, nat_lt, Option, Some, None, Result, Ok, Err, All, IsSomeAnd, if◌then◌else◌}
 use Rattle.std.specs.Io.KnownBytes.{Consumes, IsAtEnd}
 use Rattle.script_text.specs.declared.streaming.InputFault.{InputFault}
 use Rattle.script_text.specs.declared.streaming.InputFault.TheVariants.{Failed, TooLarge}
@@ -23,6 +23,10 @@ pub record Stream : Type 0 where
 abbrev pub stream_start : Stream
 stream_start = record { line = Some []; waiting = []; taken = 0; ended = false }
 
+-- how many bytes may still be given, of those that wait and those that may be taken: each line that is given makes them fewer
+abbrev pub ahead : Stream → ℕ
+ahead s = 1073807360 - s.taken + length s.waiting
+
 -- none of the bytes is a newline
 abbrev pub IsUnbroken : List ℕ → Type 0
 IsUnbroken bytes = All (λ b. b ≢ 10) bytes
@@ -45,6 +49,10 @@ Gives bytes new (Ok End) = (bytes ≡ []) × (new.waiting ≡ []) × IsTrue new.
 Gives bytes new (Err Failed) = IsUnbroken bytes
 Gives bytes new (Err TooLarge) = IsUnbroken bytes × IsFalse new.ended × (1073741824 ≤ new.taken)
 
+-- What was given of a script up to here: whatever comes, its lines are these, and then those of what waits and what comes.
+abbrev pub HasGiven : List ℕ → List (List ℕ) → Stream → Type 0
+HasGiven script given now = (more : List ℕ) → (IsTrue now.ended → more ≡ []) → lines_of (script ++ more) ≡ given ++ lines_of (now.waiting ++ more)
+
 -- One call: it takes some bytes, none after the end.
 pub record ReadsLine (old new : Stream) (left_old left_new : Option (List ℕ)) (result : Result NextLine InputFault) : Type 0 where
   pub taken : List ℕ
@@ -53,3 +61,10 @@ pub record ReadsLine (old new : Stream) (left_old left_new : Option (List ℕ)) 
   pub gives : Gives (old.waiting ++ taken) new result
   pub stays : IsTrue old.ended → (taken ≡ []) × IsTrue new.ended
   pub ends : (IsTrue old.ended → IsAtEnd left_old) → IsTrue new.ended → IsAtEnd left_new
+
+-- so many lines had the script that a source gave
+pub record CountsLines (left_old left_new : Option (List ℕ)) (count : ℕ) : Type 0 where
+  pub script : List ℕ
+  pub read : Consumes left_old left_new script
+  pub at_end : IsAtEnd left_new
+  pub lines : count ≡ length (lines_of script)

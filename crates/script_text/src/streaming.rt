@@ -1,7 +1,7 @@
 // Reading a script line by line.
-ghost use Rattle.std.specs.Prelude.{◌≡◌, ◌↔◌, ◌≤◌, [], ◌++◌, IfErr, IfOk, IfSome, IsTrue, IsFalse};
+ghost use Rattle.std.specs.Prelude.{◌≡◌, ◌≢◌, ◌↔◌, ◌<◌, ◌≤◌, [], ◌++◌, IfErr, IfOk, IfSome, IsTrue, IsFalse};
 ghost use Rattle.nvm_base.specs.Counts.{Rose};
-ghost use Rattle.script_text.specs.Streaming.{IsUnbroken, ReadsLine, stream_start};
+ghost use Rattle.script_text.specs.Streaming.{IsUnbroken, ReadsLine, ahead, stream_start};
 ghost use Rattle.script_text.specs.StreamSteps.{ReadsOn, ReadsOut, TakesPart};
 
 use crate::held::Held;
@@ -68,6 +68,7 @@ impl LineReader {
     /// Reads the next line, without its newline. The source is asked for more only where no whole line waits.
     pub fn next<T: Source>(&mut self, source: &mut T) -> Result<NextLine, InputFault>
         ensures reads { ReadsLine self.old self.new (T.left source.old) (T.left source.new) result }
+        ensures fewer { IfOk result (λ next. next ≢ NextLine.End → ahead self.new < ahead self.old) }
         ensures later { T.count source.old ≤ T.count source.new }
         ensures cause { IfErr result (λ e. e ≡ InputFault.Failed → Rose (T.count source.old) (T.count source.new)) }
     {

@@ -10,7 +10,7 @@ returns-then-self c line was =
     let more = c.args.more.now in
     let is = c.self.view_is ∙ was in
     elim c.then-self.branch [
-      then-self-via-then-self w ↦ let none : None ≡ kept line = rw w.if-self.true at is in sym (kept-over line more none)
+      | then-self-via-then-self w ↦ let none : None ≡ kept line = rw w.if-self.true at is in sym (kept-over line more none)
       | then-self-via-else-self+then-more-len w ↦
           let some : Some items ≡ kept line = rw w.if-self.false at is in
           let long : 65536 < length items + length more = omega (arith, w.len.ensures, w.if-more-len.true) in
