@@ -4,8 +4,8 @@ use Rattle.std.specs.Prelude.{IsTrue, IsSomeAnd}
 use Rattle.std.specs.Io.KnownBytes.{Consumes, IsAtEnd}
 use Rattle.std.proofs.KnownBytes.{Consumes-nil, Consumes-trans}
 use Rattle.std.proofs.lemmas.Bool.{true≢false}
-use Rattle.script_text.specs.declared.streaming.NextLine.{NextLine}
-use Rattle.script_text.specs.declared.streaming.NextLine.TheVariants.{Line, TooLong, End}
+use Rattle.script_text.specs.declared.next_line.NextLine.{NextLine}
+use Rattle.script_text.specs.declared.next_line.NextLine.TheVariants.{Line, TooLong, End}
 use Rattle.script_text.specs.Script.{lines_of}
 use Rattle.script_text.specs.Streaming.{Stream, CountsLines, HasGiven, ahead, IsFirstLine, ReadsLine, stream_start}
 

@@ -1,5 +1,6 @@
 pub mod StreamLemmas
 pub mod StepLemmas
+pub mod ExitLemmas
 pub mod GivenLemmas
 pub mod LineLemmas
 pub mod WordLemmas

@@ -1,9 +1,9 @@
 -- The steps in which a line is read.
 use Rattle.std.specs.Prelude.{◌≡◌, ◌≤◌, ◌<◌, ◌+◌, ℕ, Bool, true, false, IsTrue, IsFalse, List, [], ◌∷◌, ◌++◌, length, Option, Result, Ok, Err}
 use Rattle.std.specs.Io.KnownBytes.{Consumes, IsAtEnd}
-use Rattle.script_text.specs.declared.streaming.InputFault.{InputFault}
-use Rattle.script_text.specs.declared.streaming.InputFault.TheVariants.{Failed, TooLarge}
-use Rattle.script_text.specs.declared.streaming.NextLine.TheVariants.{End}
+use Rattle.script_text.specs.declared.next_line.InputFault.{InputFault}
+use Rattle.script_text.specs.declared.next_line.InputFault.TheVariants.{Failed, TooLarge}
+use Rattle.script_text.specs.declared.next_line.NextLine.TheVariants.{End}
 use Rattle.script_text.specs.Streaming.{Stream, Gives, IsFirstLine, IsUnbroken, kept}
 
 -- What filling a piece brings: the bytes that it holds from then on, none only at the source's end.

@@ -1,10 +1,10 @@
 -- Reading a script line by line.
 use Rattle.std.specs.Prelude.{◌≡◌, ◌≢◌, ◌≤◌, ◌<◌, ◌+◌, ◌-◌, ℕ, Bool, false, IsTrue, IsFalse, List, [], ◌∷◌, ◌++◌, length, nat_lt, Option, Some, None, Result, Ok, Err, All, IsSomeAnd, if◌then◌else◌}
 use Rattle.std.specs.Io.KnownBytes.{Consumes, IsAtEnd}
-use Rattle.script_text.specs.declared.streaming.InputFault.{InputFault}
-use Rattle.script_text.specs.declared.streaming.InputFault.TheVariants.{Failed, TooLarge}
-use Rattle.script_text.specs.declared.streaming.NextLine.{NextLine}
-use Rattle.script_text.specs.declared.streaming.NextLine.TheVariants.{Line, TooLong, End}
+use Rattle.script_text.specs.declared.next_line.InputFault.{InputFault}
+use Rattle.script_text.specs.declared.next_line.InputFault.TheVariants.{Failed, TooLarge}
+use Rattle.script_text.specs.declared.next_line.NextLine.{NextLine}
+use Rattle.script_text.specs.declared.next_line.NextLine.TheVariants.{Line, TooLong, End}
 use Rattle.script_text.specs.Script.{lines_of}
 
 -- what is kept of a line: nothing where it is longer than a line may be

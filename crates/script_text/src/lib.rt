@@ -9,6 +9,7 @@ mod lines;
 mod lists;
 mod mapped;
 mod media;
+mod next_line;
 mod operands;
 mod parsing;
 mod piece;
@@ -25,6 +26,7 @@ mod writes;
 
 pub use command::Command;
 pub use lines::split_line;
+pub use next_line::{InputFault, NextLine};
 pub use parsing::{LineFault, parse};
 pub use rows::{worked_flush_lines, worked_lines, worked_mapped_lines};
-pub use streaming::{InputFault, LineReader, NextLine};
+pub use streaming::LineReader;

@@ -5,6 +5,7 @@ ghost use Rattle.script_text.specs.Streaming.{IsUnbroken, ReadsLine, ahead, stre
 ghost use Rattle.script_text.specs.StreamSteps.{ReadsOn, ReadsOut, TakesPart};
 
 use crate::held::Held;
+use crate::next_line::{InputFault, NextLine};
 use crate::piece::Piece;
 use host_io::Source;
 use memchr::memchr;
@@ -13,25 +14,6 @@ use std::marker::Model;
 
 /// A script has fewer bytes.
 const TOO_LARGE: u64 = 1 << 30;
-
-/// What comes next of a script.
-#[derive(Clone, Copy, Debug, PartialEq, Eq)]
-pub enum NextLine {
-    /// A line, which the reader lends.
-    Line,
-    /// A line of more than `MOST` bytes.
-    TooLong,
-    End,
-}
-
-/// Why no line can be read any more.
-#[derive(Clone, Copy, Debug, PartialEq, Eq)]
-pub enum InputFault {
-    /// The source failed.
-    Failed,
-    /// So many bytes were taken that this is no script.
-    TooLarge,
-}
 
 /// Reads a script line by line. It takes its memory once, however long the script is. After a fault it is of no use.
 #[derive(Drop)]
@@ -65,10 +47,11 @@ impl LineReader {
         })
     }
 
-    /// Reads the next line, without its newline. The source is asked for more only where no whole line waits.
+    /// Reads the next line, without its newline.
     pub fn next<T: Source>(&mut self, source: &mut T) -> Result<NextLine, InputFault>
         ensures reads { ReadsLine self.old self.new (T.left source.old) (T.left source.new) result }
         ensures fewer { IfOk result (λ next. next ≢ NextLine.End → ahead self.new < ahead self.old) }
+        ensures quiet { (IsUnbroken self.old.waiting → ⊥) → source.new ≡ source.old }
         ensures later { T.count source.old ≤ T.count source.new }
         ensures cause { IfErr result (λ e. e ≡ InputFault.Failed → Rose (T.count source.old) (T.count source.new)) }
     {
@@ -98,6 +81,7 @@ impl LineReader {
     // Reads up to a newline or to the end, and says whether there was a line.
     fn read_line<T: Source>(&mut self, source: &mut T) -> Result<bool, InputFault>
         ensures reads { ReadsOut self.old self.new (T.left source.old) (T.left source.new) result }
+        ensures quiet { (IsUnbroken self.old.waiting → ⊥) → source.new ≡ source.old }
         ensures later { T.count source.old ≤ T.count source.new }
         ensures cause { IfErr result (λ e. e ≡ InputFault.Failed → Rose (T.count source.old) (T.count source.new)) }
     {

@@ -4,6 +4,7 @@ use nvm_base::{Kind, Name, Span};
 use std::alloc::Global;
 
 mod attributes;
+mod counting;
 mod files;
 mod lengths;
 mod mappings;

@@ -1,9 +1,8 @@
 // Scripts read line by line, by pieces of every size.
-ghost use Rattle.std.specs.Prelude.{◌≡◌, ◌≤◌, IfOk};
-ghost use Rattle.script_text.specs.Streaming.{CountsLines, stream_start};
+ghost use Rattle.std.specs.Prelude.{◌≤◌};
 
 use crate::{InputFault, LineReader, NextLine};
-use host_io::{MemSource, Source};
+use host_io::MemSource;
 use nvm_base::{Bytes, Words};
 use std::alloc::{AllocError, Global};
 
@@ -62,30 +61,6 @@ fn long(alloc: Global, length: u64, after: &[u8]) -> Result<Bytes, AllocError> {
     bytes.repeat(b'a', length)?;
     bytes.extend(after)?;
     Ok(bytes)
-}
-
-// How many lines a script has, whatever their length.
-fn count_lines<T: Source>(reader: &mut LineReader, source: &mut T) -> Result<u64, InputFault>
-    requires { reader.old ≡ stream_start }
-    ensures { IfOk result (λ count. CountsLines (T.left source.old) (T.left source.new) count) }
-{
-    let mut count = 0;
-    loop {
-        match reader.next(source)? {
-            NextLine::Line | NextLine::TooLong => count += 1,
-            NextLine::End => return Ok(count),
-        }
-    }
-}
-
-#[test]
-fn lines_are_counted(rt: HostRuntime) -> Result<(), AllocError> {
-    let alloc = rt.alloc();
-    let script = long(alloc, 70000, b"\nb\n\nc")?;
-    let mut source = MemSource::new(script, 7, Words::new(alloc));
-    let mut reader = LineReader::new(alloc)?;
-    assert_eq!(rt; count_lines(&mut reader, &mut source), Ok(4));
-    Ok(())
 }
 
 #[test]

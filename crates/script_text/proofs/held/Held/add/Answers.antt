@@ -1,4 +1,4 @@
-use Rattle.std.proofs.Common.{◌≡◌, ◌<◌, ◌≤◌, ◌+◌, length, None, Some, sym, ◌∙◌, subst, arith}
+use Rattle.std.proofs.Common.{◌≡◌, ◌<◌, ◌≤◌, ◌+◌, length, None, Some, sym, ◌∙◌, arith}
 use Rattle.script_text.specs.Streaming.{kept}
 use Rattle.script_text.proofs.StreamLemmas.{kept-over, kept-grown, kept-more}
 use Rattle.script_text.proofs.held.Held.add.Goals as goal

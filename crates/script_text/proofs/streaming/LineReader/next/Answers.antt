@@ -1,7 +1,7 @@
-use Rattle.std.proofs.Common.{◌≡◌, ◌<◌, None, refl, sym, ap, ◌∙◌}
+use Rattle.std.proofs.Common.{◌≡◌, sym, ap, ◌∙◌}
 use Rattle.std.proofs.lemmas.Bool.{true≢false}
 use Rattle.script_text.specs.Streaming.{Stream}
-use Rattle.script_text.proofs.StepLemmas.{ahead-fewer, next-line, next-long}
+use Rattle.script_text.proofs.ExitLemmas.{ahead-fewer, next-line, next-long}
 use Rattle.script_text.proofs.streaming.LineReader.next.Goals as goal
 
 pub returns-then-is_overlong-clause-reads : goal.returns-then-is_overlong-clause-reads

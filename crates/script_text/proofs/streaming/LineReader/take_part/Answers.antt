@@ -1,7 +1,6 @@
-use Rattle.std.proofs.Common.{◌≡◌, ◌++◌, ◌∷◌, [], ◌+◌, ◌≤◌, List, ℕ, take, drop, length, refl, sym, ap, ◌∙◌, subst, arith}
+use Rattle.std.proofs.Common.{◌≡◌, take, length, refl, arith}
 use Rattle.std.proofs.Math.Seq.{drop-length}
 use Rattle.memchr.specs.Find.{NoneBefore, Nowhere, Passes, is_byte}
-use Rattle.script_text.specs.Streaming.{IsUnbroken}
 use Rattle.script_text.proofs.StreamLemmas.{unbroken-take, split-at, from_nowhere}
 use Rattle.script_text.proofs.streaming.LineReader.take_part.Goals as goal
 

@@ -1,5 +1,5 @@
 use Rattle.script_text.proofs.GivenLemmas.{counted-start, counted-next, counted-end}
-use Rattle.script_text.proofs.tests.streaming.count_lines.Goals as goal
+use Rattle.script_text.proofs.tests.counting.count_lines.Goals as goal
 
 pub loop-count-init : goal.loop-count-init
 loop-count-init g c = counted-start _ _ c.requires
