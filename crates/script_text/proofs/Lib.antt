@@ -1,3 +1,7 @@
+pub mod StreamLemmas
+pub mod StepLemmas
+pub mod ExitLemmas
+pub mod GivenLemmas
 pub mod LineLemmas
 pub mod WordLemmas
 pub mod DataLemmas

@@ -1,6 +1,8 @@
 pub mod Action
 pub mod Operands
 pub mod Script
+pub mod Streaming
+pub mod StreamSteps
 pub mod Parsing
 pub mod Rows
 pub mod MappedRows

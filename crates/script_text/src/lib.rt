@@ -4,17 +4,21 @@
 mod command;
 mod files;
 mod flushing;
+mod held;
 mod lines;
 mod lists;
 mod mapped;
 mod media;
+mod next_line;
 mod operands;
 mod parsing;
+mod piece;
 mod plain;
 mod power;
 mod ranges;
 mod rows;
 mod spans;
+mod streaming;
 #[cfg(test)]
 mod tests;
 mod words;
@@ -22,5 +26,7 @@ mod writes;
 
 pub use command::Command;
 pub use lines::split_line;
+pub use next_line::{InputFault, NextLine};
 pub use parsing::{LineFault, parse};
 pub use rows::{worked_flush_lines, worked_lines, worked_mapped_lines};
+pub use streaming::LineReader;

@@ -4,10 +4,12 @@ use nvm_base::{Kind, Name, Span};
 use std::alloc::Global;
 
 mod attributes;
+mod counting;
 mod files;
 mod lengths;
 mod mappings;
 mod natives;
+mod streaming;
 
 // What a line gave. Of bytes and of spans it tells how many there are.
 #[derive(Clone, Copy, Debug, PartialEq, Eq)]
