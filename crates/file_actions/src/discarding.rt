@@ -47,7 +47,6 @@ pub fn discard<L: Lines>(
     requires settled { IsTrue (is_settled files.old) }
     requires on { IsTrue (L.state dev.old).panel.power }
     requires inode { inode < 64 }
-    requires held { known_units files.old.journal.tables.pages files.old.journal.free ≡ files.old.journal.geo.fpages }
     ensures refused { (listed : List File) (file : File) → IsFileAt files.old.journal (L.state dev.old).medium inode listed file
         → Answers action_says (discard_refusal files.old.journal (L.state dev.old).medium file.pages pages) result }
     ensures untouched { OnRefused action_says result ((files.new ≡ files.old) × (dev.new ≡ dev.old)) }
@@ -65,7 +64,7 @@ pub fn discard<L: Lines>(
     ensures files { OnOk result (files.new.journal.tables.files ≡ files.old.journal.tables.files) }
     ensures object { (files.new.journal.geo ≡ files.old.journal.geo) × (is_settled files.new ≡ is_done (outcome_by action_says result)) }
     ensures held { IsTrue (is_settled files.new)
-        → known_units files.new.journal.tables.pages files.new.journal.free ≡ files.new.journal.geo.fpages }
+        → known_units files.new.journal.tables.pages files.new.journal.free ≡ known_units files.old.journal.tables.pages files.old.journal.free }
     ensures runs { Runs (commit_calls (5 + pages.len)) (commit_persists (5 + pages.len)) (outcome_by action_says result) (L.state dev.old).panel (L.state dev.new).panel }
 {
     check_discard(files.journal(), dev, inode, pages)?;

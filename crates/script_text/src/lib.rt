@@ -5,7 +5,6 @@ mod command;
 mod files;
 mod flushing;
 mod held;
-mod lines;
 mod lists;
 mod mapped;
 mod media;
@@ -25,7 +24,6 @@ mod words;
 mod writes;
 
 pub use command::Command;
-pub use lines::split_line;
 pub use next_line::{InputFault, NextLine};
 pub use parsing::{LineFault, parse};
 pub use rows::{worked_flush_lines, worked_lines, worked_mapped_lines};

@@ -1,4 +1,4 @@
-use crate::{Command, LineFault, parse, split_line};
+use crate::{Command, LineFault, parse};
 use line_device::Choice;
 use nvm_base::{Kind, Name, Span};
 use std::alloc::Global;
@@ -325,16 +325,4 @@ fn numbers_and_bytes_have_limits(rt: HostRuntime) {
     ] {
         assert_eq!(rt; parsed(rt.alloc(), line.as_bytes()), wanted, "{line}");
     }
-}
-
-#[test]
-fn lines_end_at_newlines_and_at_the_end(rt: HostRuntime) {
-    let (line, rest) = split_line(b"cut\n\nvload 0 1");
-    assert_eq!(rt; line, b"cut".as_slice());
-    assert_eq!(rt; rest, b"\nvload 0 1".as_slice());
-    let (line, rest) = split_line(b"\n");
-    assert!(rt; line.is_empty() && rest.is_empty());
-    let (line, rest) = split_line(b"vload 0 1");
-    assert_eq!(rt; line, b"vload 0 1".as_slice());
-    assert!(rt; rest.is_empty());
 }

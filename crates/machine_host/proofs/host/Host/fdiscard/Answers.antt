@@ -4,7 +4,7 @@ use Rattle.file_journal.specs.Object.{JournalState}
 use Rattle.script_text.specs.Action.Action.{FDiscard}
 use Rattle.machine_host.specs.Stands.{HostState}
 use Rattle.machine_host.proofs.FileActionLemmas.{discard_answered}
-use Rattle.machine_host.proofs.FilePageLemmas.{missing_answered}
+use Rattle.machine_host.proofs.FilePageLemmas.{held_now, missing_answered}
 use Rattle.machine_host.proofs.host.Host.fdiscard.Goals as goal
 
 pub returns-in-Some : goal.returns-in-Some
@@ -26,7 +26,7 @@ returns-in-Some g c =
       tables = said.tables;
       names = said.files;
       object = said.object;
-      held = said.held;
+      held = λ settled. said.held settled ∙ held_now c.args.self.now host (g.D.Lines.state c.args.device.now) c.self.view_is c.requires.on c.requires.serves ∙ ap (λ g. g.fpages) (sym said.object.0);
       runs = said.runs;
     })
     _ c.action_answer.ensures.answer
