@@ -21,7 +21,7 @@ use Rattle.word_tables.specs.declared.geometry.Geometry.{Geometry}
 use Rattle.nvmhost.specs.Ending.{numbered_line, status}
 use Rattle.nvmhost.specs.Opening.{CountsOpening, IsHeld, StaysClosed, opened, opening}
 use Rattle.nvmhost.specs.Storing.{Holds, HoldsOn, IsStored}
-use Rattle.nvmhost.specs.Whole.{IsFront, IsRun, Ran, TellsFirst, WritesFront, WritesLine, bytes_of}
+use Rattle.nvmhost.specs.Whole.{IsAnswered, IsFront, IsRun, Ran, TellsFirst, WritesFront, WritesLine, bytes_of}
 use Rattle.nvmhost.specs.World.{LeavesScript, World}
 use Rattle.nvmhost.specs.declared.ending.Ending.{Ending}
 use Rattle.nvmhost.specs.declared.ending.Ending.TheVariants.{Usage, Image, Layout, Meta, Read, Write, Memory, Script}
@@ -147,8 +147,8 @@ pub record IsThrough (said : Transcript) (part : List ℕ) (others : List (List 
   pub ended : IsAtEnd left
 
 -- A run came to no end after the image was opened: what was written is how the text of a run of the device begins, over some
--- first lines of what was read, none of them cut short: the last one may lack its newline only at the source's end. It was
--- settled or stored only after the whole script.
+-- first lines of what was read, none of them cut short: the last one may lack its newline only at the source's end. Where it ended
+-- by the source, these are all whole lines, and all of their text was written. It was settled or stored only after the whole script.
 pub record Halts (from to : List ℕ) (ending : Ending) (old new : World) : Type 0 where
   pub lines : List LineState
   pub there : IsHeld from old.held lines
@@ -165,6 +165,7 @@ pub record Halts (from to : List ℕ) (ending : Ending) (old new : World) : Type
   pub whole : IsFront (bytes_of performed) script ⊎ IsAtEnd new.left
   pub run : IsRun (opened lines) old.device.panel performed said end
   pub front : IsFront part (reply_text said.answers)
+  pub answered : (ending ≡ Read) ⊎ (ending ≡ Script) → IsAnswered script performed said part
   pub wrote : Appends old.written new.written part
   pub tells : TellsFirst (λ count. count) (followed_by opening said) end old.device.panel new.device.panel
       ⊎ (TellsFirst raised (followed_by opening said) end old.device.panel new.device.panel × IsThrough said part others new.left)

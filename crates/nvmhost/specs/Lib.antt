@@ -6,5 +6,4 @@ pub mod Whole
 pub mod Storing
 pub mod Forms
 pub mod Unfailing
-pub mod Reading
 pub mod Running

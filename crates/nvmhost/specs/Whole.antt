@@ -8,9 +8,11 @@ use Rattle.line_device.specs.Device.{Device}
 use Rattle.host_io.specs.Writing.{WritesAll}
 use Rattle.host_io.specs.declared.sink.WriteFault.{WriteFault}
 use Rattle.host_io.specs.declared.sink.WriteFault.TheVariants.{Failed}
+use Rattle.reply_text.specs.Answer.{reply_text}
 use Rattle.script_text.specs.Action.{Action}
 use Rattle.script_text.specs.Script.{Input, inputs_of}
 use Rattle.script_text.specs.Script.Input.{Asked}
+use Rattle.script_text.specs.Streaming.{IsUnbroken}
 use Rattle.machine_host.specs.Machine.{Machine}
 use Rattle.machine_host.specs.Run.{Transcript, Run, followed_by}
 use Rattle.machine_host.specs.Settling.{Asks, SettlesTo}
@@ -69,6 +71,13 @@ pub record WritesFront (text : List ℕ) (old new : Option (List ℕ)) : Type 0 
 abbrev pub bytes_of : List (List ℕ) → List ℕ
 bytes_of [] = []
 bytes_of (text ∷ texts) = line text ++ bytes_of texts
+
+-- The source gave no more: every whole line that was taken was performed, and every reply was written.
+pub record IsAnswered (script : List ℕ) (performed : List (List ℕ)) (said : Transcript) (part : List ℕ) : Type 0 where
+  pub rest : List ℕ
+  pub taken : bytes_of performed ++ rest ≡ script
+  pub unbroken : IsUnbroken rest
+  pub all : part ≡ reply_text said.answers
 
 -- What a device tells of a command that had no memory for its answer, or of a settling and reading out that may have been
 -- stopped: at most a restart and a mount, and no order.

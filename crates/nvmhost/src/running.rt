@@ -1,55 +1,75 @@
 // Performing a script line by line, and writing the replies.
-ghost use Rattle.std.specs.Prelude.{◌≡◌, ◌≤◌, ◌++◌, ◌⊎◌, [], IfErr, OnOk, OnErr, MatchResult};
-ghost use Rattle.std.specs.Io.KnownBytes.{Appends};
+ghost use Rattle.std.specs.Prelude.{◌≡◌, ◌≤◌, ◌<◌, ◌++◌, [], true, IfErr, Ok, OnOk, OnErr, MatchResult};
 ghost use Rattle.nvm_base.specs.Counts.{Rose};
 ghost use Rattle.host_io.specs.Writing.{AppendsSome};
 ghost use Rattle.script_text.specs.Script.{line_input};
+ghost use Rattle.script_text.specs.Streaming.{IsUnbroken, ahead};
 ghost use Rattle.machine_host.specs.Machine.{Machine};
 ghost use Rattle.machine_host.specs.Stands.{HostServes, Stands};
-ghost use Rattle.nvmhost.specs.Running.{Performs, LineGoes, Flushes};
+ghost use Rattle.nvmhost.specs.Running.{AnswersNext, IsBroken, Performs, LineGoes, Flushes};
 ghost use Rattle.nvmhost.specs.Whole.{GoesUnanswered};
 
 use crate::ending::Ending;
-use host_io::{Sink, WriteFault, write_all};
+use host_io::{Sink, Source, WriteFault, write_all};
 use line_device::LineDevice;
 use machine_host::Host;
 use nvm_base::Bytes;
 use reply_text::{Reply, Why, print};
-use script_text::{LineFault, parse, split_line};
+use script_text::{LineFault, LineReader, NextLine, parse};
 use std::alloc::{AllocError, Global};
 
 /// Replies are written once they have so many bytes together.
 const PIECE: u64 = 65536;
 
-/// Performs a script, and writes its replies.
-pub fn run_script<D: LineDevice, K: Sink>(
+/// Performs a script as its lines come, and writes its replies.
+pub fn run_script<D: LineDevice, T: Source, K: Sink>(
     alloc: Global,
     host: &mut Host,
     device: &mut D,
-    script: &[u8],
+    script: &mut T,
     replies: &mut K,
 ) -> Result<(), Ending>
     requires { HostServes host.old (D.state device.old) }
-    ensures performs { Performs host.old host.new script.now result (K.written replies.old) (K.written replies.new)
+    ensures performs { Performs host.old host.new result (T.left script.old) (T.left script.new) (K.written replies.old) (K.written replies.new)
         (D.state device.old) (D.state device.new) }
     ensures serves { HostServes host.new (D.state device.new) }
-    ensures later { K.count replies.old ≤ K.count replies.new }
-    ensures cause { IfErr result (λ e. e ≡ Ending.Write → Rose (K.count replies.old) (K.count replies.new)) }
-    ensures others { IfErr result (λ e. (e ≡ Ending.Write) ⊎ (e ≡ Ending.Memory)) }
+    ensures cause { IfErr result (λ e. IsBroken e (T.count script.old) (T.count script.new) (K.count replies.old) (K.count replies.new)) }
 {
+    let mut reader = LineReader::new(alloc)?;
     let mut out = Bytes::new(alloc);
-    let mut rest = script;
-    while !rest.is_empty() {
-        let (line, others) = split_line(rest);
-        rest = others;
-        perform_line(alloc, host, device, line, &mut out)?;
-        flush_long(&mut out, replies)?;
+    while answer_next(alloc, host, device, &mut reader, script, &mut out)? {
+        write_waiting(&reader, &mut out, replies)?;
     }
-    Ok(flush(&mut out, replies)?)
+    Ok(())
 }
 
-// Performs one line, and appends its reply if it has one.
-fn perform_line<D: LineDevice>(
+// Performs the next line, and says whether there was one. Its reply is appended, if it has one.
+fn answer_next<D: LineDevice, T: Source>(
+    alloc: Global,
+    host: &mut Host,
+    device: &mut D,
+    reader: &mut LineReader,
+    script: &mut T,
+    out: &mut Bytes,
+) -> Result<bool, Ending>
+    requires { HostServes host.old (D.state device.old) }
+    ensures answers { AnswersNext reader.old reader.new (T.left script.old) (T.left script.new) result host.old host.new
+        out.old.items out.new.items (D.state device.old) (D.state device.new) }
+    ensures serves { HostServes host.new (D.state device.new) }
+    ensures fewer { result ≡ Ok true → ahead reader.new < ahead reader.old }
+    ensures later { T.count script.old ≤ T.count script.new }
+    ensures cause { IfErr result (λ e. e ≡ Ending.Read → Rose (T.count script.old) (T.count script.new)) }
+{
+    match reader.next(script)? {
+        NextLine::Line => perform_line(alloc, host, device, reader.line(), out)?,
+        NextLine::TooLong => print(&Reply::Refused(Why::TooLong), out)?,
+        NextLine::End => return Ok(false),
+    }
+    Ok(true)
+}
+
+/// Performs one line, and appends its reply if it has one.
+pub fn perform_line<D: LineDevice>(
     alloc: Global,
     host: &mut Host,
     device: &mut D,
@@ -72,27 +92,21 @@ fn perform_line<D: LineDevice>(
     }
 }
 
-// Writes the replies that wait, if they are many.
-fn flush_long<K: Sink>(out: &mut Bytes, replies: &mut K) -> Result<(), WriteFault>
+// Writes the replies that wait, if they are many, or if the source is asked before the next line is there.
+fn write_waiting<K: Sink>(
+    reader: &LineReader,
+    out: &mut Bytes,
+    replies: &mut K,
+) -> Result<(), WriteFault>
     ensures bytes { MatchResult result (λ _. Flushes out.old.items out.new.items (K.written replies.old) (K.written replies.new))
         (λ _. AppendsSome out.old.items (K.written replies.old) (K.written replies.new)) }
+    ensures none { OnOk result (IsUnbroken reader.now.waiting → out.new.items ≡ []) }
     ensures later { K.count replies.old ≤ K.count replies.new }
     ensures cause { IfErr result (λ e. e ≡ WriteFault.Failed → Rose (K.count replies.old) (K.count replies.new)) }
 {
-    if out.len() < PIECE {
+    if reader.has_line() && out.len() < PIECE {
         return Ok(());
     }
-    flush(out, replies)
-}
-
-// Writes the replies that wait.
-fn flush<K: Sink>(out: &mut Bytes, replies: &mut K) -> Result<(), WriteFault>
-    ensures bytes { MatchResult result (λ _. Flushes out.old.items out.new.items (K.written replies.old) (K.written replies.new))
-        (λ _. AppendsSome out.old.items (K.written replies.old) (K.written replies.new)) }
-    ensures none { OnOk result (out.new.items ≡ []) }
-    ensures later { K.count replies.old ≤ K.count replies.new }
-    ensures cause { IfErr result (λ e. e ≡ WriteFault.Failed → Rose (K.count replies.old) (K.count replies.new)) }
-{
     write_all(replies, out.as_slice())?;
     out.clear();
     Ok(())
