@@ -23,18 +23,17 @@ use Rattle.machine_host.proofs.RunLemmas.{tells_then}
 use Rattle.nvmhost.specs.Ending.{numbered_line, of_write}
 use Rattle.nvmhost.specs.Forms.{FailsToCreate, IsCaused, IsUnwritten, Outcome, checked_text, created_text}
 use Rattle.nvmhost.specs.Opening.{CountsOpening, IsReady, StaysClosed, opened, opening}
-use Rattle.nvmhost.specs.Reading.{ReadsScript}
 use Rattle.nvmhost.specs.Running.{Performs}
 use Rattle.nvmhost.specs.Storing.{HoldsOn, NotReadOut, Stores}
 use Rattle.nvmhost.specs.Whole.{IsRun, WritesFront}
 use Rattle.nvmhost.specs.World.{World}
 use Rattle.nvmhost.specs.declared.ending.Ending.{Ending}
-use Rattle.nvmhost.specs.declared.ending.Ending.TheVariants.{Usage, Write}
+use Rattle.nvmhost.specs.declared.ending.Ending.TheVariants.{Memory, Read, Script, Usage, Write}
 use Rattle.nvmhost.proofs.AgainLemmas.{is_read_again}
 use Rattle.nvmhost.proofs.BytesLemmas.{appends-none}
 use Rattle.nvmhost.proofs.OpenLemmas.{on_opened}
 use Rattle.nvmhost.proofs.RestLemmas.{rests-settled, stands-read_out}
-use Rattle.nvmhost.proofs.RunLemmas.{all_lines, halts-unstored, is_run}
+use Rattle.nvmhost.proofs.RunLemmas.{halts-unstored, is_run-opened}
 use Rattle.nvmhost.proofs.StoreLemmas.{last-write_back}
 
 -- a line that was to be written, as far as it was
@@ -139,17 +138,17 @@ unstored e old new counted rest later same (inl (inr read)) =
 unstored e old new counted rest later same (inr stored) = subst (λ e. IsCaused e old new) (sym stored.0) (inr (subst (λ n. Rose n new.images.replace_faults) same stored.1))
 
 -- host and device that were brought to rest go on
-pub served_settled : (name : List ℕ) (held : Option Held) (host after settled : HostState) (script : List ℕ) (written answered : Option (List ℕ)) (old opened_as ran rest : Device) → IsReady name held host old opened_as
-    → Performs host after script (Ok tt) written answered opened_as ran → ((h : Machine) → Stands after ran h → Settled h settled (after_disarm ran.panel) rest) → HostServes settled rest
-served_settled name held host after settled script written answered old opened_as ran rest ready performs settles =
+pub served_settled : (name : List ℕ) (held : Option Held) (host after settled : HostState) (left_old left written answered : Option (List ℕ)) (old opened_as ran rest : Device) → IsReady name held host old opened_as
+    → Performs host after (Ok tt) left_old left written answered opened_as ran → ((h : Machine) → Stands after ran h → Settled h settled (after_disarm ran.panel) rest) → HostServes settled rest
+served_settled name held host after settled left_old left written answered old opened_as ran rest ready performs settles =
     let says = performs.says ready.begin ready.stands in (settles says.end says.outcome.stands).serves
 
 -- A script that was performed to its end: host and device were brought to rest, and the image was stored or not.
-pub run_over : (from to : List ℕ) (host after settled : HostState) (script : Stock ℕ) (opened_as ran rest : Device) (held : Option Held) (counted : ImageCounts) (r : Result (Unit {0}) Ending) (old new : World)
-    → IsReady from old.held host old.device opened_as → ReadsScript old.left new.left (Ok script) → Performs host after script.items (Ok tt) old.written new.written opened_as ran
+pub run_over : (from to : List ℕ) (host after settled : HostState) (opened_as ran rest : Device) (held : Option Held) (counted : ImageCounts) (r : Result (Unit {0}) Ending) (old new : World)
+    → IsReady from old.held host old.device opened_as → Performs host after (Ok tt) old.left new.left old.written new.written opened_as ran
     → ((h : Machine) → Stands after ran h → Settled h settled (after_disarm ran.panel) rest) → IsSound rest.medium
     → KeepsHeld (λ _. ⊤) old.held held → CountsOpening old.images counted → Stores to r held new.held counted new.images rest new.device → Outcome (of_run from to) r old new
-run_over from to host after settled script opened_as ran rest held counted (Ok x) old new ready reads performs settles sound kept counts stores =
+run_over from to host after settled opened_as ran rest held counted (Ok x) old new ready performs settles sound kept counts stores =
     let says = performs.says ready.begin ready.stands in
     let comes = settles says.end says.outcome.stands in
     let done = stores.outcome in
@@ -159,16 +158,16 @@ run_over from to host after settled script opened_as ran rest held counted (Ok x
       lines = ready.lines;
       there = ready.held_there;
       right = ready.right;
-      script = reads.script;
+      script = says.script;
       said = says.said;
       last = comes.next;
-      read = reads.read;
-      ended = reads.outcome.1;
-      short = reads.outcome.2;
+      read = says.read;
+      ended = says.outcome.ended;
+      short = says.outcome.short;
       ran = record {
         end = says.end;
-        run = subst (λ ls. IsRun (opened ready.lines) old.device.panel ls says.said says.end) (sym (all_lines reads.script script says.lines says.others reads.outcome.0 says.split says.outcome.none_left))
-            (is_run ready.lines old.device.panel says.lines says.said ready.begin says.end ready.begins says.run);
+        run = subst (λ ls. IsRun (opened ready.lines) old.device.panel ls says.said says.end) (sym (says.split ∙ ap (λ ls. says.lines ++ ls) says.outcome.none_left ∙ append-nil says.lines))
+            (is_run-opened ready.lines old.device.panel says.lines says.said ready.begin says.end ready.begins says.run);
         starts = comes.starts;
         comes = comes.comes;
         settled = record {
@@ -196,15 +195,24 @@ run_over from to host after settled script opened_as ran rest held counted (Ok x
       fetches = stores.fetches ∙ counts.fetches;
       replaces = done.1 ∙ ap raised counts.replaces;
     }
-run_over from to host after settled script opened_as ran rest held counted (Err e) old new ready reads performs settles sound kept counts stores =
+run_over from to host after settled opened_as ran rest held counted (Err e) old new ready performs settles sound kept counts stores =
     let says = performs.says ready.begin ready.stands in
     let comes = settles says.end says.outcome.stands in
     let left = stores.outcome in
-    inr (halts-unstored from to e host after script opened_as ran old new ready reads performs
+    inr (halts-unstored from to e host after opened_as ran old new ready performs
     (rests-settled says.end.mode says.end comes.next comes.starts stores.end ran.panel rest.panel new.device.panel comes.comes comes.asks comes.restarts stores.sets_up)
+    (λ by. not_source left.0 by)
     (unstored e old new counted rest.panel (omega (arith, ready.tells.setups, says.outcome.tells.setups, comes.asks.setups)) counts.replace_faults left.0)
     (replaced left.2) (stores.fetches ∙ counts.fetches) (holds-then to old.held held new.held old.images counted new.images kept counts.replace_faults left.1))
   where
+    not_source : NotReadOut e rest.panel new.device.panel ⊎ ((e ≡ Write) × Rose counted.replace_faults new.images.replace_faults) → (e ≡ Read) ⊎ (e ≡ Script) → ⊥
+    not_source (inl (inl is)) (inl by) = cc (is, by)
+    not_source (inl (inl is)) (inr by) = cc (is, by)
+    not_source (inl (inr is)) (inl by) = let at = is.0 in cc (at, by)
+    not_source (inl (inr is)) (inr by) = let at = is.0 in cc (at, by)
+    not_source (inr is) (inl by) = let at = is.0 in cc (at, by)
+    not_source (inr is) (inr by) = let at = is.0 in cc (at, by)
+
     replaced : (new.images.replaces ≡ counted.replaces) ⊎ (new.images.replaces ≡ raised counted.replaces) → (new.images.replaces ≡ old.images.replaces) ⊎ (new.images.replaces ≡ raised old.images.replaces)
     replaced (inl none) = inl (none ∙ counts.replaces)
     replaced (inr one) = inr (one ∙ ap raised counts.replaces)

@@ -1,11 +1,13 @@
 mod BytesLemmas
-mod GoingLemmas
 mod LineLemmas
-mod ReadLemmas
 mod TellLemmas
+mod GivenLemmas
+mod GoingLemmas
+mod CountLemmas
 mod OpenLemmas
 mod StoreLemmas
 mod AgainLemmas
 mod RestLemmas
 mod RunLemmas
+mod BenchLemmas
 mod FormLemmas

@@ -1,12 +1,13 @@
 -- One line of a script, by what it asks for.
-use Rattle.std.proofs.Common.{◌≡◌, ℕ, List, ◌++◌, refl, sym, ap, subst, ◌∙◌, append-nil}
+use Rattle.std.proofs.Common.{◌≡◌, ℕ, ◌<◌, List, ◌++◌, length, arith, refl, sym, ap, subst, ◌∙◌, append-nil}
+use Rattle.std.proofs.lemmas.Bool.Decides.{nat_tests}
 use Rattle.line_device.specs.Device.{Device}
 use Rattle.reply_text.specs.declared.reply.Why.{Why}
 use Rattle.reply_text.specs.declared.reply.Why.TheVariants.{Syntax, TooLong}
 use Rattle.script_text.specs.Action.{Action}
 use Rattle.reply_text.specs.Answer.{answer_line, reply_text}
 use Rattle.reply_text.specs.Answer.Answer.{Refused}
-use Rattle.script_text.specs.Script.{Input}
+use Rattle.script_text.specs.Script.{Input, line_input}
 use Rattle.script_text.specs.Script.Input.{Skipped, Malformed, Overlong, Asked}
 use Rattle.machine_host.specs.Machine.{Machine}
 use Rattle.machine_host.specs.Run.{Hears, answered, silence}
@@ -46,6 +47,11 @@ pub line_goes-overlong : (h : Machine) (input : Input) (old new : List ℕ) (hos
     → new ≡ old ++ answer_line (Refused TooLong) → LineGoes h input old new host d d
 line_goes-overlong h input old new host d is =
     subst (λ i. Stands host d h → new ≡ old ++ answer_line (Refused TooLong) → LineGoes h i old new host d d) (sym is) (line_goes-refused h Overlong TooLong old new host d (refl, refl))
+
+-- a line that is longer than a line may be
+pub overlong-line : (line : List ℕ) → 65536 < length line → line_input line ≡ Overlong
+unfolding line_input
+overlong-line line long = grind (arith, nat_tests)
 
 pub line_goes-asked : (h : Machine) (input : Input) (action : Action) (out out' : List ℕ) (host : HostState) (old new : Device) → input ≡ Asked action
     → Steps h action out out' host old new → LineGoes h input out out' host old new

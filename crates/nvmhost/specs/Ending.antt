@@ -14,6 +14,8 @@ use Rattle.line_device.specs.declared.fault.ResetFault.{ResetFault}
 use Rattle.line_device.specs.declared.fault.ResetFault.TheVariants as reset
 use Rattle.recovery.specs.declared.fault.MountFault.{MountFault}
 use Rattle.recovery.specs.declared.fault.MountFault.TheVariants as mount
+use Rattle.script_text.specs.declared.next_line.InputFault.{InputFault}
+use Rattle.script_text.specs.declared.next_line.InputFault.TheVariants as input
 use Rattle.nvmhost.specs.declared.ending.Ending.{Ending}
 use Rattle.nvmhost.specs.declared.ending.Ending.TheVariants.{Usage, Image, Layout, Meta, Read, Write, Memory, Script, Device}
 
@@ -71,6 +73,10 @@ of_fetch fetch.Memory = Memory
 abbrev pub of_image : ImageFault → Ending
 of_image (image.Bad offset) = Image offset
 of_image image.Memory = Memory
+
+abbrev pub of_input : InputFault → Ending
+of_input input.Failed = Read
+of_input input.TooLarge = Script
 
 abbrev pub of_write : WriteFault → Ending
 of_write write.Failed = Write

@@ -3,7 +3,7 @@ use Rattle.std.specs.Prelude.{◌≡◌, ◌⊎◌, ◌<◌, ◌≤◌, ◌++◌
 use Rattle.std.specs.Io.KnownBytes.{Appends, Consumes, IsAtEnd}
 use Rattle.nvm_base.specs.Counts.{Rose, raised}
 use Rattle.command_line.specs.Words.{Form}
-use Rattle.command_line.specs.Words.Form.{of_new, of_run, of_check}
+use Rattle.command_line.specs.Words.Form.{of_new, of_run, of_check, of_bench}
 use Rattle.host_io.specs.Images.{KeepsHeld}
 use Rattle.host_io.specs.declared.images.ImageCounts.{ImageCounts}
 use Rattle.image_file.specs.Devices.{medium_of}
@@ -18,6 +18,7 @@ use Rattle.reply_text.specs.Answer.{reply_text}
 use Rattle.script_text.specs.Script.{lines_of}
 use Rattle.word_tables.specs.Layout.{total_lines}
 use Rattle.word_tables.specs.declared.geometry.Geometry.{Geometry}
+use Rattle.nvmhost.specs.Bench.{Benches, BreaksOff, FailsToStart}
 use Rattle.nvmhost.specs.Ending.{numbered_line, status}
 use Rattle.nvmhost.specs.Opening.{CountsOpening, IsHeld, StaysClosed, opened, opening}
 use Rattle.nvmhost.specs.Storing.{Holds, HoldsOn, IsStored}
@@ -84,6 +85,7 @@ abbrev pub Does : Form → World → World → Type 0
 Does (of_new name geo) old new = Creates name geo old new
 Does (of_run from to) old new = Completes from to old new
 Does (of_check name) old new = Checks name old new
+Does (of_bench seed count) old new = Benches seed count old new
 
 -- why an ending came once nothing but writing and storing was left
 abbrev pub IsUnwritten : Ending → World → World → Type 0
@@ -179,6 +181,7 @@ abbrev pub Fails : Form → Ending → World → World → Type 0
 Fails (of_new name geo) ending old new = FailsToCreate name geo ending old new
 Fails (of_run from to) ending old new = FailsToOpen from ending old new ⊎ Halts from to ending old new
 Fails (of_check name) ending old new = FailsToOpen name ending old new ⊎ FailsToTell name ending old new
+Fails (of_bench seed count) ending old new = FailsToStart ending old new ⊎ BreaksOff seed count (IsUnwritten ending old new) old new
 
 -- one or the other
 abbrev pub Outcome : Form → Result (Unit {0}) Ending → World → World → Type 0

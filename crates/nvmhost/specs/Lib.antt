@@ -4,6 +4,7 @@ pub mod Begins
 pub mod Opening
 pub mod Whole
 pub mod Storing
+pub mod Bench
 pub mod Forms
 pub mod Unfailing
 pub mod Running

@@ -2,7 +2,7 @@
 use Rattle.std.specs.Prelude.{◌≡◌, ◌⊎◌, ◌≤◌, List, ℕ, length, Option, None, Some}
 use Rattle.nvm_base.specs.Counts.{Rose}
 use Rattle.command_line.specs.Words.{Form}
-use Rattle.command_line.specs.Words.Form.{of_new, of_run, of_check}
+use Rattle.command_line.specs.Words.Form.{of_new, of_run, of_check, of_bench}
 use Rattle.host_io.specs.Images.{Held}
 use Rattle.image_file.specs.Devices.{medium_of}
 use Rattle.image_file.specs.WrongField.{first_wrong_offset}
@@ -38,9 +38,11 @@ abbrev pub CanBegin : Form → Option Held → Type 0
 CanBegin (of_new name geo) held = Unit {0}
 CanBegin (of_run from to) held = HoldsRight from held
 CanBegin (of_check name) held = HoldsRight name held
+CanBegin (of_bench seed count) held = Unit {0}
 
 -- how a call ends then: well, for want of memory, or, where the form has a script, because that is too long
 abbrev pub EndsWell : Form → ℕ → Type 0
 EndsWell (of_new name geo) ended = (ended ≡ 0) ⊎ (ended ≡ 6)
 EndsWell (of_run from to) ended = (ended ≡ 0) ⊎ (ended ≡ 6) ⊎ (ended ≡ 7)
 EndsWell (of_check name) ended = (ended ≡ 0) ⊎ (ended ≡ 6)
+EndsWell (of_bench seed count) ended = (ended ≡ 0) ⊎ (ended ≡ 6)

@@ -1,15 +1,16 @@
 // How the faults of the crates below end a call.
 ghost use Rattle.std.specs.Prelude.{◌≡◌};
-ghost use Rattle.nvmhost.specs.Ending.{of_extract, of_fetch, of_image, of_mount, of_reset, of_words, of_write};
-ghost use Rattle.nvmhost.specs.declared.ending.Ending.TheVariants.{Memory, Read};
+ghost use Rattle.nvmhost.specs.Ending.{of_extract, of_fetch, of_image, of_input, of_mount, of_reset, of_words, of_write};
+ghost use Rattle.nvmhost.specs.declared.ending.Ending.TheVariants.{Memory};
 
 use crate::ending::Ending;
 use crate::opening::MOST_BYTES;
 use command_line::WordsFault;
-use host_io::{FetchFault, ReadFailed, WriteFault};
+use host_io::{FetchFault, WriteFault};
 use image_file::{ExtractFault, ImageFault};
 use line_device::ResetFault;
 use recovery::MountFault;
+use script_text::InputFault;
 use std::alloc::AllocError;
 
 impl From<WordsFault> for Ending {
@@ -54,11 +55,14 @@ impl From<ImageFault> for Ending {
     }
 }
 
-impl From<ReadFailed> for Ending {
-    ghost from_gives = { λ _ e. e ≡ Read };
+impl From<InputFault> for Ending {
+    ghost from_gives = { λ fault e. e ≡ of_input fault };
 
-    fn from(_: ReadFailed) -> Self {
-        Ending::Read
+    fn from(fault: InputFault) -> Self {
+        match fault {
+            InputFault::Failed => Ending::Read,
+            InputFault::TooLarge => Ending::Script,
+        }
     }
 }
 

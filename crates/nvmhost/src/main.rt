@@ -1,10 +1,10 @@
 //! `nvmhost`: what a program over persistent memory may find after a power cut or a media error.
 #![tactic(auto)]
 
+mod bench;
 mod ending;
 mod faults;
 mod opening;
-mod reading;
 mod running;
 mod storing;
 mod telling;

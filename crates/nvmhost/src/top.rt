@@ -12,9 +12,9 @@ ghost use Rattle.nvmhost.specs.Forms.{Does, EndsEarly, IsNoForm, Outcome};
 ghost use Rattle.nvmhost.specs.Unfailing.{CanBegin, EndsWell, NothingFailed};
 ghost use Rattle.nvmhost.specs.World.{world};
 
+use crate::bench::bench;
 use crate::ending::Ending;
 use crate::opening::open;
-use crate::reading::read_all;
 use crate::running::run_script;
 use crate::storing::{fresh_text, store};
 use crate::telling::{checked, numbered, tell};
@@ -93,6 +93,7 @@ fn perform<D: LineDevice, F: Images, T: Source, K: Sink>(
         Form::New { image, geometry } => create(alloc, image, geometry, images, replies),
         Form::Run { from, to } => run(alloc, from, to, device, images, script, replies),
         Form::Check { image } => check(alloc, image, device, images, replies),
+        Form::Bench { seed, count } => bench(alloc, seed, count, device, replies),
     }
 }
 
@@ -128,8 +129,7 @@ fn run<D: LineDevice, F: Images, T: Source, K: Sink>(
         (world (D.state device.new) (F.held images.new) (F.count images.new) (T.left script.new) (T.count script.new) (K.written replies.new) (K.count replies.new)) }
 {
     let mut host = open(alloc, from, device, images)?;
-    let text = read_all(alloc, script)?;
-    run_script(alloc, &mut host, device, text.as_slice(), replies)?;
+    run_script(alloc, &mut host, device, script, replies)?;
     host.settle(device)?;
     store(alloc, to, device, images)
 }

@@ -1,15 +1,18 @@
-use Rattle.std.proofs.Common.{◌≤◌, length}
+use Rattle.std.proofs.Common.{◌≡◌, ◌≤◌, []}
+use Rattle.script_text.specs.Streaming.{IsUnbroken, ahead}
 use Rattle.machine_host.specs.Stands.{HostServes}
 use Rattle.nvmhost.proofs.GoingLemmas.{Going}
 use Rattle.nvmhost.proofs.running.run_script.Given as goal
 
--- the lines before the rest are performed
-abbrev pub invariant-loop-rest : goal.invariant-loop-rest
-invariant-loop-rest g l = record {
-  going : Going l.script l.rest l.fn.host l.host l.out.items (g.K.Sink.written l.fn.replies) (g.K.Sink.written l.replies) (g.D.Lines.state l.fn.device) (g.D.Lines.state l.device);
+-- the lines that were given are performed, and nothing waits once the source is asked
+abbrev pub invariant-loop-host : goal.invariant-loop-host
+invariant-loop-host g l = record {
+  going : Going l.reader (g.T.Source.left l.fn.script) (g.T.Source.left l.script) l.fn.host l.host l.out.items (g.K.Sink.written l.fn.replies) (g.K.Sink.written l.replies) (g.D.Lines.state l.fn.device) (g.D.Lines.state l.device);
+  waits : IsUnbroken l.reader.waiting → l.out.items ≡ [];
   serves : HostServes l.host (g.D.Lines.state l.device);
-  later : g.K.Sink.count l.fn.replies ≤ g.K.Sink.count l.replies;
+  reads : g.T.Source.count l.fn.script ≤ g.T.Source.count l.script;
+  writes : g.K.Sink.count l.fn.replies ≤ g.K.Sink.count l.replies;
 }
 
-abbrev pub decreases-loop-rest : goal.decreases-loop-rest
-decreases-loop-rest g l = length l.rest
+abbrev pub decreases-loop-host : goal.decreases-loop-host
+decreases-loop-host g l = ahead l.reader
