@@ -8,12 +8,13 @@ use std::alloc::{AllocError, Global};
 use std::test::Fail;
 use test_devices::{Faulty, Fuse};
 
-// So many lines that are no commands; and the read, the write, the call of the images and that of the device that fail, and the
+// So many lines that are no commands, and how many bytes a read gives; and the read, the write, the call of the images and that of the device that fail, and the
 // call of the device that is cut, 0 for none.
 #[derive(Clone, Copy)]
 struct Trial {
     words: &'static str,
     lines: u64,
+    piece: usize,
     read: u64,
     write: u64,
     image: u64,
@@ -25,6 +26,7 @@ struct Trial {
 const RUN: Trial = Trial {
     words: "run img out",
     lines: 8,
+    piece: 7,
     read: 0,
     write: 0,
     image: 0,
@@ -34,6 +36,7 @@ const RUN: Trial = Trial {
 
 const LONG: Trial = Trial {
     lines: 5 * 4370,
+    piece: 65536,
     ..RUN
 };
 
@@ -58,6 +61,11 @@ const NEW: Trial = Trial {
     ..CHECK
 };
 
+const BENCH: Trial = Trial {
+    words: "bench 1 1",
+    ..RUN
+};
+
 // The trial's status, what was written, and whether the image is held under its own name as it was.
 fn outcome(alloc: Global, trial: &Trial) -> Result<(u8, MemSink, bool), AllocError> {
     let held = fresh(alloc)?;
@@ -67,7 +75,7 @@ fn outcome(alloc: Global, trial: &Trial) -> Result<(u8, MemSink, bool), AllocErr
     let fuse = Fuse::new(Plain::new(alloc), trial.cut.wrapping_sub(1));
     let mut device = Faulty::new(fuse, only(alloc, trial.fail)?);
     let script = repeated(alloc, "x\n", trial.lines, "")?;
-    let mut source = MemSource::new(script, 7, only(alloc, trial.read)?);
+    let mut source = MemSource::new(script, trial.piece.max(1), only(alloc, trial.read)?);
     let mut sink = MemSink::new(alloc, only(alloc, trial.write)?);
     let status = call(
         alloc,
@@ -81,14 +89,16 @@ fn outcome(alloc: Global, trial: &Trial) -> Result<(u8, MemSink, bool), AllocErr
     Ok((status, sink, kept))
 }
 
-// Each with its status, how many replies there are, and the line behind them. A write is made once 65,536 bytes wait, which
-// are 4,370 replies of 15 bytes.
-static TRIALS: [(Trial, u8, u64, &str); 25] = [
+// Each with its status, how many replies there are, and the line behind them. A write is made before the source is asked again,
+// and once 65,536 bytes wait, which are 4,370 replies of 15 bytes.
+static TRIALS: [(Trial, u8, u64, &str); 31] = [
     (RUN, 0, 8, ""),
     (Trial { read: 1, ..RUN }, 4, 0, "error read\n"),
-    // The first piece ends inside the fourth line.
-    (Trial { read: 2, ..RUN }, 4, 0, "error read\n"),
+    // The first piece ends inside the fourth line, and the second one behind the seventh.
+    (Trial { read: 2, ..RUN }, 4, 3, "error read\n"),
+    (Trial { read: 3, ..RUN }, 4, 7, "error read\n"),
     (Trial { write: 1, ..RUN }, 5, 0, ""),
+    (Trial { write: 2, ..RUN }, 5, 3, ""),
     (Trial { write: 5, ..LONG }, 5, 4 * 4370, ""),
     (Trial { cut: 1, ..RUN }, 8, 0, "error device\n"),
     (Trial { cut: 20, ..RUN }, 8, 0, "error device\n"),
@@ -151,6 +161,20 @@ static TRIALS: [(Trial, u8, u64, &str); 25] = [
     (Trial { write: 1, ..NEW }, 5, 0, ""),
     // The line comes before the image.
     (Trial { image: 1, ..NEW }, 5, 0, "ok 5056\n"),
+    // Neither source nor images are asked.
+    (
+        Trial {
+            read: 1,
+            image: 1,
+            ..BENCH
+        },
+        0,
+        0,
+        "bench commands 4 ok 3 data 0 cuts 0 sum 0\n",
+    ),
+    (Trial { write: 1, ..BENCH }, 5, 0, ""),
+    (Trial { fail: 1, ..BENCH }, 8, 0, "error device\n"),
+    (Trial { fail: 3, ..BENCH }, 8, 0, "error device\n"),
 ];
 
 #[test]
