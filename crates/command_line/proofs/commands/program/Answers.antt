@@ -2,7 +2,7 @@ use Rattle.std.proofs.Common.{◌∙◌, true, ap}
 use Rattle.std.proofs.lemmas.Result.{IfOk-weaker}
 use Rattle.clap.specs.Simple.{app_of_fields, on_top}
 use Rattle.clap.specs.Words.{App, Shape, with_subcommand}
-use Rattle.command_line.specs.Commands.{check_command, new_command, run_command}
+use Rattle.command_line.specs.Commands.{bench_command, check_command, new_command, run_command}
 use Rattle.command_line.proofs.commands.program.Goals as goal
 
 pub returns : goal.returns
@@ -14,4 +14,5 @@ returns c =
     let base = ap app_of_fields c.subcommand_required-base.ensures ∙ ap (on_top (λ (s : Shape). record s { subcommand_required = true })) four in
     let new = c.in_ok-with_new.ensures ∙ ap (λ (a : App). with_subcommand a new_command.top) base in
     let run = c.in_ok-with_run.ensures ∙ ap (λ (a : App). with_subcommand a run_command.top) new in
-    IfOk-weaker c.with_check.result _ _ (λ r h. h ∙ ap (λ (a : App). with_subcommand a check_command.top) run) c.with_check.ensures
+    let images = c.in_ok-images.ensures ∙ ap (λ (a : App). with_subcommand a check_command.top) run in
+    IfOk-weaker c.with_bench.result _ _ (λ r h. h ∙ ap (λ (a : App). with_subcommand a bench_command.top) images) c.with_bench.ensures
