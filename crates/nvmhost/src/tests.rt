@@ -10,6 +10,7 @@ use std::test::Fail;
 use test_devices::Recorder;
 
 mod early_ends;
+mod endless;
 mod files;
 mod hostile;
 mod stories;
@@ -330,7 +331,7 @@ static NO_FORM: [&str; 10] = [
     "run img out more",
     "check",
     "check -img",
-    "bench 1 1",
+    "bench 1 0",
 ];
 
 #[test]
