@@ -19,6 +19,7 @@ run_command = with_rule (with_rule (new_app (codes "run")) (required (codes "IN"
 abbrev pub check_command : App
 check_command = with_rule (new_app (codes "check")) (required (codes "IN"))
 
+-- a workload's seed and how many rounds it has
 abbrev pub bench_command : App
 bench_command = with_rule (with_rule (new_app (codes "bench")) (required (codes "SEED"))) (required (codes "N"))
 
@@ -35,8 +36,8 @@ closed s = record s {
 -- the program
 abbrev pub program : App
 program =
-    let images = with_subcommand (with_subcommand (with_subcommand (new_app (codes "nvmhost")) new_command.top) run_command.top) check_command.top in
-    let app = with_subcommand images bench_command.top in
+    let image_commands = with_subcommand (with_subcommand (with_subcommand (new_app (codes "nvmhost")) new_command.top) run_command.top) check_command.top in
+    let app = with_subcommand image_commands bench_command.top in
     record app { top = closed app.top }
 
 -- the number that a value is
@@ -54,6 +55,7 @@ run_of values = option_and_then (λ from. option_map (of_run from) (first_of (co
 abbrev pub check_of : List Row → Option Form
 check_of values = option_map of_check (first_of (codes "IN") values)
 
+-- the workload that the values name
 abbrev pub bench_of : List Row → Option Form
 bench_of values = bench_named (number_at (codes "SEED") values) (number_at (codes "N") values)
 

@@ -16,8 +16,10 @@ pub(crate) fn program<'a>(alloc: Global) -> Result<Command<'a>, AllocError>
         .disable_help_subcommand(true)
         .disable_version_flag(true)
         .subcommand_required(true);
-    let images = with_check(alloc, with_run(alloc, with_new(alloc, base)?)?)?;
-    with_bench(alloc, images)
+    let program = with_new(alloc, base)?;
+    let program = with_run(alloc, program)?;
+    let program = with_check(alloc, program)?;
+    with_bench(alloc, program)
 }
 
 fn with_new<'a>(alloc: Global, program: Command<'a>) -> Result<Command<'a>, AllocError>
