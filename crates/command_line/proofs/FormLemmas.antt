@@ -4,7 +4,7 @@ use Rattle.std.specs.Prelude.{unwrap_or}
 use Rattle.clap.specs.Words.{Row, Text, subcommand_name_of, subcommand_rows_of}
 use Rattle.clap.specs.declared.parser.matches.ArgMatches.{ArgMatches}
 use Rattle.command_line.specs.Words.{Form}
-use Rattle.command_line.specs.Commands.{check_of, command_form, met_form, new_of, run_of}
+use Rattle.command_line.specs.Commands.{bench_of, check_of, command_form, met_form, new_of, run_of}
 use Rattle.command_line.proofs.ProgramLemmas.{differs, some≢none}
 
 name_of_pair : {X : Type 0} (f : X → Text) (g : X → List Row) (o : Option X)
@@ -38,12 +38,17 @@ pub command_check : (name : Text) (rows : List Row) → name ≡ codes "check" �
 unfolding command_form
 command_check name rows is = ap (λ (n : Text). command_form n rows) is
 
-abbrev picked : Bool → Bool → Bool → List Row → Option Form
-picked new run check rows = cond new (new_of rows) (cond run (run_of rows) (cond check (check_of rows) None))
-
-pub command_other : (name : Text) (rows : List Row) → name ≢ codes "new" → name ≢ codes "run" → name ≢ codes "check" → command_form name rows ≡ None
+pub command_bench : (name : Text) (rows : List Row) → name ≡ codes "bench" → command_form name rows ≡ bench_of rows
 unfolding command_form
-command_other name rows not_new not_run not_check =
-    ap (λ (t : Bool). picked t (bytes_eq name (codes "run")) (bytes_eq name (codes "check")) rows) (differs name (codes "new") not_new)
-    ∙ ap (λ (t : Bool). picked false t (bytes_eq name (codes "check")) rows) (differs name (codes "run") not_run)
-    ∙ ap (λ (t : Bool). picked false false t rows) (differs name (codes "check") not_check)
+command_bench name rows is = ap (λ (n : Text). command_form n rows) is
+
+abbrev picked : Bool → Bool → Bool → Bool → List Row → Option Form
+picked new run check bench rows = cond new (new_of rows) (cond run (run_of rows) (cond check (check_of rows) (cond bench (bench_of rows) None)))
+
+pub command_other : (name : Text) (rows : List Row) → name ≢ codes "new" → name ≢ codes "run" → name ≢ codes "check" → name ≢ codes "bench" → command_form name rows ≡ None
+unfolding command_form
+command_other name rows not_new not_run not_check not_bench =
+    ap (λ (t : Bool). picked t (bytes_eq name (codes "run")) (bytes_eq name (codes "check")) (bytes_eq name (codes "bench")) rows) (differs name (codes "new") not_new)
+    ∙ ap (λ (t : Bool). picked false t (bytes_eq name (codes "check")) (bytes_eq name (codes "bench")) rows) (differs name (codes "run") not_run)
+    ∙ ap (λ (t : Bool). picked false false t (bytes_eq name (codes "bench")) rows) (differs name (codes "check") not_check)
+    ∙ ap (λ (t : Bool). picked false false false t rows) (differs name (codes "bench") not_bench)

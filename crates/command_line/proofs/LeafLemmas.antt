@@ -7,8 +7,8 @@ use Rattle.clap.specs.Words.{Text}
 use Rattle.clap.specs.declared.error.kind.ErrorKind.TheVariants.{UnknownArgument, MissingRequiredArgument}
 use Rattle.clap.proofs.OnLiterals.{clap_on_literals}
 use Rattle.nvm_base.specs.Numbers.{number_of}
-use Rattle.command_line.specs.Words.{of_check, of_new, of_run, sizes_named}
-use Rattle.command_line.specs.Commands.{check_command, check_of, new_command, new_of, program, run_command, run_of}
+use Rattle.command_line.specs.Words.{bench_named, of_check, of_new, of_run, sizes_named}
+use Rattle.command_line.specs.Commands.{bench_command, bench_of, check_command, check_of, new_command, new_of, program, run_command, run_of}
 use Rattle.command_line.proofs.WordLemmas.{IsValue, before, filled, leaf_refusals, leaf_rows, refused_already, refused_first, refused_from, refused_next, rows_first, rows_from, rows_next}
 
 -- a command as the program holds it
@@ -23,6 +23,9 @@ run = ready run_command.top
 
 abbrev pub new : Shape
 new = ready new_command.top
+
+abbrev pub bench : Shape
+bench = ready bench_command.top
 
 -- what is held after one value more
 abbrev then : Shape → ℕ → Held → Text → Held
@@ -183,3 +186,51 @@ new_read a b c d pa pb pc pd = ap new_of (rows_first new (a ∷ b ∷ c ∷ d �
     ∙ rows_next new 3 (then new 2 (then new 1 nothing_held a) b) c pc (d ∷ [])
     ∙ rows_next new 4 (then new 3 (then new 2 (then new 1 nothing_held a) b) c) d pd [])
     ∙ new_reads a b c d
+
+-- ---- bench
+
+bench_past_1 : (a : Text) → IsValue a → (rest : List Text)
+    → leaf_refusals bench (a ∷ rest) ≡ refused_from bench [] (before 2 (then bench 1 nothing_held a)) rest
+bench_past_1 a pa rest = refused_first bench (a ∷ rest) ∙ refused_next bench 1 nothing_held a pa rest
+
+bench_past_2 : (a b : Text) → IsValue a → IsValue b → (rest : List Text)
+    → leaf_refusals bench (a ∷ b ∷ rest) ≡ refused_from bench [] (before 3 (then bench 2 (then bench 1 nothing_held a) b)) rest
+bench_past_2 a b pa pb rest = bench_past_1 a pa (b ∷ rest) ∙ refused_next bench 2 (then bench 1 nothing_held a) b pb rest
+
+bench_ends_0 : refused_from bench [] (before 1 nothing_held) [] ≡ MissingRequiredArgument ∷ []
+unfolding refused_from clap_on_literals
+bench_ends_0 = refl
+
+pub bench_none : leaf_refusals bench [] ≡ MissingRequiredArgument ∷ []
+bench_none = refused_first bench [] ∙ bench_ends_0
+
+bench_ends_1 : (a : Text) → refused_from bench [] (before 2 (then bench 1 nothing_held a)) [] ≡ MissingRequiredArgument ∷ []
+unfolding refused_from clap_on_literals
+bench_ends_1 a = refl
+
+pub bench_one : (a : Text) → IsValue a → leaf_refusals bench (a ∷ []) ≡ MissingRequiredArgument ∷ []
+bench_one a pa = bench_past_1 a pa [] ∙ bench_ends_1 a
+
+bench_ends_2 : (a b : Text) → refused_from bench [] (before 3 (then bench 2 (then bench 1 nothing_held a) b)) [] ≡ []
+unfolding refused_from clap_on_literals
+bench_ends_2 a b = refl
+
+pub bench_two : (a b : Text) → IsValue a → IsValue b → leaf_refusals bench (a ∷ b ∷ []) ≡ []
+bench_two a b pa pb = bench_past_2 a b pa pb [] ∙ bench_ends_2 a b
+
+pub bench_many : (a b c : Text) → IsValue a → IsValue b → IsValue c → (rest : List Text)
+    → leaf_refusals bench (a ∷ b ∷ c ∷ rest) ≡ UnknownArgument ∷ []
+bench_many a b c pa pb pc rest = bench_past_2 a b pa pb (c ∷ rest)
+    ∙ refused_next bench 3 (then bench 2 (then bench 1 nothing_held a) b) c pc rest
+    ∙ refused_already bench UnknownArgument [] (filled bench 3 (then bench 2 (then bench 1 nothing_held a) b) c) rest
+
+bench_reads : (a b : Text) → bench_of (rows_from bench (before 3 (then bench 2 (then bench 1 nothing_held a) b)) []) ≡ bench_named (number_of a) (number_of b)
+unfolding rows_from clap_on_literals
+bench_reads a b = refl
+
+pub bench_read : (a b : Text) → IsValue a → IsValue b
+    → bench_of (leaf_rows bench (a ∷ b ∷ [])) ≡ bench_named (number_of a) (number_of b)
+bench_read a b pa pb = ap bench_of (rows_first bench (a ∷ b ∷ [])
+    ∙ rows_next bench 1 nothing_held a pa (b ∷ [])
+    ∙ rows_next bench 2 (then bench 1 nothing_held a) b pb [])
+    ∙ bench_reads a b

@@ -14,11 +14,11 @@ use Rattle.clap.specs.declared.error.kind.ErrorKind.TheVariants.{OutOfMemory, In
 use Rattle.clap.proofs.OnLiterals.{clap_on_literals}
 use Rattle.clap.proofs.WalkLemmas.{walk_stopped}
 use Rattle.clap.proofs.FaultLemmas.{stopped_fault}
-use Rattle.command_line.specs.Words.{Form, IsPlain, named, of_check, of_new, of_run, sizes_named}
+use Rattle.command_line.specs.Words.{Form, IsPlain, bench_named, named, of_check, of_new, of_run, sizes_named}
 use Rattle.command_line.specs.Commands.{command_form, met_form, program}
 use Rattle.nvm_base.specs.Numbers.{number_of}
 use Rattle.command_line.proofs.WordLemmas.{IsValue, leaf_refusals, leaf_rows, plain_is_value, turn_value}
-use Rattle.command_line.proofs.LeafLemmas.{check, check_many, check_none, check_one, check_read, new, new_four, new_many, new_none, new_one, new_read, new_three, new_two, run, run_many, run_none, run_one, run_read, run_two}
+use Rattle.command_line.proofs.LeafLemmas.{bench, bench_many, bench_none, bench_one, bench_read, bench_two, check, check_many, check_none, check_one, check_read, new, new_four, new_many, new_none, new_one, new_read, new_three, new_two, run, run_many, run_none, run_one, run_read, run_two}
 
 abbrev start : Walk
 start = walk_from nothing_held
@@ -130,6 +130,17 @@ new_passes = refl
 new_found : named_by (codes "new") whole ≡ Some new
 new_found = refl
 
+bench_walks : walk_on whole (codes "bench") ≡ stopped_at (codes "bench") []
+unfolding clap_on_literals
+bench_walks = refl
+
+bench_passes : turn_fault whole.top (names_of whole) start (codes "bench") ≡ []
+unfolding clap_on_literals
+bench_passes = refl
+
+bench_found : named_by (codes "bench") whole ≡ Some bench
+bench_found = refl
+
 -- ---- check
 
 check_fails : (rest : List Text) → fault_of program (codes "check" ∷ rest) ≡ leaf_refusals check rest
@@ -167,6 +178,20 @@ new_fails rest = refused_in whole (codes "new") rest new_walks new_passes ∙ re
 new_met : (rest : List Text) → subcommand_of program (codes "new" ∷ rest) ≡ Some (codes "new", leaf_rows new rest)
 new_met rest = met_below whole (codes "new") rest new new_walks new_found
 
+-- ---- bench
+
+bench_fails : (rest : List Text) → fault_of program (codes "bench" ∷ rest) ≡ leaf_refusals bench rest
+bench_fails rest = refused_in whole (codes "bench") rest bench_walks bench_passes ∙ refused_below whole (codes "bench") rest bench bench_found quiet
+
+bench_met : (rest : List Text) → subcommand_of program (codes "bench" ∷ rest) ≡ Some (codes "bench", leaf_rows bench rest)
+bench_met rest = met_below whole (codes "bench") rest bench bench_walks bench_found
+
+bench_many_named : (a b c : Text) (rest : List Text) → named (codes "bench" ∷ a ∷ b ∷ c ∷ rest) ≡ None
+unfolding named
+bench_many_named a b c [] = refl
+bench_many_named a b c (d ∷ []) = refl
+bench_many_named a b c (d ∷ e ∷ rest) = refl
+
 -- ---- all
 
 abbrev Values : List Text → Type 0
@@ -202,6 +227,13 @@ new_agrees (a ∷ b ∷ c ∷ d ∷ []) h = inl (
 )
 new_agrees (a ∷ b ∷ c ∷ d ∷ e ∷ rest) h = inr (refuses _ _ _ (new_fails (a ∷ b ∷ c ∷ d ∷ e ∷ rest) ∙ new_many a b c d e h.0 h.1.0 h.1.1.0 h.1.1.1.0 h.1.1.1.1.0 rest), refl)
 
+bench_agrees : (rest : List Text) → Values rest → Agrees (codes "bench" ∷ rest)
+unfolding named command_form
+bench_agrees [] h = inr (refuses _ _ _ (bench_fails [] ∙ bench_none), refl)
+bench_agrees (a ∷ []) h = inr (refuses _ _ _ (bench_fails (a ∷ []) ∙ bench_one a h.0), refl)
+bench_agrees (a ∷ b ∷ []) h = inl (bench_fails (a ∷ b ∷ []) ∙ bench_two a b h.0 h.1.0, ap met_form (bench_met (a ∷ b ∷ [])) ∙ bench_read a b h.0 h.1.0)
+bench_agrees (a ∷ b ∷ c ∷ rest) h = inr (refuses _ _ _ (bench_fails (a ∷ b ∷ c ∷ rest) ∙ bench_many a b c h.0 h.1.0 h.1.1.0 rest), bench_many_named a b c rest)
+
 -- ---- other words
 
 pub differs : (a b : Text) → a ≢ b → bytes_eq a b ≡ false
@@ -218,16 +250,18 @@ is_or_differs a b = go (bytes_eq a b) refl
     go true e = inl ((bytes_eq-Decides a b).0 e)
     go false e = inr (λ same. true≢false (sym ((bytes_eq-Decides a b).1 same) ∙ e))
 
-abbrev picked : Bool → Bool → Bool → Option Text
-picked new run check = option_map (λ (s : Text × List Text). s.0)
-    (cond (new || false) (Some (codes "new", [])) (cond (run || false) (Some (codes "run", [])) (cond (check || false) (Some (codes "check", [])) None)))
+abbrev picked : Bool → Bool → Bool → Bool → Option Text
+picked new run check bench = option_map (λ (s : Text × List Text). s.0)
+    (cond (new || false) (Some (codes "new", [])) (cond (run || false) (Some (codes "run", [])) (cond (check || false) (Some (codes "check", []))
+    (cond (bench || false) (Some (codes "bench", [])) None))))
 
-module _ (w : Text) (is : IsValue w) (not_new : w ≢ codes "new") (not_run : w ≢ codes "run") (not_check : w ≢ codes "check") where
+module _ (w : Text) (is : IsValue w) (not_new : w ≢ codes "new") (not_run : w ≢ codes "run") (not_check : w ≢ codes "check") (not_bench : w ≢ codes "bench") where
   none_met : subcommand_met (names_of whole) idle w ≡ None
   none_met =
-      ap (λ (t : Bool). picked t (bytes_eq (codes "run") w) (bytes_eq (codes "check") w)) (differs (codes "new") w (λ e. not_new (sym e)))
-      ∙ ap (λ (t : Bool). picked false t (bytes_eq (codes "check") w)) (differs (codes "run") w (λ e. not_run (sym e)))
-      ∙ ap (λ (t : Bool). picked false false t) (differs (codes "check") w (λ e. not_check (sym e)))
+      ap (λ (t : Bool). picked t (bytes_eq (codes "run") w) (bytes_eq (codes "check") w) (bytes_eq (codes "bench") w)) (differs (codes "new") w (λ e. not_new (sym e)))
+      ∙ ap (λ (t : Bool). picked false t (bytes_eq (codes "check") w) (bytes_eq (codes "bench") w)) (differs (codes "run") w (λ e. not_run (sym e)))
+      ∙ ap (λ (t : Bool). picked false false t (bytes_eq (codes "bench") w)) (differs (codes "check") w (λ e. not_check (sym e)))
+      ∙ ap (λ (t : Bool). picked false false false t) (differs (codes "bench") w (λ e. not_bench (sym e)))
 
   other_fails : (rest : List Text) → fault_of program (w ∷ rest) ≡ UnknownArgument ∷ InvalidSubcommand ∷ []
   other_fails rest = refused_by whole w rest
@@ -239,7 +273,10 @@ module _ (w : Text) (is : IsValue w) (not_new : w ≢ codes "new") (not_run : w 
   unfolding named
   other_named [] = refl
   other_named (a ∷ []) = ap (λ (t : Bool). cond t (Some (of_check a)) None) (differs w (codes "check") not_check)
-  other_named (a ∷ b ∷ []) = ap (λ (t : Bool). cond t (Some (of_run a b)) None) (differs w (codes "run") not_run)
+  other_named (a ∷ b ∷ []) =
+      let bench = bench_named (number_of a) (number_of b) in
+      ap (λ (t : Bool). cond t (Some (of_run a b)) (cond (bytes_eq w (codes "bench")) bench None)) (differs w (codes "run") not_run)
+      ∙ ap (λ (t : Bool). cond t bench None) (differs w (codes "bench") not_bench)
   other_named (a ∷ b ∷ c ∷ []) = refl
   other_named (a ∷ b ∷ c ∷ d ∷ []) =
       ap (λ (t : Bool). cond t (option_map (of_new a) (sizes_named (number_of b) (number_of c) (number_of d))) None) (differs w (codes "new") not_new)
@@ -263,7 +300,10 @@ words_agree (w ∷ rest) h =
         | inl e ↦ subst (λ v. Agrees (v ∷ rest)) (sym e) (run_agrees rest all.1)
         | inr not_run ↦ elim (is_or_differs w (codes "check")) [
           | inl e ↦ subst (λ v. Agrees (v ∷ rest)) (sym e) (check_agrees rest all.1)
-          | inr not_check ↦ inr (refuses _ _ _ (other_fails w all.0 not_new not_run not_check rest), other_named w all.0 not_new not_run not_check rest)
+          | inr not_check ↦ elim (is_or_differs w (codes "bench")) [
+            | inl e ↦ subst (λ v. Agrees (v ∷ rest)) (sym e) (bench_agrees rest all.1)
+            | inr not_bench ↦ inr (refuses _ _ _ (other_fails w all.0 not_new not_run not_check not_bench rest), other_named w all.0 not_new not_run not_check not_bench rest)
+          ]
         ]
       ]
     ]

@@ -3,7 +3,7 @@ use Rattle.std.specs.Prelude.{ℕ, true, List, Option, None, if◌then◌else◌
 use Rattle.std.specs.Str.{bytes_eq}
 use Rattle.clap.specs.Words.{App, Row, Rule, Shape, Text, first_of, new_app, new_rule, with_rule, with_subcommand}
 use Rattle.nvm_base.specs.Numbers.{number_of}
-use Rattle.command_line.specs.Words.{Form, of_new, of_run, of_check, sizes_named}
+use Rattle.command_line.specs.Words.{Form, of_new, of_run, of_check, bench_named, sizes_named}
 
 -- a value that has to be given
 abbrev pub required : Text → Rule
@@ -19,6 +19,10 @@ run_command = with_rule (with_rule (new_app (codes "run")) (required (codes "IN"
 abbrev pub check_command : App
 check_command = with_rule (new_app (codes "check")) (required (codes "IN"))
 
+-- a workload's seed and how many rounds it has
+abbrev pub bench_command : App
+bench_command = with_rule (with_rule (new_app (codes "bench")) (required (codes "SEED"))) (required (codes "N"))
+
 -- a subcommand is required, and there is no help
 abbrev pub closed : Shape → Shape
 closed s = record s {
@@ -32,7 +36,8 @@ closed s = record s {
 -- the program
 abbrev pub program : App
 program =
-    let app = with_subcommand (with_subcommand (with_subcommand (new_app (codes "nvmhost")) new_command.top) run_command.top) check_command.top in
+    let image_commands = with_subcommand (with_subcommand (with_subcommand (new_app (codes "nvmhost")) new_command.top) run_command.top) check_command.top in
+    let app = with_subcommand image_commands bench_command.top in
     record app { top = closed app.top }
 
 -- the number that a value is
@@ -50,12 +55,17 @@ run_of values = option_and_then (λ from. option_map (of_run from) (first_of (co
 abbrev pub check_of : List Row → Option Form
 check_of values = option_map of_check (first_of (codes "IN") values)
 
+-- the workload that the values name
+abbrev pub bench_of : List Row → Option Form
+bench_of values = bench_named (number_at (codes "SEED") values) (number_at (codes "N") values)
+
 -- the form of a command with its values
 unfoldable pub command_form : Text → List Row → Option Form
 command_form name values =
     if bytes_eq name (codes "new") then new_of values
     else (if bytes_eq name (codes "run") then run_of values
-    else (if bytes_eq name (codes "check") then check_of values else None))
+    else (if bytes_eq name (codes "check") then check_of values
+    else (if bytes_eq name (codes "bench") then bench_of values else None)))
 
 -- the form of the command that was met, where one was
 abbrev pub met_form : Option (Text × List Row) → Option Form

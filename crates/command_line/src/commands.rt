@@ -1,7 +1,7 @@
 // The forms of the command line, as commands with values.
 ghost use Rattle.std.specs.Prelude.{◌≡◌, false, IfOk};
 ghost use Rattle.clap.specs.Words.{app_of, rule_of, with_subcommand};
-ghost use Rattle.command_line.specs.Commands.{check_command, new_command, program, required, run_command};
+ghost use Rattle.command_line.specs.Commands.{bench_command, check_command, new_command, program, required, run_command};
 
 use clap::{Arg, Command};
 use std::alloc::{AllocError, Global};
@@ -16,7 +16,10 @@ pub(crate) fn program<'a>(alloc: Global) -> Result<Command<'a>, AllocError>
         .disable_help_subcommand(true)
         .disable_version_flag(true)
         .subcommand_required(true);
-    with_check(alloc, with_run(alloc, with_new(alloc, base)?)?)
+    let program = with_new(alloc, base)?;
+    let program = with_run(alloc, program)?;
+    let program = with_check(alloc, program)?;
+    with_bench(alloc, program)
 }
 
 fn with_new<'a>(alloc: Global, program: Command<'a>) -> Result<Command<'a>, AllocError>
@@ -43,6 +46,15 @@ fn with_check<'a>(alloc: Global, program: Command<'a>) -> Result<Command<'a>, Al
     ensures { IfOk result (λ c. app_of c ≡ with_subcommand (app_of program.entry) check_command.top) }
 {
     let command = Command::new(alloc, "check").arg(required(alloc, "IN"))?;
+    program.subcommand(command)
+}
+
+fn with_bench<'a>(alloc: Global, program: Command<'a>) -> Result<Command<'a>, AllocError>
+    ensures { IfOk result (λ c. app_of c ≡ with_subcommand (app_of program.entry) bench_command.top) }
+{
+    let command = Command::new(alloc, "bench")
+        .arg(required(alloc, "SEED"))?
+        .arg(required(alloc, "N"))?;
     program.subcommand(command)
 }
 

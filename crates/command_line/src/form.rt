@@ -1,11 +1,14 @@
 ghost use Rattle.std.specs.Prelude.{◌≡◌, ◌↔◌, IfNone, IfSome, IsTrue, Some, codes, option_map};
 ghost use Rattle.clap.specs.Words.{first_of, found_of, rows_of, subcommand_rows_of};
 ghost use Rattle.command_line.specs.Words.{Form as Named, HasSizes, form_of, sizes_named};
-ghost use Rattle.command_line.specs.Commands.{check_of, met_form, new_of, number_at, run_of};
+ghost use Rattle.command_line.specs.Commands.{bench_of, check_of, met_form, new_of, number_at, run_of};
 
 use clap::ArgMatches;
 use nvm_base::read_number;
 use word_tables::Geometry;
+
+// The most rounds of a workload.
+const MOST_ROUNDS: u64 = 100_000;
 
 /// A form of the command line.
 #[derive(Clone, Copy, Debug, PartialEq, Eq)]
@@ -16,6 +19,8 @@ pub enum Form<'a> {
     Run { from: &'a str, to: &'a str },
     /// An image, looked over.
     Check { image: &'a str },
+    /// A workload, run on a fresh image.
+    Bench { seed: u64, count: u64 },
 }
 
 impl<'a> Form<'a> {
@@ -37,6 +42,7 @@ impl<'a> Form<'a> {
         match self {
             Form::New { geometry, .. } => geometry.valid(),
             Form::Run { .. } | Form::Check { .. } => true,
+            Form::Bench { count, .. } => (1..=MOST_ROUNDS).contains(count),
         }
     }
 }
@@ -50,6 +56,7 @@ fn named_form<'a>(matches: &ArgMatches<'a>) -> Option<Form<'a>>
         "new" => new_form(values),
         "run" => run_form(values),
         "check" => check_form(values),
+        "bench" => bench_form(values),
         _ => None,
     }
 }
@@ -77,6 +84,15 @@ fn check_form<'a>(values: &ArgMatches<'a>) -> Option<Form<'a>>
 {
     Some(Form::Check {
         image: text(values, "IN")?,
+    })
+}
+
+fn bench_form<'a>(values: &ArgMatches<'a>) -> Option<Form<'a>>
+    ensures { option_map form_of result ≡ bench_of (rows_of (found_of values.now)) }
+{
+    Some(Form::Bench {
+        seed: number(values, "SEED")?,
+        count: number(values, "N")?,
     })
 }
 

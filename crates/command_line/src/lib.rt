@@ -2,6 +2,7 @@
 // new IMAGE BLOCKS VPAGES FPAGES   makes the image of a new machine with these sizes
 // run IN OUT                       runs a script on the image IN, and writes what it leaves as OUT
 // check IN                         looks an image over
+// bench SEED N                     runs that workload on a new machine
 // A word that is empty or begins with a hyphen is in no form.
 #![tactic(auto)]
 

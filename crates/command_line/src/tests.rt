@@ -72,6 +72,15 @@ fn each_form_is_read(rt: HostRuntime) -> Result<(), Fail> {
         ),
         ("check a.img", Form::Check { image: "a.img" }),
         ("check new", Form::Check { image: "new" }),
+        ("bench 1 1", Form::Bench { seed: 1, count: 1 }),
+        (
+            "bench 4294967295 100000",
+            Form::Bench {
+                seed: 4_294_967_295,
+                count: 100_000,
+            },
+        ),
+        ("bench 0 0001", Form::Bench { seed: 0, count: 1 }),
     ];
     for (line, form) in cases {
         let words = words_of(rt.alloc(), line)?;
@@ -120,7 +129,14 @@ fn other_words_are_usage(rt: HostRuntime) -> Result<(), Fail> {
         "-V",
         "help",
         "help run",
-        "bench 1 1",
+        "bench",
+        "bench 1",
+        "bench 1 1 1",
+        "bench x 1",
+        "bench 1 x",
+        "bench 4294967296 1",
+        "bench 1 0",
+        "bench 1 100001",
         "Run a b",
         "runs a b",
         "ru a b",

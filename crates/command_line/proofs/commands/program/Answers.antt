@@ -2,7 +2,7 @@ use Rattle.std.proofs.Common.{◌∙◌, true, ap}
 use Rattle.std.proofs.lemmas.Result.{IfOk-weaker}
 use Rattle.clap.specs.Simple.{app_of_fields, on_top}
 use Rattle.clap.specs.Words.{App, Shape, with_subcommand}
-use Rattle.command_line.specs.Commands.{check_command, new_command, run_command}
+use Rattle.command_line.specs.Commands.{bench_command, check_command, new_command, run_command}
 use Rattle.command_line.proofs.commands.program.Goals as goal
 
 pub returns : goal.returns
@@ -12,6 +12,7 @@ returns c =
     let three = ap app_of_fields c.disable_help_subcommand.ensures ∙ ap (on_top (λ (s : Shape). record s { disable_help_subcommand = true })) two in
     let four = ap app_of_fields c.disable_version_flag.ensures ∙ ap (on_top (λ (s : Shape). record s { disable_version_flag = true })) three in
     let base = ap app_of_fields c.subcommand_required-base.ensures ∙ ap (on_top (λ (s : Shape). record s { subcommand_required = true })) four in
-    let new = c.in_ok-with_new.ensures ∙ ap (λ (a : App). with_subcommand a new_command.top) base in
-    let run = c.in_ok-with_run.ensures ∙ ap (λ (a : App). with_subcommand a run_command.top) new in
-    IfOk-weaker c.with_check.result _ _ (λ r h. h ∙ ap (λ (a : App). with_subcommand a check_command.top) run) c.with_check.ensures
+    let new = c.in_ok-program.ensures ∙ ap (λ (a : App). with_subcommand a new_command.top) base in
+    let run = c.in_ok-program-2.ensures ∙ ap (λ (a : App). with_subcommand a run_command.top) new in
+    let check = c.in_ok-program-3.ensures ∙ ap (λ (a : App). with_subcommand a check_command.top) run in
+    IfOk-weaker c.with_bench.result _ _ (λ r h. h ∙ ap (λ (a : App). with_subcommand a bench_command.top) check) c.with_bench.ensures
