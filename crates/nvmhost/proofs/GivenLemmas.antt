@@ -1,12 +1,13 @@
 -- The bytes of the lines that were given of a script.
-use Rattle.std.proofs.Common.{◌≡◌, ◌⊎◌, inl, inr, ℕ, ◌==◌, true, false, List, [], ◌∷◌, ◌++◌, Option, refl, sym, ap, subst, ◌∙◌, append_assoc, append-nil, cases_Bool}
-use Rattle.std.specs.Prelude.{IsTrue, IsFalse}
+use Rattle.std.proofs.Common.{◌≡◌, ◌⊎◌, inl, inr, ℕ, ◌==◌, ◌≤◌, true, false, List, [], ◌∷◌, ◌++◌, length, Option, Some, None, Ok, refl, sym, ap, subst, ◌∙◌, append_assoc}
+use Rattle.std.specs.Prelude.{IfSome, IsSomeAnd, IsTrue, IsFalse}
 use Rattle.std.specs.Io.KnownBytes.{IsAtEnd}
 use Rattle.std.specs.List.{onto_first}
-use Rattle.std.proofs.lemmas.Bool.{eqb-true, true≢false}
-use Rattle.script_text.specs.Script.{Input, line_input, lines_of}
-use Rattle.script_text.specs.Script.Input.{Overlong}
-use Rattle.script_text.specs.Streaming.{HasGiven, Stream}
+use Rattle.std.proofs.lemmas.Bool.{cases_Bool, eqb-true, true≢false}
+use Rattle.script_text.specs.Script.{lines_of}
+use Rattle.script_text.specs.Streaming.{HasGiven, IsFirstLine, LongLine, ReadsLine, Stream}
+use Rattle.script_text.specs.declared.next_line.NextLine.{NextLine}
+use Rattle.script_text.specs.declared.next_line.NextLine.TheVariants.{Line, TooLong, End}
 use Rattle.nvmhost.specs.Whole.{IsFront, bytes_of}
 use Rattle.nvmhost.specs.Ending.{line}
 
@@ -21,8 +22,8 @@ bytes-lines : (script : List ℕ) → bytes_of (lines_of (script ++ 10 ∷ [])) 
 unfolding lines_of
 bytes-lines [] = refl
 bytes-lines (c ∷ cs) = elim (cases_Bool (c == 10)) as (λ _. bytes_of (lines_of (c ∷ cs ++ 10 ∷ [])) ≡ c ∷ cs ++ 10 ∷ []) [
-  | inl yes ↦ rw (yes, lines_of) (ap (λ bytes. 10 ∷ bytes) (bytes-lines cs) ∙ ap (λ b. b ∷ cs ++ 10 ∷ []) (sym (eqb-true c 10 yes)))
-  | inr no ↦ rw (no, lines_of) (bytes-onto c (lines_of (cs ++ 10 ∷ [])) cs (bytes-lines cs))
+  | inl is ↦ rw (is, lines_of) (ap (λ bytes. 10 ∷ bytes) (bytes-lines cs) ∙ ap (λ b. b ∷ cs ++ 10 ∷ []) (sym (eqb-true c 10 is)))
+  | inr other ↦ rw (other, lines_of) (bytes-onto c (lines_of (cs ++ 10 ∷ [])) cs (bytes-lines cs))
 ]
 
 pub bytes-append : (xs ys : List (List ℕ)) → bytes_of (xs ++ ys) ≡ bytes_of xs ++ bytes_of ys
@@ -53,3 +54,20 @@ given-front script taken given now left has ends = elim (cases_Bool now.ended) a
   | inl ended ↦ inr (ends ended)
   | inr going ↦ inl (record { rest = now.waiting ++ taken; joined = sym (append_assoc (bytes_of given) now.waiting taken) ∙ ap (λ bytes. bytes ++ taken) (given-whole script given now has going) })
 ]
+
+-- a line that was given is the first one
+pub line_read : (old new : Stream) (a b : Option (List ℕ)) (next : NextLine) (reads : ReadsLine old new a b (Ok next)) → next ≡ Line → (text : List ℕ) → IfSome new.line (λ line. text ≡ line)
+    → IsFirstLine new.ended (old.waiting ++ reads.taken) text new.waiting
+line_read old new a b Line reads is text same = by_line new.line reads.gives same
+  where
+    by_line : (o : Option (List ℕ)) → IsSomeAnd o (λ line. (length line ≤ 65536) × IsFirstLine new.ended (old.waiting ++ reads.taken) line new.waiting) → IfSome o (λ line. text ≡ line)
+        → IsFirstLine new.ended (old.waiting ++ reads.taken) text new.waiting
+    by_line None gives same = absurd gives
+    by_line (Some line) gives same = subst (λ l. IsFirstLine new.ended (old.waiting ++ reads.taken) l new.waiting) (sym same) gives.1
+line_read old new a b TooLong reads is text same = cc is
+line_read old new a b End reads is text same = cc is
+
+pub long_read : (old new : Stream) (a b : Option (List ℕ)) (next : NextLine) (reads : ReadsLine old new a b (Ok next)) → next ≡ TooLong → LongLine (old.waiting ++ reads.taken) new
+long_read old new a b Line reads is = cc is
+long_read old new a b TooLong reads is = reads.gives
+long_read old new a b End reads is = cc is

@@ -1,5 +1,5 @@
 -- A script that is performed line by line, its replies written now and then.
-use Rattle.std.proofs.Common.{◌≡◌, ◌≢◌, ◌≤◌, ◌⊎◌, inl, inr, ℕ, zero, suc, ◌+◌, false, List, [], ◌∷◌, ◌++◌, length, take, drop, Bool, Option, Result, Ok, Err, refl, sym, ap, subst, ◌∙◌, append_assoc, append-nil, length-append, arith}
+use Rattle.std.proofs.Common.{◌≡◌, ◌≢◌, ◌≤◌, ◌<◌, ◌⊎◌, inl, inr, ℕ, zero, suc, ◌+◌, true, false, List, [], ◌∷◌, ◌++◌, length, take, drop, Bool, Option, Result, Ok, Err, refl, sym, ap, subst, ◌∙◌, append_assoc, append-nil, length-append, arith}
 use Rattle.std.specs.Prelude.{IsTrue}
 use Rattle.std.proofs.lemmas.Bool.{false_from_ne_true, true≢false}
 use Rattle.std.proofs.lemmas.List.{take-append-drop}
@@ -16,7 +16,7 @@ use Rattle.script_text.specs.Streaming.{Gives, HasGiven, IsFirstLine, IsUnbroken
 use Rattle.script_text.specs.declared.next_line.InputFault.{InputFault}
 use Rattle.script_text.specs.declared.next_line.InputFault.TheVariants.{Failed, TooLarge}
 use Rattle.script_text.specs.declared.next_line.NextLine.{NextLine}
-use Rattle.script_text.specs.declared.next_line.NextLine.TheVariants.{End}
+use Rattle.script_text.specs.declared.next_line.NextLine.TheVariants.{Line, TooLong, End}
 use Rattle.script_text.proofs.GivenLemmas.{given-end, given-line, given-start}
 use Rattle.machine_host.specs.Machine.{Machine}
 use Rattle.machine_host.specs.Run.{Transcript, Run, followed_by, silence}
@@ -140,44 +140,67 @@ going-flush reader a b before host out out' written_old written written' old now
       };
 }
 
+-- what the source's end says
+end_read : (reader reader' : Stream) (b c : Option (List ℕ)) (next : Result NextLine InputFault) (reads : ReadsLine reader reader' b c next) → next ≡ Ok End
+    → (reader.waiting ++ reads.taken ≡ []) × IsTrue reader'.ended × (reader'.taken < 1073741824)
+end_read reader reader' b c (Ok Line) reads is = cc is
+end_read reader reader' b c (Ok TooLong) reads is = cc is
+end_read reader reader' b c (Ok End) reads is = (reads.gives.0, reads.gives.2, reads.gives.3)
+end_read reader reader' b c (Err e) reads is = cc is
+
+none_before : (xs ys : List ℕ) → xs ++ ys ≡ [] → xs ≡ []
+none_before [] ys is = refl
+none_before (x ∷ xs) ys is = cc is
+
 -- the script's end, with nothing waiting
-pub going-end : (reader reader' : Stream) (a b c : Option (List ℕ)) (before host : HostState) (out : List ℕ) (written_old written : Option (List ℕ)) (old now : Device)
-    → Going reader a b before host out written_old written old now → ReadsLine reader reader' b c (Ok End) → out ≡ [] → Performs before host (Ok tt) a c written_old written old now
-going-end reader reader' a b c before host out written_old written old now going reads empty = record {
-  says = λ first stands.
-      let was = going.says first stands in
-      let all : was.part ≡ reply_text was.said.answers = sym (append-nil was.part) ∙ ap (λ o. was.part ++ o) (sym empty) ∙ was.text in
-      let script = going.script ++ reads.taken in
-      let count : length script ≡ reader'.taken = omega (arith, reads.count, going.count, length-append going.script reads.taken) in
-      record {
-        script = script;
-        lines = going.lines;
-        others = [];
-        said = was.said;
-        end = was.state;
-        part = was.part;
-        read = consumes_then a b c going.script reads.taken going.read reads.read;
-        split = given-end going.script reads.taken going.lines reader going.has (λ is. (reads.stays is).0) reads.gives.0 ∙ sym (append-nil going.lines);
-        whole = inr (reads.ends going.ends reads.gives.2);
-        run = was.run;
-        front = record { rest = []; joined = append-nil was.part ∙ all };
-        wrote = was.wrote;
-        outcome = record {
-          all = all;
-          none_left = refl;
-          ended = reads.ends going.ends reads.gives.2;
-          short = omega (arith, count, reads.gives.3);
-          tells = was.tells;
-          stands = was.stands;
-        };
-      };
-}
+pub going-end : (reader reader' : Stream) (a b c : Option (List ℕ)) (before host after : HostState) (out out' : List ℕ) (written_old written : Option (List ℕ)) (old now next : Device)
+    → Going reader a b before host out written_old written old now → AnswersNext reader reader' b c (Ok false) host after out out' now next → (IsUnbroken reader.waiting → out ≡ [])
+    → Performs before after (Ok tt) a c written_old written old next
+going-end reader reader' a b c before host after out out' written_old written old now next going answers waits =
+    subst (λ (d : Device). Performs before after (Ok tt) a c written_old written old d) (sym answers.comes.1.same_device)
+    (subst (λ (h : HostState). Performs before h (Ok tt) a c written_old written old now) (sym answers.comes.1.same_host) ended)
+  where
+    ended : Performs before host (Ok tt) a c written_old written old now
+    ended =
+        let reads = answers.reads in
+        let over = end_read reader reader' b c answers.next reads answers.comes.0 in
+        let nothing : reader.waiting ≡ [] = none_before reader.waiting reads.taken over.0 in
+        let empty : out ≡ [] = waits (subst IsUnbroken (sym nothing) (All-nil (λ (c : ℕ). c ≢ 10))) in
+        record {
+          says = λ first stands.
+              let was = going.says first stands in
+              let all : was.part ≡ reply_text was.said.answers = sym (append-nil was.part) ∙ ap (λ o. was.part ++ o) (sym empty) ∙ was.text in
+              let script = going.script ++ reads.taken in
+              let at_end = reads.ends going.ends over.1 in
+              record {
+                script = script;
+                lines = going.lines;
+                others = [];
+                said = was.said;
+                end = was.state;
+                part = was.part;
+                read = consumes_then a b c going.script reads.taken going.read reads.read;
+                split = given-end going.script reads.taken going.lines reader going.has (λ is. (reads.stays is).0) over.0 ∙ sym (append-nil going.lines);
+                whole = inr at_end;
+                run = was.run;
+                front = record { rest = []; joined = append-nil was.part ∙ all };
+                wrote = was.wrote;
+                outcome = record {
+                  all = all;
+                  none_left = refl;
+                  ended = at_end;
+                  short = omega (arith, over.2, reads.count, going.count, length-append going.script reads.taken);
+                  tells = was.tells;
+                  stands = was.stands;
+                };
+              };
+        }
 
 unbroken-front : (xs ys : List ℕ) → IsUnbroken (xs ++ ys) → IsUnbroken xs
 unbroken-front [] ys u = All-nil (λ (c : ℕ). c ≢ 10)
 unbroken-front (x ∷ xs) ys u = All-cons (λ (c : ℕ). c ≢ 10) x xs (All-head (λ (c : ℕ). c ≢ 10) x (xs ++ ys) u) (unbroken-front xs ys (All-tail (λ (c : ℕ). c ≢ 10) x (xs ++ ys) u))
 
-take_nil : (n : ℕ) → take n [] ≡ []
+take_nil : (n : ℕ) → take {A = ℕ} n [] ≡ []
 take_nil zero = refl
 take_nil (suc n) = refl
 
@@ -270,15 +293,22 @@ going-unwritten reader a b before host out written_old written written' old now 
     of_fault write.Memory = inr refl
 
 -- the source gave no more: all replies were written before it was asked
-source_broken : (reader reader' : Stream) (b c : Option (List ℕ)) (fault : InputFault) (out : List ℕ) (reads : ReadsLine reader reader' b c (Err fault)) → (IsUnbroken reader.waiting → out ≡ [])
-    → IsUnbroken (reader.waiting ++ reads.taken) × (reader.ended ≡ false) × (out ≡ [])
-source_broken reader reader' b c fault out reads waits =
-    let given = faulty fault reads.gives in
+source_broken : (reader reader' : Stream) (b c : Option (List ℕ)) (next : Result NextLine InputFault) (fault : InputFault) (out : List ℕ) (reads : ReadsLine reader reader' b c next)
+    → next ≡ Err fault → (IsUnbroken reader.waiting → out ≡ []) → IsUnbroken (reader.waiting ++ reads.taken) × (reader.ended ≡ false) × (out ≡ [])
+source_broken reader reader' b c next fault out reads is waits =
+    let given = faulty next reads.gives fault is in
     (given.0, false_from_ne_true reader.ended (λ is. true≢false (sym (reads.stays is).1 ∙ given.1)), waits (unbroken-front reader.waiting reads.taken given.0))
   where
-    faulty : (f : InputFault) → Gives (reader.waiting ++ reads.taken) reader' (Err f) → IsUnbroken (reader.waiting ++ reads.taken) × (reader'.ended ≡ false)
-    faulty Failed gives = gives
-    faulty TooLarge gives = (gives.0, gives.1)
+    faulty : (n : Result NextLine InputFault) → Gives (reader.waiting ++ reads.taken) reader' n → (f : InputFault) → n ≡ Err f → IsUnbroken (reader.waiting ++ reads.taken) × (reader'.ended ≡ false)
+    faulty (Ok line) gives f is = cc is
+    faulty (Err Failed) gives f is = gives
+    faulty (Err TooLarge) gives f is = (gives.0, gives.1)
+
+-- and so many bytes were taken
+source_large : (reader reader' : Stream) (b c : Option (List ℕ)) (next : Result NextLine InputFault) (reads : ReadsLine reader reader' b c next) → next ≡ Err TooLarge → 1073741824 ≤ reader'.taken
+source_large reader reader' b c (Ok line) reads is = cc is
+source_large reader reader' b c (Err Failed) reads is = cc is
+source_large reader reader' b c (Err TooLarge) reads is = reads.gives.2
 
 -- the next line was not read or not performed
 pub going-stopped : (reader reader' : Stream) (a b c : Option (List ℕ)) (before host : HostState) (out out' : List ℕ) (written_old written : Option (List ℕ)) (old now next : Device)
@@ -292,14 +322,14 @@ going-stopped reader reader' a b c before host out out' written_old written old 
     still is = subst (λ (d : Device). GoesUnanswered now.panel d.panel) (sym is) (unanswered-none now.panel)
 
     by_source : (fault : InputFault) → answers.next ≡ Err fault → IsUnbroken (reader.waiting ++ answers.reads.taken) × (reader.ended ≡ false) × (out ≡ [])
-    by_source fault is = source_broken reader reader' b c fault out (subst (ReadsLine reader reader' b c) is answers.reads) waits
+    by_source fault is = source_broken reader reader' b c answers.next fault out answers.reads is waits
 
     stopped : (e : Ending) → Comes answers.next (reader.waiting ++ answers.reads.taken) reader' (Err e) host after out out' now next
         → Breaks e (reader.waiting ++ answers.reads.taken) reader reader' out × GoesUnanswered now.panel next.panel
-    stopped Read comes = (record { source = λ _. by_source Failed comes.0; long = λ is. cc is }, still comes.1.device)
+    stopped Read comes = (record { source = λ _. by_source Failed comes.0; long = λ is. cc is }, still comes.1.same_device)
     stopped Script comes = (
-      record { source = λ _. by_source TooLarge comes.0; long = λ _. (subst (ReadsLine reader reader' b c) comes.0 answers.reads).gives.2 },
-      still comes.1.device,
+      record { source = λ _. by_source TooLarge comes.0; long = λ _. source_large reader reader' b c answers.next answers.reads comes.0 },
+      still comes.1.same_device,
     )
     stopped Memory comes = (record { source = λ by. absurd (no_source by); long = λ is. cc is }, comes.left)
       where

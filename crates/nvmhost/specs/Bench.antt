@@ -123,14 +123,14 @@ pub record FailsToStart (ending : Ending) (old new : World) : Type 0 where
   pub aside : LeavesAside old new
 
 -- `bench` came to no end after that: some first lines were performed, and only after the last one was anything written.
-pub record BreaksOff (seed count : ℕ) (cause : Type 0) (old new : World) : Type 0 where
+pub record BreaksOff (seed count : ℕ) (by : Type 0) (old new : World) : Type 0 where
   pub performed : List (List ℕ)
   pub others : List (List ℕ)
   pub said : Transcript
   pub end : Machine
   pub split : lines seed count ≡ performed ++ others
   pub run : IsRun (new_machine bench_sizes) old.device.panel performed said end
-  pub cause : cause
+  pub cause : by
   pub tells : TellsFirst (λ count. count) (followed_by opening said) end old.device.panel new.device.panel
   pub wrote : (new.written ≡ old.written) ⊎ ((others ≡ []) × WritesFront (summary_text (summed nothing_counted performed said.answers)) old.written new.written)
   pub aside : LeavesAside old new

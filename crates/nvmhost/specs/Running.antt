@@ -36,9 +36,9 @@ pub record GoesOn (ended : Bool) (bytes rest : List ℕ) (host after : HostState
 
 -- nothing was performed
 pub record StaysSo (host after : HostState) (out_old out_new : List ℕ) (old new : Device) : Type 0 where
-  pub host : after ≡ host
-  pub out : out_new ≡ out_old
-  pub device : new ≡ old
+  pub same_host : after ≡ host
+  pub same_out : out_new ≡ out_old
+  pub same_device : new ≡ old
 
 -- there was no memory for a line's answer
 pub record LacksAnswer (out_old out_new : List ℕ) (old new : Device) : Type 0 where
