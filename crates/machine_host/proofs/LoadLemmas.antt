@@ -43,19 +43,6 @@ bytes_right geo offset len some within =
     ap (λ b. first_there (refused_if b Range) (refused_if (len == 0) Length)) (le-ltb (4096 * geo.vpages) (offset + len) within)
     ∙ ap (λ b. refused_if b Length) (ne_eqb len 0 (λ e. omega arith))
 
--- a buffer of so many zeros
-pub loaded_size : (len : ℕ) (before items : List ℕ) → before ≡ [] → items ≡ before ++ replicate len 0 → length items ≡ len
-loaded_size len before items none filled = ap length filled ∙ ap (λ xs. length (xs ++ replicate len 0)) none ∙ length-replicate len 0
-
--- the bytes of a buffer that they were loaded into
-pub loaded_bytes : (len : ℕ) (old items out : List ℕ) (pages : List Page) (offset : ℕ) → old ≡ items → length items ≡ len → out ≡ look pages offset (length old)
-    → take (length items) (out ++ drop (length out) items) ≡ look pages offset len
-unfolding look
-loaded_bytes len old items out pages offset same size is =
-    let many : length old ≡ len = ap length same ∙ size in
-    let long : length out ≡ length items = ap length is ∙ length-list_from _ offset (length old) ∙ ap length same in
-    refilled items out long ∙ is ∙ ap (look pages offset) many
-
 module _ (now host after : HostState) (s : VolumeState) (r : Result (Unit {0}) VolumeFault) (offset len calls : ℕ) (Q : Type 0) (old new : Device)
     (inside : host ≡ now) (state : after ≡ volume_after host s (mode_after volume_says r)) (on : now.mode ≡ On) (serves : HostServes now old) (few : calls ≤ lines_touched offset len)
     (untouched : OnRefused volume_says r (Q × (new ≡ old))) (lines : WritesBack old.medium new.medium) (served : VolumeServes s new.medium)
@@ -108,7 +95,3 @@ module _ (now host after : HostState) (s : VolumeState) (r : Result (Unit {0}) V
     room = room;
     serves = work_serves volume_says volume_answer volume_part now host after s r calls 0 old new inside state on serves (VLoad offset len) (λ h stands. (few, omega arith)) (λ h bs same. same) call;
   }
-
--- as many bytes as the buffer has
-pub taken_short : (len : ℕ) (items bytes : List ℕ) → length items ≡ len → most_of (Bytes (take (length items) bytes)) ≤ 72 + 3 * len
-taken_short len items bytes size = let few : length (take (length items) bytes) ≤ length items = subst (λ n. n ≤ length items) (sym (length-take (length items) bytes)) (min-le_left (length items) (length bytes)) in omega (arith, few, size)

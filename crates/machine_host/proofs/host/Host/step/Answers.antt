@@ -1,10 +1,11 @@
-use Rattle.std.proofs.Common.{sym}
+use Rattle.std.proofs.Common.{arith, sym}
 use Rattle.std.proofs.lemmas.Result.{IfOk-weaker}
 use Rattle.script_text.specs.Action.{action_of}
 use Rattle.machine_host.specs.Commands.{meaning}
 use Rattle.reply_text.specs.Answer.{answer_of}
 use Rattle.machine_host.proofs.StepLemmas.{comes_of_refusal, leaves_all, on_err, on_err-with}
 use Rattle.machine_host.proofs.RefusalLemmas.{early_plain}
+use Rattle.machine_host.proofs.WantingLemmas.{no_error, wanted}
 use Rattle.machine_host.proofs.host.Host.step.Goals as goal
 
 pub print-requires : goal.print-requires
@@ -26,3 +27,13 @@ pub returns-in-Some-clause-memory : goal.returns-in-Some-clause-memory
 returns-in-Some-clause-memory g c =
     on_err-with _ c.print.result c.print.ensures.err
     (leaves_all (meaning (action_of c.args.command.now)).starved c.args.self.now (g.D.Lines.state c.args.device.now))
+
+pub returns-in-Some-clause-spare : goal.returns-in-Some-clause-spare
+returns-in-Some-clause-spare g c = λ much.
+    let plain = early_plain _ _ _ (action_of c.args.command.now) (answer_of c.in-Some.reply) (sym c.in-Some.ensures) in
+    no_error c.print.result (c.print.ensures.succeeds (omega (arith, plain.short, much)))
+
+pub returns-in_err-reserve-clause-spare : goal.returns-in_err-reserve-clause-spare
+returns-in_err-reserve-clause-spare g c = λ much.
+    on_err c.from_residual.result
+    (wanted _ _ _ (action_of c.args.command.now) (sym c.in_default.ensures) _ _ c.longest_reply.ensures much c.in_err-reserve.ensures.succeeds)
