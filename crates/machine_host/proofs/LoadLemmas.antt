@@ -32,7 +32,6 @@ use Rattle.machine_host.specs.Faults.{answer_after, mode_after}
 use Rattle.machine_host.specs.OnVolume.{volume_answer}
 use Rattle.machine_host.specs.Responding.{Answered}
 use Rattle.machine_host.specs.Stands.{HostState, HostServes}
-use Rattle.machine_host.proofs.BlockReadLemmas.{refilled}
 use Rattle.machine_host.proofs.ElsewhereLemmas.{volume_holds_elsewhere}
 use Rattle.machine_host.proofs.VolumeCallLemmas.{VolumeCalled, volume_part, same_volume, settled_ok, settled_was, volume_after, volume_pages, volume_sizes, work_comes, work_serves}
 use Rattle.machine_host.proofs.VolumeFateLemmas.{fate_vload}
