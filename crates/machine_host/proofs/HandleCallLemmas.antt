@@ -1,5 +1,5 @@
 -- What loads, stores and ends of mappings come to.
-use Rattle.std.proofs.Common.{◌≡◌, ◌↔◌, ◌+◌, ◌*◌, ◌^◌, ◌≤◌, ◌∙◌, ℕ, suc, Bool, true, false, cond, Option, Some, None, option_map, IfOk, IfSome, IsErr, OnErr, OnOk, Result, Ok, Err, is_err, List, [], ◌∷◌, All, length, take, drop, min, refl, sym, ap, subst, arith, is_none, option_and_then, if◌then◌else◌}
+use Rattle.std.proofs.Common.{◌≡◌, ◌↔◌, ◌+◌, ◌*◌, ◌^◌, ◌≤◌, ◌∙◌, ℕ, suc, Bool, true, false, cond, Option, Some, None, option_map, IfSome, IsErr, OnErr, OnOk, Result, Ok, Err, is_err, List, [], ◌∷◌, All, length, take, drop, min, refl, sym, ap, subst, arith, is_none, option_and_then, if◌then◌else◌}
 use Rattle.std.proofs.lemmas.List.{length-take}
 use Rattle.std.proofs.Math.Nat.{min-le_left}
 use Rattle.std.proofs.lemmas.Option.{same_Some}
@@ -11,10 +11,9 @@ use Rattle.nvm_model.specs.Storage.{Mapping}
 use Rattle.file_journal.specs.Tables.{AreTables}
 use Rattle.mappings.specs.Object.{AreMappings, IsMapping, MappingsState, info_of}
 use Rattle.mappings.specs.declared.info.MapInfo.{MapInfo}
-use Rattle.reply_text.specs.declared.reply.Reply.{Reply}
 use Rattle.reply_text.specs.declared.reply.Why.{Why}
 use Rattle.reply_text.specs.declared.reply.Why.TheVariants as because
-use Rattle.reply_text.specs.Answer.{Answer, answer_of}
+use Rattle.reply_text.specs.Answer.{Answer}
 use Rattle.reply_text.specs.Answer.Answer.{Bytes, Done, Refused}
 use Rattle.script_text.specs.Action.Action.{FRead, FWrite, Load, Store, Unmap}
 use Rattle.machine_host.specs.declared.mode.Mode.TheVariants.{On}
@@ -33,9 +32,7 @@ use Rattle.machine_host.proofs.HandleLemmas.{load_as, store_as}
 use Rattle.machine_host.proofs.HandledLemmas.{all-recopied, all-without, fate_given, no_handle_answered, no_place_answered, refused_answered, remapped_answered}
 use Rattle.machine_host.proofs.MapFateLemmas.{has-found}
 use Rattle.machine_host.proofs.MappedLemmas.{IsAmong, among-of, held_by}
-use Rattle.machine_host.specs.Meaning.Starved.{Untouched}
 use Rattle.machine_host.proofs.RefusalLemmas.{fate_usable, read_within}
-use Rattle.machine_host.proofs.StepLemmas.{leaves_all}
 
 -- what is true of all mappings is true of the one with a handle
 reach_of : (P : Mapping → Type 0) (handle : ℕ) (ms : List Mapping) (m : Mapping) → mapping_of handle ms ≡ Some m → All P ms → P m

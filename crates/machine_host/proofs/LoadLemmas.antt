@@ -1,8 +1,6 @@
 -- What a load of the volume comes to.
-use Rattle.std.proofs.Common.{◌≡◌, ◌+◌, ◌*◌, ◌==◌, ◌≤◌, ◌++◌, ℕ, Some, None, Result, Ok, Err, OnOk, List, [], length, replicate, take, drop, refl, sym, ap, subst, ◌∙◌, arith}
+use Rattle.std.proofs.Common.{◌≡◌, ◌+◌, ◌*◌, ◌==◌, ◌≤◌, ℕ, Some, None, Result, Ok, Err, OnOk, List, length, refl, sym, ap, subst, ◌∙◌, arith}
 use Rattle.std.proofs.lemmas.Bool.{le-ltb, ne_eqb}
-use Rattle.std.proofs.lemmas.List.{length-replicate, length-take}
-use Rattle.std.proofs.Math.Nat.{min-le_left}
 use Rattle.line_device.specs.Medium.{WritesBack}
 use Rattle.line_device.specs.Panel.{Runs}
 use Rattle.line_device.specs.Device.{Device}
@@ -10,7 +8,6 @@ use Rattle.line_words.specs.Told.{Answers, OnRefused, OnWorked, is_done, outcome
 use Rattle.word_tables.specs.declared.geometry.Geometry.{Geometry}
 use Rattle.nvm_model.specs.Blocks.{first_there}
 use Rattle.nvm_model.specs.Page.{Page, look}
-use Rattle.nvm_model.proofs.NumberedLemmas.{length-list_from}
 use Rattle.page_lines.proofs.OthersLemmas.{others-write_back}
 use Rattle.pm_volume.specs.Area.{IsOfVolume}
 use Rattle.pm_volume.specs.Costs.{lines_touched}

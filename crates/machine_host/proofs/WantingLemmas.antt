@@ -1,5 +1,5 @@
 -- A command wants no memory, where there is room for the longest line of bytes.
-use Rattle.std.proofs.Common.{◌≡◌, ◌≤◌, ◌*◌, ◌⊎◌, ℕ, min, inl, inr, Bool, true, false, IsTrue, IsOk, OnErr, Result, Ok, Err, None, List, refl, arith}
+use Rattle.std.proofs.Common.{◌≡◌, ◌≤◌, ◌*◌, ◌⊎◌, ℕ, inl, inr, true, false, IsTrue, IsOk, OnErr, Result, Ok, Err, None, List, refl, arith}
 use Rattle.std.proofs.Math.Nat.{min-le_right}
 use Rattle.word_tables.specs.declared.geometry.Geometry.{Geometry}
 use Rattle.script_text.specs.Action.{Action}

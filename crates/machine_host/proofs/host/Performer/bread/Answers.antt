@@ -1,4 +1,4 @@
-use Rattle.std.proofs.Common.{◌≡◌, ◌*◌, ◌/◌, ◌≤◌, ℕ, Ok, Err, length, take, drop, ap, ◌∙◌, arith}
+use Rattle.std.proofs.Common.{◌≡◌, ◌*◌, ◌/◌, ℕ, Ok, Err, length, take, drop, ap, ◌∙◌, arith}
 use Rattle.block_device.specs.Object.{blocks_of}
 use Rattle.nvm_model.specs.Blocks.{look_blocks}
 use Rattle.reply_text.specs.Answer.Answer.{Bytes}

@@ -1,4 +1,4 @@
-use Rattle.std.proofs.Common.{◌≡◌, ◌+◌, ◌*◌, ◌++◌, ◌≤◌, Ok, Err, Some, length, take, drop, sym, ap, subst, ◌∙◌, arith}
+use Rattle.std.proofs.Common.{◌≡◌, ◌+◌, ◌*◌, ◌≤◌, Ok, Err, Some, length, take, drop, sym, ap, subst, ◌∙◌, arith}
 use Rattle.inode_table.specs.Slots.{inode_of, pages_at}
 use Rattle.line_words.specs.Told.{Answers}
 use Rattle.nvm_base.specs.Units.{units_of}

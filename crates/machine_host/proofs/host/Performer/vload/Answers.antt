@@ -1,4 +1,4 @@
-use Rattle.std.proofs.Common.{◌≡◌, ◌++◌, ◌≤◌, Ok, Err, length, take, drop, sym, ap, subst, ◌∙◌, arith}
+use Rattle.std.proofs.Common.{◌≡◌, ◌≤◌, Ok, Err, length, take, drop, sym, ap, subst, ◌∙◌, arith}
 use Rattle.reply_text.specs.Answer.{IsPrintable}
 use Rattle.reply_text.specs.Answer.Answer.{Bytes}
 use Rattle.reply_text.specs.Room.{most_of}
