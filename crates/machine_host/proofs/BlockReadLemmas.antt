@@ -1,7 +1,6 @@
 -- What a host and its device stand for, after a read of blocks.
-use Rattle.std.proofs.Common.{◌≡◌, ◌≢◌, ℕ, ◌+◌, ◌*◌, ◌/◌, ◌%◌, ◌==◌, ◌||◌, ◌≤◌, true, false, not, Some, None, option_map, Result, Ok, Err, OnOk, List, [], ◌++◌, length, replicate, take, drop, nat_lt, refl, sym, ap, subst, ◌∙◌, arith, append-nil}
+use Rattle.std.proofs.Common.{◌≡◌, ◌≢◌, ℕ, ◌+◌, ◌*◌, ◌/◌, ◌%◌, ◌==◌, ◌||◌, ◌≤◌, true, false, not, Some, None, option_map, Result, Ok, Err, OnOk, List, length, nat_lt, refl, sym, ap, subst, ◌∙◌, arith}
 use Rattle.std.proofs.lemmas.Bool.{le-ltb, ne_eqb}
-use Rattle.std.proofs.lemmas.List.{take_all, drop_all, length-replicate}
 use Rattle.line_device.specs.Medium.{WritesBack}
 use Rattle.line_device.specs.Panel.{Runs}
 use Rattle.line_device.specs.Device.{Device}
@@ -38,20 +37,6 @@ use Rattle.machine_host.proofs.BlockLemmas.{Called, host_after, blocks_part, cha
 use Rattle.machine_host.proofs.CallLemmas.{printable_told, short_told}
 use Rattle.block_device.specs.Refusals.{block_says}
 
--- a buffer that a call filled
-pub refilled : (items out : List ℕ) → length out ≡ length items → take (length items) (out ++ drop (length out) items) ≡ out
-refilled items out same =
-    let rest = drop_all (length out) items (omega arith) in
-    ap (λ xs. take (length items) (out ++ xs)) rest ∙ ap (take (length items)) (append-nil out) ∙ take_all (length items) out (omega arith)
-
--- a buffer of as many bytes as the blocks have
-pub buffer_size : (count : ℕ) (before items out : List ℕ) → before ≡ [] → items ≡ before ++ replicate (512 * count) 0 → out ≡ items → length out ≡ 512 * count
-buffer_size count before items out none filled is = ap length (is ∙ filled) ∙ ap (λ xs. length (xs ++ replicate (512 * count) 0)) none ∙ length-replicate (512 * count) 0
-
--- what is read into it is what it has
-pub refill_is : (count : ℕ) (old items out shown : List ℕ) → length old ≡ length items → length old ≡ 512 * count → out ≡ shown → length shown ≡ 512 * count → take (length items) (out ++ drop (length out) items) ≡ shown
-refill_is count old items out shown same size is long = refilled items out (ap length is ∙ long ∙ sym size ∙ same) ∙ is
-
 -- a fault that refuses leaves the object settled
 refused_done : (f : BlockFault) → told f ≢ None → is_done (block_outcome {T = Unit {0}} (Err f)) ≡ true
 refused_done fault.Range told = refl
@@ -68,13 +53,6 @@ refused_done fault.PowerLost told = absurd (told refl)
 pub length-look : (blocks : List Block) (at count : ℕ) → length (look_blocks blocks at count) ≡ 512 * count
 unfolding look_blocks
 length-look blocks at count = length-list_from _ (512 * at) (512 * count)
-
--- the bytes of a buffer that blocks were read into
-pub read_bytes : (count block : ℕ) (old items out : List ℕ) (blocks : List Block) → length old ≡ length items → length old ≡ 512 * count → out ≡ look_blocks blocks block (length old / 512)
-    → take (length items) (out ++ drop (length out) items) ≡ look_blocks blocks block count
-read_bytes count block old items out blocks same size is =
-    let many : length old / 512 ≡ count = omega (arith, size) in
-    refill_is count old items out (look_blocks blocks block count) same size (is ∙ ap (look_blocks blocks block) many) (length-look blocks block count)
 
 whole_blocks : (blocks block count : ℕ) → 1 ≤ count → block + count ≤ blocks → bytes_refusal blocks block (512 * count) ≡ None
 whole_blocks blocks block count some within =

@@ -1,5 +1,5 @@
 -- What loads, stores and ends of mappings come to.
-use Rattle.std.proofs.Common.{◌≡◌, ◌↔◌, ◌+◌, ◌*◌, ◌^◌, ◌≤◌, ◌∙◌, ℕ, suc, Bool, true, false, cond, Option, Some, None, option_map, IfOk, IfSome, IsErr, OnErr, OnOk, Result, Ok, Err, is_err, List, [], ◌∷◌, All, length, take, drop, min, refl, sym, ap, subst, arith, is_none, option_and_then, if◌then◌else◌}
+use Rattle.std.proofs.Common.{◌≡◌, ◌↔◌, ◌+◌, ◌*◌, ◌^◌, ◌≤◌, ◌∙◌, ℕ, suc, Bool, true, false, cond, Option, Some, None, option_map, IfSome, IsErr, OnErr, OnOk, Result, Ok, Err, is_err, List, [], ◌∷◌, All, length, take, drop, min, refl, sym, ap, subst, arith, is_none, option_and_then, if◌then◌else◌}
 use Rattle.std.proofs.lemmas.List.{length-take}
 use Rattle.std.proofs.Math.Nat.{min-le_left}
 use Rattle.std.proofs.lemmas.Option.{same_Some}
@@ -11,10 +11,9 @@ use Rattle.nvm_model.specs.Storage.{Mapping}
 use Rattle.file_journal.specs.Tables.{AreTables}
 use Rattle.mappings.specs.Object.{AreMappings, IsMapping, MappingsState, info_of}
 use Rattle.mappings.specs.declared.info.MapInfo.{MapInfo}
-use Rattle.reply_text.specs.declared.reply.Reply.{Reply}
 use Rattle.reply_text.specs.declared.reply.Why.{Why}
 use Rattle.reply_text.specs.declared.reply.Why.TheVariants as because
-use Rattle.reply_text.specs.Answer.{Answer, answer_of}
+use Rattle.reply_text.specs.Answer.{Answer}
 use Rattle.reply_text.specs.Answer.Answer.{Bytes, Done, Refused}
 use Rattle.script_text.specs.Action.Action.{FRead, FWrite, Load, Store, Unmap}
 use Rattle.machine_host.specs.declared.mode.Mode.TheVariants.{On}
@@ -24,7 +23,8 @@ use Rattle.machine_host.specs.Machine.Fate.{Gives}
 use Rattle.machine_host.specs.Meaning.{most_refusal, span_refusal}
 use Rattle.machine_host.specs.OnMappings.{load_through, read_copy, store_through, within_mapping, write_copy}
 use Rattle.machine_host.specs.OnPages.{fread, fwrite}
-use Rattle.machine_host.specs.Responding.{Answered, Responds}
+use Rattle.machine_host.specs.Responding.{Answered, ComesTo, outcome_answer}
+use Rattle.machine_host.specs.declared.outcome.Outcome.{Outcome}
 use Rattle.machine_host.specs.Stands.{Comes, HostServes, HostState, IsOnFile, Stands}
 use Rattle.machine_host.proofs.AsLemmas.{IsAs, answered_as}
 use Rattle.machine_host.proofs.ExistsLemmas.{same_state}
@@ -32,9 +32,7 @@ use Rattle.machine_host.proofs.HandleLemmas.{load_as, store_as}
 use Rattle.machine_host.proofs.HandledLemmas.{all-recopied, all-without, fate_given, no_handle_answered, no_place_answered, refused_answered, remapped_answered}
 use Rattle.machine_host.proofs.MapFateLemmas.{has-found}
 use Rattle.machine_host.proofs.MappedLemmas.{IsAmong, among-of, held_by}
-use Rattle.machine_host.specs.Meaning.Starved.{Untouched}
 use Rattle.machine_host.proofs.RefusalLemmas.{fate_usable, read_within}
-use Rattle.machine_host.proofs.StepLemmas.{leaves_all}
 
 -- what is true of all mappings is true of the one with a handle
 reach_of : (P : Mapping → Type 0) (handle : ℕ) (ms : List Mapping) (m : Mapping) → mapping_of handle ms ≡ Some m → All P ms → P m
@@ -121,9 +119,10 @@ module _ (now : HostState) (old : Device) (on : now.mode ≡ On) (serves : HostS
       (if is_shared told.mapping.kind then fread told.mapping.name (told.mapping.start + offset) len else read_copy told.mapping offset len) refl (omega arith)
 
   pub load_shared : (offset len : ℕ) (info : MapInfo) (told : Told now.files.mappings.mappings handle info) → info.kind ≡ Shared → None ≡ most_refusal 65536 info.span.len offset len
-      → {E : Type 0} (r : Result Reply E) (after : HostState) (new : Device) → Responds (FRead info.name (info.span.start + offset) len) r now after old new → Responds (Load handle offset len) r now after old new
-  load_shared offset len info told shared none r after new responds =
-      by_result r (subst (λ (i : MapInfo). Responds (FRead i.name (i.span.start + offset) len) r now after old new) (sym told.same) responds)
+      → (work : List ℕ) (outcome : Outcome) (after : HostState) (new : Device) → ComesTo (FRead info.name (info.span.start + offset) len) work outcome now after old new → ComesTo (Load handle offset len) work outcome now after old new
+  load_shared offset len info told shared none work outcome after new comes =
+      let was = subst (λ (i : MapInfo). Answered (FRead i.name (i.span.start + offset) len) (outcome_answer work outcome) now after old new) (sym told.same) comes.0 in
+      (answered_as (FRead m.name (m.start + offset) len) (Load handle offset len) (outcome_answer work outcome) now after old new alike (omega arith) was, comes.1)
     where
       m : Mapping
       m = told.mapping
@@ -133,10 +132,6 @@ module _ (now : HostState) (old : Device) (on : now.mode ≡ On) (serves : HostS
           let file = file_under m told.is h stands in
           load_as h (sym stands.mode ∙ on) handle m (seen_of (Some m) told.is h stands) (ap (λ (i : MapInfo). is_shared i.kind) told.same ∙ ap is_shared shared) file.file
           (has-found m.name h.files file.file file.found) file.found file.within offset len (ap (λ (i : MapInfo). most_refusal 65536 i.span.len offset len) told.same ∙ sym none)
-
-      by_result : {E : Type 0} (q : Result Reply E) → Responds (FRead m.name (m.start + offset) len) q now after old new → Responds (Load handle offset len) q now after old new
-      by_result (Ok reply) was = answered_as (FRead m.name (m.start + offset) len) (Load handle offset len) (answer_of reply) now after old new alike (omega arith) was
-      by_result (Err e) was = record { leaves = was.leaves; serves = was.serves }
 
   pub load_private : (offset len : ℕ) (info : MapInfo) (told : Told now.files.mappings.mappings handle info) → info.kind ≡ Private → None ≡ most_refusal 65536 info.span.len offset len
       → AreMappings now.files.mappings → (answer : Answer) → IfSome (copy_of handle now.files.mappings.mappings) (λ copy. answer ≡ Bytes (take len (drop offset copy)))
@@ -235,13 +230,6 @@ pub copy_within : (s : MappingsState) (handle : ℕ) (info : MapInfo) → AreMap
 copy_within s handle info are told private offset len within =
     let copy = told_copy s handle info are told private in
     subst (λ o. IfSome o (λ bytes. offset + len ≤ length bytes)) (sym copy.0) (subst (λ n. offset + len ≤ n) (sym copy.1) within)
-
--- A load of a copy, for which memory may be wanting.
-pub load_own : {E : Type 0} (now : HostState) (old : Device) → (on : now.mode ≡ On) → HostServes now old → (handle offset len : ℕ) (info : MapInfo) (told : Told now.files.mappings.mappings handle info) → info.kind ≡ Private
-    → None ≡ most_refusal 65536 info.span.len offset len → AreMappings now.files.mappings → (r : Result Reply E)
-    → IfOk r (λ reply. IfSome (copy_of handle now.files.mappings.mappings) (λ copy. answer_of reply ≡ Bytes (take len (drop offset copy)))) → Responds (Load handle offset len) r now now old old
-load_own now old on serves handle offset len info told private none are (Ok reply) is = load_private now old on serves handle offset len info told private none are (answer_of reply) is
-load_own now old on serves handle offset len info told private none are (Err e) is = record { leaves = leaves_all Untouched now old; serves = serves }
 
 -- A store to a copy. Of a host behind a reference `host` is what is inside `now`.
 pub store_own : (now host : HostState) (ms : MappingsState) (old : Device) → now.mode ≡ On → HostServes now old → (handle offset : ℕ) (bytes : List ℕ) (info : MapInfo)

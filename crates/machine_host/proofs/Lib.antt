@@ -82,3 +82,5 @@ mod FileActionRunLemmas
 mod LineSumLemmas
 mod WeakLineLemmas
 mod WeakFileLemmas
+mod WantingLemmas
+mod WorkLemmas

@@ -1,8 +1,6 @@
 -- What a load of the volume comes to.
-use Rattle.std.proofs.Common.{◌≡◌, ◌+◌, ◌*◌, ◌==◌, ◌≤◌, ◌++◌, ℕ, Some, None, Result, Ok, Err, OnOk, List, [], length, replicate, take, drop, refl, sym, ap, subst, ◌∙◌, arith}
+use Rattle.std.proofs.Common.{◌≡◌, ◌+◌, ◌*◌, ◌==◌, ◌≤◌, ℕ, Some, None, Result, Ok, Err, OnOk, List, length, refl, sym, ap, subst, ◌∙◌, arith}
 use Rattle.std.proofs.lemmas.Bool.{le-ltb, ne_eqb}
-use Rattle.std.proofs.lemmas.List.{length-replicate, length-take}
-use Rattle.std.proofs.Math.Nat.{min-le_left}
 use Rattle.line_device.specs.Medium.{WritesBack}
 use Rattle.line_device.specs.Panel.{Runs}
 use Rattle.line_device.specs.Device.{Device}
@@ -10,7 +8,6 @@ use Rattle.line_words.specs.Told.{Answers, OnRefused, OnWorked, is_done, outcome
 use Rattle.word_tables.specs.declared.geometry.Geometry.{Geometry}
 use Rattle.nvm_model.specs.Blocks.{first_there}
 use Rattle.nvm_model.specs.Page.{Page, look}
-use Rattle.nvm_model.proofs.NumberedLemmas.{length-list_from}
 use Rattle.page_lines.proofs.OthersLemmas.{others-write_back}
 use Rattle.pm_volume.specs.Area.{IsOfVolume}
 use Rattle.pm_volume.specs.Costs.{lines_touched}
@@ -32,7 +29,6 @@ use Rattle.machine_host.specs.Faults.{answer_after, mode_after}
 use Rattle.machine_host.specs.OnVolume.{volume_answer}
 use Rattle.machine_host.specs.Responding.{Answered}
 use Rattle.machine_host.specs.Stands.{HostState, HostServes}
-use Rattle.machine_host.proofs.BlockReadLemmas.{refilled}
 use Rattle.machine_host.proofs.ElsewhereLemmas.{volume_holds_elsewhere}
 use Rattle.machine_host.proofs.VolumeCallLemmas.{VolumeCalled, volume_part, same_volume, settled_ok, settled_was, volume_after, volume_pages, volume_sizes, work_comes, work_serves}
 use Rattle.machine_host.proofs.VolumeFateLemmas.{fate_vload}
@@ -42,19 +38,6 @@ bytes_right : (geo : Geometry) (offset len : ℕ) → 1 ≤ len → offset + len
 bytes_right geo offset len some within =
     ap (λ b. first_there (refused_if b Range) (refused_if (len == 0) Length)) (le-ltb (4096 * geo.vpages) (offset + len) within)
     ∙ ap (λ b. refused_if b Length) (ne_eqb len 0 (λ e. omega arith))
-
--- a buffer of so many zeros
-pub loaded_size : (len : ℕ) (before items : List ℕ) → before ≡ [] → items ≡ before ++ replicate len 0 → length items ≡ len
-loaded_size len before items none filled = ap length filled ∙ ap (λ xs. length (xs ++ replicate len 0)) none ∙ length-replicate len 0
-
--- the bytes of a buffer that they were loaded into
-pub loaded_bytes : (len : ℕ) (old items out : List ℕ) (pages : List Page) (offset : ℕ) → old ≡ items → length items ≡ len → out ≡ look pages offset (length old)
-    → take (length items) (out ++ drop (length out) items) ≡ look pages offset len
-unfolding look
-loaded_bytes len old items out pages offset same size is =
-    let many : length old ≡ len = ap length same ∙ size in
-    let long : length out ≡ length items = ap length is ∙ length-list_from _ offset (length old) ∙ ap length same in
-    refilled items out long ∙ is ∙ ap (look pages offset) many
 
 module _ (now host after : HostState) (s : VolumeState) (r : Result (Unit {0}) VolumeFault) (offset len calls : ℕ) (Q : Type 0) (old new : Device)
     (inside : host ≡ now) (state : after ≡ volume_after host s (mode_after volume_says r)) (on : now.mode ≡ On) (serves : HostServes now old) (few : calls ≤ lines_touched offset len)
@@ -108,7 +91,3 @@ module _ (now host after : HostState) (s : VolumeState) (r : Result (Unit {0}) V
     room = room;
     serves = work_serves volume_says volume_answer volume_part now host after s r calls 0 old new inside state on serves (VLoad offset len) (λ h stands. (few, omega arith)) (λ h bs same. same) call;
   }
-
--- as many bytes as the buffer has
-pub taken_short : (len : ℕ) (items bytes : List ℕ) → length items ≡ len → most_of (Bytes (take (length items) bytes)) ≤ 72 + 3 * len
-taken_short len items bytes size = let few : length (take (length items) bytes) ≤ length items = subst (λ n. n ≤ length items) (sym (length-take (length items) bytes)) (min-le_left (length items) (length bytes)) in omega (arith, few, size)

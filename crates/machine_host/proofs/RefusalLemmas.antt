@@ -16,6 +16,7 @@ use Rattle.reply_text.specs.declared.reply.Why.TheVariants.{Range, Length, Limit
 use Rattle.reply_text.specs.declared.reply.Why.TheVariants as because
 use Rattle.reply_text.specs.Answer.{Answer, IsPrintable}
 use Rattle.reply_text.specs.Answer.Answer.{Done, Bytes, Refused, RefusedMeta}
+use Rattle.reply_text.specs.Room.{most_of}
 use Rattle.machine_host.specs.declared.mode.Mode.{Mode}
 use Rattle.machine_host.specs.declared.mode.Mode.TheVariants.{On, Off, Unsettled, Stopped}
 use Rattle.machine_host.specs.declared.needs.Needs.{Needs}
@@ -201,13 +202,14 @@ places_refused h (Evict lines) why is = cc is
 -- an answer that can be printed and tells of no interruption
 pub record IsPlain (answer : Answer) : Type 0 where
   pub printable : IsPrintable answer
+  pub short : most_of answer ≡ 72
   pub quiet : stop_in answer ≡ None
 
 plain_refused : (why : Why) (answer : Answer) → Some (Refused why) ≡ Some answer → IsPlain answer
-plain_refused why answer is = subst IsPlain (same_Some (Refused why) answer is) (record { printable = tt; quiet = refl })
+plain_refused why answer is = subst IsPlain (same_Some (Refused why) answer is) (record { printable = tt; short = refl; quiet = refl })
 
 plain_meta : (line : ℕ) (answer : Answer) → Some (RefusedMeta line) ≡ Some answer → IsPlain answer
-plain_meta line answer is = subst IsPlain (same_Some (RefusedMeta line) answer is) (record { printable = tt; quiet = refl })
+plain_meta line answer is = subst IsPlain (same_Some (RefusedMeta line) answer is) (record { printable = tt; short = refl; quiet = refl })
 
 mode_plain : (mode : Mode) (bad_meta : List ℕ) (needs : Needs) (answer : Answer) → mode_refusal mode bad_meta needs ≡ Some answer → IsPlain answer
 mode_plain On bad_meta Usable answer is = cc is

@@ -40,3 +40,4 @@ pub mod EventRows
 pub mod AttributeRows
 pub mod PageRows
 pub mod FileActionRows
+pub mod Wanting

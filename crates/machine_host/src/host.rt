@@ -22,10 +22,10 @@ use crate::held::HeldFiles;
 use block_device::Blocks;
 use commands::longest_reply;
 use line_device::LineDevice;
-use nvm_base::Bytes;
+use nvm_base::{Bytes, MOST};
 use pm_volume::Volume;
 use recovery::MountFault;
-use reply_text::{Reply, print};
+use reply_text::print;
 use script_text::Command;
 use std::alloc::{AllocError, Global};
 use std::marker::Model;
@@ -34,6 +34,26 @@ use word_tables::Geometry;
 /// The host of a device. What blocks, volume and files hold is kept by the device alone.
 #[derive(Drop)]
 pub struct Host {
+    performer: Performer,
+    // where bytes are read into, as many as a command reads at most
+    work: Vec<u8>,
+}
+
+impl Model for Host {
+    ghost use Rattle.std.specs.Prelude.{◌≡◌};
+    ghost use Rattle.std.specs.Vec.{vec_len};
+    ghost use Rattle.machine_host.specs.Stands.{HostState};
+
+    ghost Value = { HostState };
+
+    ghost view = { λ h. h.performer };
+
+    ghost invariant = { λ h. vec_len h.work ≡ 65536 };
+}
+
+// What performs commands: all of a host but its work buffer.
+#[derive(Drop)]
+struct Performer {
     alloc: Global,
     geometry: Geometry,
     mode: Mode,
@@ -42,7 +62,7 @@ pub struct Host {
     files: HeldFiles,
 }
 
-impl Model for Host {
+impl Model for Performer {
     ghost use Rattle.machine_host.specs.Stands.{HostState};
 
     ghost Value = { HostState };
@@ -51,12 +71,12 @@ impl Model for Host {
 }
 
 impl Host {
-    ghost use Rattle.std.specs.Prelude.{◌≡◌, ◌≤◌, [], None, IsTrue, IfOk, OnOk, OnErr};
+    ghost use Rattle.std.specs.Prelude.{◌≡◌, ◌≤◌, [], None, false, IsTrue, IfOk, OnOk, OnErr};
     ghost use Rattle.machine_host.specs.declared.mode.Mode.TheVariants as modes;
     ghost use Rattle.script_text.specs.Action.{action_of};
     ghost use Rattle.script_text.specs.Parsing.{InBounds};
     ghost use Rattle.line_device.specs.Medium.{last_image};
-    ghost use Rattle.line_device.specs.Panel.{Image, Runs};
+    ghost use Rattle.line_device.specs.Panel.{Image, Runs, after_disarm};
     ghost use Rattle.line_device.specs.Device.{Depicts};
     ghost use Rattle.line_words.specs.Words.{WritesBackOutside};
     ghost use Rattle.word_tables.specs.Layout.{meta_lines};
@@ -70,14 +90,16 @@ impl Host {
     ghost use Rattle.block_device.specs.Images.{KeepsReads};
     ghost use Rattle.recovery.specs.Findings.{geometry_told, early_finding, first_finding};
     ghost use Rattle.recovery.specs.Mounting.{Finds, IsOfLogs, mount_outcome};
-    ghost use Rattle.machine_host.specs.Machine.{Machine};
+    ghost use Rattle.machine_host.specs.Machine.{Machine, bad_of};
     ghost use Rattle.machine_host.specs.Lines.{MetadataStands};
     ghost use Rattle.machine_host.specs.Stands.{HostServes, IsFlushed, Stands, Steps};
     ghost use Rattle.machine_host.specs.Restarting.{reading};
     ghost use Rattle.machine_host.specs.Costs.{mount_calls, mount_persists};
     ghost use Rattle.machine_host.specs.Faults.{Leaves};
+    ghost use Rattle.machine_host.specs.Settling.{LeftUnsettled, Settled, is_down};
+    ghost use Rattle.machine_host.specs.Wanting.{may_want_memory};
 
-    /// The host of a device, of the sizes that its superblock tells. It mounts the device.
+    /// The host of a device, of the sizes that its superblock tells. It mounts the device, and takes its work buffer.
     pub fn mount<D: LineDevice>(alloc: Global, device: &mut D) -> Result<Self, MountFault>
         requires some { 1 ≤ (D.state device.old).medium.count }
         requires flushed { IsFlushed (D.state device.old).medium }
@@ -109,20 +131,44 @@ impl Host {
         ensures runs { Runs mount_calls mount_persists (mount_outcome result) (D.state device.old).panel (D.state device.new).panel }
     {
         let mounted = recovery::mount(alloc, device)?;
-        Ok(Host {
+        let work = vec![in alloc; 0u8; MOST as usize]?;
+        let performer = Performer {
             alloc,
             geometry: mounted.geo,
             mode: Mode::On,
             blocks: mounted.blocks,
             volume: mounted.volume,
             files: HeldFiles::of(alloc, mounted.files, mounted.events),
-        })
+        };
+        Ok(Host { performer, work })
     }
 
     pub fn mode(&self) -> Mode
         ensures { result ≡ self.now.mode }
     {
-        self.mode
+        self.performer.mode
+    }
+
+    /// Brings the host into mode On, or Stopped where a line of metadata is bad, so that the device can be read: what is armed
+    /// ends, the power comes back where it is off, and a device that is not mounted is mounted. Only memory can be wanting.
+    pub fn settle<D: LineDevice>(&mut self, device: &mut D) -> Result<(), AllocError>
+        requires serves { HostServes self.old (D.state device.old) }
+        ensures settled { OnOk result ((h : Machine) → Stands self.old (D.state device.old) h
+            → Settled h self.new (after_disarm (D.state device.old).panel) (D.state device.new)) }
+        ensures up { OnOk result (is_down self.new.mode ≡ false) }
+        ensures memory { OnErr result
+            (LeftUnsettled self.old self.new (D.state device.old) (after_disarm (D.state device.old).panel) (D.state device.new)) }
+    {
+        self.performer.settle(device)
+    }
+
+    /// How many lines of the blocks, pages and files that are there are bad. It makes no counted call.
+    pub fn bad_lines<D: LineDevice>(&self, device: &D) -> u64
+        requires serves { HostServes self.now (D.state device.now) }
+        requires on { self.now.mode ≡ modes.On }
+        ensures { (h : Machine) → Stands self.now (D.state device.now) h → result ≡ bad_of h }
+    {
+        self.performer.bad_lines(device)
     }
 
     /// Performs a command on the device and appends its reply's line.
@@ -140,14 +186,16 @@ impl Host {
             → Steps h (action_of command.now) out.old.items out.new.items self.new (D.state device.old) (D.state device.new)) }
         ensures memory { OnErr result ((out.new.items ≡ out.old.items)
             × Leaves (action_of command.now) self.old self.new (D.state device.old) (D.state device.new)) }
+        // Where there is room for the longest line of bytes that are read, only these commands may want memory.
+        ensures spare { 200000 ≤ out.old.spare → OnErr result (IsTrue (may_want_memory (action_of command.now))) }
         ensures serves { HostServes self.new (D.state device.new) }
     {
-        if let Some(reply) = self.refusal(device, command) {
+        if let Some(reply) = self.performer.refusal(device, command) {
             return print(&reply, out);
         }
         // The room of the reply comes first: what was done is answered.
         out.reserve(longest_reply(command))?;
-        let reply = self.perform(device, command)?;
-        print(&reply, out)
+        let outcome = self.performer.perform(device, command, &mut self.work)?;
+        outcome.print(&self.work, out)
     }
 }

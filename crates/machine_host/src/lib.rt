@@ -6,6 +6,7 @@ mod host;
 mod look;
 mod mode;
 mod needs;
+mod outcome;
 mod rows;
 
 pub use host::Host;

@@ -34,11 +34,10 @@ pub data Answer : Type 0 where
   Refused : Why → Answer
   RefusedMeta : ℕ → Answer
 
--- what a reply tells
+-- what a reply tells, which none does of bytes
 abbrev pub answer_of : Reply → Answer
 answer_of reply.Done = Done
 answer_of (reply.DoneBad n) = DoneBad n
-answer_of (reply.Bytes bytes) = Bytes bytes.items
 answer_of (reply.Ranges ranges) = Ranges ranges.items
 answer_of (reply.Files files) = Files files.items
 answer_of reply.Yes = Yes

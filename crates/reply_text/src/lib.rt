@@ -1,6 +1,7 @@
 //! What commands are answered, and the line of each answer.
 #![tactic(auto)]
 
+mod data;
 mod events;
 mod files;
 mod printing;
@@ -9,5 +10,6 @@ mod reply;
 #[cfg(test)]
 mod tests;
 
+pub use data::print_data;
 pub use printing::print;
 pub use reply::{Reply, Why};

@@ -9,7 +9,7 @@ use crate::events::{print_bad_lines, print_event};
 use crate::files::{print_file_line, print_files};
 use crate::ranges::print_ranges;
 use crate::{Reply, Why};
-use nvm_base::{Bytes, print_bytes, print_number};
+use nvm_base::{Bytes, print_number};
 use std::alloc::AllocError;
 
 /// Appends the reply's line, all of it or nothing.
@@ -46,10 +46,6 @@ fn print_text(reply: &Reply, out: &mut Bytes) -> Result<(), AllocError>
     match reply {
         Reply::Done => out.extend(b"ok"),
         Reply::DoneBad(n) => print_counted(b"ok bad ", *n, out),
-        Reply::Bytes(bytes) => {
-            out.extend(b"data ")?;
-            print_bytes(bytes.as_slice(), out)
-        }
         Reply::Ranges(ranges) => print_ranges(ranges.as_slice(), out),
         Reply::Files(files) => print_files(files.as_slice(), out),
         Reply::Yes => out.extend(b"yes"),

@@ -1,5 +1,5 @@
 use error_events::Event;
-use nvm_base::{Bytes, FileList, Name, Spans, Words};
+use nvm_base::{FileList, Name, Spans, Words};
 
 /// Why a command is not done.
 #[derive(Clone, Copy, Debug, PartialEq, Eq)]
@@ -34,13 +34,12 @@ pub enum Why {
     Unknown,
 }
 
-/// What a command is answered.
+/// What a command is answered, but for bytes that it reads.
 #[derive(Debug, Drop)]
 pub enum Reply {
     Done,
     /// A restart is done. So many lines of storage are bad.
     DoneBad(u64),
-    Bytes(Bytes),
     /// Where a volume lies: ranges of physical addresses, one behind the other.
     Ranges(Spans),
     /// Files: the name of each, and how many pages it has.

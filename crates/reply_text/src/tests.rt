@@ -1,4 +1,4 @@
-use crate::{Reply, Why, print};
+use crate::{Reply, Why, print, print_data};
 use error_events::Event;
 use nvm_base::{Bytes, FileEntry, FileList, Name, Span, Spans, Words};
 use std::alloc::AllocError;
@@ -26,9 +26,7 @@ fn each_reply_has_its_line(rt: HostRuntime) -> Result<(), AllocError> {
     print(&Reply::PowerLost, &mut out)?;
     print(&Reply::Stopped(2303), &mut out)?;
     print(&Reply::Stopped(18446744073709551615), &mut out)?;
-    let mut bytes = Bytes::new(rt.alloc());
-    bytes.extend(&[7, 7, 255])?;
-    print(&Reply::Bytes(bytes), &mut out)?;
+    print_data(&[7, 7, 255], &mut out)?;
     assert_eq!(rt;
         out.as_slice(),
         b"ok\nok bad 0\nok bad 118016\nyes\nno\nhandle 1\nhandle 4294967295\nnone\nattr 0\nattr 1000000\nattr 18446744073709551615\nscarred 4095\npoison block 10 7\npoison volume 4032 64\nrefused meta 2303\nrefused device\npower lost\nstopped meta 2303\nstopped meta 18446744073709551615\ndata 07*2,ff\n".as_slice()

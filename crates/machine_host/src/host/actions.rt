@@ -14,7 +14,7 @@ ghost use Rattle.machine_host.specs.Stands.{HostServes};
 ghost use Rattle.machine_host.specs.Faults.{answer_after, mode_after, action_fault_answer, action_fault_mode};
 ghost use Rattle.machine_host.specs.Responding.{Answered};
 
-use super::Host;
+use super::Performer;
 use crate::held::HeldFiles;
 use file_actions::{ActionFault, atomic_multiwrite, atomic_write, discard, sync};
 use line_device::LineDevice;
@@ -22,7 +22,7 @@ use line_words::Interruption;
 use nvm_base::{Name, PAGE, Span};
 use reply_text::{Reply, Why};
 
-impl Host {
+impl Performer {
     pub(super) fn fatomic<D: LineDevice>(
         &mut self,
         device: &mut D,

@@ -9,35 +9,36 @@ ghost use Rattle.block_device.specs.Refusals.{block_says};
 ghost use Rattle.machine_host.specs.OnBlocks.{refusal_answer};
 ghost use Rattle.machine_host.specs.Stands.{HostServes};
 ghost use Rattle.machine_host.specs.Faults.{answer_after, fault_answer, fault_mode, mode_after};
-ghost use Rattle.machine_host.specs.Responding.{Answered, Responds};
+ghost use Rattle.machine_host.specs.Responding.{Answered, ComesTo};
 
-use super::Host;
+use super::Performer;
+use crate::outcome::Outcome;
 use block_device::BlockFault;
 use line_device::LineDevice;
 use line_words::Interruption;
-use nvm_base::{BLOCK, Bytes, Span};
+use nvm_base::{BLOCK, Span};
 use reply_text::{Reply, Why};
-use std::alloc::AllocError;
 
-impl Host {
+impl Performer {
     pub(super) fn bread<D: LineDevice>(
         &mut self,
         device: &mut D,
         block: u64,
         count: u64,
-    ) -> Result<Reply, AllocError>
+        work: &mut [u8],
+    ) -> Outcome
         requires serves { HostServes self.old (D.state device.old) }
         requires on { self.old.mode ≡ On }
         requires some { 1 ≤ count }
         requires few { count ≤ 128 }
         requires within { block + count ≤ self.old.geometry.blocks }
-        ensures { Responds (BRead block count) result self.old self.new (D.state device.old) (D.state device.new) }
+        requires wide { length work.old ≡ 65536 }
+        ensures { ComesTo (BRead block count) work.new result self.old self.new (D.state device.old) (D.state device.new) }
     {
-        let mut bytes = Bytes::new(self.alloc);
-        bytes.repeat(0, BLOCK * count)?;
-        match self.blocks.read_into(device, block, bytes.as_mut_slice()) {
-            Ok(()) => Ok(Reply::Bytes(bytes)),
-            Err(fault) => Ok(self.fault(fault)),
+        let n = (BLOCK * count) as usize;
+        match self.blocks.read_into(device, block, &mut work[..n]) {
+            Ok(()) => Outcome::Read(n),
+            Err(fault) => Outcome::Reply(self.fault(fault)),
         }
     }
 

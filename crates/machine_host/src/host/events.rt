@@ -6,11 +6,11 @@ ghost use Rattle.machine_host.specs.declared.mode.Mode.TheVariants.{On};
 ghost use Rattle.machine_host.specs.Stands.{HostServes};
 ghost use Rattle.machine_host.specs.Responding.{Answered};
 
-use super::Host;
+use super::Performer;
 use line_device::LineDevice;
 use reply_text::Reply;
 
-impl Host {
+impl Performer {
     // Takes the oldest.
     pub(super) fn next_event<D: LineDevice>(&mut self, _device: &D) -> Reply
         requires serves { HostServes self.old (D.state _device.now) }

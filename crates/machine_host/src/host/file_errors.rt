@@ -9,7 +9,7 @@ ghost use Rattle.reply_text.specs.Answer.{answer_of};
 ghost use Rattle.machine_host.specs.Stands.{HostServes};
 ghost use Rattle.machine_host.specs.Responding.{Answered, Responds};
 
-use super::Host;
+use super::Performer;
 use super::media::{marked, weakened};
 use file_pages::{FilePages, ends_past};
 use line_device::LineDevice;
@@ -18,7 +18,7 @@ use reply_text::{Reply, Why};
 use scrub::LinesFault;
 use std::alloc::AllocError;
 
-impl Host {
+impl Performer {
     // Room for its event comes first, so that of each weak line stays.
     pub(super) fn poison_file<D: LineDevice>(
         &mut self,

@@ -11,7 +11,7 @@ ghost use Rattle.machine_host.specs.Stands.{HostServes};
 ghost use Rattle.machine_host.specs.Faults.{answer_after, mode_after, journal_fault_answer, journal_fault_mode};
 ghost use Rattle.machine_host.specs.Responding.{Answered, Responds};
 
-use super::Host;
+use super::Performer;
 use file_journal::JournalFault;
 use line_device::LineDevice;
 use line_words::Interruption;
@@ -19,7 +19,7 @@ use nvm_base::Name;
 use reply_text::{Reply, Why};
 use std::alloc::AllocError;
 
-impl Host {
+impl Performer {
     pub(super) fn create<D: LineDevice>(&mut self, device: &mut D, name: &Name, pages: u64) -> Reply
         requires serves { HostServes self.old (D.state device.old) }
         requires on { self.old.mode ≡ On }

@@ -22,7 +22,7 @@ ghost use Rattle.machine_host.specs.OnFlushes.{all_moved, flush_with, spans_refu
 ghost use Rattle.machine_host.specs.Responding.{Answered};
 ghost use Rattle.machine_host.specs.Stands.{HostServes};
 
-use super::Host;
+use super::Performer;
 use crate::held::HeldFiles;
 use crate::look::Look;
 use file_pages::{FilePages, ends_past};
@@ -36,7 +36,7 @@ use reply_text::{Reply, Why};
 /// Most spans that are made durable together.
 const MOST_SPANS: usize = 8;
 
-impl Host {
+impl Performer {
     // Makes spans of a mapping durable. A private one is no part of the device.
     pub(super) fn flush<D: LineDevice>(
         &mut self,

@@ -1,5 +1,5 @@
 // Commands on mappings of files.
-ghost use Rattle.std.specs.Prelude.{◌≡◌, ◌≤◌, ◌<◌, ◌+◌, ◌^◌, IfOk, IfSome, IsSome, MatchResult, drop, length, take};
+ghost use Rattle.std.specs.Prelude.{◌≡◌, ◌≤◌, ◌<◌, ◌+◌, ◌^◌, IfSome, IsSome, MatchResult, drop, length, take};
 ghost use Rattle.nvm_model.specs.Mappings.{copy_of};
 ghost use Rattle.machine_host.specs.declared.mode.Mode.TheVariants.{On};
 ghost use Rattle.script_text.specs.Action.Action.{Map, Unmap, Load, Store};
@@ -8,18 +8,19 @@ ghost use Rattle.reply_text.specs.Answer.Answer.{Bytes};
 ghost use Rattle.machine_host.specs.Stands.{HostServes};
 ghost use Rattle.mappings.specs.declared.fault.MapFault.TheVariants.{Memory};
 ghost use Rattle.machine_host.specs.Faults.{map_fault_answer, map_fault_mode};
-ghost use Rattle.machine_host.specs.Responding.{Answered, Responds};
+ghost use Rattle.machine_host.specs.Responding.{Answered, ComesTo, IsWithin, Responds, outcome_answer};
 
-use super::Host;
+use super::Performer;
 use super::refusals::{most_refusal, span_refusal};
+use crate::outcome::Outcome;
 use line_device::LineDevice;
 use line_words::Interruption;
 use mappings::MapFault;
-use nvm_base::{Bytes, Kind, MOST, Name, Span};
+use nvm_base::{Kind, MOST, Name, Span};
 use reply_text::{Reply, Why};
 use std::alloc::AllocError;
 
-impl Host {
+impl Performer {
     pub(super) fn map<D: LineDevice>(
         &mut self,
         device: &mut D,
@@ -58,21 +59,23 @@ impl Host {
         handle: u64,
         offset: u64,
         len: u64,
-    ) -> Result<Reply, AllocError>
+        work: &mut [u8],
+    ) -> Outcome
         requires serves { HostServes self.old (D.state device.old) }
         requires on { self.old.mode ≡ On }
         requires small { offset + len < 2 ^ 33 }
-        ensures { Responds (Load handle offset len) result self.old self.new (D.state device.old) (D.state device.new) }
+        requires wide { length work.old ≡ 65536 }
+        ensures { ComesTo (Load handle offset len) work.new result self.old self.new (D.state device.old) (D.state device.new) }
     {
         let Some(info) = self.files.mappings.get(handle) else {
-            return Ok(Reply::Refused(Why::Handle));
+            return Outcome::Reply(Reply::Refused(Why::Handle));
         };
         if let Some(why) = most_refusal(info.span.len, offset, len, MOST) {
-            return Ok(Reply::Refused(why));
+            return Outcome::Reply(Reply::Refused(why));
         }
         match info.kind {
-            Kind::Shared => self.fread(device, &info.name, info.span.start + offset, len),
-            Kind::Private => self.load_copy(handle, offset, len),
+            Kind::Shared => self.fread(device, &info.name, info.span.start + offset, len, work),
+            Kind::Private => self.load_copy(handle, offset, len, work),
         }
     }
 
@@ -105,18 +108,21 @@ impl Host {
     }
 
     // Bytes of a private mapping, which it has.
-    fn load_copy(&self, handle: u64, offset: u64, len: u64) -> Result<Reply, AllocError>
+    fn load_copy(&self, handle: u64, offset: u64, len: u64, work: &mut [u8]) -> Outcome
         requires own { IsSome (copy_of handle self.now.files.mappings.mappings) }
         requires within { IfSome (copy_of handle self.now.files.mappings.mappings) (λ copy. offset + len ≤ length copy) }
-        ensures bytes { IfOk result (λ reply. IfSome (copy_of handle self.now.files.mappings.mappings) (λ copy.
-            answer_of reply ≡ Bytes (take len (drop offset copy)))) }
+        requires few { len ≤ 65536 }
+        requires wide { length work.old ≡ 65536 }
+        ensures bytes { IfSome (copy_of handle self.now.files.mappings.mappings) (λ copy.
+            outcome_answer work.new result ≡ Bytes (take len (drop offset copy))) }
+        ensures within { IsWithin work.new result }
     {
         let Some(copy) = self.files.mappings.copy(handle) else {
             unreachable!()
         };
-        let mut bytes = Bytes::new(self.alloc);
-        bytes.extend(&copy[offset as usize..(offset + len) as usize])?;
-        Ok(Reply::Bytes(bytes))
+        let n = len as usize;
+        work[..n].copy_from_slice(&copy[offset as usize..(offset + len) as usize]);
+        Outcome::Read(n)
     }
 
     // What a fault of the mappings is answered, and the mode after it.

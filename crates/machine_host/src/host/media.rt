@@ -13,7 +13,7 @@ ghost use Rattle.machine_host.specs.Stands.{HostServes, Stands};
 ghost use Rattle.machine_host.specs.Faults.{answer_after, mode_after};
 ghost use Rattle.machine_host.specs.Responding.{Answered, Responds};
 
-use super::Host;
+use super::Performer;
 use line_device::LineDevice;
 use line_words::Interruption;
 use nvm_base::LineNo;
@@ -21,7 +21,7 @@ use reply_text::{Reply, Why};
 use scrub::{PlaceFault, ScrubFault, WeakenFault, bad_count};
 use std::alloc::AllocError;
 
-impl Host {
+impl Performer {
     pub(super) fn poison_block<D: LineDevice>(&self, device: &mut D, block: u64, line: u64) -> Reply
         requires serves { HostServes self.now (D.state device.old) }
         requires on { self.now.mode ≡ On }
@@ -71,8 +71,8 @@ impl Host {
         self.cleared(call)
     }
 
-    /// How many lines of the blocks, pages and files that are there are bad. It makes no counted call.
-    pub fn bad_lines<D: LineDevice>(&self, device: &D) -> u64
+    // How many lines of the blocks, pages and files that are there are bad. It makes no counted call.
+    pub(super) fn bad_lines<D: LineDevice>(&self, device: &D) -> u64
         requires serves { HostServes self.now (D.state device.now) }
         requires on { self.now.mode ≡ On }
         ensures { (h : Machine) → Stands self.now (D.state device.now) h → result ≡ bad_of h }

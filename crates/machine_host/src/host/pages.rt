@@ -9,33 +9,35 @@ ghost use Rattle.file_pages.specs.Refusals.{page_says};
 ghost use Rattle.machine_host.specs.OnPages.{page_answer};
 ghost use Rattle.machine_host.specs.Stands.{HostServes};
 ghost use Rattle.machine_host.specs.Faults.{answer_after, mode_after, page_fault_answer, page_fault_mode};
-ghost use Rattle.machine_host.specs.Responding.{Answered, Responds};
+ghost use Rattle.machine_host.specs.Responding.{Answered, ComesTo};
 
-use super::Host;
+use super::Performer;
 use super::refusals::most_refusal;
+use crate::outcome::Outcome;
 use file_pages::PageFault;
 use line_device::LineDevice;
 use line_words::Interruption;
-use nvm_base::{Bytes, MOST, Name, PAGE, Span};
+use nvm_base::{MOST, Name, PAGE};
 use reply_text::{Reply, Why};
-use std::alloc::AllocError;
 
-impl Host {
+impl Performer {
     pub(super) fn fread<D: LineDevice>(
         &mut self,
         device: &mut D,
         name: &Name,
         offset: u64,
         len: u64,
-    ) -> Result<Reply, AllocError>
+        work: &mut [u8],
+    ) -> Outcome
         requires serves { HostServes self.old (D.state device.old) }
         requires on { self.old.mode ≡ On }
         requires small { offset + len < 2 ^ 64 }
-        ensures { Responds (FRead name.now offset len) result self.old self.new (D.state device.old) (D.state device.new) }
+        requires wide { length work.old ≡ 65536 }
+        ensures { ComesTo (FRead name.now offset len) work.new result self.old self.new (D.state device.old) (D.state device.new) }
     {
         match self.files.pages.journal().find(name) {
-            Some(inode) => self.fread_at(device, name, inode, offset, len),
-            None => Ok(Reply::Refused(Why::Missing)),
+            Some(inode) => self.fread_at(device, name, inode, offset, len, work),
+            None => Outcome::Reply(Reply::Refused(Why::Missing)),
         }
     }
 
@@ -47,18 +49,20 @@ impl Host {
         inode: u64,
         offset: u64,
         len: u64,
-    ) -> Result<Reply, AllocError>
+        work: &mut [u8],
+    ) -> Outcome
         requires serves { HostServes self.old (D.state device.old) }
         requires on { self.old.mode ≡ On }
         requires named { inode_of name.now self.old.files.pages.journal.tables.files ≡ Some inode }
         requires inode { inode < 64 }
         requires small { offset + len < 2 ^ 64 }
-        ensures { Responds (FRead name.now offset len) result self.old self.new (D.state device.old) (D.state device.new) }
+        requires wide { length work.old ≡ 65536 }
+        ensures { ComesTo (FRead name.now offset len) work.new result self.old self.new (D.state device.old) (D.state device.new) }
     {
         let size = PAGE * self.files.pages.journal().pages(inode);
         match most_refusal(size, offset, len, MOST) {
-            Some(why) => Ok(Reply::Refused(why)),
-            None => self.fread_within(device, name, inode, offset, len),
+            Some(why) => Outcome::Reply(Reply::Refused(why)),
+            None => self.fread_within(device, name, inode, offset, len, work),
         }
     }
 
@@ -70,7 +74,8 @@ impl Host {
         inode: u64,
         offset: u64,
         len: u64,
-    ) -> Result<Reply, AllocError>
+        work: &mut [u8],
+    ) -> Outcome
         requires serves { HostServes self.old (D.state device.old) }
         requires on { self.old.mode ≡ On }
         requires named { inode_of name.now self.old.files.pages.journal.tables.files ≡ Some inode }
@@ -78,14 +83,14 @@ impl Host {
         requires some { 1 ≤ len }
         requires few { len ≤ 65536 }
         requires within { offset + len ≤ 4096 * pages_at self.old.files.pages.journal.tables.files inode }
-        ensures { Responds (FRead name.now offset len) result self.old self.new (D.state device.old) (D.state device.new) }
+        requires wide { length work.old ≡ 65536 }
+        ensures { ComesTo (FRead name.now offset len) work.new result self.old self.new (D.state device.old) (D.state device.new) }
     {
-        let span = Span { start: offset, len };
-        let mut bytes = Bytes::new(self.alloc);
-        bytes.reserve(len)?;
-        match self.files.pages.read(device, inode, span, &mut bytes) {
-            Ok(()) => Ok(Reply::Bytes(bytes)),
-            Err(fault) => Ok(self.page_fault(name, fault)),
+        let n = len as usize;
+        let pages = &mut self.files.pages;
+        match pages.load_into(device, inode, offset, &mut work[..n]) {
+            Ok(()) => Outcome::Read(n),
+            Err(fault) => Outcome::Reply(self.page_fault(name, fault)),
         }
     }
 

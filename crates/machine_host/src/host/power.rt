@@ -12,7 +12,7 @@ ghost use Rattle.machine_host.specs.Faults.{CountsBad, unmounted_answer, unmount
 ghost use Rattle.machine_host.specs.Interrupted.{interrupted_answer, interrupted_mode};
 ghost use Rattle.machine_host.specs.Responding.{Answered, Responds};
 
-use super::Host;
+use super::Performer;
 use crate::Mode;
 use crate::held::HeldFiles;
 use line_device::{Choice, LineDevice};
@@ -22,7 +22,7 @@ use reply_text::Reply;
 use scrub::bad_count;
 use std::alloc::AllocError;
 
-impl Host {
+impl Performer {
     pub(super) fn cut<D: LineDevice>(&mut self, device: &mut D) -> Reply
         requires serves { HostServes self.old (D.state device.old) }
         requires powered { self.old.mode ≡ Off → ⊥ }

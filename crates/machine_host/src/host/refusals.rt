@@ -9,7 +9,7 @@ ghost use Rattle.machine_host.specs.Stands.{HostServes};
 ghost use Rattle.machine_host.specs.Meaning.{mode_refusal, most_refusal, span_refusal};
 ghost use Rattle.machine_host.specs.Commands.{early_refusal, meaning};
 
-use super::Host;
+use super::Performer;
 use crate::Mode;
 use crate::needs::Needs;
 use line_device::LineDevice;
@@ -23,7 +23,7 @@ use word_tables::Geometry;
 const MOST_BLOCKS: u64 = 128;
 
 #[tactic(auto, unfolding(crate::specs::Commands::early_refusal))]
-impl Host {
+impl Performer {
     // Why a command is not done, as far as the host finds that itself. It makes no counted call.
     pub(crate) fn refusal<D: LineDevice>(&self, device: &D, command: &Command) -> Option<Reply>
         requires serves { HostServes self.now (D.state device.now) }

@@ -8,16 +8,16 @@ ghost use Rattle.machine_host.specs.Machine.{Machine};
 ghost use Rattle.machine_host.specs.Stands.{HostServes, Stands};
 ghost use Rattle.machine_host.specs.Settling.{IsQuiet, LeftUnsettled, MountsAnew, Settled, Settles, is_down};
 
-use super::Host;
+use super::Performer;
 use crate::Mode;
 use line_device::{Choice, LineDevice};
 use recovery::MountFault;
 use std::alloc::AllocError;
 
-impl Host {
-    /// Brings the host into mode On, or Stopped where a line of metadata is bad, so that the device can be read: what is armed
-    /// ends, the power comes back where it is off, and a device that is not mounted is mounted. Only memory can be wanting.
-    pub fn settle<D: LineDevice>(&mut self, device: &mut D) -> Result<(), AllocError>
+impl Performer {
+    // What is armed ends, the power comes back where it is off, and a device that is not mounted is mounted. Only memory can be
+    // wanting.
+    pub(super) fn settle<D: LineDevice>(&mut self, device: &mut D) -> Result<(), AllocError>
         requires serves { HostServes self.old (D.state device.old) }
         ensures settled { OnOk result ((h : Machine) → Stands self.old (D.state device.old) h
             → Settled h self.new (after_disarm (D.state device.old).panel) (D.state device.new)) }

@@ -8,35 +8,37 @@ ghost use Rattle.pm_volume.specs.Refusals.{volume_says};
 ghost use Rattle.machine_host.specs.OnVolume.{volume_answer};
 ghost use Rattle.machine_host.specs.Stands.{HostServes};
 ghost use Rattle.machine_host.specs.Faults.{answer_after, mode_after, volume_fault_answer, volume_fault_mode};
-ghost use Rattle.machine_host.specs.Responding.{Answered, Responds};
+ghost use Rattle.machine_host.specs.Responding.{Answered, ComesTo, Responds};
 
-use super::Host;
+use super::Performer;
+use crate::outcome::Outcome;
 use line_device::LineDevice;
 use line_words::Interruption;
-use nvm_base::{Bytes, Span, Spans};
+use nvm_base::{Span, Spans};
 use pm_volume::VolumeFault;
 use reply_text::{Reply, Why};
 use std::alloc::AllocError;
 
-impl Host {
+impl Performer {
     pub(super) fn vload<D: LineDevice>(
         &mut self,
         device: &mut D,
         offset: u64,
         len: u64,
-    ) -> Result<Reply, AllocError>
+        work: &mut [u8],
+    ) -> Outcome
         requires serves { HostServes self.old (D.state device.old) }
         requires on { self.old.mode ≡ On }
         requires some { 1 ≤ len }
         requires few { len ≤ 65536 }
         requires within { offset + len ≤ 4096 * self.old.geometry.vpages }
-        ensures { Responds (VLoad offset len) result self.old self.new (D.state device.old) (D.state device.new) }
+        requires wide { length work.old ≡ 65536 }
+        ensures { ComesTo (VLoad offset len) work.new result self.old self.new (D.state device.old) (D.state device.new) }
     {
-        let mut bytes = Bytes::new(self.alloc);
-        bytes.repeat(0, len)?;
-        match self.volume.load_into(device, offset, bytes.as_mut_slice()) {
-            Ok(()) => Ok(Reply::Bytes(bytes)),
-            Err(fault) => Ok(self.volume_fault(fault)),
+        let n = len as usize;
+        match self.volume.load_into(device, offset, &mut work[..n]) {
+            Ok(()) => Outcome::Read(n),
+            Err(fault) => Outcome::Reply(self.volume_fault(fault)),
         }
     }
 

@@ -1,6 +1,5 @@
-use Rattle.std.proofs.Common.{arith, codes}
+use Rattle.std.proofs.Common.{codes}
 use Rattle.nvm_base.proofs.AppendLemmas.{Appends-whole}
-use Rattle.nvm_base.proofs.RunLemmas.{length-data_text}
 use Rattle.reply_text.proofs.printing.print_text.Goals as goal
 
 pub returns-in-DeviceFailed-clause-text : goal.returns-in-DeviceFailed-clause-text
@@ -16,6 +15,3 @@ returns-in-PoisonBlock-clause-text c = rw c.in-PoisonBlock.is c.print_two.ensure
 
 pub returns-in-PoisonFile-clause-text : goal.returns-in-PoisonFile-clause-text
 returns-in-PoisonFile-clause-text c = rw c.in-PoisonFile.is c.print_file_line.ensures.text
-
-pub returns-in_err-extend-in-Bytes-clause-short : goal.returns-in_err-extend-in-Bytes-clause-short
-returns-in_err-extend-in-Bytes-clause-short c = rw c.in-Bytes.is (omega (arith, length-data_text c.in-Bytes.bytes.items))

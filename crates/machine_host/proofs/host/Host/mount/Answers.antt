@@ -5,7 +5,7 @@ use Rattle.recovery.specs.Mounting.{IsInOrder}
 use Rattle.machine_host.specs.Lines.{MetadataStands}
 use Rattle.machine_host.specs.declared.held.HeldFiles.{HeldFiles}
 use Rattle.machine_host.specs.Stands.{AreMounted, just_mounted}
-use Rattle.machine_host.proofs.MountLemmas.{durable_flushed, found_tables, metadata_mounted}
+use Rattle.machine_host.proofs.MountLemmas.{durable_flushed, found_tables, metadata_mounted, mount_within}
 use Rattle.machine_host.proofs.MountedLemmas.{readable_served, stands_found}
 use Rattle.machine_host.proofs.BadLineLemmas.{good_lines}
 use Rattle.machine_host.proofs.host.Host.mount.Goals as goal
@@ -59,3 +59,6 @@ returns-clause-stands g c = λ image shows.
     stands_found _ old new image (g.met.D.Lines.sound c.args.device.now) c.requires.flushed x.finds shows x.ok.0 refl x.ok.2 x.ok.4 (ap (λ (f : HeldFiles). f.pages.journal.tables) c.of.ensures ∙ x.ok.6) x.outside (returns-clause-metadata g c)
     (returns-clause-serves g c) (ap (λ (f : HeldFiles). f.mappings) c.of.ensures)
     (subst (λ (f : HeldFiles). (files : List File) → FilesStand f.pages.journal.geo new.medium f.pages.journal.tables files → f.events.items ≡ restart_events files) (sym c.of.ensures) x.events)
+
+pub returns-clause-runs : goal.returns-clause-runs
+returns-clause-runs g c = mount_within (g.D.Lines.state c.args.device.now).medium _ _ _ c.in_ok-mounted.ensures.runs
