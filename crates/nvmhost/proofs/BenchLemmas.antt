@@ -1,5 +1,5 @@
 -- A workload on a new device, from its mounting to its summary.
-use Rattle.std.proofs.Common.{◌≡◌, ◌≢◌, ◌⊎◌, inl, inr, ℕ, ◌++◌, List, [], Option, Result, Ok, Err, refl, sym, ap, subst, ◌∙◌, append-nil, lit≤, arith}
+use Rattle.std.proofs.Common.{◌≡◌, ◌≢◌, ◌⊎◌, inl, inr, ℕ, ◌++◌, List, [], Option, None, Result, Ok, Err, refl, sym, ap, subst, ◌∙◌, append-nil, lit≤, arith}
 use Rattle.std.specs.Io.KnownBytes.{Appends}
 use Rattle.host_io.specs.declared.sink.WriteFault.{WriteFault}
 use Rattle.line_device.specs.Device.{Depicts, Device}
@@ -10,15 +10,18 @@ use Rattle.line_device.proofs.PanelLemmas.{arms_nothing-trans}
 use Rattle.word_tables.specs.Bounds.{IsValid}
 use Rattle.word_tables.specs.declared.geometry.Geometry.{Geometry}
 use Rattle.recovery.specs.Fresh.{IsFresh}
-use Rattle.recovery.specs.Findings.{geometry_told}
+use Rattle.recovery.specs.Findings.{first_finding, geometry_told}
+use Rattle.recovery.specs.Mounting.{Finds, mount_outcome}
+use Rattle.recovery.specs.declared.fault.MountFault.{MountFault}
+use Rattle.recovery.specs.declared.fault.MountFault.TheVariants as mount
 use Rattle.machine_host.specs.Costs.{mount_calls, mount_persists}
 use Rattle.machine_host.specs.Restarting.{reading}
 use Rattle.machine_host.specs.Stands.{HostServes, HostState, Stands}
 use Rattle.machine_host.proofs.RunLemmas.{tells_then}
 use Rattle.workload.specs.Lines.{lines}
 use Rattle.workload.specs.declared.summary.Summary.{Summary}
-use Rattle.nvmhost.specs.Bench.{Benches, BreaksOff, IsStarted, LeavesAside, PerformsAll, bench_sizes, new_image, new_machine, nothing_counted, summary_text, summed}
-use Rattle.nvmhost.specs.Ending.{of_write}
+use Rattle.nvmhost.specs.Bench.{Benches, BreaksOff, IsStarted, IsUnstarted, LeavesAside, PerformsAll, bench_sizes, new_image, new_machine, nothing_counted, summary_text, summed}
+use Rattle.nvmhost.specs.Ending.{of_mount}
 use Rattle.nvmhost.specs.Forms.{IsUnwritten}
 use Rattle.nvmhost.specs.Opening.{opening}
 use Rattle.nvmhost.specs.Whole.{IsRun, WritesFront}
@@ -61,9 +64,18 @@ is_started host old mid new fresh told sets serves stands runs =
       stands = subst (λ geo. Stands host new (record (reading geo (new_image bench_sizes)) { cut_armed = new.panel.cut_armed; fail_armed = new.panel.fail_armed })) told stands;
     }
 
+-- why one was not: on a new device nothing is found
+pub unstarted : (T : Type 0) (fault : MountFault) (m : Medium) (old mid new : Panel) → first_finding m ≡ None → Finds {T = T} (first_finding m) (Err fault)
+    → Runs mount_calls mount_persists (mount_outcome {T = T} (Err fault)) mid new → SetsUp went old mid → IsUnstarted (of_mount fault) old new
+unstarted T (mount.Meta line) m old mid new none finds runs sets = let found = finds in cc (none, found)
+unstarted T (mount.Layout place) m old mid new none finds runs sets = let found = finds in cc (none, found)
+unstarted T mount.Device m old mid new none finds runs sets = let rose = runs.cause.3 in inr (inl (omega (arith, rose, sets.faults)))
+unstarted T mount.PowerLost m old mid new none finds runs sets = let rose = runs.cause.2 in inr (inr (omega (arith, rose, sets.cuts)))
+unstarted T mount.Memory m old mid new none finds runs sets = tt
+
 -- all lines were performed, and their summary was written
 pub benches : (seed count : ℕ) (host after : HostState) (summary : Summary) (started : Device) (old new : World) → IsStarted host old.device started
-    → {E : Type 0} → PerformsAll host after (lines seed count) {E} (Ok summary) started new.device → Appends old.written new.written (summary_text summary) → LeavesAside old new
+    → {E : Type 0} → PerformsAll host after (lines seed count) {E = E} (Ok summary) started new.device → Appends old.written new.written (summary_text summary) → LeavesAside old new
     → Benches seed count old new
 benches seed count host after summary started old new is performs wrote aside =
     let says = performs.says is.begin is.stands in
@@ -99,7 +111,7 @@ breaks_off seed count host after started cause old new is e performs caused writ
 
 -- all were performed, but their summary was not written
 pub breaks_unwritten : (seed count : ℕ) (host after : HostState) (summary : Summary) (started : Device) (cause : Type 0) (old new : World) → IsStarted host old.device started
-    → {E : Type 0} → PerformsAll host after (lines seed count) {E} (Ok summary) started new.device → cause → WritesFront (summary_text summary) old.written new.written → LeavesAside old new
+    → {E : Type 0} → PerformsAll host after (lines seed count) {E = E} (Ok summary) started new.device → cause → WritesFront (summary_text summary) old.written new.written → LeavesAside old new
     → BreaksOff seed count cause old new
 breaks_unwritten seed count host after summary started cause old new is performs caused wrote aside =
     let says = performs.says is.begin is.stands in

@@ -14,30 +14,25 @@ use Rattle.machine_host.specs.Telling.{Tells}
 use Rattle.machine_host.proofs.RunLemmas.{run_of_one, run_then, tells_silence, tells_then}
 use Rattle.workload.specs.Summary.{added}
 use Rattle.workload.specs.declared.summary.Summary.{Summary}
-use Rattle.nvmhost.specs.Bench.{Counts, PerformsAll, nothing_counted, summed}
+use Rattle.nvmhost.specs.Bench.{AddsReply, Counts, PerformsAll, nothing_counted, summed}
 use Rattle.nvmhost.specs.Running.{LineGoes}
 use Rattle.nvmhost.specs.Whole.{GoesUnanswered}
 use Rattle.nvmhost.proofs.GoingLemmas.{inputs_of-append}
 
 -- the lines that were performed, and their summary
-record CountsSo (first : Machine) (performed : List (List ℕ)) (host : HostState) (summary : Summary) (old now : Device) : Type 0 where
-  said : Transcript
-  state : Machine
-  run : Run first (inputs_of performed) said state
-  tells : Tells said old.panel now.panel
-  stands : Stands host now state
-  sums : (more : List (List ℕ)) (answers : List Answer) → summed nothing_counted (performed ++ more) (said.answers ++ answers) ≡ summed summary more answers
+pub record CountsSo (first : Machine) (performed : List (List ℕ)) (host : HostState) (summary : Summary) (old now : Device) : Type 0 where
+  pub said : Transcript
+  pub state : Machine
+  pub run : Run first (inputs_of performed) said state
+  pub tells : Tells said old.panel now.panel
+  pub stands : Stands host now state
+  pub sums : (more : List (List ℕ)) (answers : List Answer) → summed nothing_counted (performed ++ more) (said.answers ++ answers) ≡ summed summary more answers
 
 -- some first lines were performed, from the host that was there first; these are left
 pub record Counting (all rest : List (List ℕ)) (before host : HostState) (summary : Summary) (old now : Device) : Type 0 where
   pub performed : List (List ℕ)
   pub split : all ≡ performed ++ rest
   pub says : (first : Machine) → Stands before old first → CountsSo first performed host summary old now
-
--- what is added for a line: for a reply that ends in a newline, and for no other
-pub record AddsReply (line out : List ℕ) (old new : Summary) : Type 0 where
-  pub reply : (text : List ℕ) → out ≡ text ++ 10 ∷ [] → new ≡ added old line text
-  pub none : out ≡ [] → new ≡ old
 
 pub counting-start : (all : List (List ℕ)) (host : HostState) (d : Device) → Counting all all host host nothing_counted d d
 counting-start all host d = record {
@@ -118,7 +113,7 @@ counting-line all line rest before host host' out summary summary' old now next 
         tells = tells_then was.said step.said old.panel now.panel next.panel was.tells step.tells;
         stands = step.stands;
         sums = λ more answers.
-            ap₂ (λ ls as. summed nothing_counted ls as) (append_assoc counting.performed (line ∷ []) more) (append_assoc was.said.answers step.said.answers answers)
+            ap₂ (λ ls given. summed nothing_counted ls given) (append_assoc counting.performed (line ∷ []) more) (append_assoc was.said.answers step.said.answers answers)
             ∙ was.sums (line ∷ more) (step.said.answers ++ answers)
             ∙ one_line was.state line out summary summary' (line_input line) step.said step.next refl step.hears step.text adds more answers;
       };
@@ -126,7 +121,7 @@ counting-line all line rest before host host' out summary summary' old now next 
 
 -- all lines are performed
 pub counting-end : (all : List (List ℕ)) (before host : HostState) (summary : Summary) (old now : Device) {E : Type 0} → Counting all [] before host summary old now
-    → PerformsAll before host all {E} (Ok summary) old now
+    → PerformsAll before host all {E = E} (Ok summary) old now
 counting-end all before host summary old now counting = record {
   says = λ first stands.
       let was = counting.says first stands in
@@ -139,7 +134,7 @@ counting-end all before host summary old now counting = record {
         run = was.run;
         outcome = (
           refl,
-          sym (was.sums [] []) ∙ ap₂ (λ ls as. summed nothing_counted ls as) (append-nil counting.performed) (append-nil was.said.answers),
+          sym (was.sums [] []) ∙ ap₂ (λ ls given. summed nothing_counted ls given) (append-nil counting.performed) (append-nil was.said.answers),
           was.tells,
           was.stands,
         );

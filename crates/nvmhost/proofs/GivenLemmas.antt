@@ -31,19 +31,23 @@ bytes-append [] ys = refl
 bytes-append (x ∷ xs) ys = ap (λ bytes. line x ++ bytes) (bytes-append xs ys) ∙ sym (append_assoc (line x) (bytes_of xs) (bytes_of ys))
 
 -- the same bytes at the end, the same before them
-same-before : (xs ys : List ℕ) → xs ++ 10 ∷ [] ≡ ys ++ 10 ∷ [] → xs ≡ ys
-same-before [] [] is = refl
-same-before [] (y ∷ []) is = cc is
-same-before [] (y ∷ z ∷ ys) is = cc is
-same-before (x ∷ []) [] is = cc is
-same-before (x ∷ z ∷ xs) [] is = cc is
-same-before (x ∷ xs) (y ∷ ys) is = let tail : xs ++ 10 ∷ [] ≡ ys ++ 10 ∷ [] = cc is in let head : x ≡ y = cc is in ap (λ b. b ∷ xs) head ∙ ap (λ l. y ∷ l) (same-before xs ys tail)
+pub same_before : (xs ys : List ℕ) → xs ++ 10 ∷ [] ≡ ys ++ 10 ∷ [] → xs ≡ ys
+same_before [] [] is = refl
+same_before [] (y ∷ []) is = cc is
+same_before [] (y ∷ z ∷ ys) is = cc is
+same_before (x ∷ []) [] is = cc is
+same_before (x ∷ z ∷ xs) [] is = cc is
+same_before (x ∷ xs) (y ∷ ys) is = let tail : xs ++ 10 ∷ [] ≡ ys ++ 10 ∷ [] = cc is in let head : x ≡ y = cc is in ap (λ b. b ∷ xs) head ∙ ap (λ l. y ∷ l) (same_before xs ys tail)
+
+pub some_before : (xs : List ℕ) → xs ++ 10 ∷ [] ≡ [] → ⊥
+some_before [] is = cc is
+some_before (x ∷ xs) is = cc is
 
 -- Before the source's end the lines that were given, and what waits, are what was taken.
 pub given-whole : (script : List ℕ) (given : List (List ℕ)) (now : Stream) → HasGiven script given now → IsFalse now.ended → bytes_of given ++ now.waiting ≡ script
 given-whole script given now has going =
     let ends = has (10 ∷ []) (λ is. absurd (true≢false (sym is ∙ going))) in
-    sym (same-before script (bytes_of given ++ now.waiting)
+    sym (same_before script (bytes_of given ++ now.waiting)
     (sym (bytes-lines script) ∙ ap bytes_of ends ∙ bytes-append given (lines_of (now.waiting ++ 10 ∷ [])) ∙ ap (λ bytes. bytes_of given ++ bytes) (bytes-lines now.waiting)
     ∙ sym (append_assoc (bytes_of given) now.waiting (10 ∷ []))))
 

@@ -57,6 +57,11 @@ summed s (line ∷ lines) [] = s
 summed s (line ∷ lines) (answer ∷ answers) =
     if is_answered (line_input line) then summed (added s line (answer_text answer)) lines answers else summed s lines (answer ∷ answers)
 
+-- what is added for a line: its reply, which ends in a newline; where it has none, nothing
+pub record AddsReply (line out : List ℕ) (old new : Summary) : Type 0 where
+  pub reply : (text : List ℕ) → out ≡ text ++ 10 ∷ [] → new ≡ added old line text
+  pub none : out ≡ [] → new ≡ old
+
 -- its line
 abbrev pub summary_text : Summary → List ℕ
 summary_text s =

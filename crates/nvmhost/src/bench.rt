@@ -5,7 +5,7 @@ ghost use Rattle.host_io.specs.declared.images.ImageCounts.{ImageCounts};
 ghost use Rattle.machine_host.specs.Costs.{Opens};
 ghost use Rattle.machine_host.specs.Stands.{HostServes};
 ghost use Rattle.command_line.specs.Words.Form.{of_bench};
-ghost use Rattle.nvmhost.specs.Bench.{IsStarted, IsUnstarted, PerformsAll, summary_text};
+ghost use Rattle.nvmhost.specs.Bench.{AddsReply, IsStarted, IsUnstarted, PerformsAll, summary_text};
 ghost use Rattle.nvmhost.specs.Forms.{Outcome};
 ghost use Rattle.nvmhost.specs.World.{world};
 
@@ -25,6 +25,14 @@ const SIZES: Geometry = Geometry {
     blocks: 64,
     vpages: 8,
     fpages: 64,
+};
+
+const NOTHING: Summary = Summary {
+    commands: 0,
+    oks: 0,
+    reads: 0,
+    cuts: 0,
+    sum: 0,
 };
 
 /// Runs the workload of that seed, with so many rounds, on a new device, and writes its summary.
@@ -54,7 +62,7 @@ fn start<D: LineDevice>(alloc: Global, device: &mut D) -> Result<Host, Ending>
     Ok(Host::mount(alloc, device)?)
 }
 
-// Performs all lines, and counts their replies. A line that asks for nothing has none.
+// Performs all lines, and counts their replies.
 fn perform_all<D: LineDevice>(
     alloc: Global,
     host: &mut Host,
@@ -65,16 +73,23 @@ fn perform_all<D: LineDevice>(
     ensures { PerformsAll host.old host.new workload result (D.state device.old) (D.state device.new) }
 {
     let mut workload = workload;
-    let mut summary = Summary::default();
+    let mut summary = NOTHING;
     let mut out = Bytes::new(alloc);
     while let Some(line) = workload.next(alloc)? {
         out.clear();
         perform_line(alloc, host, device, line.as_slice(), &mut out)?;
-        if let [reply @ .., b'\n'] = out.as_slice() {
-            summary.add(line.as_slice(), reply);
-        }
+        count_reply(line.as_slice(), out.as_slice(), &mut summary);
     }
     Ok(summary)
+}
+
+// Counts a line whose reply is there.
+fn count_reply(line: &[u8], out: &[u8], summary: &mut Summary)
+    ensures { AddsReply line.now out.now summary.old summary.new }
+{
+    if let Some(reply) = out.strip_suffix(b"\n") {
+        summary.add(line, reply);
+    }
 }
 
 fn summary_line(alloc: Global, summary: &Summary) -> Result<Bytes, AllocError>
