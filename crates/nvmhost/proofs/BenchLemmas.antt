@@ -65,13 +65,13 @@ is_started host old mid new fresh told sets serves stands runs =
     }
 
 -- why one was not: on a new device nothing is found
-pub unstarted : (T : Type 0) (fault : MountFault) (m : Medium) (old mid new : Panel) → first_finding m ≡ None → Finds {T = T} (first_finding m) (Err fault)
-    → Runs mount_calls mount_persists (mount_outcome {T = T} (Err fault)) mid new → SetsUp went old mid → IsUnstarted (of_mount fault) old new
-unstarted T (mount.Meta line) m old mid new none finds runs sets = let found = finds in cc (none, found)
-unstarted T (mount.Layout place) m old mid new none finds runs sets = let found = finds in cc (none, found)
-unstarted T mount.Device m old mid new none finds runs sets = let rose = runs.cause.3 in inr (inl (omega (arith, rose, sets.faults)))
-unstarted T mount.PowerLost m old mid new none finds runs sets = let rose = runs.cause.2 in inr (inr (omega (arith, rose, sets.cuts)))
-unstarted T mount.Memory m old mid new none finds runs sets = tt
+pub unstarted : (fault : MountFault) (m : Medium) (old mid new : Panel) → first_finding m ≡ None → Finds {T = Unit {0}} (first_finding m) (Err fault)
+    → Runs mount_calls mount_persists (mount_outcome {T = Unit {0}} (Err fault)) mid new → SetsUp went old mid → IsUnstarted (of_mount fault) old new
+unstarted (mount.Meta line) m old mid new none finds runs sets = let found = finds in cc (none, found)
+unstarted (mount.Layout place) m old mid new none finds runs sets = let found = finds in cc (none, found)
+unstarted mount.Device m old mid new none finds runs sets = let rose = runs.cause.3 in inr (inl (omega (arith, rose, sets.faults)))
+unstarted mount.PowerLost m old mid new none finds runs sets = let rose = runs.cause.2 in inr (inr (omega (arith, rose, sets.cuts)))
+unstarted mount.Memory m old mid new none finds runs sets = tt
 
 -- all lines were performed, and their summary was written
 pub benches : (seed count : ℕ) (host after : HostState) (summary : Summary) (started : Device) (old new : World) → IsStarted host old.device started

@@ -5,7 +5,7 @@ use Rattle.std.specs.Prelude.{⊤, codes, decimal, IfOk, IfSome, MatchResult}
 use Rattle.std.specs.Io.KnownBytes.{Appends}
 use Rattle.nvm_base.specs.Counts.{Rose, raised}
 use Rattle.nvm_base.specs.Stock.{Stock}
-use Rattle.command_line.specs.Words.Form.{of_check, of_new, of_run}
+use Rattle.command_line.specs.Words.Form.{of_bench, of_check, of_new, of_run}
 use Rattle.host_io.specs.Images.{CountsReplace, Held, KeepsHeld}
 use Rattle.host_io.specs.Writing.{WritesAll}
 use Rattle.host_io.specs.declared.images.ImageCounts.{ImageCounts}
@@ -20,6 +20,7 @@ use Rattle.machine_host.specs.Machine.{Machine, bad_of}
 use Rattle.machine_host.specs.Settling.{Settled}
 use Rattle.machine_host.specs.Stands.{HostServes, HostState, Stands}
 use Rattle.machine_host.proofs.RunLemmas.{tells_then}
+use Rattle.nvmhost.specs.Bench.{IsUnstarted}
 use Rattle.nvmhost.specs.Ending.{numbered_line, of_write}
 use Rattle.nvmhost.specs.Forms.{FailsToCreate, IsCaused, IsUnwritten, Outcome, checked_text, created_text}
 use Rattle.nvmhost.specs.Opening.{CountsOpening, IsReady, StaysClosed, opened, opening}
@@ -227,3 +228,9 @@ never_check name (Ok x) old new outcome is = cc is
 never_check name (Err e) old new (inl closed) is =
     let same : e ≡ Usage = cc is in subst (λ e. StaysClosed name old.held e old.images new.images old.device.panel new.device.panel) same closed.cause
 never_check name (Err e) old new (inr untold) is = let same : e ≡ Usage = cc is in subst (λ e. IsUnwritten e old new) same untold.cause
+
+pub never_bench : (seed count : ℕ) (r : Result (Unit {0}) Ending) (old new : World) → Outcome (of_bench seed count) r old new → r ≡ Err Usage → ⊥
+never_bench seed count (Ok x) old new outcome is = cc is
+never_bench seed count (Err e) old new (inl unstarted) is =
+    let same : e ≡ Usage = cc is in subst (λ e. IsUnstarted e old.device.panel new.device.panel) same unstarted.cause
+never_bench seed count (Err e) old new (inr broken) is = let same : e ≡ Usage = cc is in subst (λ e. IsUnwritten e old new) same broken.cause

@@ -310,6 +310,10 @@ source_large reader reader' b c (Ok line) reads is = cc is
 source_large reader reader' b c (Err Failed) reads is = cc is
 source_large reader reader' b c (Err TooLarge) reads is = reads.gives.2
 
+pub memory_not_source : (Memory ≡ Read) ⊎ (Memory ≡ Script) → ⊥
+memory_not_source (inl is) = cc is
+memory_not_source (inr is) = cc is
+
 -- the next line was not read or not performed
 pub going-stopped : (reader reader' : Stream) (a b c : Option (List ℕ)) (before host : HostState) (out out' : List ℕ) (written_old written : Option (List ℕ)) (old now next : Device)
     (ending : Ending) (after : HostState) → Going reader a b before host out written_old written old now → AnswersNext reader reader' b c (Err ending) host after out out' now next
@@ -331,11 +335,7 @@ going-stopped reader reader' a b c before host out out' written_old written old 
       record { source = λ _. by_source TooLarge comes.0; long = λ _. source_large reader reader' b c answers.next answers.reads comes.0 },
       still comes.1.same_device,
     )
-    stopped Memory comes = (record { source = λ by. absurd (no_source by); long = λ is. cc is }, comes.left)
-      where
-        no_source : (Memory ≡ Read) ⊎ (Memory ≡ Script) → ⊥
-        no_source (inl is) = cc is
-        no_source (inr is) = cc is
+    stopped Memory comes = (record { source = λ by. absurd (memory_not_source by); long = λ is. cc is }, comes.left)
     stopped Write comes = absurd comes
     stopped Usage comes = absurd comes
     stopped (Image offset) comes = absurd comes

@@ -15,7 +15,7 @@ returns-in_err-mount-clause-cause g c =
     let mid = g.D.Lines.state c.format.new.device in
     let made = c.in_ok-format.ensures in
     let done = c.in_err-mount.ensures in
-    rw (p.1, p.2) (unstarted _ c.in_err-mount.field-0.0 mid.medium _ mid.panel _ (fresh_first bench_sizes mid.medium made.ok (g.met.D.Lines.sound c.format.new.device)) done.finds done.runs made.sets_up)
+    rw (p.1, p.2) (unstarted c.in_err-mount.field-0.0 mid.medium _ mid.panel _ (fresh_first bench_sizes mid.medium made.ok (g.met.D.Lines.sound c.format.new.device)) done.finds done.runs made.sets_up)
 
 pub returns-clause-started : goal.returns-clause-started
 returns-clause-started g c =
