@@ -11,6 +11,7 @@ use std::test::Fail;
 use test_devices::Recorder;
 
 // Each read fills the buffer with spaces.
+#[derive(Drop)]
 struct Spaces;
 
 impl Source for Spaces {
