@@ -1,10 +1,9 @@
 -- A workload on a new device, from its mounting to its summary.
-use Rattle.std.proofs.Common.{◌≡◌, ◌≢◌, ◌⊎◌, inl, inr, ℕ, ◌++◌, List, [], Option, None, Result, Ok, Err, refl, sym, ap, subst, ◌∙◌, append-nil, lit≤, arith}
+use Rattle.std.proofs.Common.{◌≡◌, inl, inr, ℕ, ◌++◌, None, Ok, Err, refl, sym, ap, subst, ◌∙◌, append-nil, lit≤, arith}
 use Rattle.std.specs.Io.KnownBytes.{Appends}
-use Rattle.host_io.specs.declared.sink.WriteFault.{WriteFault}
 use Rattle.line_device.specs.Device.{Depicts, Device}
 use Rattle.line_device.specs.Medium.{Medium}
-use Rattle.line_device.specs.Panel.{Outcome, Panel, Runs, SetsUp}
+use Rattle.line_device.specs.Panel.{Panel, Runs, SetsUp}
 use Rattle.line_device.specs.Panel.Outcome.{went}
 use Rattle.line_device.proofs.PanelLemmas.{arms_nothing-trans}
 use Rattle.word_tables.specs.Bounds.{IsValid}
@@ -22,7 +21,6 @@ use Rattle.workload.specs.Lines.{lines}
 use Rattle.workload.specs.declared.summary.Summary.{Summary}
 use Rattle.nvmhost.specs.Bench.{Benches, BreaksOff, IsStarted, IsUnstarted, LeavesAside, PerformsAll, bench_sizes, new_image, new_machine, nothing_counted, summary_text, summed}
 use Rattle.nvmhost.specs.Ending.{of_mount}
-use Rattle.nvmhost.specs.Forms.{IsUnwritten}
 use Rattle.nvmhost.specs.Opening.{opening}
 use Rattle.nvmhost.specs.Whole.{IsRun, WritesFront}
 use Rattle.nvmhost.specs.World.{World}

@@ -1,5 +1,5 @@
 -- Lines that are performed one after the other, and what a summary counts of their replies.
-use Rattle.std.proofs.Common.{◌≡◌, ◌⊎◌, inl, inr, ℕ, true, false, List, [], ◌∷◌, ◌++◌, Ok, Err, refl, sym, ap, ap₂, subst, ◌∙◌, append_assoc, append-nil}
+use Rattle.std.proofs.Common.{◌≡◌, ℕ, List, [], ◌∷◌, ◌++◌, Ok, Err, refl, sym, ap, ap₂, subst, ◌∙◌, append_assoc, append-nil}
 use Rattle.line_device.specs.Device.{Device}
 use Rattle.reply_text.specs.Answer.{Answer, answer_line, answer_text, reply_text}
 use Rattle.script_text.specs.Action.{Action}
@@ -14,7 +14,7 @@ use Rattle.machine_host.specs.Telling.{Tells}
 use Rattle.machine_host.proofs.RunLemmas.{run_of_one, run_then, tells_silence, tells_then}
 use Rattle.workload.specs.Summary.{added}
 use Rattle.workload.specs.declared.summary.Summary.{Summary}
-use Rattle.nvmhost.specs.Bench.{AddsReply, Counts, PerformsAll, nothing_counted, summed}
+use Rattle.nvmhost.specs.Bench.{AddsReply, PerformsAll, nothing_counted, summed}
 use Rattle.nvmhost.specs.Running.{LineGoes}
 use Rattle.nvmhost.specs.Whole.{GoesUnanswered}
 use Rattle.nvmhost.proofs.GoingLemmas.{inputs_of-append}

@@ -1,18 +1,17 @@
 -- A script that is performed line by line, its replies written now and then.
-use Rattle.std.proofs.Common.{◌≡◌, ◌≢◌, ◌≤◌, ◌<◌, ◌⊎◌, inl, inr, ℕ, zero, suc, ◌+◌, true, false, List, [], ◌∷◌, ◌++◌, length, take, drop, Bool, Option, Result, Ok, Err, refl, sym, ap, subst, ◌∙◌, append_assoc, append-nil, length-append, arith}
+use Rattle.std.proofs.Common.{◌≡◌, ◌≢◌, ◌≤◌, ◌<◌, ◌⊎◌, inl, inr, ℕ, zero, suc, ◌+◌, true, false, List, [], ◌∷◌, ◌++◌, length, take, drop, Option, Result, Ok, Err, refl, sym, ap, subst, ◌∙◌, append_assoc, append-nil, length-append, arith}
 use Rattle.std.specs.Prelude.{IsTrue}
 use Rattle.std.proofs.lemmas.Bool.{false_from_ne_true, true≢false}
 use Rattle.std.proofs.lemmas.List.{take-append-drop}
 use Rattle.std.proofs.lemmas.List.Elements.{All-nil, All-cons, All-head, All-tail}
 use Rattle.std.specs.Io.KnownBytes.{Appends, Consumes, IsAtEnd}
 use Rattle.line_device.specs.Device.{Device}
-use Rattle.line_device.specs.Panel.{Panel}
 use Rattle.host_io.specs.Writing.{AppendsSome}
 use Rattle.host_io.specs.declared.sink.WriteFault.{WriteFault}
 use Rattle.host_io.specs.declared.sink.WriteFault.TheVariants as write
 use Rattle.reply_text.specs.Answer.{reply_text}
 use Rattle.script_text.specs.Script.{line_input, inputs_of, lines_of}
-use Rattle.script_text.specs.Streaming.{Gives, HasGiven, IsFirstLine, IsUnbroken, ReadsLine, Stream, stream_start}
+use Rattle.script_text.specs.Streaming.{Gives, HasGiven, IsUnbroken, ReadsLine, Stream, stream_start}
 use Rattle.script_text.specs.declared.next_line.InputFault.{InputFault}
 use Rattle.script_text.specs.declared.next_line.InputFault.TheVariants.{Failed, TooLarge}
 use Rattle.script_text.specs.declared.next_line.NextLine.{NextLine}
@@ -28,7 +27,7 @@ use Rattle.nvmhost.specs.declared.ending.Ending.{Ending}
 use Rattle.nvmhost.specs.declared.ending.Ending.TheVariants.{Usage, Image, Layout, Meta, Read, Write, Memory, Script}
 use Rattle.nvmhost.specs.declared.ending.Ending.TheVariants as endings
 use Rattle.nvmhost.specs.Whole.{GoesUnanswered, bytes_of}
-use Rattle.nvmhost.specs.Running.{AnswersNext, Comes, Flushes, GoesOn, IsStopped, LineGoes, Performs}
+use Rattle.nvmhost.specs.Running.{AnswersNext, Comes, Flushes, LineGoes, Performs}
 use Rattle.nvmhost.proofs.BytesLemmas.{appends-none, appends_then, consumes-none, consumes_then}
 use Rattle.nvmhost.proofs.GivenLemmas.{given-front, given-whole}
 use Rattle.nvmhost.proofs.TellLemmas.{unanswered-none}

@@ -1,8 +1,8 @@
 -- A run of a script over an image that was opened, as far as it came.
-use Rattle.std.proofs.Common.{◌≡◌, ◌⊎◌, inl, inr, ℕ, ◌≤◌, List, [], ◌++◌, length, Option, Some, None, Ok, Err, refl, sym, ap, subst, ◌∙◌, append-nil, length-append, arith}
+use Rattle.std.proofs.Common.{◌≡◌, ◌⊎◌, inl, inr, ℕ, ◌≤◌, List, length, Option, Some, None, Ok, Err, refl, ap, subst, length-append, arith}
 use Rattle.std.specs.Prelude.{IfSome, ⊤}
-use Rattle.std.specs.Io.KnownBytes.{Appends, Consumes}
-use Rattle.nvm_base.specs.Counts.{Rose, raised}
+use Rattle.std.specs.Io.KnownBytes.{Consumes}
+use Rattle.nvm_base.specs.Counts.{raised}
 use Rattle.host_io.specs.Images.{KeepsHeld}
 use Rattle.image_file.specs.Devices.{image_of, medium_of}
 use Rattle.line_device.specs.Device.{Device}

@@ -1,4 +1,4 @@
-use Rattle.std.proofs.Common.{Ok, ap}
+use Rattle.std.proofs.Common.{Ok}
 use Rattle.std.proofs.lemmas.Result.{err_from_is_err_and}
 use Rattle.nvmhost.proofs.GivenLemmas.{line_read, long_read}
 use Rattle.nvmhost.proofs.LineLemmas.{line_goes-overlong, overlong-line}

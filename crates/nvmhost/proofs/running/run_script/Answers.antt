@@ -1,4 +1,4 @@
-use Rattle.std.proofs.Common.{◌≡◌, [], arith}
+use Rattle.std.proofs.Common.{arith}
 use Rattle.std.proofs.lemmas.Result.{err_from_is_err_and}
 use Rattle.nvmhost.proofs.GoingLemmas.{going-end, going-flush, going-line, going-start, going-stopped, going-unbegun, going-unwritten}
 use Rattle.nvmhost.proofs.running.run_script.Goals as goal
