@@ -3,8 +3,9 @@
  *
  * The commands on the volume, their media errors, `cut` and `restart`, over a plain simulator of the module's lines: of each
  * word the values that may be left, sixteen at most. It has no logs, tables or counts, so each page is there from its first store
- * on. At most 16 pages, so that there are never more than 1,024 dirty lines. A file is taken for the volume, and any handle for one
- * mapping of all of it, for a measure of what a store, a flush and a load through a mapping cost.
+ * on. At most 16 pages, so that there are never more than 1,024 dirty lines. For a measure of what they cost it also has 64 blocks
+ * and two files of 16 pages, which lie in place and are there from the start: `f1`, and one by any other name, which is what any
+ * handle shows. Writes of blocks and atomic writes go straight to their lines.
  * A second implementation, whose replies the program's are compared with and whose instructions they are measured against.
  * It is written after docs/formats.md and docs/model.md, and reads its own words without a look at their limits.
  */
@@ -14,7 +15,9 @@
 #include <string.h>
 #include <unistd.h>
 
-enum { WORD = 8, LINE = 64, PAGE = 4096, MOST = 65536, PAGES = 16, LINES = PAGES * PAGE / LINE, VALUES = 16 };
+enum { WORD = 8, LINE = 64, PAGE = 4096, BLOCK = 512, MOST = 65536, PAGES = 16, BLOCKS = 64, VALUES = 16 };
+/* Where the lines of the blocks and of the two files begin, behind those of the volume; and how many there are. */
+enum { AREA = PAGES * PAGE / LINE, OF_BLOCKS = AREA, OF_FILE = OF_BLOCKS + BLOCKS * BLOCK / LINE, OF_OTHER = OF_FILE + AREA, LINES = OF_OTHER + AREA };
 enum choice { NONE, ALL, SEED };
 
 struct word { const uint8_t *p; size_t n; };
@@ -23,7 +26,7 @@ struct word { const uint8_t *p; size_t n; };
 struct line { uint8_t is_bad, is_weak, count[8]; uint64_t value[8][VALUES]; };
 
 static struct line lines[LINES];
-static uint8_t last[PAGES * PAGE], is_there[PAGES], data[MOST];
+static uint8_t last[LINES * LINE], is_there[PAGES], is_block[BLOCKS], data[MOST];
 static uint64_t size, first_half, first_line, second_line;
 static int is_on = 1;
 
@@ -159,13 +162,18 @@ static int is_off(void)
 	return !is_on;
 }
 
-static int is_outside(uint64_t offset, uint64_t len)
+static int is_past(uint64_t end, uint64_t offset, uint64_t len)
 {
-	if (offset + len > size)
+	if (offset + len > end)
 		say("refused range");
 	else if (!len)
 		say("refused length");
-	return !len || offset + len > size;
+	return !len || offset + len > end;
+}
+
+static int is_outside(uint64_t offset, uint64_t len)
+{
+	return is_past(size, offset, len);
 }
 
 /* ---- lines ---- */
@@ -235,9 +243,10 @@ static void restart(enum choice choice, uint64_t seed)
 		say("refused on");
 		return;
 	}
-	for (uint64_t n = 0; n < size / LINE; n++) {
+	for (uint64_t n = 0; n < LINES; n++) {
 		for (unsigned w = 0; w < 8; w++)
-			keep(n, w, choice, seed);
+			if (lines[n].count[w] > 1)
+				keep(n, w, choice, seed);
 		bad += lines[n].is_bad;
 	}
 	is_on = 1;
@@ -262,20 +271,32 @@ static int is_poisoned(uint64_t offset, uint64_t len, int is_store)
 	return 0;
 }
 
-static void vstore(uint64_t offset, uint64_t len)
+/* The bytes of DATA into an area of lines. */
+static void put_bytes(uint64_t area, uint64_t offset, uint64_t len)
 {
 	const uint8_t *from = data;
 
+	while (len) {
+		unsigned at = offset % LINE, n = len < LINE - at ? (unsigned)len : LINE - at;
+
+		store(area + offset / LINE, at, from, n);
+		offset += n, from += n, len -= n;
+	}
+}
+
+static void persist_lines(uint64_t area, uint64_t offset, uint64_t len)
+{
+	for (uint64_t n = offset / LINE; n * LINE < offset + len; n++)
+		persist(area + n);
+}
+
+static void vstore(uint64_t offset, uint64_t len)
+{
 	if (is_off() || is_outside(offset, len) || is_poisoned(offset, len, 1))
 		return;
 	for (uint64_t p = offset / PAGE; p * PAGE < offset + len; p++)
 		is_there[p] = 1;
-	while (len) {
-		unsigned at = offset % LINE, n = len < LINE - at ? (unsigned)len : LINE - at;
-
-		store(offset / LINE, at, from, n);
-		offset += n, from += n, len -= n;
-	}
+	put_bytes(0, offset, len);
 	say("ok");
 }
 
@@ -283,9 +304,80 @@ static void vsync(uint64_t offset, uint64_t len)
 {
 	if (is_off() || is_outside(offset, len) || is_poisoned(offset, len, 0))
 		return;
-	for (uint64_t n = offset / LINE; n * LINE < offset + len; n++)
-		persist(n);
+	persist_lines(0, offset, len);
 	say("ok");
+}
+
+/* ---- blocks and files ---- */
+
+static void read_blocks(uint64_t first, uint64_t count)
+{
+	static uint8_t got[MOST];
+
+	for (uint64_t b = 0; b < count; b++)
+		if (is_block[first + b])
+			memcpy(got + BLOCK * b, last + OF_BLOCKS * LINE + BLOCK * (first + b), BLOCK);
+		else
+			memset(got + BLOCK * b, 0, BLOCK);
+	say_data(got, BLOCK * count);
+}
+
+static int on_blocks(const struct word *w, uint64_t first)
+{
+	uint64_t count, len;
+
+	if ((is(w[0], "bwrite") || is(w[0], "batomic")) && (len = bytes(w[2])) && len % BLOCK == 0) {
+		if (!is_off() && !is_past(BLOCKS, first, len / BLOCK)) {
+			memset(is_block + first, 1, len / BLOCK);
+			put_bytes(OF_BLOCKS, BLOCK * first, len);
+			persist_lines(OF_BLOCKS, BLOCK * first, len);
+			say("ok");
+		}
+		return 1;
+	}
+	if ((is(w[0], "bread") || is(w[0], "bdiscard")) && number(w[2], &count)) {
+		if (is_off() || is_past(BLOCKS, first, count))
+			return 1;
+		if (is(w[0], "bread")) {
+			read_blocks(first, count);
+		} else {
+			memset(is_block + first, 0, count);
+			say("ok");
+		}
+		return 1;
+	}
+	return 0;
+}
+
+/* A command on a file by its name or by a handle. */
+static int on_file(const struct word *w, uint64_t offset)
+{
+	uint64_t len, area = is(w[1], "f1") ? OF_OTHER : OF_FILE;
+
+	if ((is(w[0], "store") || is(w[0], "fwrite") || is(w[0], "fatomic")) && (len = bytes(w[3]))) {
+		if (is_off() || is_past(PAGES * PAGE, offset, len))
+			return 1;
+		put_bytes(area, offset, len);
+		if (is(w[0], "fatomic"))
+			persist_lines(area, offset, len);
+		say("ok");
+		return 1;
+	}
+	if (!number(w[3], &len))
+		return 0;
+	if (is(w[0], "flush") || is(w[0], "sync")) {
+		if (is_off() || is_past(PAGES * PAGE, offset, len))
+			return 1;
+		persist_lines(area, offset, len);
+		say("ok");
+		return 1;
+	}
+	if (is(w[0], "load") || is(w[0], "fread")) {
+		if (!is_off() && !is_past(PAGES * PAGE, offset, len))
+			say_data(last + area * LINE + offset, len);
+		return 1;
+	}
+	return 0;
 }
 
 /* What befalls the line of a byte. */
@@ -335,6 +427,8 @@ static void command(const struct word *w, size_t k)
 				say_data(last + offset, len);
 			return;
 		}
+		if (on_blocks(w, offset))
+			return;
 	}
 	if (is(w[0], "create") && k == 3) {
 		say("ok");
@@ -344,21 +438,8 @@ static void command(const struct word *w, size_t k)
 		say("handle 0");
 		return;
 	}
-	if (k == 4 && number(w[2], &offset)) {
-		if (is(w[0], "store") && (len = bytes(w[3]))) {
-			vstore(offset, len);
-			return;
-		}
-		if ((is(w[0], "flush") || is(w[0], "sync")) && number(w[3], &len)) {
-			vsync(offset, len);
-			return;
-		}
-		if (is(w[0], "load") && number(w[3], &len)) {
-			if (!is_off() && !is_outside(offset, len) && !is_poisoned(offset, len, 0))
-				say_data(last + offset, len);
-			return;
-		}
-	}
+	if (k == 4 && number(w[2], &offset) && on_file(w, offset))
+		return;
 	if (k == 3 && is(w[1], "volume") && number(w[2], &offset)
 	    && (is(w[0], "poison") || is(w[0], "weaken") || is(w[0], "clear"))) {
 		befall(w[0], offset);
@@ -387,7 +468,7 @@ static void line(const uint8_t *p, size_t n)
 	size_t k = 0, i = 0;
 
 	if (n > MOST) {
-		say("refused syntax");
+		say("refused toolong");
 		return;
 	}
 	if (n && p[n - 1] == '\r')
