@@ -15,7 +15,6 @@ mod lines;
 mod loading;
 mod mounting;
 mod queries;
-mod reading;
 mod renewing;
 mod storing;
 mod syncing;

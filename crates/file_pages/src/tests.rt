@@ -9,7 +9,7 @@ ghost use Rattle.file_pages.specs.Object.{PagesServe, is_settled};
 use crate::{FilePages, PageFault, borrow_line};
 use file_journal::{Journal, MountFault};
 use line_device::{Choice, LineDevice, Lines, Plain, ResetFault};
-use nvm_base::{Bytes, LineNo, Name, Span};
+use nvm_base::{LineNo, Name, Span};
 use std::alloc::Global;
 use std::test::Fail;
 use test_devices::Fuse;
@@ -118,22 +118,6 @@ fn load<L: Lines>(
     files.load_into(dev, inode, offset, out)
 }
 
-fn read<L: Lines>(
-    files: &mut FilePages,
-    dev: &mut L,
-    span: Span,
-    out: &mut Bytes,
-) -> Result<(), PageFault>
-    requires serves { IsTrue (is_settled files.old) → PagesServe files.old (L.state dev.old).medium }
-    ensures serves { IsTrue (is_settled files.new) → PagesServe files.new (L.state dev.new).medium }
-{
-    let inode = file(files);
-    if !files.settled() || !dev.power() || 64 <= inode || out.reserve(span.len).is_err() {
-        return Err(PageFault::Device);
-    }
-    files.read(dev, inode, span, out)
-}
-
 fn persist<L: Lines>(
     files: &mut FilePages,
     dev: &mut L,
@@ -233,29 +217,6 @@ fn a_hole_reads_as_zeros_until_it_is_stored_to(rt: HostRuntime) -> Result<(), Fa
     let mut files = open(rt.alloc(), &mut device, Choice::Firsts)?;
     assert_eq!(rt; load(&mut files, &mut device, 4088, &mut out), Ok(()));
     assert_eq!(rt; out, [0, 0, 7, 7, 7, 7, 7, 7, 8, 8, 8, 8]);
-    Ok(())
-}
-
-#[test]
-fn a_read_appends_the_bytes_of_a_hole_and_of_a_page(rt: HostRuntime) -> Result<(), Fail> {
-    let mut device = fresh(rt.alloc())?;
-    make(rt.alloc(), &mut device)?;
-    let mut files = open(rt.alloc(), &mut device, Choice::Firsts)?;
-    assert_eq!(rt; store(&mut files, &mut device, 4096, &[1, 2, 3, 4]), Ok(()));
-    let mut out = Bytes::new(rt.alloc());
-    let calls = device.counts().calls;
-    let both = Span {
-        start: 4094,
-        len: 5,
-    };
-    assert_eq!(rt; read(&mut files, &mut device, both, &mut out), Ok(()));
-    assert_eq!(rt; device.counts().calls.checked_sub(calls), Some(1));
-    let within = Span {
-        start: 4097,
-        len: 2,
-    };
-    assert_eq!(rt; read(&mut files, &mut device, within, &mut out), Ok(()));
-    assert_eq!(rt; out.as_slice(), [0, 0, 1, 2, 3, 2, 3].as_slice());
     Ok(())
 }
 
