@@ -1,5 +1,5 @@
 -- The table of commands: a row each, and what follows from the rows.
-use Rattle.std.specs.Prelude.{◌≡◌, ◌⊎◌, ℕ, List, Option, Some, None, option_map}
+use Rattle.std.specs.Prelude.{◌≡◌, ◌⊎◌, ℕ, Bool, List, Option, Some, None, option_map}
 use Rattle.nvm_model.specs.Blocks.{first_there, IsMixed}
 use Rattle.nvm_model.specs.Files.{OneFileLeft}
 use Rattle.nvm_model.specs.Interrupted.{MayStore, MaySync, MaySyncAll}
@@ -114,6 +114,11 @@ spending h action = (meaning action).spends h
 -- room for its reply's line, before the data is known
 abbrev pub longest : Action → ℕ
 longest action = (meaning action).room
+
+-- whether it may want memory, where there is that room: for a list of files, of ranges or of bad lines, for a mapping, for the
+-- event of a line that it makes bad or weak, or to mount
+abbrev pub may_want_memory : Action → Bool
+may_want_memory action = (meaning action).wants_memory
 
 -- what an interruption leaves of blocks that would become others, of pages, and of files
 abbrev pub LeavesBlocks : BlocksLeft → List Block → List Block → List Block → Type 0

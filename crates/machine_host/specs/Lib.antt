@@ -40,4 +40,3 @@ pub mod EventRows
 pub mod AttributeRows
 pub mod PageRows
 pub mod FileActionRows
-pub mod Wanting

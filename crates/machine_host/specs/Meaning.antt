@@ -61,7 +61,8 @@ pub data Starved : Type 0 where
 
 -- A command: the mode that it needs, the places that the host looks at before anything else does, all that refuses it, what
 -- comes of it where nothing does, what it makes of blocks, volume and files (of which a handle names one by the mappings), what an
--- interruption may leave of them and want of memory of all, what it may spend, and the room of its reply.
+-- interruption may leave of them and want of memory of all, whether memory may be wanting where there is room for the reply, what it
+-- may spend, and that room.
 pub record Meaning : Type 0 where
   pub needs : Needs
   pub checked : Geometry → Option Why
@@ -74,6 +75,7 @@ pub record Meaning : Type 0 where
   pub volume_left : Geometry → VolumeLeft
   pub files_left : List Mapping → FilesLeft
   pub starved : Starved
+  pub wants_memory : Bool
   pub spends : Machine → Spending
   pub room : ℕ
 
@@ -95,6 +97,7 @@ quiet needs checked comes = record {
   volume_left = λ geo. Kept;
   files_left = λ mappings. Unchanged;
   starved = Untouched;
+  wants_memory = false;
   spends = λ h. no_spending;
   room = 72;
 }

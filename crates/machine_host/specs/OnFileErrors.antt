@@ -1,5 +1,5 @@
 -- Media errors of files: lines that go bad or weak, bad lines that are made good again, and those that are told.
-use Rattle.std.specs.Prelude.{◌+◌, ◌*◌, ◌/◌, ◌++◌, ℕ, List, [], ◌∷◌, length, min, option_map}
+use Rattle.std.specs.Prelude.{◌+◌, ◌*◌, ◌/◌, ◌++◌, ℕ, true, List, [], ◌∷◌, length, min, option_map}
 use Rattle.nvm_base.specs.declared.units.Span.{Span}
 use Rattle.nvm_model.specs.Cell.{Cell, clear_cell, lose_cell, weaken_cell}
 use Rattle.nvm_model.specs.Events.{offsets_of}
@@ -42,10 +42,16 @@ with_poisoned name offset h = record h {
 }
 
 abbrev pub poison_file : List ℕ → ℕ → Meaning
-poison_file name offset = record (marking_file lose_cell name offset) { comes = λ h. Gives Done (with_poisoned name offset h) }
+poison_file name offset = record (marking_file lose_cell name offset) {
+  comes = λ h. Gives Done (with_poisoned name offset h);
+  wants_memory = true;
+}
 
 abbrev pub weaken_file : List ℕ → ℕ → Meaning
-weaken_file name offset = record (marking_file weaken_cell name offset) { starved = WrittenBack }
+weaken_file name offset = record (marking_file weaken_cell name offset) {
+  starved = WrittenBack;
+  wants_memory = true;
+}
 
 -- one call of the device
 abbrev pub clear_file : List ℕ → ℕ → Meaning
@@ -68,5 +74,6 @@ check_file name offset len =
         named = if_missing name h.files;
         places = option_map Refused (span_refusal (4096 * length (pages_named name h.files)) offset len);
       };
+      wants_memory = true;
       room = 72 + 21 * min (len / 64 + 2) 16384;
     }

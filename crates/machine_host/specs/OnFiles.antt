@@ -80,4 +80,7 @@ resize name pages =
 
 -- name and page count of each
 abbrev pub list_files : Meaning
-list_files = record (quiet Usable anywhere (λ h. Gives (Files (map entry_of_file h.files)) h)) { room = 64 + 54 * 64 }
+list_files = record (quiet Usable anywhere (λ h. Gives (Files (map entry_of_file h.files)) h)) {
+  wants_memory = true;
+  room = 64 + 54 * 64;
+}

@@ -1,6 +1,6 @@
 -- The commands on mappings of files. A shared mapping shows its file: a load or a store through it is a read or a write of that
 -- file, a stretch further on. A private one is a copy of its bytes, of which the device knows nothing.
-use Rattle.std.specs.Prelude.{◌+◌, ◌*◌, ◌++◌, ℕ, List, [], ◌∷◌, length, take, drop, min, Option, Some, None, is_none, option_map, if◌then◌else◌}
+use Rattle.std.specs.Prelude.{◌+◌, ◌*◌, ◌++◌, ℕ, true, List, [], ◌∷◌, length, take, drop, min, Option, Some, None, is_none, option_map, if◌then◌else◌}
 use Rattle.nvm_base.specs.declared.files.Kind.{Kind}
 use Rattle.nvm_base.specs.declared.units.Span.{Span}
 use Rattle.nvm_model.specs.Blocks.{first_there}
@@ -57,6 +57,7 @@ map_file name span kind = record (quiet Usable anywhere (λ h.
         places = first_there (option_map Refused (span_refusal (4096 * length (pages_named name h.files)) span.start span.len)) (if_full_of_mappings h);
         unreadable = if_no_copy name span kind h;
       };
+      wants_memory = true;
       spends = λ h. record { calls = map_calls kind span; persists = 0 };
     }
 

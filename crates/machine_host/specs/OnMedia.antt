@@ -1,5 +1,5 @@
 -- Media errors: lines that go bad or weak, and bad lines that are made good again.
-use Rattle.std.specs.Prelude.{◌/◌, ◌==◌, ℕ, List, [], ◌∷◌, Option, Some, None, option_map, nat_lt, if◌then◌else◌}
+use Rattle.std.specs.Prelude.{◌/◌, ◌==◌, ℕ, true, List, [], ◌∷◌, Option, Some, None, option_map, nat_lt, if◌then◌else◌}
 use Rattle.nvm_model.specs.Blocks.{lose}
 use Rattle.nvm_model.specs.Cell.{Cell, clear_cell, lose_cell, weaken_cell}
 use Rattle.nvm_model.specs.Page.{change_line}
@@ -51,7 +51,10 @@ poison_meta line =
     quiet Anytime (λ geo. if nat_lt line (meta_lines geo) then None else Some because.Range) (λ h. Gives Done (record h { bad_meta = with_line line h.bad_meta }))
 
 abbrev pub weaken_volume : ℕ → Meaning
-weaken_volume offset = record (marking_volume weaken_cell offset) { starved = WrittenBack }
+weaken_volume offset = record (marking_volume weaken_cell offset) {
+  starved = WrittenBack;
+  wants_memory = true;
+}
 
 -- one call of the device
 abbrev pub clear_volume : ℕ → Meaning

@@ -32,11 +32,13 @@ evict lines = quiet Usable anywhere (λ h. Orders (ForWriteBack lines) h)
 abbrev pub restart : Choice → Meaning
 restart choice = record (quiet Unpowered anywhere (λ h. Restarts choice)) {
   starved = Unmounted choice;
+  wants_memory = true;
   spends = λ h. record { calls = mount_calls; persists = mount_persists };
 }
 
 abbrev pub recover : Meaning
 recover = record (quiet Failed anywhere (λ h. Recovers)) {
   starved = Unrecovered;
+  wants_memory = true;
   spends = λ h. record { calls = mount_calls; persists = mount_persists };
 }

@@ -110,4 +110,7 @@ vexists page = record (quiet Usable anywhere (λ h. Gives (yes_or_no (slice_inde
 
 -- where the volume lies
 abbrev pub vranges : Meaning
-vranges = record (quiet Usable anywhere (λ h. Gives (Ranges (volume_ranges h.geometry)) h)) { room = 133 }
+vranges = record (quiet Usable anywhere (λ h. Gives (Ranges (volume_ranges h.geometry)) h)) {
+  wants_memory = true;
+  room = 133;
+}

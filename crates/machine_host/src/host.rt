@@ -97,7 +97,7 @@ impl Host {
     ghost use Rattle.machine_host.specs.Costs.{mount_calls, mount_persists};
     ghost use Rattle.machine_host.specs.Faults.{Leaves};
     ghost use Rattle.machine_host.specs.Settling.{LeftUnsettled, Settled, is_down};
-    ghost use Rattle.machine_host.specs.Wanting.{may_want_memory};
+    ghost use Rattle.machine_host.specs.Commands.{may_want_memory};
 
     /// The host of a device, of the sizes that its superblock tells. It mounts the device, and takes its work buffer.
     pub fn mount<D: LineDevice>(alloc: Global, device: &mut D) -> Result<Self, MountFault>

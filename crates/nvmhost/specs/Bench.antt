@@ -62,7 +62,7 @@ pub record AddsReply (line out : List ℕ) (old new : Summary) : Type 0 where
   pub reply : (text : List ℕ) → out ≡ text ++ 10 ∷ [] → new ≡ added old line text
   pub none : out ≡ [] → new ≡ old
 
--- its line
+-- a summary's line
 abbrev pub summary_text : Summary → List ℕ
 summary_text s =
     codes "bench commands " ++ decimal s.commands ++ codes " ok " ++ decimal s.oks ++ codes " data " ++ decimal s.reads ++ codes " cuts " ++ decimal s.cuts

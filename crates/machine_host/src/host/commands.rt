@@ -2,11 +2,10 @@
 ghost use Rattle.std.specs.Prelude.{◌≡◌, None, IsTrue, OnErr, length};
 ghost use Rattle.script_text.specs.Action.{action_of};
 ghost use Rattle.script_text.specs.Parsing.{InBounds};
-ghost use Rattle.machine_host.specs.Commands.{early_refusal, longest};
+ghost use Rattle.machine_host.specs.Commands.{early_refusal, longest, may_want_memory};
 ghost use Rattle.machine_host.specs.Lines.{bad_metadata};
 ghost use Rattle.machine_host.specs.Stands.{HostServes};
 ghost use Rattle.machine_host.specs.Responding.{Performs};
-ghost use Rattle.machine_host.specs.Wanting.{may_want_memory};
 
 use super::Performer;
 use crate::look::Look;
