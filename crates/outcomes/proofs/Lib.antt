@@ -1,0 +1,9 @@
+mod TestLemmas
+mod FollowLemmas
+mod StopLemmas
+mod LookLemmas
+mod LineLemmas
+mod LeftLemmas
+mod RestLemmas
+mod BlockLemmas
+mod FoundLemmas

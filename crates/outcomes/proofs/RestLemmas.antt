@@ -1,0 +1,134 @@
+-- What a restart leaves of pages, line by line, and what a read of them is answered.
+use Rattle.std.proofs.Common.{◌≡◌, ◌⊎◌, inl, inr, ℕ, zero, suc, ◌+◌, ◌*◌, ◌/◌, ◌%◌, ◌<◌, ◌==◌, Bool, true, false, cond, ◌&&◌, Option, Some, None, option_map, List, [], ◌∷◌, length, slice_get, slice_index_or, refl, sym, ap, subst, ◌∙◌, arith}
+use Rattle.std.proofs.lemmas.Bool.{and_from, eq-eqb}
+use Rattle.std.proofs.lemmas.Option.{get_or_from_slice_get}
+use Rattle.std.proofs.lemmas.Slice.Eq.{bytes_eq-Decides}
+use Rattle.std.specs.Str.{bytes_eq}
+use Rattle.line_device.specs.History.{IsIn}
+use Rattle.line_device.specs.Panel.{Image}
+use Rattle.line_device.specs.declared.line.Choice.{Choice}
+use Rattle.nvm_model.specs.Cell.{Cell, KeepsCell, read_cell, touches}
+use Rattle.nvm_model.specs.Cell.Cell.{Bad, Kept}
+use Rattle.nvm_model.specs.Blocks.{first_there}
+use Rattle.nvm_model.specs.Numbered.{list_from}
+use Rattle.nvm_model.specs.Page.{KeepsPages, Page, byte_in, cell_of, first_bad_line, look, presence_of, read_pages}
+use Rattle.nvm_model.proofs.NumberedLemmas.{length-list_from, slice_get-list_from}
+use Rattle.nvm_model.proofs.PageLemmas.{cell_of-read_pages, page_of_line, read_pages-there}
+use Rattle.pm_volume.specs.Refusals.{poisoned_at}
+use Rattle.reply_text.specs.Answer.{Answer, why_text}
+use Rattle.reply_text.specs.Answer.Answer.{Bytes, Refused}
+use Rattle.reply_text.specs.declared.reply.Why.{Why}
+use Rattle.machine_host.specs.Meaning.{most_refusal}
+use Rattle.machine_host.specs.OnVolume.{volume_answer}
+use Rattle.machine_host.proofs.RefusalLemmas.{read_within}
+use Rattle.durable.specs.Durable.{HaveLines, IsLineThere}
+use Rattle.outcomes.specs.Pages.{PageRead, PageReply, is_given, is_reply, is_reply_by}
+use Rattle.outcomes.specs.Pages.PageReply.{Shows, Poison, Refuses}
+use Rattle.outcomes.specs.Seen.{page_answer}
+use Rattle.outcomes.proofs.LineLemmas.{Answered, Survives, lowest_of}
+use Rattle.outcomes.proofs.LineLemmas.Answered.{refused, named, shown}
+
+some_at : {A : Type 0} (xs : List A) (i : ℕ) → i < length xs → (x : A) × (slice_get xs i ≡ Some x)
+some_at [] i lt = absurd (omega (arith, lt))
+some_at (x ∷ xs) zero lt = (x, refl)
+some_at (x ∷ xs) (suc i) lt = some_at xs i (omega (arith, lt))
+
+module _ (choice : Choice) (image : Image) where
+  -- one line
+  cell_survives : (line : ℕ) (cell : Cell) → IsLineThere (Some cell) → KeepsCell choice image line cell → Survives (Some cell) (Some (read_cell image line))
+  cell_survives line Bad there kept =
+      subst (λ b. Survives (Some Bad) (Some (cond b Bad (Kept (image.is_weak line) (list_from (λ p. image.word p ∷ []) (8 * line) 8))))) (sym kept) tt
+  cell_survives line (Kept weak words) there kept =
+      subst (λ b. Survives (Some (Kept weak words)) (Some (cond b Bad (Kept (image.is_weak line) (list_from (λ p. image.word p ∷ []) (8 * line) 8))))) (sym kept.0) each
+    where
+      each : (w : ℕ) → w < 8 → (v : ℕ) × IsIn v (slice_index_or words w []) × (slice_index_or (list_from (λ p. image.word p ∷ []) (8 * line) 8) w [] ≡ v ∷ [])
+      each w lt =
+          let history = some_at words w (omega (arith, lt, there)) in
+          let was = (kept.2 w history.0 history.1).was in (
+            image.word (8 * line + w),
+            subst (λ h. IsIn (image.word (8 * line + w)) h) (sym (get_or_from_slice_get words w history.0 [] history.1)) was,
+            get_or_from_slice_get (list_from (λ p. image.word p ∷ []) (8 * line) 8) w (image.word (8 * line + w) ∷ []) [] (slice_get-list_from (λ p. image.word p ∷ []) (8 * line) 8 w lt),
+          )
+
+  -- each line of pages
+  pub survives : (place : ℕ → ℕ) (there : List Bool) (left : List Page) → HaveLines left → presence_of left ≡ there → KeepsPages choice place image left
+      → (n : ℕ) → Survives (cell_of left n) (cell_of (read_pages place image there) n)
+  survives place there left lines same keeps n = by_left (cell_of left n) refl
+    where
+      gone : (cell : Cell) → cell_of left n ≡ None → cell_of (read_pages place image there) n ≡ Some cell → ⊥
+      gone cell none is =
+          let here : slice_get (presence_of left) (n / 64) ≡ Some true = ap (λ p. slice_get p (n / 64)) same ∙ read_pages-there place image there n cell is in
+          subst IsLineThere none (lines n (get_or_from_slice_get (presence_of left) (n / 64) true false here))
+
+      by_left : (o : Option Cell) → cell_of left n ≡ o → Survives o (cell_of (read_pages place image there) n)
+      by_left (Some cell) is =
+          let here : slice_get there (n / 64) ≡ Some true = sym (ap (λ p. slice_get p (n / 64)) same) ∙ page_of_line left n cell is in
+          let page : slice_get (presence_of left) (n / 64) ≡ Some true = page_of_line left n cell is in
+          let line : IsLineThere (Some cell) = subst IsLineThere is (lines n (get_or_from_slice_get (presence_of left) (n / 64) true false page)) in
+          subst (Survives (Some cell)) (sym (cell_of-read_pages place image there n here)) (cell_survives (place n) cell line (keeps n cell is))
+      by_left None none = by_read (cell_of (read_pages place image there) n) refl
+        where
+          by_read : (o : Option Cell) → cell_of (read_pages place image there) n ≡ o → Survives None o
+          by_read None is = tt
+          by_read (Some cell) is = absurd (gone cell none is)
+
+-- replies that are answered alike
+reply_is : (a b : PageReply) → page_answer a ≡ page_answer b → a ≡ b
+reply_is (Shows x) (Shows y) is = let e : x ≡ y = cc is in ap Shows e
+reply_is (Shows x) (Poison at) is = cc is
+reply_is (Shows x) (Refuses why) is = cc is
+reply_is (Poison at) (Shows y) is = cc is
+reply_is (Poison at) (Poison to) is = let e : at ≡ to = cc is in ap Poison e
+reply_is (Poison at) (Refuses why) is = cc is
+reply_is (Refuses why) (Shows y) is = cc is
+reply_is (Refuses why) (Poison at) is = cc is
+reply_is (Refuses why) (Refuses other) is = let e : why ≡ other = cc is in ap Refuses e
+
+-- what a read of pages is answered, by why it is refused and its lowest bad line
+pub answered : (size : ℕ) (pages : List Page) (r : PageRead) (refusal : Option Answer)
+    → refusal ≡ first_there (option_map Refused (most_refusal 65536 size r.start r.len)) (option_map volume_answer (poisoned_at (first_bad_line pages r.start r.len)))
+    → (refusal ≡ Some (page_answer r.reply)) ⊎ ((refusal ≡ None) × (page_answer r.reply ≡ Bytes (look pages r.start r.len))) → Answered size pages r
+answered size pages r refusal is told = by_why (most_refusal 65536 size r.start r.len) refl (first_bad_line pages r.start r.len) refl
+  where
+    by_why : (o : Option Why) → most_refusal 65536 size r.start r.len ≡ o → (l : Option ℕ) → first_bad_line pages r.start r.len ≡ l → Answered size pages r
+    by_why (Some why) right l at =
+        let here : refusal ≡ Some (Refused why) = is ∙ ap (λ o. first_there (option_map Refused o) (option_map volume_answer (poisoned_at (first_bad_line pages r.start r.len)))) right in
+        elim told as (λ _. Answered size pages r) [
+          | inl same ↦ refused why right (reply_is r.reply (Refuses why) (cc (sym same ∙ here)))
+          | inr none ↦ absurd (cc (sym none.0 ∙ here))
+        ]
+    by_why None right (Some n) at =
+        let here : refusal ≡ Some (page_answer (Poison (64 * n))) =
+        is ∙ ap (λ o. first_there (option_map Refused o) (option_map volume_answer (poisoned_at (first_bad_line pages r.start r.len)))) right ∙ ap (λ l. option_map volume_answer (poisoned_at l)) at in
+        elim told as (λ _. Answered size pages r) [
+          | inl same ↦ named n right at (reply_is r.reply (Poison (64 * n)) (cc (sym same ∙ here)))
+          | inr none ↦ absurd (cc (sym none.0 ∙ here))
+        ]
+    by_why None right None at =
+        let here : refusal ≡ None =
+        is ∙ ap (λ o. first_there (option_map Refused o) (option_map volume_answer (poisoned_at (first_bad_line pages r.start r.len)))) right ∙ ap (λ l. option_map volume_answer (poisoned_at l)) at in
+        elim told as (λ _. Answered size pages r) [
+          | inl same ↦ absurd (cc (sym same ∙ here))
+          | inr none ↦ shown right at (reply_is r.reply (Shows (look pages r.start r.len)) none.1)
+        ]
+
+look_length : (pages : List Page) (start len : ℕ) → length (look pages start len) ≡ len
+unfolding look
+look_length pages start len = length-list_from (byte_in pages) start len
+
+-- so the reply is one of such a read
+pub reply_right : (size : ℕ) (pages : List Page) (r : PageRead) → Answered size pages r → is_reply size r ≡ true
+reply_right size pages r (refused why right is) =
+    ap (λ o. is_reply_by o r.start r.len r.reply) right ∙ ap (λ reply. is_reply_by (Some why) r.start r.len reply) is ∙ same_text
+  where
+    same_text : bytes_eq (why_text why) (why_text why) ≡ true
+    same_text = (bytes_eq-Decides (why_text why) (why_text why)).1 refl
+reply_right size pages r (named n right found is) =
+    let lowest = lowest_of pages r.start r.len n (read_within 65536 size r.start r.len right).0 found in
+    let at : 64 * n / 64 ≡ n = omega arith in
+    ap (λ o. is_reply_by o r.start r.len r.reply) right ∙ ap (λ reply. is_reply_by None r.start r.len reply) is
+    ∙ and_from (touches r.start r.len (64 * n / 64)) (64 * n == 64 * (64 * n / 64)) (ap (touches r.start r.len) at ∙ lowest.touched)
+    (eq-eqb (64 * n) (64 * (64 * n / 64)) (omega arith))
+reply_right size pages r (shown right none is) =
+    ap (λ o. is_reply_by o r.start r.len r.reply) right ∙ ap (λ reply. is_reply_by None r.start r.len reply) is
+    ∙ eq-eqb (length (look pages r.start r.len)) r.len (look_length pages r.start r.len)
