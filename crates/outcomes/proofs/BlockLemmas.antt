@@ -25,7 +25,8 @@ use Rattle.machine_host.specs.OnBlocks.{refusal_answer}
 use Rattle.durable.specs.Naming.{IsLowestObstacle}
 use Rattle.outcomes.specs.Blocks.{BlockRead, BlockReply, allows, block_fits, has_bytes, is_bad_line, is_block_reply, is_block_reply_by, is_scar}
 use Rattle.outcomes.specs.Blocks.BlockReply.{Shows, Scar, BadLine, Refuses}
-use Rattle.outcomes.specs.Seen.{block_answer, blocks_may_pass, blocks_pass}
+use Rattle.outcomes.specs.Left.{blocks_may_pass, blocks_pass}
+use Rattle.outcomes.specs.Seen.{block_answer}
 use Rattle.outcomes.proofs.TestLemmas.{each_all, range_all}
 
 -- how an obstacle is told

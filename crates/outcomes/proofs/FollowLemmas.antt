@@ -30,6 +30,8 @@ pub record Rests (h to : Machine) : Type 0 where
   pub geometry : to.geometry ≡ h.geometry
   pub blocks : to.blocks ≡ h.blocks
   pub volume : to.volume ≡ h.volume
+  pub files : to.files ≡ h.files
+  pub mappings : to.mappings ≡ h.mappings
   pub interrupted : to.interrupted ≡ h.interrupted
   pub metadata : to.bad_meta ≡ h.bad_meta
   pub mode : to.mode ≡ h.mode
@@ -58,7 +60,7 @@ keeps : (h to : Machine) → to.mode ≡ h.mode → to.interrupted ≡ h.interru
 keeps h to mode interrupted metadata failures = record { mode = mode; interrupted = interrupted; metadata = metadata; failures = failures }
 
 pub rests : (h : Machine) → Rests h h
-rests h = record { geometry = refl; blocks = refl; volume = refl; interrupted = refl; metadata = refl; mode = refl }
+rests h = record { geometry = refl; blocks = refl; volume = refl; files = refl; mappings = refl; interrupted = refl; metadata = refl; mode = refl }
 
 -- a flush, which each of four commands is
 flush_follows : (h : Machine) (look : Look) (handle : ℕ) (spans : List Span) → Follows h ((flush_with look handle spans).comes h)
@@ -142,7 +144,7 @@ of_program h (WeakenVolume offset) is = (keeps h _ refl refl refl refl, inl refl
 of_program h (ClearFile name offset) is = (keeps h _ refl refl refl refl, inl refl)
 of_program h (ClearVolume offset) is = (keeps h _ refl refl refl refl, inl refl)
 of_program h Cut is = cc is
-of_program h (CutIn calls) is = (keeps h _ refl refl refl refl, inr (record { geometry = refl; blocks = refl; volume = refl; interrupted = refl; metadata = refl; mode = refl }))
+of_program h (CutIn calls) is = (keeps h _ refl refl refl refl, inr (record { geometry = refl; blocks = refl; volume = refl; files = refl; mappings = refl; interrupted = refl; metadata = refl; mode = refl }))
 of_program h (FailIn calls) is = cc is
 of_program h (Restart choice) is = cc is
 of_program h Recover is = cc is

@@ -9,7 +9,10 @@ use Rattle.line_device.specs.Word.{reaches, word_over}
 use Rattle.word_tables.specs.declared.geometry.Geometry.{Geometry}
 use Rattle.nvm_model.specs.Cell.{Cell, covers, persist_cell, put_cell}
 use Rattle.nvm_model.specs.Cell.Cell.{Bad, Kept}
-use Rattle.nvm_model.specs.Interrupted.{Became, LineByLine, MayPersist, MayPut}
+use Rattle.nvm_base.specs.declared.units.Span.{Span}
+use Rattle.nvm_model.specs.Interrupted.{Became, MayPut, MayStore, MaySyncAll}
+use Rattle.nvm_model.specs.Touched.{persist_spans, persist_touched}
+use Rattle.nvm_model.proofs.SeveralLemmas.{cell_of-spans}
 use Rattle.nvm_model.specs.Numbered.{AreMixed, map_from}
 use Rattle.nvm_model.specs.Page.{Page, cell_in, cell_of, fill, persist, put}
 use Rattle.nvm_model.proofs.NumberedLemmas.{slice_get-map_from}
@@ -19,8 +22,8 @@ use Rattle.machine_host.specs.Commands.{LeavesVolume, MayLeaveVolume, meaning}
 use Rattle.machine_host.specs.Meaning.{VolumeLeft}
 use Rattle.machine_host.specs.Meaning.VolumeLeft.{Kept as Unchanged, PartStored, PartSynced, AllOrNone, PageByPage}
 use Rattle.outcomes.specs.Pages.{PageRead, all_agree, all_allow_good, line_fits, words_fit}
-use Rattle.outcomes.specs.Seen.{volume_may_pass, volume_passes}
-use Rattle.outcomes.specs.Ways.{group_passes, groups_pass}
+use Rattle.outcomes.specs.Left.{stored_passes, volume_may_pass, volume_passes}
+use Rattle.outcomes.specs.Ways.{each_passes, group_passes}
 use Rattle.outcomes.proofs.TestLemmas.{below_all, below_each, each_all}
 
 -- an item by its place
@@ -85,18 +88,18 @@ module _ (reads : List PageRead) where
   put_fits n at bytes (Some (Kept weak words)) (Some Bad) may fit = absurd may
   put_fits n at bytes (Some (Kept weak words)) (Some (Kept mark mixed)) may fit = or_right _ _ (kept_fit n at bytes words mixed may.1 fit)
 
-  -- and a sync
-  persist_fits : (n start len : ℕ) (old left : Option Cell) → Became (MayPersist start len n) old left → line_fits reads n left ≡ true
-      → (line_fits reads n old || line_fits reads n (option_map (persist_cell start len n) old)) ≡ true
-  persist_fits n start len None None may fit = or_left _ _ fit
-  persist_fits n start len None (Some new) may fit = absurd may
-  persist_fits n start len (Some old) None may fit = absurd may
-  persist_fits n start len (Some old) (Some new) (inl same) fit = or_left _ _ (sym (ap (λ c. line_fits reads n (Some c)) same) ∙ fit)
-  persist_fits n start len (Some old) (Some new) (inr same) fit = or_right _ _ (sym (ap (λ c. line_fits reads n (Some c)) same) ∙ fit)
+  -- and a line that was made durable, or not
+  flush_fits : (n : ℕ) (made : Cell → Cell) (old left : Option Cell) → Became (λ cell new. (new ≡ cell) ⊎ (new ≡ made cell)) old left → line_fits reads n left ≡ true
+      → (line_fits reads n old || line_fits reads n (option_map made old)) ≡ true
+  flush_fits n made None None may fit = or_left _ _ fit
+  flush_fits n made None (Some new) may fit = absurd may
+  flush_fits n made (Some old) None may fit = absurd may
+  flush_fits n made (Some old) (Some new) (inl same) fit = or_left _ _ (sym (ap (λ c. line_fits reads n (Some c)) same) ∙ fit)
+  flush_fits n made (Some old) (Some new) (inr same) fit = or_right _ _ (sym (ap (λ c. line_fits reads n (Some c)) same) ∙ fit)
 
   -- of all lines that are looked at
-  module _ (old to left : List Page) (fit : (n : ℕ) → line_fits reads n (cell_of left n) ≡ true) (lines : List ℕ) where
-    as_one : (one : List Page) → left ≡ one → list_all (λ n. line_fits reads n (cell_of one n)) lines ≡ true
+  module _ (left : List Page) (fit : (n : ℕ) → line_fits reads n (cell_of left n) ≡ true) (lines : List ℕ) where
+    pub as_one : (one : List Page) → left ≡ one → list_all (λ n. line_fits reads n (cell_of one n)) lines ≡ true
     as_one one is = each_all (λ n. line_fits reads n (cell_of one n)) lines (λ n. sym (ap (λ p. line_fits reads n (cell_of p n)) is) ∙ fit n)
 
     page_line : (n k : ℕ) (one : List Page) → slice_get left (n / 64) ≡ slice_get one (n / 64) → (k / 64 == n / 64) ≡ true → cell_of left k ≡ cell_of one k
@@ -113,20 +116,30 @@ module _ (reads : List PageRead) where
         by_group k false out = refl
         by_group k true within = sym (ap (line_fits reads k) (page_line n k one same within)) ∙ fit k
 
-    leaves_pass : (kind : VolumeLeft) → LeavesVolume kind old to left → volume_passes kind (line_fits reads) old to lines ≡ true
-    leaves_pass Unchanged is = as_one old is
-    leaves_pass (PartStored at bytes) (inl is) = or_left _ _ (as_one old is)
-    leaves_pass (PartStored at bytes) (inr may) = or_right (list_all (λ n. line_fits reads n (cell_of old n)) lines) _
+    pub stored_pass : (at : ℕ) (bytes : List ℕ) (old : List Page) → MayStore at bytes old left → stored_passes at bytes (line_fits reads) old lines ≡ true
+    stored_pass at bytes old (inl is) = or_left _ _ (as_one old is)
+    stored_pass at bytes old (inr may) = or_right (list_all (λ n. line_fits reads n (cell_of old n)) lines) _
         (each_all (λ n. line_fits reads n (cell_of (fill at (length bytes) old) n) || line_fits reads n (cell_of (put at bytes (fill at (length bytes) old)) n)) lines (λ n.
         ap (λ o. line_fits reads n (cell_of (fill at (length bytes) old) n) || line_fits reads n o) (cell_of-put at bytes (fill at (length bytes) old) n)
         ∙ put_fits n at bytes (cell_of (fill at (length bytes) old) n) (cell_of left n) (may.each n) (fit n)))
-    leaves_pass (PartSynced start len) may =
+
+    pub synced_pass : (spans : List Span) (old : List Page) → MaySyncAll spans old left
+        → each_passes (line_fits reads) (cell_of old) (cell_of (persist_spans spans old)) lines ≡ true
+    synced_pass spans old may =
+        each_all (λ n. line_fits reads n (cell_of old n) || line_fits reads n (cell_of (persist_spans spans old) n)) lines (λ n.
+        ap (λ o. line_fits reads n (cell_of old n) || line_fits reads n o) (cell_of-spans spans old n)
+        ∙ flush_fits n (persist_touched spans n) (cell_of old n) (cell_of left n) (may.each n) (fit n))
+
+    leaves_pass : (old to : List Page) (kind : VolumeLeft) → LeavesVolume kind old to left → volume_passes kind (line_fits reads) old to lines ≡ true
+    leaves_pass old to Unchanged is = as_one old is
+    leaves_pass old to (PartStored at bytes) may = stored_pass at bytes old may
+    leaves_pass old to (PartSynced start len) may =
         each_all (λ n. line_fits reads n (cell_of old n) || line_fits reads n (cell_of (persist start len old) n)) lines (λ n.
         ap (λ o. line_fits reads n (cell_of old n) || line_fits reads n o) (cell_of-persist start len old n)
-        ∙ persist_fits n start len (cell_of old n) (cell_of left n) (may.each n) (fit n))
-    leaves_pass AllOrNone (inl is) = or_left _ _ (as_one old is)
-    leaves_pass AllOrNone (inr is) = or_right (list_all (λ n. line_fits reads n (cell_of old n)) lines) _ (as_one to is)
-    leaves_pass PageByPage are = each_all (λ n. group_passes (line_fits reads) (λ k. k / 64) (n / 64) (cell_of old) lines || group_passes (line_fits reads) (λ k. k / 64) (n / 64) (cell_of to) lines) lines (λ n.
+        ∙ flush_fits n (persist_cell start len n) (cell_of old n) (cell_of left n) (may.each n) (fit n))
+    leaves_pass old to AllOrNone (inl is) = or_left _ _ (as_one old is)
+    leaves_pass old to AllOrNone (inr is) = or_right (list_all (λ n. line_fits reads n (cell_of old n)) lines) _ (as_one to is)
+    leaves_pass old to PageByPage are = each_all (λ n. group_passes (line_fits reads) (λ k. k / 64) (n / 64) (cell_of old) lines || group_passes (line_fits reads) (λ k. k / 64) (n / 64) (cell_of to) lines) lines (λ n.
         elim (are.each (n / 64)) as (λ _. (group_passes (line_fits reads) (λ k. k / 64) (n / 64) (cell_of old) lines || group_passes (line_fits reads) (λ k. k / 64) (n / 64) (cell_of to) lines) ≡ true) [
           | inl same ↦ or_left _ _ (group_fits n old same)
           | inr same ↦ or_right _ _ (group_fits n to same)
@@ -134,6 +147,6 @@ module _ (reads : List PageRead) where
 
   pub left_passes : (geo : Geometry) (o : Option Action) (old left : List Page) → MayLeaveVolume geo o old left → ((n : ℕ) → line_fits reads n (cell_of left n) ≡ true)
       → (lines : List ℕ) → volume_may_pass geo o (line_fits reads) old lines ≡ true
-  left_passes geo None old left is fit lines = as_one old old left fit lines old is
+  left_passes geo None old left is fit lines = as_one left fit lines old is
   left_passes geo (Some action) old left may fit lines =
-      leaves_pass old ((meaning action).volume geo old) left fit lines ((meaning action).volume_left geo) may
+      leaves_pass left fit lines old ((meaning action).volume geo old) ((meaning action).volume_left geo) may

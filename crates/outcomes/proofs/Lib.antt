@@ -6,4 +6,6 @@ mod LineLemmas
 mod LeftLemmas
 mod RestLemmas
 mod BlockLemmas
+mod FileLemmas
+mod SeenLemmas
 mod FoundLemmas

@@ -18,8 +18,6 @@ use Rattle.nvm_model.proofs.NumberedLemmas.{length-list_from, slice_get-list_fro
 use Rattle.page_lines.proofs.LoopLemmas.{touches-within, within-touches}
 use Rattle.pm_volume.proofs.BadLemmas.{none_touched}
 use Rattle.reply_text.specs.declared.reply.Why.{Why}
-use Rattle.machine_host.specs.Meaning.{most_refusal}
-use Rattle.machine_host.proofs.RefusalLemmas.{read_within}
 use Rattle.durable.specs.Naming.{IsLowestBad}
 use Rattle.outcomes.specs.Pages.{PageRead, PageReply, agrees, all_agree, all_allow_bad, all_allow_good, allows_bad, allows_good, line_fits, words_fit}
 use Rattle.outcomes.specs.Pages.PageReply.{Shows, Poison, Refuses}
@@ -37,15 +35,15 @@ Survives (Some (Kept weak words)) (Some Bad) = ⊥
 Survives (Some (Kept weak words)) (Some (Kept mark values)) =
     (w : ℕ) → w < 8 → (v : ℕ) × IsIn v (slice_index_or words w []) × (slice_index_or values w [] ≡ v ∷ [])
 
--- what a read of pages is answered: why it is refused, the lowest bad line, or its bytes
-pub data Answered (size : ℕ) (pages : List Page) (r : PageRead) : Type 0 where
-  refused : (why : Why) → most_refusal 65536 size r.start r.len ≡ Some why → r.reply ≡ Refuses why → Answered size pages r
-  named : (n : ℕ) → most_refusal 65536 size r.start r.len ≡ None → first_bad_line pages r.start r.len ≡ Some n → r.reply ≡ Poison (64 * n) → Answered size pages r
-  shown : most_refusal 65536 size r.start r.len ≡ None → first_bad_line pages r.start r.len ≡ None → r.reply ≡ Shows (look pages r.start r.len) → Answered size pages r
+-- what a read of pages is answered: that it is refused, the lowest bad line, or its bytes
+pub data Answered (pages : List Page) (r : PageRead) : Type 0 where
+  refused : (why : Why) → r.reply ≡ Refuses why → Answered pages r
+  named : (n : ℕ) → 1 ≤ r.len → first_bad_line pages r.start r.len ≡ Some n → r.reply ≡ Poison (64 * n) → Answered pages r
+  shown : 1 ≤ r.len → first_bad_line pages r.start r.len ≡ None → r.reply ≡ Shows (look pages r.start r.len) → Answered pages r
 
-abbrev pub AllAnswered : ℕ → List Page → List PageRead → Type 0
-AllAnswered size pages [] = Unit {0}
-AllAnswered size pages (r ∷ reads) = Answered size pages r × AllAnswered size pages reads
+abbrev pub AllAnswered : List Page → List PageRead → Type 0
+AllAnswered pages [] = Unit {0}
+AllAnswered pages (r ∷ reads) = Answered pages r × AllAnswered pages reads
 
 byte_at-zero : (k : ℕ) → byte_at k 0 ≡ 0
 byte_at-zero zero = refl
@@ -79,24 +77,24 @@ none_bad : (pages : List Page) (start len n : ℕ) → 1 ≤ len → first_bad_l
 unfolding first_bad_line
 none_bad pages start len n some none touched = none_touched (λ m. is_bad_cell (cell_of pages m)) start len n some none touched
 
-module _ (size : ℕ) (pages : List Page) where
-  good_allowed : (n : ℕ) (r : PageRead) → is_bad_cell (cell_of pages n) ≡ false → Answered size pages r → allows_good n r.reply ≡ true
-  good_allowed n r good (refused why some is) = ap (allows_good n) is
-  good_allowed n r good (shown none found is) = ap (allows_good n) is
-  good_allowed n r good (named m none found is) = ap (allows_good n) is ∙ ap not (false_from_ne_true (n == 64 * m / 64) (λ same.
+module _ (pages : List Page) where
+  good_allowed : (n : ℕ) (r : PageRead) → is_bad_cell (cell_of pages n) ≡ false → Answered pages r → allows_good n r.reply ≡ true
+  good_allowed n r good (refused why is) = ap (allows_good n) is
+  good_allowed n r good (shown some found is) = ap (allows_good n) is
+  good_allowed n r good (named m some found is) = ap (allows_good n) is ∙ ap not (false_from_ne_true (n == 64 * m / 64) (λ same.
       let at : n ≡ m = let e = eqb-true n (64 * m / 64) same in omega (arith, e) in
       both_ways (is_bad_cell (cell_of pages m)) (sym (ap (λ k. is_bad_cell (cell_of pages k)) at) ∙ good)
-      (lowest_of pages r.start r.len m (read_within 65536 size r.start r.len none).0 found).bad))
+      (lowest_of pages r.start r.len m some found).bad))
 
-  bad_allowed : (n : ℕ) (r : PageRead) → is_bad_cell (cell_of pages n) ≡ true → Answered size pages r → allows_bad n r.start r.len r.reply ≡ true
-  bad_allowed n r bad (refused why some is) = ap (allows_bad n r.start r.len) is
-  bad_allowed n r bad (shown none found is) = ap (allows_bad n r.start r.len) is ∙ ap not (false_from_ne_true (touches r.start r.len n) (λ touched.
-      both_ways (is_bad_cell (cell_of pages n)) (none_bad pages r.start r.len n (read_within 65536 size r.start r.len none).0 found touched) bad))
-  bad_allowed n r bad (named m none found is) = ap (allows_bad n r.start r.len) is ∙ ap not (false_from_ne_true (touches r.start r.len n && nat_lt n (64 * m / 64)) (λ both.
+  bad_allowed : (n : ℕ) (r : PageRead) → is_bad_cell (cell_of pages n) ≡ true → Answered pages r → allows_bad n r.start r.len r.reply ≡ true
+  bad_allowed n r bad (refused why is) = ap (allows_bad n r.start r.len) is
+  bad_allowed n r bad (shown some found is) = ap (allows_bad n r.start r.len) is ∙ ap not (false_from_ne_true (touches r.start r.len n) (λ touched.
+      both_ways (is_bad_cell (cell_of pages n)) (none_bad pages r.start r.len n some found touched) bad))
+  bad_allowed n r bad (named m some found is) = ap (allows_bad n r.start r.len) is ∙ ap not (false_from_ne_true (touches r.start r.len n && nat_lt n (64 * m / 64)) (λ both.
       let touched : touches r.start r.len n ≡ true = (and_parts (touches r.start r.len n) (nat_lt n (64 * m / 64)) both).0 in
       let before : n < 64 * m / 64 = let e : nat_lt n (64 * m / 64) ≡ true = (and_parts (touches r.start r.len n) (nat_lt n (64 * m / 64)) both).1 in grind (arith, nat_tests, e) in
       both_ways (is_bad_cell (cell_of pages n))
-      ((lowest_of pages r.start r.len m (read_within 65536 size r.start r.len none).0 found).before n (omega (arith, before)) touched) bad))
+      ((lowest_of pages r.start r.len m some found).before n (omega (arith, before)) touched) bad))
 
   -- a byte that is read
   byte_read : (start len i : ℕ) → is_among start len i ≡ true → slice_index (look pages start len) (i - start) ≡ byte_in pages i
@@ -110,10 +108,10 @@ module _ (size : ℕ) (pages : List Page) where
 
   -- word w of line n shows the value v, where each of its bytes is that of v
   word_agrees : (n w v : ℕ) (r : PageRead) → w < 8 → ((j : ℕ) → j < 8 → byte_in pages (8 * (8 * n + w) + j) ≡ byte_at j v)
-      → Answered size pages r → agrees (8 * n + w) v r.start r.len r.reply ≡ true
-  word_agrees n w v r lt bytes (refused why some is) = ap (agrees (8 * n + w) v r.start r.len) is
-  word_agrees n w v r lt bytes (named m none found is) = ap (agrees (8 * n + w) v r.start r.len) is
-  word_agrees n w v r lt bytes (shown none found is) =
+      → Answered pages r → agrees (8 * n + w) v r.start r.len r.reply ≡ true
+  word_agrees n w v r lt bytes (refused why is) = ap (agrees (8 * n + w) v r.start r.len) is
+  word_agrees n w v r lt bytes (named m some found is) = ap (agrees (8 * n + w) v r.start r.len) is
+  word_agrees n w v r lt bytes (shown some found is) =
       ap (agrees (8 * n + w) v r.start r.len) is ∙ range_all test (8 * (8 * n + w)) 8 each
     where
       test : ℕ → Bool
@@ -131,7 +129,7 @@ module _ (size : ℕ) (pages : List Page) where
       each k less = by_among (8 * (8 * n + w) + k) k refl less (is_among r.start r.len (8 * (8 * n + w) + k)) refl
 
   -- over all reads
-  over_reads : (f : PageRead → Bool) (reads : List PageRead) → AllAnswered size pages reads → ((r : PageRead) → Answered size pages r → f r ≡ true) → list_all f reads ≡ true
+  over_reads : (f : PageRead → Bool) (reads : List PageRead) → AllAnswered pages reads → ((r : PageRead) → Answered pages r → f r ≡ true) → list_all f reads ≡ true
   over_reads f [] all each = refl
   over_reads f (r ∷ reads) all each = and_from (f r) (list_all f reads) (each r all.0) (over_reads f reads all.1 each)
 
@@ -153,7 +151,7 @@ module _ (size : ℕ) (pages : List Page) where
       ∙ ap (λ k. byte_at j (newest (slice_index_or values k []))) word
       ∙ ap (λ h. byte_at j (newest h)) is
 
-  pub fits : (reads : List PageRead) (n : ℕ) (old : Option Cell) → AllAnswered size pages reads → Survives old (cell_of pages n) → line_fits reads n old ≡ true
+  pub fits : (reads : List PageRead) (n : ℕ) (old : Option Cell) → AllAnswered pages reads → Survives old (cell_of pages n) → line_fits reads n old ≡ true
   fits reads n old all left = by_cells old (cell_of pages n) refl left
     where
       all_good : is_bad_cell (cell_of pages n) ≡ false → all_allow_good reads n ≡ true

@@ -9,17 +9,14 @@ use Rattle.line_device.specs.Panel.{Image}
 use Rattle.line_device.specs.declared.line.Choice.{Choice}
 use Rattle.nvm_model.specs.Cell.{Cell, KeepsCell, read_cell, touches}
 use Rattle.nvm_model.specs.Cell.Cell.{Bad, Kept}
-use Rattle.nvm_model.specs.Blocks.{first_there}
 use Rattle.nvm_model.specs.Numbered.{list_from}
 use Rattle.nvm_model.specs.Page.{KeepsPages, Page, byte_in, cell_of, first_bad_line, look, presence_of, read_pages}
 use Rattle.nvm_model.proofs.NumberedLemmas.{length-list_from, slice_get-list_from}
 use Rattle.nvm_model.proofs.PageLemmas.{cell_of-read_pages, page_of_line, read_pages-there}
-use Rattle.pm_volume.specs.Refusals.{poisoned_at}
 use Rattle.reply_text.specs.Answer.{Answer, why_text}
 use Rattle.reply_text.specs.Answer.Answer.{Bytes, Refused}
 use Rattle.reply_text.specs.declared.reply.Why.{Why}
 use Rattle.machine_host.specs.Meaning.{most_refusal}
-use Rattle.machine_host.specs.OnVolume.{volume_answer}
 use Rattle.machine_host.proofs.RefusalLemmas.{read_within}
 use Rattle.durable.specs.Durable.{HaveLines, IsLineThere}
 use Rattle.outcomes.specs.Pages.{PageRead, PageReply, is_given, is_reply, is_reply_by}
@@ -72,63 +69,91 @@ module _ (choice : Choice) (image : Image) where
           by_read None is = tt
           by_read (Some cell) is = absurd (gone cell none is)
 
--- replies that are answered alike
-reply_is : (a b : PageReply) → page_answer a ≡ page_answer b → a ≡ b
-reply_is (Shows x) (Shows y) is = let e : x ≡ y = cc is in ap Shows e
-reply_is (Shows x) (Poison at) is = cc is
-reply_is (Shows x) (Refuses why) is = cc is
-reply_is (Poison at) (Shows y) is = cc is
-reply_is (Poison at) (Poison to) is = let e : at ≡ to = cc is in ap Poison e
-reply_is (Poison at) (Refuses why) is = cc is
-reply_is (Refuses why) (Shows y) is = cc is
-reply_is (Refuses why) (Poison at) is = cc is
-reply_is (Refuses why) (Refuses other) is = let e : why ≡ other = cc is in ap Refuses e
+-- A line is named by its own offset, and by no bytes and no refusal.
+pub record NamesLines (names : ℕ → Answer) : Type 0 where
+  pub apart : (at to : ℕ) → names at ≡ names to → at ≡ to
+  pub no_bytes : (at : ℕ) (bytes : List ℕ) → names at ≡ Bytes bytes → ⊥
+  pub no_refusal : (at : ℕ) (why : Why) → names at ≡ Refused why → ⊥
 
--- what a read of pages is answered, by why it is refused and its lowest bad line
-pub answered : (size : ℕ) (pages : List Page) (r : PageRead) (refusal : Option Answer)
-    → refusal ≡ first_there (option_map Refused (most_refusal 65536 size r.start r.len)) (option_map volume_answer (poisoned_at (first_bad_line pages r.start r.len)))
-    → (refusal ≡ Some (page_answer r.reply)) ⊎ ((refusal ≡ None) × (page_answer r.reply ≡ Bytes (look pages r.start r.len))) → Answered size pages r
-answered size pages r refusal is told = by_why (most_refusal 65536 size r.start r.len) refl (first_bad_line pages r.start r.len) refl
-  where
-    by_why : (o : Option Why) → most_refusal 65536 size r.start r.len ≡ o → (l : Option ℕ) → first_bad_line pages r.start r.len ≡ l → Answered size pages r
-    by_why (Some why) right l at =
-        let here : refusal ≡ Some (Refused why) = is ∙ ap (λ o. first_there (option_map Refused o) (option_map volume_answer (poisoned_at (first_bad_line pages r.start r.len)))) right in
-        elim told as (λ _. Answered size pages r) [
-          | inl same ↦ refused why right (reply_is r.reply (Refuses why) (cc (sym same ∙ here)))
-          | inr none ↦ absurd (cc (sym none.0 ∙ here))
-        ]
-    by_why None right (Some n) at =
-        let here : refusal ≡ Some (page_answer (Poison (64 * n))) =
-        is ∙ ap (λ o. first_there (option_map Refused o) (option_map volume_answer (poisoned_at (first_bad_line pages r.start r.len)))) right ∙ ap (λ l. option_map volume_answer (poisoned_at l)) at in
-        elim told as (λ _. Answered size pages r) [
-          | inl same ↦ named n right at (reply_is r.reply (Poison (64 * n)) (cc (sym same ∙ here)))
-          | inr none ↦ absurd (cc (sym none.0 ∙ here))
-        ]
-    by_why None right None at =
-        let here : refusal ≡ None =
-        is ∙ ap (λ o. first_there (option_map Refused o) (option_map volume_answer (poisoned_at (first_bad_line pages r.start r.len)))) right ∙ ap (λ l. option_map volume_answer (poisoned_at l)) at in
-        elim told as (λ _. Answered size pages r) [
-          | inl same ↦ absurd (cc (sym same ∙ here))
-          | inr none ↦ shown right at (reply_is r.reply (Shows (look pages r.start r.len)) none.1)
-        ]
+-- replies that are answered alike
+pub reply_is : (names : ℕ → Answer) → NamesLines names → (a b : PageReply) → page_answer names a ≡ page_answer names b → a ≡ b
+reply_is names n (Shows x) (Shows y) is = let e : x ≡ y = cc is in ap Shows e
+reply_is names n (Shows x) (Poison at) is = absurd (n.no_bytes at x (sym is))
+reply_is names n (Shows x) (Refuses why) is = cc is
+reply_is names n (Poison at) (Shows y) is = absurd (n.no_bytes at y is)
+reply_is names n (Poison at) (Poison to) is = ap Poison (n.apart at to is)
+reply_is names n (Poison at) (Refuses why) is = absurd (n.no_refusal at why is)
+reply_is names n (Refuses why) (Shows y) is = cc is
+reply_is names n (Refuses why) (Poison at) is = absurd (n.no_refusal at why (sym is))
+reply_is names n (Refuses why) (Refuses other) is = let e : why ≡ other = cc is in ap Refuses e
+
+-- what a read is refused with, by why its span is wrong and its lowest bad line
+abbrev pub refused_by : (ℕ → Answer) → Option Why → Option ℕ → Option Answer
+refused_by names (Some why) line = Some (Refused why)
+refused_by names None (Some n) = Some (names (64 * n))
+refused_by names None None = None
+
+abbrev pub IsRefusedBy : (ℕ → Answer) → ℕ → List Page → PageRead → Option Answer → Type 0
+IsRefusedBy names size pages r refusal =
+    (o : Option Why) (l : Option ℕ) → most_refusal 65536 size r.start r.len ≡ o → first_bad_line pages r.start r.len ≡ l → refusal ≡ refused_by names o l
+
+-- a read is refused with its reply, or gives the bytes of it
+abbrev pub IsTold : (ℕ → Answer) → List Page → PageRead → Option Answer → Type 0
+IsTold names pages r refusal =
+    (refusal ≡ Some (page_answer names r.reply)) ⊎ ((refusal ≡ None) × (page_answer names r.reply ≡ Bytes (look pages r.start r.len)))
+
+-- so its reply is right, and tells of the pages what they are
+pub record Replied (size : ℕ) (pages : List Page) (r : PageRead) : Type 0 where
+  pub answered : Answered pages r
+  pub right : is_reply size r ≡ true
+
+pub same_why : (why : Why) → bytes_eq (why_text why) (why_text why) ≡ true
+same_why why = (bytes_eq-Decides (why_text why) (why_text why)).1 refl
 
 look_length : (pages : List Page) (start len : ℕ) → length (look pages start len) ≡ len
 unfolding look
 look_length pages start len = length-list_from (byte_in pages) start len
 
--- so the reply is one of such a read
-pub reply_right : (size : ℕ) (pages : List Page) (r : PageRead) → Answered size pages r → is_reply size r ≡ true
-reply_right size pages r (refused why right is) =
-    ap (λ o. is_reply_by o r.start r.len r.reply) right ∙ ap (λ reply. is_reply_by (Some why) r.start r.len reply) is ∙ same_text
+pub replied : (names : ℕ → Answer) → NamesLines names → (size : ℕ) (pages : List Page) (r : PageRead) (refusal : Option Answer)
+    → IsRefusedBy names size pages r refusal → IsTold names pages r refusal → Replied size pages r
+replied names apart size pages r refusal by told = by_why (most_refusal 65536 size r.start r.len) (first_bad_line pages r.start r.len) refl refl
   where
-    same_text : bytes_eq (why_text why) (why_text why) ≡ true
-    same_text = (bytes_eq-Decides (why_text why) (why_text why)).1 refl
-reply_right size pages r (named n right found is) =
-    let lowest = lowest_of pages r.start r.len n (read_within 65536 size r.start r.len right).0 found in
-    let at : 64 * n / 64 ≡ n = omega arith in
-    ap (λ o. is_reply_by o r.start r.len r.reply) right ∙ ap (λ reply. is_reply_by None r.start r.len reply) is
-    ∙ and_from (touches r.start r.len (64 * n / 64)) (64 * n == 64 * (64 * n / 64)) (ap (touches r.start r.len) at ∙ lowest.touched)
-    (eq-eqb (64 * n) (64 * (64 * n / 64)) (omega arith))
-reply_right size pages r (shown right none is) =
-    ap (λ o. is_reply_by o r.start r.len r.reply) right ∙ ap (λ reply. is_reply_by None r.start r.len reply) is
-    ∙ eq-eqb (length (look pages r.start r.len)) r.len (look_length pages r.start r.len)
+    reply_by : (o : Option Why) (reply : PageReply) → most_refusal 65536 size r.start r.len ≡ o → r.reply ≡ reply → is_reply_by o r.start r.len reply ≡ true → is_reply size r ≡ true
+    reply_by o reply why is right = ap (λ w. is_reply_by w r.start r.len r.reply) why ∙ ap (λ x. is_reply_by o r.start r.len x) is ∙ right
+
+    by_why : (o : Option Why) (l : Option ℕ) → most_refusal 65536 size r.start r.len ≡ o → first_bad_line pages r.start r.len ≡ l → Replied size pages r
+    by_why (Some why) l right at =
+        let here : refusal ≡ Some (Refused why) = by (Some why) l right at in
+        elim told as (λ _. Replied size pages r) [
+          | inl same ↦
+          let is = reply_is names apart r.reply (Refuses why) (cc (sym same ∙ here)) in
+          record { answered = refused why is; right = reply_by (Some why) (Refuses why) right is (same_why why) }
+          | inr none ↦ absurd (cc (sym none.0 ∙ here))
+        ]
+    by_why None (Some n) right at =
+        let here : refusal ≡ Some (page_answer names (Poison (64 * n))) = by None (Some n) right at in
+        let some = (read_within 65536 size r.start r.len right).0 in
+        let lowest = lowest_of pages r.start r.len n some at in
+        let back : 64 * n / 64 ≡ n = omega arith in
+        elim told as (λ _. Replied size pages r) [
+          | inl same ↦
+          let is = reply_is names apart r.reply (Poison (64 * n)) (cc (sym same ∙ here)) in
+          record {
+            answered = named n some at is;
+            right = reply_by None (Poison (64 * n)) right is
+                (and_from (touches r.start r.len (64 * n / 64)) (64 * n == 64 * (64 * n / 64)) (ap (touches r.start r.len) back ∙ lowest.touched)
+                (eq-eqb (64 * n) (64 * (64 * n / 64)) (omega arith)));
+          }
+          | inr none ↦ absurd (cc (sym none.0 ∙ here))
+        ]
+    by_why None None right at =
+        let here : refusal ≡ None = by None None right at in
+        elim told as (λ _. Replied size pages r) [
+          | inl same ↦ absurd (cc (sym same ∙ here))
+          | inr none ↦
+          let is = reply_is names apart r.reply (Shows (look pages r.start r.len)) none.1 in
+          record {
+            answered = shown (read_within 65536 size r.start r.len right).0 at is;
+            right = reply_by None (Shows (look pages r.start r.len)) right is (eq-eqb (length (look pages r.start r.len)) r.len (look_length pages r.start r.len));
+          }
+        ]

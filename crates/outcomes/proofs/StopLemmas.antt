@@ -30,6 +30,8 @@ pub record Leaves (place off : Machine) : Type 0 where
   pub geometry : off.geometry ≡ place.geometry
   pub blocks : off.blocks ≡ place.blocks
   pub volume : off.volume ≡ place.volume
+  pub files : off.files ≡ place.files
+  pub mappings : off.mappings ≡ place.mappings
   pub interrupted : off.interrupted ≡ place.interrupted
   pub metadata : off.bad_meta ≡ []
   pub mode : off.mode ≡ Off
@@ -62,6 +64,8 @@ then_rests h to next one other = record {
   geometry = other.geometry ∙ one.geometry;
   blocks = other.blocks ∙ one.blocks;
   volume = other.volume ∙ one.volume;
+  files = other.files ∙ one.files;
+  mappings = other.mappings ∙ one.mappings;
   interrupted = other.interrupted ∙ one.interrupted;
   metadata = other.metadata ∙ one.metadata;
   mode = other.mode ∙ one.mode;
@@ -120,6 +124,8 @@ cut_leaves h off said ready run =
       geometry = ap (λ m. m.geometry) is;
       blocks = ap (λ m. m.blocks) is;
       volume = ap (λ m. m.volume) is;
+      files = ap (λ m. m.files) is;
+      mappings = ap (λ m. m.mappings) is;
       interrupted = ap (λ m. m.interrupted) is;
       metadata = ap (λ m. m.bad_meta) is ∙ ready.metadata;
       mode = ap (λ m. m.mode) is;
@@ -132,6 +138,8 @@ lost_leaves h next off action ready lost at = record {
   geometry = at.geometry ∙ ap (λ m. m.geometry) lost.state;
   blocks = at.blocks ∙ ap (λ m. m.blocks) lost.state;
   volume = at.volume ∙ ap (λ m. m.volume) lost.state;
+  files = at.files ∙ ap (λ m. m.files) lost.state;
+  mappings = at.mappings ∙ ap (λ m. m.mappings) lost.state;
   interrupted = at.interrupted ∙ ap (λ m. m.interrupted) lost.state;
   metadata = at.metadata ∙ ap (λ m. m.bad_meta) lost.state ∙ ready.metadata;
   mode = at.mode ∙ ap (λ m. m.mode) lost.state;

@@ -37,3 +37,9 @@ range_each f start (suc count) all k from to =
 
 pub below_each : (f : ℕ → Bool) (count : ℕ) → list_all f (range_with_len 0 count) ≡ true → (k : ℕ) → k < count → f k ≡ true
 below_each f count all k lt = range_each f 0 count all k (omega arith) (omega (arith, lt))
+
+pub all_more : {A : Type 0} (f g : A → Bool) (xs : List A) → ((x : A) → f x ≡ true → g x ≡ true) → list_all f xs ≡ true → list_all g xs ≡ true
+all_more f g [] each all = refl
+all_more f g (x ∷ xs) each all =
+    let parts = and_parts (f x) (list_all f xs) all in
+    and_from (g x) (list_all g xs) (each x parts.0) (all_more f g xs each parts.1)

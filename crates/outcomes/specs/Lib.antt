@@ -1,6 +1,8 @@
 pub mod Ways
 pub mod Pages
 pub mod Blocks
+pub mod Files
+pub mod Left
 pub mod Seen
 pub mod Stops
 pub mod Finds

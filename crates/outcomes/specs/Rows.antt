@@ -1,6 +1,6 @@
 -- Worked questions: whether a program may find this after a cut, from its script's bytes on.
 use Rattle.std.specs.Prelude.{◌≡◌, ℕ, Bool, true, false, List, [], ◌∷◌, ◌++◌, codes, replicate}
-use Rattle.reply_text.specs.declared.reply.Why.TheVariants.{Range}
+use Rattle.reply_text.specs.declared.reply.Why.TheVariants.{Missing, Range}
 use Rattle.script_text.specs.Script.{inputs}
 use Rattle.machine_host.specs.Restarting.{fresh}
 use Rattle.machine_host.specs.Rows.{small, text}
@@ -10,7 +10,7 @@ use Rattle.outcomes.specs.Finds.{may_find}
 use Rattle.outcomes.specs.Pages.{PageReply}
 use Rattle.outcomes.specs.Pages.PageReply.{Shows, Poison, Refuses}
 use Rattle.outcomes.specs.Seen.{Seen}
-use Rattle.outcomes.specs.Seen.Seen.{of_volume, of_blocks}
+use Rattle.outcomes.specs.Seen.Seen.{of_volume, of_blocks, of_file}
 
 -- a program on a new device of two volume pages, and what it looks at
 abbrev pub Answers : List (List ℕ) → List Seen → Bool → Type 0
@@ -18,6 +18,9 @@ Answers lines look may = may_find (fresh small) (inputs (text lines)) look ≡ m
 
 abbrev pub vload : ℕ → ℕ → PageReply → Seen
 vload start len reply = of_volume (record { start = start; len = len; reply = reply })
+
+abbrev pub fread : List ℕ → ℕ → ℕ → PageReply → Seen
+fread name start len reply = of_file (record { name = name; pages = record { start = start; len = len; reply = reply } })
 
 abbrev pub bread : ℕ → ℕ → BlockReply → Seen
 bread first count reply = of_blocks (record { first = first; count = count; reply = reply })
@@ -56,3 +59,17 @@ pub record OutcomeRows : Type 0 where
       (vload 0 1 (Shows (0 ∷ [])) ∷ vload 64 1 (Shows (0 ∷ [])) ∷ vload 4096 1 (Shows (0 ∷ [])) ∷ []) true
   pub a_read_past_the_end : Answers [] (vload 8192 1 (Refuses Range) ∷ []) true
   pub a_read_within : Answers [] (vload 0 1 (Refuses Range) ∷ []) false
+  pub renamed_too_early : Answers (codes "create t 1" ∷ codes "fwrite t 0 07*8" ∷ codes "rename t f" ∷ [])
+      (fread (codes "f") 0 8 (Shows (replicate 8 0)) ∷ []) true
+  pub renamed_once_durable : Answers (codes "create t 1" ∷ codes "fwrite t 0 07*8" ∷ codes "fsync t" ∷ codes "rename t f" ∷ [])
+      (fread (codes "f") 0 8 (Shows (replicate 8 0)) ∷ []) false
+  pub header_by_one_write : Answers (codes "create f 1" ∷ codes "fatomic f 0 01*16" ∷ [])
+      (fread (codes "f") 0 16 (Shows (replicate 8 1 ++ replicate 8 0)) ∷ []) false
+  pub header_by_a_store : Answers (codes "create f 1" ∷ codes "fwrite f 0 01*16" ∷ [])
+      (fread (codes "f") 0 16 (Shows (replicate 8 1 ++ replicate 8 0)) ∷ []) true
+  pub through_a_mapping : Answers
+      (codes "create f 1" ∷ codes "map f 0 4096 shared" ∷ codes "store 0 64 07*8" ∷ codes "sync 0 64 8" ∷ codes "store 0 0 01" ∷ codes "sync 0 0 1" ∷ [])
+      (fread (codes "f") 0 1 (Shows (1 ∷ [])) ∷ fread (codes "f") 64 8 (Shows (replicate 8 0)) ∷ []) false
+  pub before_it_is_made : Answers (codes "create f 1" ∷ []) (fread (codes "f") 0 1 (Refuses Missing) ∷ []) true
+  pub all_files_of_one_change : Answers (codes "create f 1" ∷ codes "rename f g" ∷ [])
+      (fread (codes "f") 0 1 (Shows (0 ∷ [])) ∷ fread (codes "g") 0 1 (Shows (0 ∷ [])) ∷ []) false

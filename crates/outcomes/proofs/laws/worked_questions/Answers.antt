@@ -14,13 +14,15 @@ use Rattle.file_journal.specs.Reading.{tables_of, words_read as file_words}
 use Rattle.inode_table.specs.Words.{slots_of}
 use Rattle.file_journal.specs.Standing.{files_read}
 use Rattle.nvm_model.specs.Events.{bad_numbers, restart_events}
+use Rattle.file_actions.specs.Rewriting.{first_lost, rewritten}
+use Rattle.nvm_model.specs.Touched.{bad_touched, next_bad_touched, persist_spans}
 use Rattle.script_text.specs.Script.{lines_of, words_of, command_action, line_input}
 use Rattle.machine_host.specs.Commands.{refusal}
 use Rattle.machine_host.specs.Restarting.{reading}
 use Rattle.outcomes.proofs.laws.worked_questions.Goals as goal
 
 pub returns : goal.returns
-unfolding digits word_from byte_over word_over reaches number_of runs_of data_within data_text fill put persist discard change_line first_bad_line first_uncovered_line look read_pages words_read lines_of words_of command_action line_input refusal size first_line total_lines volume_line reading restart_events bad_numbers states_read blocks_read listed files_read file_words tables_of slots_of write change look_blocks lose
+unfolding digits word_from byte_over word_over reaches number_of runs_of data_within data_text fill put persist discard change_line first_bad_line first_uncovered_line look read_pages words_read lines_of words_of command_action line_input refusal size first_line total_lines volume_line reading restart_events bad_numbers states_read blocks_read listed files_read file_words tables_of slots_of write change look_blocks lose persist_spans bad_touched next_bad_touched rewritten first_lost
 returns c = record {
   record_before_count = refl;
   both_by_one_sync = refl;
@@ -38,4 +40,11 @@ returns c = record {
   pages_together = refl;
   a_read_past_the_end = refl;
   a_read_within = refl;
+  renamed_too_early = refl;
+  renamed_once_durable = refl;
+  header_by_one_write = refl;
+  header_by_a_store = refl;
+  through_a_mapping = refl;
+  before_it_is_made = refl;
+  all_files_of_one_change = refl;
 }
