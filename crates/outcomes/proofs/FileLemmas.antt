@@ -1,6 +1,6 @@
 -- What an interruption leaves of files passes where the lines of each file do.
-use Rattle.std.proofs.Common.{◌≡◌, ◌⊎◌, inl, inr, ℕ, ◌*◌, Bool, true, false, cond, ◌&&◌, ◌||◌, Option, Some, None, List, [], ◌∷◌, length, map, refl, sym, ap, subst, ◌∙◌, if◌then◌else◌}
-use Rattle.std.specs.List.{list_all, list_any}
+use Rattle.std.proofs.Common.{◌≡◌, ◌⊎◌, inl, inr, ℕ, ◌*◌, Bool, true, false, cond, ◌&&◌, ◌||◌, Option, Some, None, List, [], ◌∷◌, length, map, refl, sym, ap, ◌∙◌}
+use Rattle.std.specs.List.{list_all}
 use Rattle.nvm_model.specs.Touched.{persist_spans}
 use Rattle.std.specs.Str.{bytes_eq}
 use Rattle.std.proofs.lemmas.Bool.{and_from, or_left, or_right}
@@ -8,12 +8,11 @@ use Rattle.std.proofs.lemmas.List.{length-map}
 use Rattle.std.proofs.lemmas.Slice.Eq.{bytes_eq-Decides}
 use Rattle.line_device.specs.Panel.{Image}
 use Rattle.line_device.specs.declared.line.Choice.{Choice}
-use Rattle.nvm_base.specs.declared.units.Span.{Span}
 use Rattle.word_tables.specs.declared.geometry.Geometry.{Geometry}
 use Rattle.nvm_model.specs.Files.{OneFileLeft}
 use Rattle.nvm_model.specs.Interrupted.{MayStore, MaySyncAll}
-use Rattle.nvm_model.specs.Listing.{AreAlike, file_name, has_file, is_named}
-use Rattle.nvm_model.specs.Page.{Page, cell_of, fill, is_present, presence_of, read_pages}
+use Rattle.nvm_model.specs.Listing.{AreAlike, file_name, has_file}
+use Rattle.nvm_model.specs.Page.{Page, cell_of, fill, is_present, presence_of}
 use Rattle.nvm_model.specs.Storage.{File, Mapping}
 use Rattle.nvm_model.proofs.PageLemmas.{length-fill, length-read_pages}
 use Rattle.file_journal.specs.Reading.{tables_read}
@@ -114,8 +113,8 @@ module _ (reads : List FileRead) (left : List File) (right : list_all (is_file_r
       tests name = elim (named-left text R name old left may) as (λ _. all_but text test name (reads_of name reads) (pages_named name old) ≡ true) [
         | inl same ↦ by_name name (bytes_eq text name) same
         | inr part ↦
-        ap (λ b. cond b (test (reads_of name reads) (pages_named name old)) (file_fits (reads_of name reads) (pages_named name old))) ((bytes_eq-Decides text name).1 (sym part.0))
-        ∙ passes name (inr part.1)
+            ap (λ b. cond b (test (reads_of name reads) (pages_named name old)) (file_fits (reads_of name reads) (pages_named name old))) ((bytes_eq-Decides text name).1 (sym part.0))
+            ∙ passes name (inr part.1)
       ]
 
   stored_size : (at : ℕ) (bytes : List ℕ) (a b : List Page) → MayStore at bytes a b → length b ≡ length a

@@ -1,25 +1,25 @@
 -- A line that a restart left is read as its replies tell, so it fits them.
-use Rattle.std.proofs.Common.{◌≡◌, ◌⊎◌, inl, inr, ℕ, zero, suc, ◌+◌, ◌-◌, ◌*◌, ◌/◌, ◌%◌, ◌^◌, ◌<◌, ◌≤◌, ◌==◌, Bool, true, false, not, ◌&&◌, ◌||◌, nat_lt, Option, Some, None, option_map, List, [], ◌∷◌, length, replicate, slice_index_or, position, refl, sym, ap, subst, ◌∙◌, arith}
+use Rattle.std.proofs.Common.{◌≡◌, inl, ℕ, zero, suc, ◌+◌, ◌-◌, ◌*◌, ◌/◌, ◌%◌, ◌^◌, ◌<◌, ◌≤◌, ◌==◌, Bool, true, false, not, ◌&&◌, ◌||◌, nat_lt, Option, Some, None, option_map, List, [], ◌∷◌, replicate, slice_index_or, position, refl, sym, ap, subst, ◌∙◌, arith}
 use Rattle.std.specs.Prelude.{slice_index}
 use Rattle.std.specs.Int.{byte_at}
 use Rattle.std.specs.List.{list_all, list_any, range_with_len}
-use Rattle.std.proofs.lemmas.Bool.{and_from, and_parts, both_ways, eq-eqb, eqb-true, false_from_ne_true, or_left, or_right, true_from_ne_false}
+use Rattle.std.proofs.lemmas.Bool.{and_from, and_parts, both_ways, eq-eqb, eqb-true, false_from_ne_true}
 use Rattle.std.proofs.lemmas.Bool.Decides.{nat_tests}
 use Rattle.std.proofs.lemmas.List.{get_or-replicate}
 use Rattle.std.proofs.lemmas.Option.{get_or_from_slice_get}
 use native.Mathlib.Nat.{zero-div}
 use Rattle.line_device.specs.History.{IsIn, newest}
 use Rattle.line_words.proofs.PositionLemmas.{one_found}
-use Rattle.nvm_model.specs.Cell.{Cell, cell_byte, lowest_touched, touches}
+use Rattle.nvm_model.specs.Cell.{Cell, cell_byte, touches}
 use Rattle.nvm_model.specs.Cell.Cell.{Bad, Kept}
 use Rattle.nvm_model.specs.Numbered.{is_among, list_from}
 use Rattle.nvm_model.specs.Page.{Page, byte_in, cell_of, first_bad_line, is_bad_cell, look}
-use Rattle.nvm_model.proofs.NumberedLemmas.{length-list_from, slice_get-list_from}
+use Rattle.nvm_model.proofs.NumberedLemmas.{slice_get-list_from}
 use Rattle.page_lines.proofs.LoopLemmas.{touches-within, within-touches}
 use Rattle.pm_volume.proofs.BadLemmas.{none_touched}
 use Rattle.reply_text.specs.declared.reply.Why.{Why}
 use Rattle.durable.specs.Naming.{IsLowestBad}
-use Rattle.outcomes.specs.Pages.{PageRead, PageReply, agrees, all_agree, all_allow_bad, all_allow_good, allows_bad, allows_good, line_fits, words_fit}
+use Rattle.outcomes.specs.Pages.{PageRead, agrees, all_agree, all_allow_good, allows_bad, allows_good, line_fits, words_fit}
 use Rattle.outcomes.specs.Pages.PageReply.{Shows, Poison, Refuses}
 use Rattle.outcomes.proofs.TestLemmas.{any_in, below_all, range_all}
 

@@ -1,5 +1,5 @@
 -- What a restart leaves of pages, line by line, and what a read of them is answered.
-use Rattle.std.proofs.Common.{◌≡◌, ◌⊎◌, inl, inr, ℕ, zero, suc, ◌+◌, ◌*◌, ◌/◌, ◌%◌, ◌<◌, ◌==◌, Bool, true, false, cond, ◌&&◌, Option, Some, None, option_map, List, [], ◌∷◌, length, slice_get, slice_index_or, refl, sym, ap, subst, ◌∙◌, arith}
+use Rattle.std.proofs.Common.{◌≡◌, ◌⊎◌, inl, inr, ℕ, zero, suc, ◌+◌, ◌*◌, ◌/◌, ◌<◌, ◌==◌, Bool, true, false, cond, Option, Some, None, List, [], ◌∷◌, length, slice_get, slice_index_or, refl, sym, ap, subst, ◌∙◌, arith}
 use Rattle.std.proofs.lemmas.Bool.{and_from, eq-eqb}
 use Rattle.std.proofs.lemmas.Option.{get_or_from_slice_get}
 use Rattle.std.proofs.lemmas.Slice.Eq.{bytes_eq-Decides}
@@ -19,7 +19,7 @@ use Rattle.reply_text.specs.declared.reply.Why.{Why}
 use Rattle.machine_host.specs.Meaning.{most_refusal}
 use Rattle.machine_host.proofs.RefusalLemmas.{read_within}
 use Rattle.durable.specs.Durable.{HaveLines, IsLineThere}
-use Rattle.outcomes.specs.Pages.{PageRead, PageReply, is_given, is_reply, is_reply_by}
+use Rattle.outcomes.specs.Pages.{PageRead, PageReply, is_reply, is_reply_by}
 use Rattle.outcomes.specs.Pages.PageReply.{Shows, Poison, Refuses}
 use Rattle.outcomes.specs.Seen.{page_answer}
 use Rattle.outcomes.proofs.LineLemmas.{Answered, Survives, lowest_of}
@@ -126,8 +126,8 @@ replied names apart size pages r refusal by told = by_why (most_refusal 65536 si
         let here : refusal ≡ Some (Refused why) = by (Some why) l right at in
         elim told as (λ _. Replied size pages r) [
           | inl same ↦
-          let is = reply_is names apart r.reply (Refuses why) (cc (sym same ∙ here)) in
-          record { answered = refused why is; right = reply_by (Some why) (Refuses why) right is (same_why why) }
+              let is = reply_is names apart r.reply (Refuses why) (cc (sym same ∙ here)) in
+              record { answered = refused why is; right = reply_by (Some why) (Refuses why) right is (same_why why) }
           | inr none ↦ absurd (cc (sym none.0 ∙ here))
         ]
     by_why None (Some n) right at =
@@ -137,13 +137,13 @@ replied names apart size pages r refusal by told = by_why (most_refusal 65536 si
         let back : 64 * n / 64 ≡ n = omega arith in
         elim told as (λ _. Replied size pages r) [
           | inl same ↦
-          let is = reply_is names apart r.reply (Poison (64 * n)) (cc (sym same ∙ here)) in
-          record {
-            answered = named n some at is;
-            right = reply_by None (Poison (64 * n)) right is
-                (and_from (touches r.start r.len (64 * n / 64)) (64 * n == 64 * (64 * n / 64)) (ap (touches r.start r.len) back ∙ lowest.touched)
-                (eq-eqb (64 * n) (64 * (64 * n / 64)) (omega arith)));
-          }
+              let is = reply_is names apart r.reply (Poison (64 * n)) (cc (sym same ∙ here)) in
+              record {
+                answered = named n some at is;
+                right = reply_by None (Poison (64 * n)) right is
+                    (and_from (touches r.start r.len (64 * n / 64)) (64 * n == 64 * (64 * n / 64)) (ap (touches r.start r.len) back ∙ lowest.touched)
+                    (eq-eqb (64 * n) (64 * (64 * n / 64)) (omega arith)));
+              }
           | inr none ↦ absurd (cc (sym none.0 ∙ here))
         ]
     by_why None None right at =
@@ -151,9 +151,9 @@ replied names apart size pages r refusal by told = by_why (most_refusal 65536 si
         elim told as (λ _. Replied size pages r) [
           | inl same ↦ absurd (cc (sym same ∙ here))
           | inr none ↦
-          let is = reply_is names apart r.reply (Shows (look pages r.start r.len)) none.1 in
-          record {
-            answered = shown (read_within 65536 size r.start r.len right).0 at is;
-            right = reply_by None (Shows (look pages r.start r.len)) right is (eq-eqb (length (look pages r.start r.len)) r.len (look_length pages r.start r.len));
-          }
+              let is = reply_is names apart r.reply (Shows (look pages r.start r.len)) none.1 in
+              record {
+                answered = shown (read_within 65536 size r.start r.len right).0 at is;
+                right = reply_by None (Shows (look pages r.start r.len)) right is (eq-eqb (length (look pages r.start r.len)) r.len (look_length pages r.start r.len));
+              }
         ]

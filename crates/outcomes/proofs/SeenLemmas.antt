@@ -1,5 +1,5 @@
 -- What a look shows tells of blocks, volume and files what they are.
-use Rattle.std.proofs.Common.{◌≡◌, ◌⊎◌, inl, inr, ℕ, ◌*◌, Bool, true, false, cond, ◌&&◌, Option, Some, None, option_map, List, [], ◌∷◌, length, refl, sym, ap, subst, ◌∙◌}
+use Rattle.std.proofs.Common.{◌≡◌, inl, inr, ℕ, ◌*◌, Bool, true, false, cond, Option, Some, None, option_map, List, [], ◌∷◌, length, refl, sym, ap, subst, ◌∙◌}
 use Rattle.std.specs.List.{list_all}
 use Rattle.std.specs.Str.{bytes_eq}
 use Rattle.std.proofs.lemmas.Bool.{and_from}
@@ -9,16 +9,14 @@ use Rattle.word_tables.specs.declared.geometry.Geometry.{Geometry}
 use Rattle.nvm_model.specs.Blocks.{first_obstacle, first_there}
 use Rattle.nvm_model.specs.Listing.{file_name, has_file}
 use Rattle.nvm_model.specs.Page.{Page, first_bad_line, look}
-use Rattle.nvm_model.specs.Storage.{Block, File}
 use Rattle.block_device.specs.Refusals.Refusal.{Unreadable}
 use Rattle.pm_volume.specs.Refusals.{poisoned_at}
 use Rattle.file_pages.specs.Refusals.{poisoned_at as poisoned_in}
 use Rattle.reply_text.specs.Answer.{Answer}
-use Rattle.reply_text.specs.Answer.Answer.{Bytes, PoisonFile, PoisonVolume, Refused}
+use Rattle.reply_text.specs.Answer.Answer.{PoisonFile, PoisonVolume, Refused}
 use Rattle.reply_text.specs.declared.reply.Why.{Why}
 use Rattle.reply_text.specs.declared.reply.Why.TheVariants as because
 use Rattle.script_text.specs.Action.Action.{BRead, FRead, VLoad}
-use Rattle.machine_host.specs.Machine.{Machine}
 use Rattle.machine_host.specs.Commands.{refusal}
 use Rattle.machine_host.specs.Meaning.{most_refusal}
 use Rattle.machine_host.specs.OnBlocks.{refusal_answer}
@@ -26,11 +24,10 @@ use Rattle.machine_host.specs.OnFiles.{if_missing}
 use Rattle.machine_host.specs.OnPages.{page_answer as file_answer, pages_named}
 use Rattle.machine_host.specs.OnVolume.{volume_answer}
 use Rattle.machine_host.specs.Restarting.{read_with}
-use Rattle.outcomes.specs.Blocks.{BlockRead, is_block_reply}
 use Rattle.outcomes.specs.Files.{FileRead, is_file_reply, is_reply_of, reads_of}
-use Rattle.outcomes.specs.Pages.{PageRead, PageReply, is_refused_for, is_reply}
-use Rattle.outcomes.specs.Pages.PageReply.{Shows, Poison, Refuses}
-use Rattle.outcomes.specs.Seen.{Seen, block_reads, file_reads, page_answer, volume_reads}
+use Rattle.outcomes.specs.Pages.{PageRead, is_refused_for, is_reply}
+use Rattle.outcomes.specs.Pages.PageReply.{Refuses}
+use Rattle.outcomes.specs.Seen.{Seen, block_reads, file_reads, volume_reads}
 use Rattle.outcomes.specs.Seen.Seen.{of_volume, of_blocks, of_file}
 use Rattle.outcomes.proofs.BlockLemmas as on_blocks
 use Rattle.outcomes.proofs.LineLemmas.{AllAnswered, Answered}
@@ -146,7 +143,7 @@ module _ (geo : Geometry) (image : Image) where
       by_there : (b : Bool) → has_file file_name r.name (read_with [] geo image).files ≡ b → Answered (pages_of r.name) r.pages × (is_file_reply (read_with [] geo image).files r ≡ true)
       by_there true there =
           let reply = replied (PoisonFile r.name) (file_names r.name) (4096 * length (pages_of r.name)) (pages_of r.name) r.pages
-              (refusal (read_with [] geo image) (FRead r.name r.pages.start r.pages.len)) (fread_by r.name r.pages there) told in
+          (refusal (read_with [] geo image) (FRead r.name r.pages.start r.pages.len)) (fread_by r.name r.pages there) told in
           (reply.answered, ap (λ b. is_reply_of b (4096 * length (pages_of r.name)) r.pages) there ∙ reply.right)
       by_there false missing =
           let here : refusal (read_with [] geo image) (FRead r.name r.pages.start r.pages.len) ≡ Some (Refused because.Missing) =
@@ -156,10 +153,10 @@ module _ (geo : Geometry) (image : Image) where
           (option_map (file_answer r.name) (poisoned_in (first_bad_line (pages_of r.name) r.pages.start r.pages.len))))) missing in
           elim told as (λ _. Answered (pages_of r.name) r.pages × (is_file_reply (read_with [] geo image).files r ≡ true)) [
             | inl same ↦
-            let is = reply_is (PoisonFile r.name) (file_names r.name) r.pages.reply (Refuses because.Missing) (cc (sym same ∙ here)) in (
-              refused because.Missing is,
-              ap (λ b. is_reply_of b (4096 * length (pages_of r.name)) r.pages) missing ∙ ap (is_refused_for because.Missing) is ∙ same_why because.Missing,
-            )
+                let is = reply_is (PoisonFile r.name) (file_names r.name) r.pages.reply (Refuses because.Missing) (cc (sym same ∙ here)) in (
+                  refused because.Missing is,
+                  ap (λ b. is_reply_of b (4096 * length (pages_of r.name)) r.pages) missing ∙ ap (is_refused_for because.Missing) is ∙ same_why because.Missing,
+                )
             | inr none ↦ absurd (cc (sym none.0 ∙ here))
           ]
 

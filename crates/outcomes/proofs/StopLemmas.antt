@@ -10,7 +10,6 @@ use Rattle.script_text.specs.Action.{Action}
 use Rattle.script_text.specs.Action.Action.{Cut}
 use Rattle.script_text.specs.Script.{Input}
 use Rattle.script_text.specs.Script.Input.{Skipped, Malformed, Overlong, Asked}
-use Rattle.machine_host.specs.declared.mode.Mode.{Mode}
 use Rattle.machine_host.specs.declared.mode.Mode.TheVariants.{On, Off}
 use Rattle.machine_host.specs.declared.needs.Needs.TheVariants.{Powered, Usable}
 use Rattle.machine_host.specs.Machine.{Machine, Fate}
@@ -18,12 +17,12 @@ use Rattle.machine_host.specs.Machine.Fate.{Gives, Works, Orders, Cuts, Restarts
 use Rattle.machine_host.specs.Commands.{fate, meaning, refusal, unless_refused, while_interrupted}
 use Rattle.machine_host.specs.Interrupted.{Interrupts}
 use Rattle.machine_host.specs.Meaning.{first_reason, mode_refusal}
-use Rattle.machine_host.specs.Run.{Ends, Hears, Run, Takes, Transcript}
+use Rattle.machine_host.specs.Run.{Run, Takes, Transcript}
 use Rattle.durable.specs.Durable.{IsComplete}
 use Rattle.durable.proofs.WholeLemmas.{whole-heard}
 use Rattle.outcomes.specs.Finds.{IsReady}
 use Rattle.outcomes.specs.Stops.{IsProgram, inside, is_of_program, led_to, stops}
-use Rattle.outcomes.proofs.FollowLemmas.{Follows, Idles, Keeps, OfProgram, Rests, of_program, rests}
+use Rattle.outcomes.proofs.FollowLemmas.{Follows, Idles, Keeps, Rests, of_program, rests}
 
 -- there is no power, and of the storage is left what that place of the cut has
 pub record Leaves (place off : Machine) : Type 0 where
