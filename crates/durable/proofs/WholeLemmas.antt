@@ -47,7 +47,7 @@ length-persist_at : (o : Option ℕ) (len : ℕ) (pages : List Page) → length 
 length-persist_at None len pages = refl
 length-persist_at (Some start) len pages = length-persist start len pages
 
-pages-made : (geo : Geometry) (action : Action) (pages : List Page) → length ((meaning action).volume geo pages) ≡ length pages
+pub pages-made : (geo : Geometry) (action : Action) (pages : List Page) → length ((meaning action).volume geo pages) ≡ length pages
 pages-made geo (VStore offset bytes) pages = length-put_fill offset (length bytes) bytes pages
 pages-made geo (VSync offset len) pages = length-persist offset len pages
 pages-made geo (VPSync address len) pages = length-persist_at (physical_offset geo address len) len pages
@@ -98,7 +98,7 @@ length-change : (spans : List Span) (to : Block) (blocks : List Block) → lengt
 unfolding change
 length-change spans to blocks = length-map_from (change_block spans to) 0 blocks
 
-length-made : (action : Action) (blocks : List Block) → length ((meaning action).blocks blocks) ≡ length blocks
+pub length-made : (action : Action) (blocks : List Block) → length ((meaning action).blocks blocks) ≡ length blocks
 length-made (BWrite block bytes) blocks = length-write block bytes blocks
 length-made (BAtomic block bytes) blocks = length-write block bytes blocks
 length-made (BMulti ranges bytes) blocks = length-write_ranges ranges bytes blocks

@@ -44,23 +44,23 @@ AllAnswered size blocks [] = Unit {0}
 AllAnswered size blocks (r ∷ reads) = Answered size blocks r × AllAnswered size blocks reads
 
 -- a block of a span is its first, or one of the others
-later : (at count m : ℕ) → is_among at (suc count) m ≡ true → (m ≡ at → ⊥) → is_among (suc at) count m ≡ true
+pub later : (at count m : ℕ) → is_among at (suc count) m ≡ true → (m ≡ at → ⊥) → is_among (suc at) count m ≡ true
 later at count m among other = grind (arith, nat_tests)
 
-earlier : (at count m : ℕ) → is_among (suc at) count m ≡ true → is_among at (suc count) m ≡ true
+pub earlier : (at count m : ℕ) → is_among (suc at) count m ≡ true → is_among at (suc count) m ≡ true
 earlier at count m among = grind (arith, nat_tests)
 
-first_among : (at count : ℕ) → is_among at (suc count) at ≡ true
+pub first_among : (at count : ℕ) → is_among at (suc count) at ≡ true
 first_among at count = grind (arith, nat_tests)
 
-none_below : (at count m : ℕ) → m < at → is_among at (suc count) m ≡ true → ⊥
+pub none_below : (at count m : ℕ) → m < at → is_among at (suc count) m ≡ true → ⊥
 none_below at count m lt among = grind (arith, nat_tests)
 
 none_among : (at n : ℕ) → is_among at 0 n ≡ true → ⊥
 none_among at n among = grind (arith, nat_tests)
 
 -- the obstacle that a search finds is the lowest
-found_obstacle : (blocks : List Block) (at count : ℕ) (o : Obstacle) → first_obstacle blocks at count ≡ Some o → (m : ℕ) × IsLowestObstacle blocks at count m o
+pub found_obstacle : (blocks : List Block) (at count : ℕ) (o : Obstacle) → first_obstacle blocks at count ≡ Some o → (m : ℕ) × IsLowestObstacle blocks at count m o
 found_obstacle blocks at zero o is = cc is
 found_obstacle blocks at (suc count) o is = by_first (found_obstacle blocks (suc at) count o) (obstacle_in at (nth blocks at)) refl is
   where
@@ -96,7 +96,7 @@ no_obstacle blocks at (suc count) none m among = by_first (no_obstacle blocks (s
     ]
 
 -- an obstacle names its block
-names_block : (n : ℕ) (block : Block) (b : ℕ) → obstacle_in n block ≡ Some (scar b) → n ≡ b
+pub names_block : (n : ℕ) (block : Block) (b : ℕ) → obstacle_in n block ≡ Some (scar b) → n ≡ b
 names_block n Absent b is = cc is
 names_block n Scarred b is = cc is
 names_block n (Data lines) b is = by_line (position is_none lines) is
@@ -105,7 +105,7 @@ names_block n (Data lines) b is = by_line (position is_none lines) is
     by_line None same = cc same
     by_line (Some k) same = cc same
 
-names_line : (n : ℕ) (block : Block) (b k : ℕ) → obstacle_in n block ≡ Some (bad_line b k) → n ≡ b
+pub names_line : (n : ℕ) (block : Block) (b k : ℕ) → obstacle_in n block ≡ Some (bad_line b k) → n ≡ b
 names_line n Absent b k is = cc is
 names_line n Scarred b k is = cc is
 names_line n (Data lines) b k is = by_line (position is_none lines) is
@@ -215,7 +215,7 @@ reply_is (Refuses why) (Scar c) is = cc is
 reply_is (Refuses why) (BadLine c k) is = cc is
 reply_is (Refuses why) (Refuses other) is = let e : why ≡ other = cc is in ap Refuses e
 
-obstacle_answer : (o : Obstacle) → refusal_answer (Unreadable o) ≡ block_answer (told_of o)
+pub obstacle_answer : (o : Obstacle) → refusal_answer (Unreadable o) ≡ block_answer (told_of o)
 obstacle_answer (scar b) = refl
 obstacle_answer (bad_line b k) = refl
 

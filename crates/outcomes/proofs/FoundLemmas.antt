@@ -27,6 +27,7 @@ use Rattle.outcomes.specs.Blocks.{BlockRead, all_numbers_read, block_fits, is_bl
 use Rattle.outcomes.specs.Files.{reads_of}
 use Rattle.outcomes.specs.Finds.{Finds, IsReady, armed, may_find}
 use Rattle.outcomes.specs.Left.{blocks_may_pass, files_may_pass, volume_may_pass}
+use Rattle.outcomes.specs.Outcome.{AllShown}
 use Rattle.outcomes.specs.Pages.{all_lines_read, is_reply, line_fits}
 use Rattle.outcomes.specs.Seen.{Seen, answers, asked, block_reads, file_reads, may_show, volume_reads}
 use Rattle.outcomes.specs.Stops.{IsProgram, stops}
@@ -34,7 +35,7 @@ use Rattle.outcomes.proofs.BlockLemmas as on_blocks
 use Rattle.outcomes.proofs.FileLemmas.{files_left_pass, read_has, read_length, replies_at}
 use Rattle.outcomes.proofs.LeftLemmas.{left_passes}
 use Rattle.outcomes.proofs.LineLemmas.{Survives, fits}
-use Rattle.outcomes.proofs.LookLemmas.{AllShown, held, look_shown, mounted}
+use Rattle.outcomes.proofs.LookLemmas.{held, look_shown, mounted}
 use Rattle.outcomes.proofs.RestLemmas.{survives}
 use Rattle.outcomes.proofs.SeenLemmas.{blocks_answered, files_answered, freads_right, loads_right, pages_answered}
 use Rattle.outcomes.proofs.StopLemmas.{Leaves, stop_of}

@@ -27,11 +27,11 @@ use Rattle.outcomes.specs.Ways.{each_passes, group_passes}
 use Rattle.outcomes.proofs.TestLemmas.{below_all, below_each, each_all}
 
 -- an item by its place
-abbrev or_default : {A : Type 0} → A → Option A → A
+abbrev pub or_default : {A : Type 0} → A → Option A → A
 or_default d None = d
 or_default d (Some x) = x
 
-get_or_is : {A : Type 0} (xs : List A) (i : ℕ) (d : A) → slice_index_or xs i d ≡ or_default d (slice_get xs i)
+pub get_or_is : {A : Type 0} (xs : List A) (i : ℕ) (d : A) → slice_index_or xs i d ≡ or_default d (slice_get xs i)
 get_or_is [] i d = refl
 get_or_is (x ∷ xs) zero d = refl
 get_or_is (x ∷ xs) (suc i) d = get_or_is xs i d

@@ -1,4 +1,5 @@
 mod TestLemmas
+mod AmongLemmas
 mod FollowLemmas
 mod StopLemmas
 mod LookLemmas
@@ -9,3 +10,11 @@ mod BlockLemmas
 mod FileLemmas
 mod SeenLemmas
 mod FoundLemmas
+mod ValueLemmas
+mod PickLemmas
+mod WordLemmas
+mod TellLemmas
+mod ChooseLemmas
+mod VolumeLemmas
+mod BlockTellLemmas
+mod BlocksShownLemmas

@@ -45,7 +45,7 @@ abbrev pub AllAnswered : List Page → List PageRead → Type 0
 AllAnswered pages [] = Unit {0}
 AllAnswered pages (r ∷ reads) = Answered pages r × AllAnswered pages reads
 
-byte_at-zero : (k : ℕ) → byte_at k 0 ≡ 0
+pub byte_at-zero : (k : ℕ) → byte_at k 0 ≡ 0
 byte_at-zero zero = refl
 byte_at-zero (suc k) = ap (λ n. n % 256) (zero-div (256 ^ suc k))
 
@@ -73,7 +73,7 @@ lowest_of pages start len n some found = by_place (position p (range_with_len (s
         })
 
 -- a read that is not refused, of a line that it touches
-none_bad : (pages : List Page) (start len n : ℕ) → 1 ≤ len → first_bad_line pages start len ≡ None → touches start len n ≡ true → is_bad_cell (cell_of pages n) ≡ false
+pub none_bad : (pages : List Page) (start len n : ℕ) → 1 ≤ len → first_bad_line pages start len ≡ None → touches start len n ≡ true → is_bad_cell (cell_of pages n) ≡ false
 unfolding first_bad_line
 none_bad pages start len n some none touched = none_touched (λ m. is_bad_cell (cell_of pages m)) start len n some none touched
 
@@ -134,7 +134,7 @@ module _ (pages : List Page) where
   over_reads f (r ∷ reads) all each = and_from (f r) (list_all f reads) (each r all.0) (over_reads f reads all.1 each)
 
   -- where byte i lies
-  byte_of_line : (n w j : ℕ) → w < 8 → j < 8 → (o : Option Cell) → cell_of pages n ≡ o
+  pub byte_of_line : (n w j : ℕ) → w < 8 → j < 8 → (o : Option Cell) → cell_of pages n ≡ o
       → byte_in pages (8 * (8 * n + w) + j) ≡ elim o [ None ↦ 0 | Some cell ↦ cell_byte cell (8 * w + j) ]
   byte_of_line n w j lt less o is =
       let line : (8 * (8 * n + w) + j) / 64 ≡ n = omega (arith, lt, less) in
@@ -143,7 +143,7 @@ module _ (pages : List Page) where
       ∙ ap (λ k. elim (cell_of pages n) [ None ↦ 0 | Some cell ↦ cell_byte cell k ]) place
       ∙ ap (λ (c : Option Cell). elim c [ None ↦ 0 | Some cell ↦ cell_byte cell (8 * w + j) ]) is
 
-  kept_byte : (mark : Bool) (values : List (List ℕ)) (w j v : ℕ) → w < 8 → j < 8 → slice_index_or values w [] ≡ v ∷ [] → cell_byte (Kept mark values) (8 * w + j) ≡ byte_at j v
+  pub kept_byte : (mark : Bool) (values : List (List ℕ)) (w j v : ℕ) → w < 8 → j < 8 → slice_index_or values w [] ≡ v ∷ [] → cell_byte (Kept mark values) (8 * w + j) ≡ byte_at j v
   kept_byte mark values w j v lt less is =
       let digit : (8 * w + j) % 8 ≡ j = omega (arith, less) in
       let word : (8 * w + j) / 8 ≡ w = omega (arith, less) in

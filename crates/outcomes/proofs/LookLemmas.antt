@@ -1,5 +1,5 @@
 -- What a look is answered: each reply is of the storage that a restart left.
-use Rattle.std.proofs.Common.{◌≡◌, ◌⊎◌, inl, inr, ℕ, false, Option, Some, None, List, [], ◌∷◌, ◌++◌, refl, sym, ap, subst, ◌∙◌}
+use Rattle.std.proofs.Common.{◌≡◌, inl, inr, ℕ, false, Option, Some, None, List, [], ◌∷◌, ◌++◌, refl, sym, ap, subst, ◌∙◌}
 use Rattle.std.proofs.lemmas.Bool.{both_ways}
 use Rattle.line_device.specs.Panel.{Image}
 use Rattle.line_device.specs.declared.line.Choice.{Choice}
@@ -17,32 +17,17 @@ use Rattle.machine_host.specs.Interrupted.{Interrupts, interrupted_answer}
 use Rattle.machine_host.specs.Lines.{bad_metadata}
 use Rattle.machine_host.specs.Restarting.{RestartMayLeave, read_with, reading}
 use Rattle.machine_host.specs.Settling.{disarmed}
-use Rattle.machine_host.specs.OnPages.{pages_named}
 use Rattle.machine_host.specs.Run.{Run, Takes, Transcript}
 use Rattle.durable.proofs.RefusalLemmas.{refused_told}
 use Rattle.durable.proofs.RefusedAnswerLemmas.{is_refused}
-use Rattle.nvm_model.specs.Blocks.{look_blocks}
 use Rattle.nvm_model.specs.Page.{look}
+use Rattle.outcomes.specs.Outcome.{AllShown, Shown, bytes_seen}
 use Rattle.outcomes.specs.Seen.{Seen, answer, answers, asked, command}
 use Rattle.outcomes.specs.Seen.Seen.{of_volume, of_blocks, of_file}
 
 -- the storage that was read
 abbrev pub held : Machine → Image → Machine
 held h image = read_with [] h.geometry image
-
--- the bytes that a read gives
-abbrev pub bytes_seen : Machine → Seen → List ℕ
-bytes_seen g (of_volume r) = look g.volume r.start r.len
-bytes_seen g (of_blocks r) = look_blocks g.blocks r.first r.count
-bytes_seen g (of_file r) = look (pages_named r.name g.files) r.pages.start r.pages.len
-
--- a read is refused with its reply, or gives its bytes
-abbrev pub Shown : Machine → Seen → Type 0
-Shown g seen = (refusal g (command seen) ≡ Some (answer seen)) ⊎ ((refusal g (command seen) ≡ None) × (answer seen ≡ Bytes (bytes_seen g seen)))
-
-abbrev pub AllShown : Machine → List Seen → Type 0
-AllShown g [] = Unit {0}
-AllShown g (seen ∷ look) = Shown g seen × AllShown g look
 
 comes_of : (g : Machine) (seen : Seen) → (meaning (command seen)).comes g ≡ Works (Bytes (bytes_seen g seen)) g
 comes_of g (of_volume r) = refl

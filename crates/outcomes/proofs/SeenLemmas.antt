@@ -32,7 +32,7 @@ use Rattle.outcomes.specs.Seen.Seen.{of_volume, of_blocks, of_file}
 use Rattle.outcomes.proofs.BlockLemmas as on_blocks
 use Rattle.outcomes.proofs.LineLemmas.{AllAnswered, Answered}
 use Rattle.outcomes.proofs.LineLemmas.Answered.{refused}
-use Rattle.outcomes.proofs.LookLemmas.{AllShown}
+use Rattle.outcomes.specs.Outcome.{AllShown}
 use Rattle.outcomes.proofs.RestLemmas.{IsRefusedBy, IsTold, NamesLines, Replied, refused_by, replied, reply_is, same_why}
 
 volume_names : NamesLines PoisonVolume

@@ -26,7 +26,7 @@ any_in f v (x ∷ xs) (inr later) passes = or_right (f x) (list_any f xs) (any_i
 pub below_all : (f : ℕ → Bool) (count : ℕ) → ((k : ℕ) → k < count → f k ≡ true) → list_all f (range_with_len 0 count) ≡ true
 below_all f count each = range_all f 0 count (λ k lt. let same : 0 + k ≡ k = omega arith in ap f same ∙ each k lt)
 
-range_each : (f : ℕ → Bool) (start count : ℕ) → list_all f (range_with_len start count) ≡ true → (k : ℕ) → start ≤ k → k < start + count → f k ≡ true
+pub range_each : (f : ℕ → Bool) (start count : ℕ) → list_all f (range_with_len start count) ≡ true → (k : ℕ) → start ≤ k → k < start + count → f k ≡ true
 range_each f start zero all k from to = absurd (omega (arith, from, to))
 range_each f start (suc count) all k from to =
     let parts = and_parts (f start) (list_all f (range_with_len (start + 1) count)) all in

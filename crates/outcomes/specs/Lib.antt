@@ -5,5 +5,6 @@ pub mod Files
 pub mod Left
 pub mod Seen
 pub mod Stops
+pub mod Outcome
 pub mod Finds
 pub mod Rows

@@ -4,4 +4,4 @@
 
 mod laws;
 
-pub use laws::{what_is_found_may_be_found, worked_questions};
+pub use laws::{what_is_found_may_be_found, what_may_be_shown_is_left, worked_questions};
