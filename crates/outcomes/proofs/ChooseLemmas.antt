@@ -78,11 +78,11 @@ all_mixed : (A : Type 0) (one other : List A) → length other ≡ length one �
 all_mixed A one other size = record { length = size; each = λ i. inr refl }
 
 -- a line may be left as it was, or as it is put
-may_leave : (at : ℕ) (bytes : List ℕ) (n : ℕ) (cell : Cell) → MayPut at bytes n cell cell
+pub may_leave : (at : ℕ) (bytes : List ℕ) (n : ℕ) (cell : Cell) → MayPut at bytes n cell cell
 may_leave at bytes n Bad = inl refl
 may_leave at bytes n (Kept weak words) = (refl, none_mixed (List ℕ) words (map_from (word_stored at bytes) (8 * n) words))
 
-may_put : (at : ℕ) (bytes : List ℕ) (n : ℕ) (cell : Cell) → MayPut at bytes n cell (put_cell at bytes n cell)
+pub may_put : (at : ℕ) (bytes : List ℕ) (n : ℕ) (cell : Cell) → MayPut at bytes n cell (put_cell at bytes n cell)
 may_put at bytes n Bad = by_test (covers at (length bytes) n) refl
   where
     zeros : List (List ℕ)
@@ -97,10 +97,10 @@ may_put at bytes n (Kept weak words) =
 
 module _ (reads : List PageRead) where
   -- the cell as it was where that fits, and else as it is made
-  abbrev keep : (ℕ → Cell → Cell) → ℕ → Cell → Cell
+  abbrev pub keep : (ℕ → Cell → Cell) → ℕ → Cell → Cell
   keep made n cell = cond (line_fits reads n (Some cell)) cell (made n cell)
 
-  keep_fits : (made : ℕ → Cell → Cell) (n : ℕ) (o : Option Cell) → (line_fits reads n o || line_fits reads n (option_map (made n) o)) ≡ true
+  pub keep_fits : (made : ℕ → Cell → Cell) (n : ℕ) (o : Option Cell) → (line_fits reads n o || line_fits reads n (option_map (made n) o)) ≡ true
       → line_fits reads n (option_map (keep made n) o) ≡ true
   keep_fits made n None passes = elim (either (line_fits reads n None) (line_fits reads n None) passes) as (λ _. line_fits reads n None ≡ true) [ inl is ↦ is | inr is ↦ is ]
   keep_fits made n (Some cell) passes = by_fit (line_fits reads n (Some cell)) refl passes
@@ -109,7 +109,7 @@ module _ (reads : List PageRead) where
       by_fit true is either_way = is
       by_fit false is either_way = either_way
 
-  keep_has : (made : ℕ → Cell → Cell) → ((n : ℕ) (cell : Cell) → HasValues cell → HasValues (made n cell)) → (n : ℕ) (cell : Cell) → HasValues cell → HasValues (keep made n cell)
+  pub keep_has : (made : ℕ → Cell → Cell) → ((n : ℕ) (cell : Cell) → HasValues cell → HasValues (made n cell)) → (n : ℕ) (cell : Cell) → HasValues cell → HasValues (keep made n cell)
   keep_has made each n cell has = by_fit (line_fits reads n (Some cell))
     where
       by_fit : (b : Bool) → HasValues (cond b cell (made n cell))
@@ -117,7 +117,7 @@ module _ (reads : List PageRead) where
       by_fit false = each n cell has
 
   -- lines that are kept or made one by one
-  keep_lines : (R : ℕ → Cell → Cell → Type 0) (made : ℕ → Cell → Cell) (old : List Page) → ((n : ℕ) (cell : Cell) → R n cell cell) → ((n : ℕ) (cell : Cell) → R n cell (made n cell))
+  pub keep_lines : (R : ℕ → Cell → Cell → Type 0) (made : ℕ → Cell → Cell) (old : List Page) → ((n : ℕ) (cell : Cell) → R n cell cell) → ((n : ℕ) (cell : Cell) → R n cell (made n cell))
       → LineByLine R old (map_from (map_lines (keep made)) 0 old)
   keep_lines R made old same new = record {
     there = presence_of-lines (keep made) 0 old;

@@ -18,3 +18,5 @@ mod ChooseLemmas
 mod VolumeLemmas
 mod BlockTellLemmas
 mod BlocksShownLemmas
+mod FileTellLemmas
+mod FilesShownLemmas

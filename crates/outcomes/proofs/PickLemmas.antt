@@ -54,6 +54,14 @@ module _ (reads : List PageRead) where
   pub picked_pages : List Page → List Page
   picked_pages pages = map_from (map_lines picked) 0 pages
 
+  pub picked_none : picked_pages [] ≡ []
+  unfolding picked_pages
+  picked_none = refl
+
+  pub picked_size : (pages : List Page) → length (picked_pages pages) ≡ length pages
+  unfolding picked_pages
+  picked_size pages = length-map_from (map_lines picked) 0 pages
+
   pub cell_of-picked : (pages : List Page) (n : ℕ) → cell_of (picked_pages pages) n ≡ option_map (picked n) (cell_of pages n)
   unfolding picked_pages
   cell_of-picked pages n = cell_of-map picked pages n

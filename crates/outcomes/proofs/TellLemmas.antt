@@ -48,7 +48,7 @@ only_one true is = refl
 only_one false is = is
 
 -- a reply that fits, and one that can't be
-refused_right : (why : Why) (reply : PageReply) → is_refused_for why reply ≡ true → reply ≡ Refuses why
+pub refused_right : (why : Why) (reply : PageReply) → is_refused_for why reply ≡ true → reply ≡ Refuses why
 refused_right why (Shows bytes) right = cc right
 refused_right why (Poison at) right = cc right
 refused_right why (Refuses other) right = ap Refuses (same_word other why right)

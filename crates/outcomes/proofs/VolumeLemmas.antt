@@ -31,7 +31,7 @@ use Rattle.outcomes.proofs.PickLemmas.{pages_survive, picked_pages}
 use Rattle.outcomes.proofs.TellLemmas.{IsRead, Matches, is_read}
 
 -- pages that are there have lines of eight words
-eight_words : (pages : List Page) → HaveLines pages → (n : ℕ) (weak : Bool) (words : List (List ℕ)) → cell_of pages n ≡ Some (Kept weak words) → length words ≡ 8
+pub eight_words : (pages : List Page) → HaveLines pages → (n : ℕ) (weak : Bool) (words : List (List ℕ)) → cell_of pages n ≡ Some (Kept weak words) → length words ≡ 8
 eight_words pages lines n weak words is = by_presence (is_line_present pages n) refl
   where
     by_presence : (b : Bool) → is_line_present pages n ≡ b → length words ≡ 8

@@ -1,4 +1,5 @@
 use Rattle.outcomes.proofs.BlocksShownLemmas.{blocks_found}
+use Rattle.outcomes.proofs.FilesShownLemmas.{files_found}
 use Rattle.outcomes.proofs.VolumeLemmas.{volume_found}
 use Rattle.outcomes.proofs.laws.what_may_be_shown_is_left.Goals as goal
 
@@ -7,3 +8,6 @@ returns-clause-volume c = volume_found
 
 pub returns-clause-blocks : goal.returns-clause-blocks
 returns-clause-blocks c = blocks_found
+
+pub returns-clause-files : goal.returns-clause-files
+returns-clause-files c = files_found
