@@ -19,6 +19,7 @@ mod volume;
 
 use crate::Mode;
 use crate::held::HeldFiles;
+use crate::outcome::Outcome;
 use block_device::Blocks;
 use commands::longest_reply;
 use line_device::LineDevice;
@@ -71,7 +72,7 @@ impl Model for Performer {
 }
 
 impl Host {
-    ghost use Rattle.std.specs.Prelude.{◌≡◌, ◌≤◌, [], None, false, IsTrue, IfOk, OnOk, OnErr};
+    ghost use Rattle.std.specs.Prelude.{◌≡◌, ◌≤◌, [], None, false, length, IsTrue, IfOk, OnOk, OnErr};
     ghost use Rattle.machine_host.specs.declared.mode.Mode.TheVariants as modes;
     ghost use Rattle.script_text.specs.Action.{action_of};
     ghost use Rattle.script_text.specs.Parsing.{InBounds};
@@ -92,12 +93,13 @@ impl Host {
     ghost use Rattle.recovery.specs.Mounting.{Finds, IsOfLogs, mount_outcome};
     ghost use Rattle.machine_host.specs.Machine.{Machine, bad_of};
     ghost use Rattle.machine_host.specs.Lines.{MetadataStands};
-    ghost use Rattle.machine_host.specs.Stands.{HostServes, IsFlushed, Stands, Steps};
+    ghost use Rattle.machine_host.specs.Stands.{Comes, HostServes, IsFlushed, Stands, Steps};
     ghost use Rattle.machine_host.specs.Restarting.{reading};
     ghost use Rattle.machine_host.specs.Costs.{mount_calls, mount_persists};
     ghost use Rattle.machine_host.specs.Faults.{Leaves};
     ghost use Rattle.machine_host.specs.Settling.{LeftUnsettled, Settled, is_down};
-    ghost use Rattle.machine_host.specs.Commands.{may_want_memory};
+    ghost use Rattle.machine_host.specs.Commands.{fate, may_want_memory};
+    ghost use Rattle.machine_host.specs.Responding.{IsWithin, outcome_answer};
 
     /// The host of a device, of the sizes that its superblock tells. It mounts the device, and takes its work buffer.
     pub fn mount<D: LineDevice>(alloc: Global, device: &mut D) -> Result<Self, MountFault>
@@ -149,6 +151,13 @@ impl Host {
         self.performer.mode
     }
 
+    /// The sizes of its device.
+    pub fn geometry(&self) -> Geometry
+        ensures { result ≡ self.now.geometry }
+    {
+        self.performer.geometry
+    }
+
     /// Brings the host into mode On, or Stopped where a line of metadata is bad, so that the device can be read: what is armed
     /// ends, the power comes back where it is off, and a device that is not mounted is mounted. Only memory can be wanting.
     pub fn settle<D: LineDevice>(&mut self, device: &mut D) -> Result<(), AllocError>
@@ -197,5 +206,27 @@ impl Host {
         out.reserve(longest_reply(command))?;
         let outcome = self.performer.perform(device, command, &mut self.work)?;
         outcome.print(&self.work, out)
+    }
+
+    /// Performs a command on the device, as `step`, and tells what it came to. Bytes that it reads are put at the head of `work`.
+    pub fn answer<D: LineDevice>(
+        &mut self,
+        device: &mut D,
+        command: &Command,
+        work: &mut [u8],
+    ) -> Result<Outcome, AllocError>
+        requires serves { HostServes self.old (D.state device.old) }
+        requires bounded { InBounds (action_of command.now) }
+        requires wide { length work.old ≡ 65536 }
+        ensures step { IfOk result (λ outcome. (h : Machine) → Stands self.old (D.state device.old) h
+            → Comes h (action_of command.now) (fate h (action_of command.now)) (outcome_answer work.new outcome) self.new (D.state device.old) (D.state device.new)) }
+        ensures within { IfOk result (λ outcome. IsWithin work.new outcome) }
+        ensures memory { OnErr result (Leaves (action_of command.now) self.old self.new (D.state device.old) (D.state device.new)) }
+        ensures serves { HostServes self.new (D.state device.new) }
+    {
+        match self.performer.refusal(device, command) {
+            Some(reply) => Ok(Outcome::Reply(reply)),
+            None => self.performer.perform(device, command, work),
+        }
     }
 }
