@@ -1,6 +1,6 @@
 mod TestLemmas
 mod AmongLemmas
-mod FollowLemmas
+pub mod FollowLemmas
 mod StopLemmas
 mod LookLemmas
 mod LineLemmas

@@ -1,0 +1,5 @@
+pub mod ByteLemmas
+pub mod WrittenLemmas
+pub mod LostLemmas
+pub mod HeldLemmas
+pub mod SeenLemmas
