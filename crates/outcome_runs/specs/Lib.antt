@@ -1,0 +1,3 @@
+pub mod Kept
+pub mod Brings
+pub mod Examples

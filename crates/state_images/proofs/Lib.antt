@@ -1,0 +1,17 @@
+pub mod LaidLemmas
+pub mod CellLemmas
+pub mod PageLemmas
+pub mod WordLemmas
+pub mod VolumeLemmas
+pub mod BlockLemmas
+pub mod GoodLemmas
+pub mod UnitLemmas
+pub mod TableLemmas
+pub mod FileLemmas
+pub mod KeepLemmas
+pub mod ShapeLemmas
+pub mod RightLemmas
+pub mod NumberLemmas
+pub mod FileRightLemmas
+pub mod FitLemmas
+pub mod MachineLemmas

@@ -1,0 +1,10 @@
+pub mod Cells
+pub mod Files
+pub mod Examples
+pub mod Fitting
+pub mod Images
+pub mod Keeping
+pub mod Left
+pub mod Lines
+pub mod Shapes
+pub mod Storable
