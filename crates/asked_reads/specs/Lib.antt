@@ -1,0 +1,5 @@
+pub mod Program
+pub mod Reads
+pub mod Asking
+pub mod Fitting
+pub mod Rows

@@ -1,0 +1,10 @@
+//! What a question asks of the reads of a look: each read with its reply.
+#![tactic(auto)]
+
+mod laws;
+mod question;
+mod reads;
+
+pub use laws::worked_fits;
+pub use question::Question;
+pub use reads::{BlockRead, BlockReply, PageRead, PageReply};

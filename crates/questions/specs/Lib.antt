@@ -1,0 +1,6 @@
+pub mod Asked
+pub mod Parts
+pub mod Question
+pub mod Reading
+pub mod Printed
+pub mod Rows

@@ -1,0 +1,46 @@
+-- Worked lines: what they ask.
+use Rattle.std.specs.Prelude.{◌≡◌, [], ◌∷◌, ◌++◌, Some, None, replicate, codes}
+use Rattle.reply_text.specs.Answer.Answer.{Bytes, PoisonBlock, PoisonVolume, PoisonFile, Scarred, Refused}
+use Rattle.reply_text.specs.declared.reply.Why.TheVariants.{Missing, Off}
+use Rattle.questions.specs.Question.{question_line}
+use Rattle.questions.specs.Question.QuestionLine.{Plain, Look, Lists, Never, Wrong}
+
+pub record QuestionRows : Type 0 where
+  pub bytes_or_any : question_line (codes "# never data 01,00 | _") ≡ Never (Some (Bytes (1 ∷ 0 ∷ [])) ∷ None ∷ [])
+  pub line_of_a_block : question_line (codes "# never poison block 3 7") ≡ Never (Some (PoisonBlock 3 7) ∷ [])
+  pub line_of_the_volume : question_line (codes "# never poison volume 64 64") ≡ Never (Some (PoisonVolume 64) ∷ [])
+  pub line_of_a_file : question_line (codes "# never poison file log 128 64") ≡ Never (Some (PoisonFile (codes "log") 128) ∷ [])
+  pub block_made_unreadable : question_line (codes "# never scarred 4095") ≡ Never (Some (Scarred 4095) ∷ [])
+  pub no_file : question_line (codes "# never refused missing") ≡ Never (Some (Refused Missing) ∷ [])
+  pub several_reads : question_line (codes "#  never _ | refused off |  data ff*3") ≡ Never (None ∷ Some (Refused Off) ∷ Some (Bytes (255 ∷ 255 ∷ 255 ∷ [])) ∷ [])
+  pub all_the_bytes : question_line (codes "# never data 07*65536") ≡ Never (Some (Bytes (replicate 65536 7)) ∷ [])
+  pub one_byte_more : question_line (codes "# never data 07*65537") ≡ Wrong
+  pub half_a_byte : question_line (codes "# never data 0 ") ≡ Wrong
+  pub two_datas : question_line (codes "# never data 01 02") ≡ Wrong
+  pub line_of_another_length : question_line (codes "# never poison volume 64 128") ≡ Wrong
+  pub line_without_a_length : question_line (codes "# never poison volume 64") ≡ Wrong
+  pub line_of_a_block_with_a_length : question_line (codes "# never poison block 3 7 64") ≡ Wrong
+  pub line_of_no_file : question_line (codes "# never poison file Log 128 64") ≡ Wrong
+  pub largest_number : question_line (codes "# never scarred 4294967295") ≡ Never (Some (Scarred 4294967295) ∷ [])
+  pub larger_number : question_line (codes "# never scarred 4294967296") ≡ Wrong
+  pub refusal_of_no_word : question_line (codes "# never refused") ≡ Wrong
+  pub refusal_of_another_word : question_line (codes "# never refused device") ≡ Wrong
+  pub reply_of_no_read : question_line (codes "# never ok") ≡ Wrong
+  pub no_reply : question_line (codes "# never") ≡ Wrong
+  pub two_empty_parts : question_line (codes "# never |") ≡ Wrong
+  pub last_part_empty : question_line (codes "# never data 00 |") ≡ Wrong
+  pub bar_within_a_word : question_line (codes "# never _|_") ≡ Wrong
+  pub any_reply_twice : question_line (codes "# never _ _") ≡ Wrong
+  pub look : question_line (codes "# look") ≡ Look
+  pub look_with_a_return : question_line (9 ∷ codes "# look" ++ 13 ∷ []) ≡ Look
+  pub look_and_a_word : question_line (codes "# look now") ≡ Wrong
+  pub longer_word : question_line (codes "# looks") ≡ Plain
+  pub look_in_one_word : question_line (codes "#look") ≡ Plain
+  pub list : question_line (codes "# list") ≡ Lists
+  pub list_and_a_number : question_line (codes "# list 3") ≡ Wrong
+  pub mark_alone : question_line (codes "#") ≡ Plain
+  pub other_comment : question_line (codes "# the record comes first") ≡ Plain
+  pub command : question_line (codes "vload 0 64") ≡ Plain
+  pub blank_line : question_line [] ≡ Plain
+  pub longest_line : question_line (codes "# look" ++ replicate 65530 32) ≡ Look
+  pub longer_line : question_line (codes "# look" ++ replicate 65531 32) ≡ Plain

@@ -1,0 +1,37 @@
+use crate::AskedReply;
+use nvm_base::Buffer;
+use std::alloc::AllocError;
+
+/// The reply that is asked about for each read in order, None where it may be any.
+pub type Replies = Buffer<Option<AskedReply>>;
+
+/// What a line asks.
+#[derive(Debug, Drop)]
+pub enum QuestionKind {
+    /// Nothing.
+    Plain,
+    /// The reads after the cut come next.
+    Look,
+    /// A list of outcomes.
+    List,
+    /// Whether the reads may be answered so.
+    Never(Replies),
+}
+
+/// Why a line's question can't be told.
+#[derive(Clone, Copy, Debug, PartialEq, Eq)]
+pub enum QuestionFault {
+    Syntax,
+    Memory,
+}
+
+impl From<AllocError> for QuestionFault {
+    ghost use Rattle.std.specs.Prelude.{◌≡◌};
+    ghost use Rattle.questions.specs.declared.question.QuestionFault.TheVariants.{Memory};
+
+    ghost from_gives = { λ _ fault. fault ≡ Memory };
+
+    fn from(_: AllocError) -> Self {
+        QuestionFault::Memory
+    }
+}

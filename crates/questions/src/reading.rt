@@ -1,0 +1,74 @@
+// What a line asks.
+ghost use Rattle.std.specs.Prelude.{◌≡◌, ◌≢◌, ◌≤◌, IfErr, length};
+ghost use Rattle.std.specs.Io.BufRead.{strip_last};
+ghost use Rattle.script_text.specs.Script.{words_of};
+ghost use Rattle.questions.specs.Question.{alone, comment_question, line_of, question_line, words_question};
+ghost use Rattle.questions.specs.Reading.{AsksOfReads, BeginsWithNever, Reads};
+
+use crate::never::read_replies;
+use crate::words::next_word;
+use crate::{QuestionFault, QuestionKind};
+use nvm_base::MOST;
+use std::alloc::Global;
+
+/// What a line asks.
+#[tactic(auto, unfolding(crate::specs::Question::question_line))]
+pub fn read_question(alloc: Global, line: &[u8]) -> Result<QuestionKind, QuestionFault>
+    ensures line { Reads (question_line line.now) result }
+    ensures memory { IfErr result (λ e. e ≡ QuestionFault.Memory
+        → (length line.now ≤ 65536) × AsksOfReads (words_of (strip_last 13 line.now))) }
+{
+    if line.len() as u64 > MOST {
+        return Ok(QuestionKind::Plain);
+    }
+    read_words(alloc, without_return(line))
+}
+
+fn without_return(line: &[u8]) -> &[u8]
+    ensures { result.now ≡ strip_last 13 line.now }
+{
+    match line {
+        [rest @ .., b'\r'] => rest,
+        _ => line,
+    }
+}
+
+fn read_words(alloc: Global, text: &[u8]) -> Result<QuestionKind, QuestionFault>
+    ensures line { Reads (words_question (words_of text.now)) result }
+    ensures memory { IfErr result (λ e. e ≡ QuestionFault.Memory → AsksOfReads (words_of text.now)) }
+{
+    match next_word(text) {
+        Some((b"#", words)) => read_comment(alloc, words),
+        _ => Ok(QuestionKind::Plain),
+    }
+}
+
+fn read_comment(alloc: Global, words: &[u8]) -> Result<QuestionKind, QuestionFault>
+    ensures line { Reads (comment_question (words_of words.now)) result }
+    ensures memory { IfErr result (λ e. e ≡ QuestionFault.Memory → BeginsWithNever (words_of words.now)) }
+{
+    let Some((word, rest)) = next_word(words) else {
+        return Ok(QuestionKind::Plain);
+    };
+    if word == b"look".as_slice() {
+        alone(QuestionKind::Look, rest)
+    } else if word == b"list".as_slice() {
+        alone(QuestionKind::List, rest)
+    } else if word == b"never".as_slice() {
+        Ok(QuestionKind::Never(read_replies(alloc, rest)?))
+    } else {
+        Ok(QuestionKind::Plain)
+    }
+}
+
+// The question, where no word is left.
+fn alone(kind: QuestionKind, words: &[u8]) -> Result<QuestionKind, QuestionFault>
+    ensures line { Reads (alone (line_of kind) (words_of words.now)) result }
+    ensures memory { IfErr result (λ e. e ≢ QuestionFault.Memory) }
+{
+    if next_word(words).is_none() {
+        Ok(kind)
+    } else {
+        Err(QuestionFault::Syntax)
+    }
+}
