@@ -1,0 +1,5 @@
+pub mod TextLemmas
+pub mod LookLemmas
+pub mod ProgramLemmas
+pub mod AskLemmas
+pub mod SeenLemmas

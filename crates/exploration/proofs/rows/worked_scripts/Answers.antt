@@ -1,0 +1,22 @@
+-- The definitions compute.
+use Rattle.std.proofs.Common.{refl}
+use Rattle.nvm_base.specs.Numbers.{number_of}
+use Rattle.nvm_base.specs.Data.{runs_of, data_of, data_within}
+use Rattle.script_text.specs.Script.{lines_of, words_of, command_action, line_input}
+use Rattle.questions.specs.Question.{question_line}
+use Rattle.exploration.proofs.rows.worked_scripts.Goals as goal
+
+pub returns : goal.returns
+unfolding number_of runs_of data_of data_within lines_of words_of command_action line_input question_line
+returns c = record {
+  one_question = refl;
+  reads_of_both_kinds = refl;
+  no_look = refl;
+  read_behind_a_question = refl;
+  command_of_power = refl;
+  one_reply_to_two_reads = refl;
+  reply_of_another_read = refl;
+  second_look = refl;
+  read_of_a_file = refl;
+  list_before_the_look = refl;
+}

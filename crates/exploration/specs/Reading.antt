@@ -1,0 +1,29 @@
+-- What reading an exploration may give.
+use Rattle.std.specs.Prelude.{◌≡◌, List, [], ◌∷◌, map, option_map, Option, Some, None, Result, Ok, Err}
+use Rattle.script_text.specs.Action.{action_of}
+use Rattle.outcomes.specs.Seen.{Seen}
+use Rattle.asked_reads.specs.declared.question.Question.{Question}
+use Rattle.asked_reads.specs.Asking.{IsLook}
+use Rattle.exploration.specs.declared.exploration.Exploration.{Exploration}
+use Rattle.exploration.specs.declared.exploration.ScriptFault.{ScriptFault}
+use Rattle.exploration.specs.declared.exploration.ScriptFault.TheVariants.{Line, Memory}
+use Rattle.exploration.specs.Exploration.{Script}
+use Rattle.exploration.specs.Exploration.Script.{StopsAt, Taken}
+
+-- the questions ask of these looks, one by one
+abbrev pub AskOf : List (List Seen) → List Question → Type 0
+AskOf [] [] = Unit {0}
+AskOf [] (q ∷ qs) = ⊥
+AskOf (look ∷ looks) [] = ⊥
+AskOf (look ∷ looks) (q ∷ qs) = IsLook look q × AskOf looks qs
+
+-- the commands of the program, and the questions, are those of the script
+abbrev pub Holds : Script → Exploration → Type 0
+Holds (Taken e) exploration = (map (option_map action_of) exploration.program.items ≡ e.program) × AskOf e.questions exploration.questions.items
+Holds (StopsAt n) exploration = ⊥
+
+-- what came of a script's text
+abbrev pub ReadsScript : Script → Result Exploration ScriptFault → Type 0
+ReadsScript script (Ok exploration) = Holds script exploration
+ReadsScript script (Err (Line n)) = script ≡ StopsAt n
+ReadsScript script (Err Memory) = Unit {0}

@@ -1,0 +1,58 @@
+-- The answers that a read may have, whatever is stored.
+use Rattle.std.specs.Prelude.{Option, Some, None}
+use Rattle.reply_text.specs.Answer.{Answer}
+use Rattle.reply_text.specs.Answer.Answer.{Attribute, BadLines, Bytes, DeviceFailed, Done, DoneBad, Files, Handle, Happened, No, NoEvent, PoisonBlock as ToldPoisonBlock, PoisonFile as ToldPoisonFile, PoisonVolume as ToldPoisonVolume, PowerLost, Ranges, Refused, RefusedMeta, Scarred, Stopped, VerifyFile, Yes}
+use Rattle.outcomes.specs.Pages.{PageReply}
+use Rattle.outcomes.specs.Pages.PageReply.{Shows, Poison, Refuses}
+use Rattle.outcomes.specs.Blocks.{BlockReply}
+use Rattle.outcomes.specs.Blocks.BlockReply.{Shows as ShowsBlocks, Scar, BadLine, Refuses as RefusesBlocks}
+
+-- how a read of the volume may be answered
+abbrev pub volume_reply : Answer → Option PageReply
+volume_reply (Bytes bytes) = Some (Shows bytes)
+volume_reply (ToldPoisonVolume offset) = Some (Poison offset)
+volume_reply (Refused why) = Some (Refuses why)
+volume_reply (ToldPoisonBlock block line) = None
+volume_reply (ToldPoisonFile name offset) = None
+volume_reply (Scarred block) = None
+volume_reply Done = None
+volume_reply (DoneBad n) = None
+volume_reply (Ranges ranges) = None
+volume_reply (Files files) = None
+volume_reply Yes = None
+volume_reply No = None
+volume_reply (Handle handle) = None
+volume_reply (Happened event) = None
+volume_reply NoEvent = None
+volume_reply (BadLines offsets) = None
+volume_reply (Attribute n) = None
+volume_reply (VerifyFile name offset) = None
+volume_reply DeviceFailed = None
+volume_reply PowerLost = None
+volume_reply (Stopped line) = None
+volume_reply (RefusedMeta line) = None
+
+-- how a read of blocks may be answered
+abbrev pub block_reply : Answer → Option BlockReply
+block_reply (Bytes bytes) = Some (ShowsBlocks bytes)
+block_reply (Scarred block) = Some (Scar block)
+block_reply (ToldPoisonBlock block line) = Some (BadLine block line)
+block_reply (Refused why) = Some (RefusesBlocks why)
+block_reply (ToldPoisonVolume offset) = None
+block_reply (ToldPoisonFile name offset) = None
+block_reply Done = None
+block_reply (DoneBad n) = None
+block_reply (Ranges ranges) = None
+block_reply (Files files) = None
+block_reply Yes = None
+block_reply No = None
+block_reply (Handle handle) = None
+block_reply (Happened event) = None
+block_reply NoEvent = None
+block_reply (BadLines offsets) = None
+block_reply (Attribute n) = None
+block_reply (VerifyFile name offset) = None
+block_reply DeviceFailed = None
+block_reply PowerLost = None
+block_reply (Stopped line) = None
+block_reply (RefusedMeta line) = None

@@ -1,0 +1,42 @@
+-- Worked scripts: what is explored of them, or where they stop.
+use Rattle.std.specs.Prelude.{◌≡◌, ℕ, List, [], ◌∷◌, ◌++◌, Some, None, replicate, codes}
+use Rattle.script_text.specs.Action.Action.{BWrite, VStore, VSync}
+use Rattle.reply_text.specs.declared.reply.Why.TheVariants.{Range}
+use Rattle.outcomes.specs.Pages.{PageReply}
+use Rattle.outcomes.specs.Pages.PageReply.{Shows, Poison, Refuses}
+use Rattle.outcomes.specs.Blocks.{BlockReply}
+use Rattle.outcomes.specs.Blocks.BlockReply.{Scar, BadLine}
+use Rattle.outcomes.specs.Seen.{Seen}
+use Rattle.outcomes.specs.Seen.Seen.{of_blocks, of_volume}
+use Rattle.exploration.specs.Exploration.{script_of}
+use Rattle.exploration.specs.Exploration.Script.{StopsAt, Taken}
+
+-- lines, each with its newline
+abbrev pub text_of : List (List ℕ) → List ℕ
+text_of [] = []
+text_of (line ∷ lines) = line ++ 10 ∷ text_of lines
+
+-- a read of the volume, or of blocks, and its reply
+abbrev pub page : ℕ → ℕ → PageReply → Seen
+page start len reply = of_volume (record { start = start; len = len; reply = reply })
+
+abbrev pub block : ℕ → ℕ → BlockReply → Seen
+block first count reply = of_blocks (record { first = first; count = count; reply = reply })
+
+pub record ScriptRows : Type 0 where
+  pub one_question : script_of (text_of (codes "vstore 0 01" ∷ codes "vsync 0 64" ∷ codes "# look" ∷ codes "vload 0 1" ∷ codes "# never data 00" ∷ []))
+      ≡ Taken (record { program = Some (VStore 0 (1 ∷ [])) ∷ Some (VSync 0 64) ∷ []; questions = (page 0 1 (Shows (0 ∷ [])) ∷ []) ∷ [] })
+  pub reads_of_both_kinds : script_of (text_of (codes "# a block" ∷ [] ∷ codes "bwrite 3 aa*512" ∷ codes "# look" ∷ codes "bread 3 1" ∷ [] ∷ codes "vload 64 64"
+      ∷ codes "# never scarred 3 | poison volume 64 64" ∷ codes "# never _ | refused range" ∷ codes "# never poison block 3 7 | _" ∷ []))
+      ≡ Taken (record {
+        program = None ∷ None ∷ Some (BWrite 3 (replicate 512 170)) ∷ [];
+        questions = (block 3 1 (Scar 3) ∷ page 64 64 (Poison 64) ∷ []) ∷ (page 64 64 (Refuses Range) ∷ []) ∷ (block 3 1 (BadLine 3 7) ∷ []) ∷ [];
+      })
+  pub no_look : script_of (codes "vstore 0 01") ≡ Taken (record { program = Some (VStore 0 (1 ∷ [])) ∷ []; questions = [] })
+  pub read_behind_a_question : script_of (text_of (codes "# look" ∷ codes "vload 0 1" ∷ codes "# never data 00" ∷ codes "vload 0 1" ∷ [])) ≡ StopsAt 4
+  pub command_of_power : script_of (text_of (codes "vstore 0 01" ∷ codes "cut" ∷ codes "vsync" ∷ [])) ≡ StopsAt 2
+  pub one_reply_to_two_reads : script_of (text_of (codes "# look" ∷ codes "vload 0 1" ∷ codes "bread 0 1" ∷ codes "# never data 00" ∷ [])) ≡ StopsAt 4
+  pub reply_of_another_read : script_of (text_of (codes "# look" ∷ codes "vload 0 64" ∷ codes "# never poison block 0 0" ∷ [])) ≡ StopsAt 3
+  pub second_look : script_of (text_of (codes "vexists 0" ∷ codes "# look" ∷ codes "# look" ∷ [])) ≡ StopsAt 3
+  pub read_of_a_file : script_of (text_of (codes "# look" ∷ codes "fread log 0 64" ∷ [])) ≡ StopsAt 2
+  pub list_before_the_look : script_of (text_of (codes "# list" ∷ codes "# look" ∷ [])) ≡ StopsAt 1

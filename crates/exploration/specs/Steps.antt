@@ -1,0 +1,91 @@
+-- What the steps of reading a script may give.
+use Rattle.std.specs.Prelude.{◌≡◌, ℕ, List, [], ◌∷◌, ◌++◌, map, option_map, IsOkAnd, IsSomeAnd, Option, Some, None, Result, Ok, Err}
+use Rattle.script_text.specs.Action.{action_of}
+use Rattle.script_text.specs.Script.{lines_of}
+use Rattle.questions.specs.Asked.{answer_asked}
+use Rattle.outcomes.specs.Seen.{Seen}
+use Rattle.asked_reads.specs.declared.question.Question.{Question}
+use Rattle.asked_reads.specs.Asking.{IsLook}
+use Rattle.exploration.specs.declared.exploration.ScriptFault.{ScriptFault}
+use Rattle.exploration.specs.declared.exploration.ScriptFault.TheVariants.{Line, Memory as NoMemory}
+use Rattle.exploration.specs.declared.look.Look.{Look as LookHeld}
+use Rattle.exploration.specs.declared.look_lines.LookLine.{LookLine as LookLineRead}
+use Rattle.exploration.specs.declared.look_lines.LookLine.TheVariants as look_read
+use Rattle.exploration.specs.declared.program.Parts.{Parts as PartsHeld}
+use Rattle.exploration.specs.declared.program_lines.ProgramLine.{ProgramLine as ProgramLineRead}
+use Rattle.exploration.specs.declared.program_lines.ProgramLine.TheVariants as program_read
+use Rattle.exploration.specs.declared.stop.LineStop.{LineStop}
+use Rattle.exploration.specs.declared.stop.LineStop.TheVariants.{Memory, Untaken}
+use Rattle.exploration.specs.Exploration.{Look, Parts}
+use Rattle.exploration.specs.Lines.{LookLine, ProgramLine}
+use Rattle.exploration.specs.Lines.LookLine.{Asks, Passes, Reads}
+use Rattle.exploration.specs.Lines.ProgramLine.{Does, Ends}
+use Rattle.asked_reads.specs.Program.{IsBounded}
+use Rattle.exploration.specs.Reading.{AskOf}
+use Rattle.exploration.specs.Reads.{read_action}
+
+-- the fault of a script that stops at a line of that number
+abbrev pub fault_at : ℕ → LineStop → ScriptFault
+fault_at n Untaken = Line n
+fault_at n Memory = NoMemory
+
+-- what lines that were read are
+abbrev pub program_line_of : ProgramLineRead → ProgramLine
+program_line_of (program_read.Does command) = Does (option_map action_of command)
+program_line_of program_read.Ends = Ends
+
+abbrev pub look_line_of : LookLineRead → LookLine
+look_line_of look_read.Passes = Passes
+look_line_of (look_read.Reads read) = Reads (read_action read)
+look_line_of (look_read.Asks replies) = Asks (map (option_map answer_asked) replies.items)
+
+-- what came of something that is there, or is not taken
+abbrev pub Finds : {A T : Type 0} → (T → A) → Option A → Result T LineStop → Type 0
+Finds of there (Ok x) = there ≡ Some (of x)
+Finds of there (Err Untaken) = there ≡ None
+Finds of there (Err Memory) = Unit {0}
+
+-- a command's numbers are within bounds
+abbrev pub IsBoundedLine : ProgramLineRead → Type 0
+IsBoundedLine (program_read.Does command) = IsBounded command
+IsBoundedLine program_read.Ends = Unit {0}
+
+-- what came of replies that ask this of reads
+abbrev pub FindsQuestion : Option (List Seen) → Result Question LineStop → Type 0
+FindsQuestion asks (Ok q) = IsSomeAnd asks (λ look. IsLook look q)
+FindsQuestion asks (Err Untaken) = asks ≡ None
+FindsQuestion asks (Err Memory) = Unit {0}
+
+-- what came of one read more behind those of a look
+abbrev pub AddsRead : List Seen → Option Seen → Question → Result (Unit {0}) LineStop → Type 0
+AddsRead look seen new (Ok u) = IsSomeAnd seen (λ s. IsLook (look ++ s ∷ []) new)
+AddsRead look seen new (Err Untaken) = seen ≡ None
+AddsRead look seen new (Err Memory) = Unit {0}
+
+-- the look that is held is this one
+pub record IsHeld (look : Look) (held : LookHeld) : Type 0 where
+  pub reads : map read_action held.reads.items ≡ look.reads
+  pub questions : AskOf look.questions held.questions.items
+
+-- what came of one line more, behind which the look is this one
+abbrev pub TakesLine : Option Look → LookHeld → Result (Unit {0}) LineStop → Type 0
+TakesLine next new (Ok u) = IsSomeAnd next (λ look. IsHeld look new)
+TakesLine next new (Err Untaken) = next ≡ None
+TakesLine next new (Err Memory) = Unit {0}
+
+-- what came of the text of a look
+abbrev pub ReadsLook : Result Look ℕ → Result LookHeld ScriptFault → Type 0
+ReadsLook read (Ok held) = IsOkAnd read (λ look. IsHeld look held)
+ReadsLook read (Err (Line n)) = read ≡ Err n
+ReadsLook read (Err NoMemory) = Unit {0}
+
+-- the parts that are held are these
+pub record ArePartsHeld (parts : Parts) (held : PartsHeld) : Type 0 where
+  pub program : map (option_map action_of) held.program.items ≡ parts.program
+  pub look : lines_of held.look.now ≡ parts.look
+
+-- what came of a script's text up to the look
+abbrev pub ReadsParts : Result Parts ℕ → Result PartsHeld ScriptFault → Type 0
+ReadsParts read (Ok held) = IsOkAnd read (λ parts. ArePartsHeld parts held)
+ReadsParts read (Err (Line n)) = read ≡ Err n
+ReadsParts read (Err NoMemory) = Unit {0}

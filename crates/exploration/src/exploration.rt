@@ -1,0 +1,51 @@
+ghost use Rattle.std.specs.Prelude.{◌<◌, ◌^◌, All, IfOk, length};
+ghost use Rattle.outcomes.specs.Stops.{IsProgram};
+ghost use Rattle.exploration.specs.Exploration.{script_of};
+ghost use Rattle.asked_reads.specs.Program.{IsBounded, inputs_of_lines};
+ghost use Rattle.exploration.specs.Reading.{ReadsScript};
+
+use crate::look::{Look, read_look};
+use crate::program::{Parts, read_program};
+use asked_reads::Question;
+use script_text::Command;
+use std::alloc::{AllocError, Global};
+
+/// What a script has to be explored.
+#[derive(Debug, Drop)]
+pub struct Exploration {
+    /// One item for each line of the program, None where it has no command.
+    pub program: Vec<Option<Command>>,
+    pub questions: Vec<Question>,
+}
+
+/// Why a script is not explored.
+#[derive(Clone, Copy, Debug, PartialEq, Eq)]
+pub enum ScriptFault {
+    /// The first line that is not taken, by its number from 1 on.
+    Line(u64),
+    Memory,
+}
+
+impl From<AllocError> for ScriptFault {
+    ghost use Rattle.std.specs.Prelude.{◌≡◌};
+    ghost use Rattle.exploration.specs.declared.exploration.ScriptFault.TheVariants.{Memory};
+
+    ghost from_gives = { λ _ fault. fault ≡ Memory };
+
+    fn from(_: AllocError) -> Self {
+        ScriptFault::Memory
+    }
+}
+
+/// The program of a script, and what it asks.
+pub fn read_script(alloc: Global, script: &[u8]) -> Result<Exploration, ScriptFault>
+    requires { length script.now < 2 ^ 32 }
+    ensures script { ReadsScript (script_of script.now) result }
+    ensures program { IfOk result (λ e. IsProgram (inputs_of_lines e.program.items)) }
+    ensures bounds { IfOk result (λ e. All IsBounded e.program.items) }
+{
+    let Parts { program, look } = read_program(alloc, script)?;
+    let first = program.len() as u64 + 2;
+    let Look { questions, .. } = read_look(alloc, look, first)?;
+    Ok(Exploration { program, questions })
+}

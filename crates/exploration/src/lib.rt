@@ -1,0 +1,21 @@
+//! A script that is to be explored: its program, and what is asked of reads after a power cut.
+#![tactic(auto)]
+
+mod exploration;
+mod laws;
+mod lines;
+mod look;
+mod look_lines;
+mod program;
+mod program_lines;
+mod question;
+mod read;
+mod replies;
+mod rows;
+mod stop;
+#[cfg(test)]
+mod tests;
+
+pub use exploration::{Exploration, ScriptFault, read_script};
+pub use laws::what_is_seen_was_asked;
+pub use rows::worked_scripts;

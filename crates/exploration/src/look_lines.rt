@@ -1,0 +1,67 @@
+// What a line of the look is.
+ghost use Rattle.std.specs.Prelude.{◌≡◌};
+ghost use Rattle.script_text.specs.Action.{action_of};
+ghost use Rattle.script_text.specs.Parsing.{InBounds};
+ghost use Rattle.script_text.specs.Script.{line_input};
+ghost use Rattle.exploration.specs.Lines.{look_input, look_line};
+ghost use Rattle.exploration.specs.Reads.{read_of};
+ghost use Rattle.exploration.specs.Steps.{Finds, look_line_of};
+
+use crate::read::Read;
+use crate::stop::LineStop;
+use questions::{QuestionFault, QuestionKind, Replies, read_question};
+use script_text::{Command, LineFault, parse};
+use std::alloc::Global;
+
+#[derive(Debug, Drop)]
+pub(crate) enum LookLine {
+    /// Nothing.
+    Passes,
+    Reads(Read),
+    /// A question, by the replies to all reads.
+    Asks(Replies),
+}
+
+pub(crate) fn read_look_line(alloc: Global, line: &[u8]) -> Result<LookLine, LineStop>
+    ensures { Finds look_line_of (look_line line.now) result }
+{
+    match read_question(alloc, line) {
+        Ok(QuestionKind::Plain) => read_plain_line(alloc, line),
+        Ok(QuestionKind::Never(replies)) => Ok(LookLine::Asks(replies)),
+        Ok(QuestionKind::Look | QuestionKind::List) => Err(LineStop::Untaken),
+        Err(QuestionFault::Syntax) => Err(LineStop::Untaken),
+        Err(QuestionFault::Memory) => Err(LineStop::Memory),
+    }
+}
+
+// One that is no question.
+fn read_plain_line(alloc: Global, line: &[u8]) -> Result<LookLine, LineStop>
+    ensures { Finds look_line_of (look_input (line_input line.now)) result }
+{
+    match parse(alloc, line) {
+        Ok(None) => Ok(LookLine::Passes),
+        Ok(Some(command)) => match read_of(&command) {
+            Some(read) => Ok(LookLine::Reads(read)),
+            None => Err(LineStop::Untaken),
+        },
+        Err(LineFault::Syntax | LineFault::TooLong) => Err(LineStop::Untaken),
+        Err(LineFault::Memory) => Err(LineStop::Memory),
+    }
+}
+
+fn read_of(command: &Command) -> Option<Read>
+    requires { InBounds (action_of command.now) }
+    ensures { result ≡ read_of (action_of command.now) }
+{
+    match command {
+        Command::VLoad { offset, len } => Some(Read::Volume {
+            start: *offset,
+            len: *len,
+        }),
+        Command::BRead { block, count } => Some(Read::Blocks {
+            first: *block as u32,
+            count: *count,
+        }),
+        _ => None,
+    }
+}

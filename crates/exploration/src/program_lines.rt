@@ -1,0 +1,65 @@
+// What a line of the program is.
+ghost use Rattle.std.specs.Prelude.{◌≡◌, IfOk};
+ghost use Rattle.script_text.specs.Action.{action_of};
+ghost use Rattle.script_text.specs.Script.{line_input};
+ghost use Rattle.outcomes.specs.Stops.{is_of_program};
+ghost use Rattle.exploration.specs.Lines.{program_input, program_line};
+ghost use Rattle.exploration.specs.Steps.{Finds, IsBoundedLine, program_line_of};
+
+use crate::stop::LineStop;
+use questions::{QuestionFault, QuestionKind, read_question};
+use script_text::{Command, LineFault, parse};
+use std::alloc::Global;
+
+#[derive(Debug, Drop)]
+pub(crate) enum ProgramLine {
+    /// A command, or none.
+    Does(Option<Command>),
+    /// The look begins.
+    Ends,
+}
+
+pub(crate) fn read_program_line(alloc: Global, line: &[u8]) -> Result<ProgramLine, LineStop>
+    ensures line { Finds program_line_of (program_line line.now) result }
+    ensures bounds { IfOk result (λ line. IsBoundedLine line) }
+{
+    match read_question(alloc, line) {
+        Ok(QuestionKind::Plain) => read_command(alloc, line),
+        Ok(QuestionKind::Look) => Ok(ProgramLine::Ends),
+        Ok(QuestionKind::List | QuestionKind::Never(_)) => Err(LineStop::Untaken),
+        Err(QuestionFault::Syntax) => Err(LineStop::Untaken),
+        Err(QuestionFault::Memory) => Err(LineStop::Memory),
+    }
+}
+
+// One that is no question.
+fn read_command(alloc: Global, line: &[u8]) -> Result<ProgramLine, LineStop>
+    ensures line { Finds program_line_of (program_input (line_input line.now)) result }
+    ensures bounds { IfOk result (λ line. IsBoundedLine line) }
+{
+    match parse(alloc, line) {
+        Ok(None) => Ok(ProgramLine::Does(None)),
+        Ok(Some(command)) => {
+            if is_of_program(&command) {
+                Ok(ProgramLine::Does(Some(command)))
+            } else {
+                Err(LineStop::Untaken)
+            }
+        }
+        Err(LineFault::Syntax | LineFault::TooLong) => Err(LineStop::Untaken),
+        Err(LineFault::Memory) => Err(LineStop::Memory),
+    }
+}
+
+fn is_of_program(command: &Command) -> bool
+    ensures { result ≡ is_of_program (action_of command.now) }
+{
+    !matches!(
+        command,
+        Command::PoisonMeta { .. }
+            | Command::Cut
+            | Command::FailIn { .. }
+            | Command::Restart { .. }
+            | Command::Recover
+    )
+}

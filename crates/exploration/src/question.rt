@@ -1,0 +1,77 @@
+// The question that replies ask of reads.
+ghost use Rattle.std.specs.Prelude.{List, map, option_map};
+ghost use Rattle.questions.specs.Asked.{answer_asked};
+ghost use Rattle.outcomes.specs.Seen.{Seen};
+ghost use Rattle.asked_reads.specs.Asking.{IsLook};
+ghost use Rattle.exploration.specs.Exploration.{question_of};
+ghost use Rattle.exploration.specs.Reads.{read_action, seen_of};
+ghost use Rattle.exploration.specs.Steps.{AddsRead, FindsQuestion};
+
+use crate::read::Read;
+use crate::replies::{block_reply, volume_reply};
+use crate::stop::LineStop;
+use asked_reads::{BlockRead, PageRead, Question};
+use questions::AskedReply;
+use std::alloc::{AllocError, Global};
+
+// Each read needs a reply, or None for any.
+pub(crate) fn question_of(
+    alloc: Global,
+    reads: &[Read],
+    replies: &[Option<AskedReply>],
+) -> Result<Question, LineStop>
+    ensures { FindsQuestion (question_of (map read_action reads.now) (map (option_map answer_asked) replies.now)) result }
+{
+    let mut question = Question {
+        volume: Vec::new(alloc),
+        blocks: Vec::new(alloc),
+    };
+    let mut left = replies;
+    for read in reads {
+        let Some((reply, others)) = left.split_first() else {
+            return Err(LineStop::Untaken);
+        };
+        if let Some(reply) = reply {
+            add(alloc, &mut question, read, reply)?;
+        }
+        left = others;
+    }
+    if left.is_empty() {
+        Ok(question)
+    } else {
+        Err(LineStop::Untaken)
+    }
+}
+
+// One read more that is asked.
+fn add(
+    alloc: Global,
+    question: &mut Question,
+    read: &Read,
+    reply: &AskedReply,
+) -> Result<(), LineStop>
+    ensures { (look : List Seen) → IsLook look question.old
+        → AddsRead look (seen_of (read_action read.now) (answer_asked reply.now)) question.new result }
+{
+    match read {
+        Read::Volume { start, len } => {
+            let reply = volume_reply(alloc, reply)?;
+            let read = PageRead {
+                start: *start,
+                len: *len,
+                reply,
+            };
+            question.volume.push(read).map_err(AllocError::from)?;
+        }
+        Read::Blocks { first, count } => {
+            let reply = block_reply(alloc, reply)?;
+            let read = BlockRead {
+                first: u64::from(*first),
+                count: *count,
+                reply,
+            };
+            question.blocks.push(read).map_err(AllocError::from)?;
+        }
+    }
+    Ok(())
+}

@@ -1,0 +1,8 @@
+/// A read of a look.
+#[derive(Clone, Copy, Debug, PartialEq, Eq)]
+pub enum Read {
+    /// Of so many bytes of the volume.
+    Volume { start: u64, len: u64 },
+    /// Of so many blocks.
+    Blocks { first: u32, count: u64 },
+}

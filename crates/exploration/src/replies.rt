@@ -1,0 +1,50 @@
+// A reply as an answer of a read.
+ghost use Rattle.std.specs.Prelude.{◌≡◌, IfOk};
+ghost use Rattle.questions.specs.Asked.{answer_asked};
+ghost use Rattle.asked_reads.specs.Reads.{block_reply as asked_block_reply, page_reply as asked_page_reply};
+ghost use Rattle.exploration.specs.Replies.{block_reply, volume_reply};
+ghost use Rattle.exploration.specs.Steps.{Finds};
+
+use crate::stop::LineStop;
+use asked_reads::{BlockReply, PageReply};
+use nvm_base::Bytes;
+use questions::AskedReply;
+use std::alloc::{AllocError, Global};
+
+// That of a read of the volume.
+pub(crate) fn volume_reply(alloc: Global, reply: &AskedReply) -> Result<PageReply, LineStop>
+    ensures { Finds asked_page_reply (volume_reply (answer_asked reply.now)) result }
+{
+    match reply {
+        AskedReply::Bytes(bytes) => Ok(PageReply::Shows(copy(alloc, bytes)?)),
+        AskedReply::PoisonVolume { offset } => Ok(PageReply::Poison(*offset)),
+        AskedReply::Refused(why) => Ok(PageReply::Refuses(*why)),
+        AskedReply::PoisonBlock { .. }
+        | AskedReply::PoisonFile { .. }
+        | AskedReply::Scarred { .. } => Err(LineStop::Untaken),
+    }
+}
+
+// That of a read of blocks.
+pub(crate) fn block_reply(alloc: Global, reply: &AskedReply) -> Result<BlockReply, LineStop>
+    ensures { Finds asked_block_reply (block_reply (answer_asked reply.now)) result }
+{
+    match reply {
+        AskedReply::Bytes(bytes) => Ok(BlockReply::Shows(copy(alloc, bytes)?)),
+        AskedReply::Scarred { block } => Ok(BlockReply::Scar(*block)),
+        AskedReply::PoisonBlock { block, line } => Ok(BlockReply::BadLine {
+            block: *block,
+            line: *line,
+        }),
+        AskedReply::Refused(why) => Ok(BlockReply::Refuses(*why)),
+        AskedReply::PoisonVolume { .. } | AskedReply::PoisonFile { .. } => Err(LineStop::Untaken),
+    }
+}
+
+fn copy(alloc: Global, bytes: &Bytes) -> Result<Bytes, AllocError>
+    ensures { IfOk result (λ copy. copy.items ≡ bytes.now.items) }
+{
+    let mut copy = Bytes::new(alloc);
+    copy.extend(bytes.as_slice())?;
+    Ok(copy)
+}
