@@ -1,0 +1,27 @@
+use Rattle.std.proofs.Common.{◌≡◌, true, sym, subst, ◌∙◌, arith}
+use Rattle.std.specs.List.{list_all}
+use Rattle.word_tables.specs.declared.geometry.Geometry.{Geometry}
+use Rattle.outcomes.specs.Blocks.{is_block_reply}
+use Rattle.asked_reads.specs.Reads.{blocks_asked}
+use Rattle.explorer.proofs.BlockLookLemmas.{read_behind, reply_at}
+use Rattle.explorer.proofs.blocks_look.look_blocks.Goals as goal
+
+pub look_read-requires-clause-reply : goal.look_read-requires-clause-reply
+look_read-requires-clause-reply g c =
+    let reads = c.args.reads.now in
+    reply_at c.loop-read.host.geometry.blocks reads c.loop-read.read-index c.read-item.result c.loop-read-test.true c.read-item.is
+    (subst (λ (geo : Geometry). list_all (is_block_reply geo.blocks) (blocks_asked reads) ≡ true) (sym c.loop-read.invariant.2) c.requires.replies)
+
+pub loop-read-preserved : goal.loop-read-preserved
+loop-read-preserved g c =
+    let now = c.loop-read.invariant in
+    let made = c.in_ok-look_read.ensures in (
+      made.known,
+      omega arith,
+      made.geometry ∙ now.2,
+      read_behind c.args.reads.now c.loop-read.read-index c.read-item.result _ _ c.loop-read-test.true c.read-item.is made.numbers now.3,
+      λ h stands ready.
+          let before = now.4 h stands ready in
+          let after = made.sees h before.1 ready in
+          (after.0 before.0, after.1),
+    )

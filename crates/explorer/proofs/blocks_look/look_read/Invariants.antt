@@ -1,0 +1,20 @@
+use Rattle.std.proofs.Common.{◌≡◌, ◌-◌, ◌++◌, length}
+use Rattle.std.specs.List.{range_with_len}
+use Rattle.nvm_model.specs.Blocks.{nth}
+use Rattle.block_sights.specs.Sights.{sight}
+use Rattle.machine_host.specs.Machine.{Machine}
+use Rattle.machine_host.specs.Settling.{GoesOn}
+use Rattle.machine_host.specs.Stands.{Stands}
+use Rattle.outcomes.specs.Finds.{IsReady}
+use Rattle.explorer.specs.Units.{AreBlocks, block_numbers}
+use Rattle.explorer.proofs.blocks_look.look_read.Given as goal
+
+abbrev pub invariant-loop-b : goal.invariant-loop-b
+invariant-loop-b g l =
+    GoesOn l.host (g.D.Lines.state l.device)
+    × (length l.work ≡ 65536)
+    × (l.host.geometry ≡ l.fn.host.geometry)
+    × (block_numbers l.blocks.items ≡ block_numbers l.fn.blocks.items ++ range_with_len l.read.first (l.b - l.read.first))
+    × ((h : Machine) → Stands l.fn.host (g.D.Lines.state l.fn.device) h → IsReady h
+    → (AreBlocks (λ b. sight (nth h.blocks b)) l.fn.blocks.items → AreBlocks (λ b. sight (nth h.blocks b)) l.blocks.items)
+    × Stands l.host (g.D.Lines.state l.device) h)

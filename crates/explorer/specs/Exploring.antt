@@ -1,0 +1,61 @@
+-- What an exploration finds.
+use Rattle.std.specs.Prelude.{◌≡◌, ℕ, true, false, List, ◌∷◌, map, Option, Some, None}
+use Rattle.line_device.specs.Device.{Device}
+use Rattle.word_tables.specs.declared.geometry.Geometry.{Geometry}
+use Rattle.nvm_model.specs.Blocks.{nth}
+use Rattle.block_sights.specs.Sights.{sight}
+use Rattle.script_text.specs.Action.{Action}
+use Rattle.machine_host.specs.Machine.{Machine}
+use Rattle.machine_host.specs.Commands.{fate}
+use Rattle.machine_host.specs.Stands.{HostState, Stands}
+use Rattle.outcomes.specs.Blocks.{all_numbers_read}
+use Rattle.outcomes.specs.Finds.{IsReady}
+use Rattle.outcomes.specs.Pages.{all_lines_read}
+use Rattle.outcomes.specs.Seen.{Seen, may_show}
+use Rattle.outcomes.specs.Stops.{inside}
+use Rattle.asked_reads.specs.declared.question.Question.{Question}
+use Rattle.explorer.specs.declared.sight.Sight.{Sight}
+use Rattle.explorer.specs.declared.place.CutPlace.{CutPlace}
+use Rattle.explorer.specs.declared.place.CutPlace.TheVariants.{Before, Inside}
+use Rattle.asked_reads.specs.Asking.{blocks_of, volume_asked}
+use Rattle.explorer.specs.Places.{Stop, first_place}
+use Rattle.explorer.specs.Seeing.{seen}
+use Rattle.explorer.specs.Sights.{shows_inside}
+use Rattle.explorer.specs.Units.{AreAmong, AreBlocks, AreLines, AreWithin, block_numbers, block_once_done, line_numbers, line_once_done}
+
+-- it looks at all lines and blocks of which it asks, read by read
+pub record IsWhole (sight : Sight) (q : Question) : Type 0 where
+  pub lines : line_numbers sight.lines.items ≡ all_lines_read (volume_asked q)
+  pub blocks : block_numbers sight.blocks.items ≡ all_numbers_read (blocks_of q)
+
+-- they are lines of the volume and blocks of a device of these sizes
+pub record IsWithin (sight : Sight) (geo : Geometry) : Type 0 where
+  pub lines : AreWithin geo sight.lines.items
+  pub blocks : AreAmong geo sight.blocks.items
+
+-- the lines and blocks are those of the state
+pub record Sees (now : Sight) (h : Machine) : Type 0 where
+  pub lines : AreLines (seen h.volume) now.lines.items
+  pub blocks : AreBlocks (λ b. sight (nth h.blocks b)) now.blocks.items
+
+-- Host, device and what is looked at stand for this state, in which nothing is interrupted.
+pub record Follows (sight : Sight) (host : HostState) (d : Device) (h : Machine) : Type 0 where
+  pub stands : Stands host d h
+  pub ready : IsReady h
+  pub sees : Sees sight h
+
+-- the places of a cut of one command, on the line of that number
+abbrev pub command_stops : ℕ → Machine → Action → List Stop
+command_stops n h action = record { place = Before n; state = h } ∷ map (λ m. record { place = Inside n; state = m }) (inside h action (fate h action))
+
+-- None of these places shows it, and host, device and what is looked at stand for the next state; or the first that does was found.
+abbrev pub Explores : List Seen → Sight → HostState → Device → List Stop → Machine → Option CutPlace → Type 0
+Explores look sight host d stops next None = (first_place (may_show look) stops ≡ None) × Follows sight host d next
+Explores look sight host d stops next (Some place) = first_place (may_show look) stops ≡ Some place
+
+-- No cut inside a command that was done shows what is asked, and what is looked at is as after it; or one does.
+abbrev pub Passes : Geometry → Action → ℕ → Question → Sight → Sight → Option CutPlace → Type 0
+Passes geo action line q old new None =
+    (shows_inside geo action q old ≡ false) × (new.lines.items ≡ map (line_once_done geo action) old.lines.items)
+    × (new.blocks.items ≡ map (block_once_done geo action) old.blocks.items)
+Passes geo action line q old new (Some place) = (shows_inside geo action q old ≡ true) × (place ≡ Inside line) × (new ≡ old)

@@ -1,0 +1,24 @@
+-- The state in which an exploration begins.
+use Rattle.std.specs.Prelude.{◌≡◌, ◌<◌, ℕ, Bool, List, [], ◌∷◌, length, Some, slice_index}
+use Rattle.line_device.specs.Word.{word_at}
+use Rattle.nvm_model.specs.Cell.Cell.{Kept}
+use Rattle.nvm_model.specs.Numbered.{list_from}
+use Rattle.nvm_model.specs.Page.{Page, cell_of}
+use Rattle.machine_host.specs.Machine.{Machine}
+use Rattle.outcomes.specs.Finds.{IsReady}
+
+-- the words of a line of these bytes, each of which has one value
+pub record AreOfBytes (words : List (List ℕ)) : Type 0 where
+  pub bytes : List ℕ
+  pub size : length bytes ≡ 64
+  pub small : (k : ℕ) → slice_index bytes k < 256
+  pub are : words ≡ list_from (λ w. word_at bytes w ∷ []) 0 8
+
+-- each word of the pages has one value
+abbrev pub AreDurable : List Page → Type 0
+AreDurable pages = (n : ℕ) (weak : Bool) (words : List (List ℕ)) → cell_of pages n ≡ Some (Kept weak words) → AreOfBytes words
+
+-- all is mounted and at rest, and what the volume has is durable, as where an image was opened
+pub record Begins (h : Machine) : Type 0 where
+  pub ready : IsReady h
+  pub durable : AreDurable h.volume

@@ -1,0 +1,96 @@
+// Whether a read may have the reply that is asked for, whatever is stored.
+ghost use Rattle.std.specs.Prelude.{◌≡◌};
+ghost use Rattle.std.specs.List.{list_all};
+ghost use Rattle.word_tables.specs.Bounds.{IsValid};
+ghost use Rattle.machine_host.specs.Meaning.{most_refusal};
+ghost use Rattle.outcomes.specs.Blocks.{is_block_reply};
+ghost use Rattle.outcomes.specs.Pages.{is_reply};
+ghost use Rattle.asked_reads.specs.Asking.{may_be_replies};
+ghost use Rattle.asked_reads.specs.Reads.{block_read, blocks_asked, page_read, pages_asked};
+
+use crate::lines_fit::touches;
+use asked_reads::{BlockRead, BlockReply, PageRead, PageReply, Question};
+use nvm_base::{BLOCK, LINE, PAGE};
+use reply_text::Why;
+use word_tables::Geometry;
+
+/// Most bytes of a volume that are read at once, and most blocks.
+const MOST_BYTES: u64 = 65536;
+
+const MOST_BLOCKS: u64 = 128;
+
+/// Whether each read may have its reply on some device of these sizes.
+pub fn may_be_replies(question: &Question, geometry: Geometry) -> bool
+    requires { IsValid geometry }
+    ensures { result ≡ may_be_replies geometry question.now }
+{
+    are_replies_of_bytes(&question.volume, PAGE * geometry.vpages)
+        && are_replies_of_blocks(&question.blocks, geometry.blocks)
+}
+
+// Whether each is one of storage of so many bytes.
+fn are_replies_of_bytes(reads: &[PageRead], size: u64) -> bool
+    ensures { result ≡ list_all (is_reply size) (pages_asked reads.now) }
+{
+    reads.iter().all(|read| is_reply_of_bytes(read, size))
+}
+
+// Whether each is one of so many blocks.
+fn are_replies_of_blocks(reads: &[BlockRead], blocks: u64) -> bool
+    ensures { result ≡ list_all (is_block_reply blocks) (blocks_asked reads.now) }
+{
+    reads.iter().all(|read| is_reply_of_blocks(read, blocks))
+}
+
+fn is_reply_of_bytes(read: &PageRead, size: u64) -> bool
+    ensures { result ≡ is_reply size (page_read read.now) }
+{
+    match most_refusal(MOST_BYTES, size, read.start, read.len) {
+        None => match &read.reply {
+            PageReply::Shows(bytes) => bytes.len() == read.len,
+            PageReply::Poison(at) => {
+                touches(read.start, read.len, *at / LINE) && *at % LINE == 0
+            }
+            PageReply::Refuses(_) => false,
+        },
+        Some(why) => match &read.reply {
+            PageReply::Refuses(other) => *other == why,
+            PageReply::Shows(_) | PageReply::Poison(_) => false,
+        },
+    }
+}
+
+fn is_reply_of_blocks(read: &BlockRead, blocks: u64) -> bool
+    ensures { result ≡ is_block_reply blocks (block_read read.now) }
+{
+    match most_refusal(MOST_BLOCKS, blocks, read.first, read.count) {
+        None => match &read.reply {
+            BlockReply::Shows(bytes) => {
+                bytes.len() / BLOCK == read.count && bytes.len() % BLOCK == 0
+            },
+            BlockReply::Scar(block) | BlockReply::BadLine { block, .. } => {
+                read.first <= *block && *block - read.first < read.count
+            }
+            BlockReply::Refuses(_) => false,
+        },
+        Some(why) => match &read.reply {
+            BlockReply::Refuses(other) => *other == why,
+            BlockReply::Shows(_) | BlockReply::Scar(_) | BlockReply::BadLine { .. } => false,
+        },
+    }
+}
+
+// Why a read of so much of something of this size is refused, where no more than `most` is read at once.
+fn most_refusal(most: u64, size: u64, start: u64, len: u64) -> Option<Why>
+    ensures { result ≡ most_refusal most size start len }
+{
+    if start > size || len > size - start {
+        Some(Why::Range)
+    } else if len == 0 {
+        Some(Why::Length)
+    } else if len > most {
+        Some(Why::Limit)
+    } else {
+        None
+    }
+}
