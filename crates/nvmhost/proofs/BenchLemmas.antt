@@ -20,13 +20,15 @@ use Rattle.machine_host.proofs.RunLemmas.{tells_then}
 use Rattle.workload.specs.Lines.{lines}
 use Rattle.workload.specs.declared.summary.Summary.{Summary}
 use Rattle.nvmhost.specs.Bench.{Benches, BreaksOff, IsStarted, IsUnstarted, LeavesAside, PerformsAll, bench_sizes, new_image, new_machine, nothing_counted, summary_text, summed}
-use Rattle.nvmhost.specs.Ending.{of_mount}
-use Rattle.nvmhost.specs.Opening.{opening}
-use Rattle.nvmhost.specs.Whole.{IsRun, WritesFront}
-use Rattle.nvmhost.specs.World.{World}
-use Rattle.nvmhost.proofs.OpenLemmas.{opens-mounted}
+use Rattle.program_base.specs.Ending.{of_mount}
+use Rattle.program_base.specs.Opening.{opening}
+use Rattle.program_base.specs.Writing.{WritesFront}
+use Rattle.nvmhost.specs.Whole.{IsRun}
+use Rattle.program_base.specs.World.{World}
+use Rattle.program_base.proofs.OpenLemmas.{opens-mounted}
 use Rattle.nvmhost.proofs.RunLemmas.{is_run}
-use Rattle.nvmhost.proofs.TellLemmas.{tells_first-after, tells_opening, unanswered-none}
+use Rattle.program_base.proofs.OpenLemmas.{tells_opening}
+use Rattle.nvmhost.proofs.TellLemmas.{tells_first-after, unanswered-none}
 
 pub bench_sizes_are_valid : IsValid bench_sizes
 bench_sizes_are_valid = record {

@@ -21,46 +21,22 @@ use Rattle.machine_host.specs.Settling.{Settled}
 use Rattle.machine_host.specs.Stands.{HostServes, HostState, Stands}
 use Rattle.machine_host.proofs.RunLemmas.{tells_then}
 use Rattle.nvmhost.specs.Bench.{IsUnstarted}
-use Rattle.nvmhost.specs.Ending.{numbered_line, of_write}
+use Rattle.program_base.specs.Ending.{numbered_line, of_write}
 use Rattle.nvmhost.specs.Forms.{FailsToCreate, IsCaused, IsUnwritten, Outcome, checked_text, created_text}
-use Rattle.nvmhost.specs.Opening.{CountsOpening, IsReady, StaysClosed, opened, opening}
+use Rattle.program_base.specs.Opening.{CountsOpening, IsReady, StaysClosed, opened, opening}
 use Rattle.nvmhost.specs.Running.{Performs}
 use Rattle.nvmhost.specs.Storing.{HoldsOn, NotReadOut, Stores}
-use Rattle.nvmhost.specs.Whole.{IsRun, WritesFront}
-use Rattle.nvmhost.specs.World.{World}
-use Rattle.nvmhost.specs.declared.ending.Ending.{Ending}
-use Rattle.nvmhost.specs.declared.ending.Ending.TheVariants.{Memory, Read, Script, Usage, Write}
+use Rattle.program_base.specs.Writing.{WritesFront}
+use Rattle.nvmhost.specs.Whole.{IsRun}
+use Rattle.program_base.specs.World.{World}
+use Rattle.program_base.specs.declared.ending.Ending.{Ending}
+use Rattle.program_base.specs.declared.ending.Ending.TheVariants.{Memory, Read, Script, Usage, Write}
 use Rattle.nvmhost.proofs.AgainLemmas.{is_read_again}
-use Rattle.nvmhost.proofs.BytesLemmas.{appends-none}
-use Rattle.nvmhost.proofs.OpenLemmas.{on_opened}
+use Rattle.program_base.proofs.BytesLemmas.{appends-none}
+use Rattle.program_base.proofs.OpenLemmas.{on_opened}
 use Rattle.nvmhost.proofs.RestLemmas.{rests-settled, stands-read_out}
 use Rattle.nvmhost.proofs.RunLemmas.{halts-unstored, is_run-opened}
 use Rattle.nvmhost.proofs.StoreLemmas.{last-write_back}
-
--- a line that was to be written, as far as it was
-front_written : (r : Result (Unit {0}) WriteFault) (text : List ℕ) (old new : Option (List ℕ)) → WritesAll text r old new → WritesFront text old new
-front_written (Ok x) text old new wrote = record { part = text; front = record { rest = []; joined = append-nil text }; wrote = wrote }
-front_written (Err fault) text old new wrote = record {
-  part = take wrote.count text;
-  front = record { rest = drop wrote.count text; joined = take-append-drop wrote.count text };
-  wrote = wrote.part;
-}
-
-pub told_front : {E : Type 0} (line : Result (Stock ℕ) E) (r : Result (Unit {0}) WriteFault) (text : List ℕ) (old new : Option (List ℕ)) → IfOk line (λ l. l.items ≡ text)
-    → MatchResult line (λ l. WritesAll l.items r old new) (λ _. (r ≡ Err write.Memory) × (new ≡ old)) → WritesFront text old new
-told_front (Ok l) r text old new is told = front_written r text old new (subst (λ t. WritesAll t r old new) is told)
-told_front (Err e) r text old new is told = record {
-  part = [];
-  front = record { rest = text; joined = refl };
-  wrote = subst (λ w. Appends old w []) (sym told.1) (appends-none old);
-}
-
--- and one that was
-pub told_all : {E : Type 0} (line : Result (Stock ℕ) E) (r : Result (Unit {0}) WriteFault) (text : List ℕ) (old new : Option (List ℕ)) (x : Unit {0}) → IfOk line (λ l. l.items ≡ text)
-    → MatchResult line (λ l. WritesAll l.items r old new) (λ _. (r ≡ Err write.Memory) × (new ≡ old)) → r ≡ Ok x → Appends old new text
-told_all (Ok l) (Ok y) text old new x is told ok = subst (Appends old new) is told
-told_all (Err e) (Ok y) text old new x is told ok = cc told.0
-told_all line (Err e) text old new x is told ok = cc ok
 
 keeps-same : (held : Option Held) → KeepsHeld (λ _. ⊤) held held
 keeps-same None = tt
@@ -112,11 +88,11 @@ unreplaced name geo fault old new wrote memory others failed is_failed counts de
 pub checked_ready : (name : List ℕ) (held : Option Held) (host : HostState) (old new : Device) (ready : IsReady name held host old new) (count bad : ℕ) → count ≡ new.medium.count
     → ((h : Machine) → Stands host new h → bad ≡ bad_of h) → codes "ok " ++ decimal count ++ numbered_line (codes " bad ") bad ≡ checked_text ready.lines
 checked_ready name held host old new ready count bad is counted =
-    ap₂ (λ n bad. codes "ok " ++ decimal n ++ numbered_line (codes " bad ") bad) (is ∙ ready.count) (counted ready.begin ready.stands ∙ ap (λ (h : Machine). bad_of h) ready.begins.state)
+    ap₂ (λ n bad. codes "ok " ++ decimal n ++ numbered_line (codes " bad ") bad) (is ∙ ready.mounted.count) (counted ready.mounted.begin ready.mounted.stands ∙ ap (λ (h : Machine). bad_of h) ready.mounted.begins.state)
 
 -- a host that opened an image is on
 pub on_ready : (name : List ℕ) (held : Option Held) (host : HostState) (old new : Device) → IsReady name held host old new → host.mode ≡ modes.On
-on_ready name held host old new ready = ready.stands.mode ∙ ap (λ (h : Machine). h.mode) ready.begins.state ∙ on_opened ready.lines ready.right
+on_ready name held host old new ready = ready.mounted.stands.mode ∙ ap (λ (h : Machine). h.mode) ready.mounted.begins.state ∙ on_opened ready.lines ready.mounted.right
 
 -- what is held, held on for a while
 keeps-then : (which : List ℕ → Type 0) (a b c : Option Held) → KeepsHeld (λ _. ⊤) a b → KeepsHeld which b c → KeepsHeld which a c
@@ -142,7 +118,7 @@ unstored e old new counted rest later same (inr stored) = subst (λ e. IsCaused 
 pub served_settled : (name : List ℕ) (held : Option Held) (host after settled : HostState) (left_old left written answered : Option (List ℕ)) (old opened_as ran rest : Device) → IsReady name held host old opened_as
     → Performs host after (Ok tt) left_old left written answered opened_as ran → ((h : Machine) → Stands after ran h → Settled h settled (after_disarm ran.panel) rest) → HostServes settled rest
 served_settled name held host after settled left_old left written answered old opened_as ran rest ready performs settles =
-    let says = performs.says ready.begin ready.stands in (settles says.end says.outcome.stands).serves
+    let says = performs.says ready.mounted.begin ready.mounted.stands in (settles says.end says.outcome.stands).serves
 
 -- A script that was performed to its end: host and device were brought to rest, and the image was stored or not.
 pub run_over : (from to : List ℕ) (host after settled : HostState) (opened_as ran rest : Device) (held : Option Held) (counted : ImageCounts) (r : Result (Unit {0}) Ending) (old new : World)
@@ -150,7 +126,7 @@ pub run_over : (from to : List ℕ) (host after settled : HostState) (opened_as 
     → ((h : Machine) → Stands after ran h → Settled h settled (after_disarm ran.panel) rest) → IsSound rest.medium
     → KeepsHeld (λ _. ⊤) old.held held → CountsOpening old.images counted → Stores to r held new.held counted new.images rest new.device → Outcome (of_run from to) r old new
 run_over from to host after settled opened_as ran rest held counted (Ok x) old new ready performs settles sound kept counts stores =
-    let says = performs.says ready.begin ready.stands in
+    let says = performs.says ready.mounted.begin ready.mounted.stands in
     let comes = settles says.end says.outcome.stands in
     let done = stores.outcome in
     let image = done.3 in
@@ -158,7 +134,7 @@ run_over from to host after settled opened_as ran rest held counted (Ok x) old n
     record {
       lines = ready.lines;
       there = ready.held_there;
-      right = ready.right;
+      right = ready.mounted.right;
       script = says.script;
       said = says.said;
       last = comes.next;
@@ -168,12 +144,12 @@ run_over from to host after settled opened_as ran rest held counted (Ok x) old n
       ran = record {
         end = says.end;
         run = subst (λ ls. IsRun (opened ready.lines) old.device.panel ls says.said says.end) (sym (says.split ∙ ap (λ ls. says.lines ++ ls) says.outcome.none_left ∙ append-nil says.lines))
-            (is_run-opened ready.lines old.device.panel says.lines says.said ready.begin says.end ready.begins says.run);
+            (is_run-opened ready.lines old.device.panel says.lines says.said ready.mounted.begin says.end ready.mounted.begins says.run);
         starts = comes.starts;
         comes = comes.comes;
         settled = record {
           ran = ran.panel;
-          tells = tells_then opening says.said old.device.panel opened_as.panel ran.panel ready.tells says.outcome.tells;
+          tells = tells_then opening says.said old.device.panel opened_as.panel ran.panel ready.mounted.tells says.outcome.tells;
           rest = rest.panel;
           asks = comes.asks;
           restarts = comes.restarts;
@@ -197,13 +173,13 @@ run_over from to host after settled opened_as ran rest held counted (Ok x) old n
       replaces = done.1 ∙ ap raised counts.replaces;
     }
 run_over from to host after settled opened_as ran rest held counted (Err e) old new ready performs settles sound kept counts stores =
-    let says = performs.says ready.begin ready.stands in
+    let says = performs.says ready.mounted.begin ready.mounted.stands in
     let comes = settles says.end says.outcome.stands in
     let left = stores.outcome in
     inr (halts-unstored from to e host after opened_as ran old new ready performs
     (rests-settled says.end.mode says.end comes.next comes.starts stores.end ran.panel rest.panel new.device.panel comes.comes comes.asks comes.restarts stores.sets_up)
     (λ by. not_source left.0 by)
-    (unstored e old new counted rest.panel (omega (arith, ready.tells.setups, says.outcome.tells.setups, comes.asks.setups)) counts.replace_faults left.0)
+    (unstored e old new counted rest.panel (omega (arith, ready.mounted.tells.setups, says.outcome.tells.setups, comes.asks.setups)) counts.replace_faults left.0)
     (replaced left.2) (stores.fetches ∙ counts.fetches) (holds-then to old.held held new.held old.images counted new.images kept counts.replace_faults left.1))
   where
     not_source : NotReadOut e rest.panel new.device.panel ⊎ ((e ≡ Write) × Rose counted.replace_faults new.images.replace_faults) → (e ≡ Read) ⊎ (e ≡ Script) → ⊥

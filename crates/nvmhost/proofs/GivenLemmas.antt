@@ -8,8 +8,9 @@ use Rattle.script_text.specs.Script.{lines_of}
 use Rattle.script_text.specs.Streaming.{HasGiven, IsFirstLine, LongLine, ReadsLine, Stream}
 use Rattle.script_text.specs.declared.next_line.NextLine.{NextLine}
 use Rattle.script_text.specs.declared.next_line.NextLine.TheVariants.{Line, TooLong, End}
-use Rattle.nvmhost.specs.Whole.{IsFront, bytes_of}
-use Rattle.nvmhost.specs.Ending.{line}
+use Rattle.program_base.specs.Writing.{IsFront}
+use Rattle.nvmhost.specs.Whole.{bytes_of}
+use Rattle.program_base.specs.Ending.{line}
 
 -- a line before whose first byte another stands
 bytes-onto : (c : ℕ) (lines : List (List ℕ)) (rest : List ℕ) → bytes_of lines ≡ rest ++ 10 ∷ [] → bytes_of (onto_first c lines) ≡ c ∷ rest ++ 10 ∷ []

@@ -22,13 +22,13 @@ use Rattle.machine_host.specs.Run.{Transcript, Run, followed_by, silence}
 use Rattle.machine_host.specs.Telling.{Tells}
 use Rattle.machine_host.specs.Stands.{HostState, Stands}
 use Rattle.machine_host.proofs.RunLemmas.{run_of_one, run_then, reply_text-append, tells_silence, tells_then}
-use Rattle.nvmhost.specs.Ending.{of_write}
-use Rattle.nvmhost.specs.declared.ending.Ending.{Ending}
-use Rattle.nvmhost.specs.declared.ending.Ending.TheVariants.{Usage, Image, Layout, Meta, Read, Write, Memory, Script}
-use Rattle.nvmhost.specs.declared.ending.Ending.TheVariants as endings
+use Rattle.program_base.specs.Ending.{of_write}
+use Rattle.program_base.specs.declared.ending.Ending.{Ending}
+use Rattle.program_base.specs.declared.ending.Ending.TheVariants.{Usage, Image, Layout, Meta, Read, Write, Memory, Script}
+use Rattle.program_base.specs.declared.ending.Ending.TheVariants as endings
 use Rattle.nvmhost.specs.Whole.{GoesUnanswered, bytes_of}
 use Rattle.nvmhost.specs.Running.{AnswersNext, Comes, Flushes, LineGoes, Performs}
-use Rattle.nvmhost.proofs.BytesLemmas.{appends-none, appends_then, consumes-none, consumes_then}
+use Rattle.program_base.proofs.BytesLemmas.{appends-none, appends_then, consumes-none, consumes_then}
 use Rattle.nvmhost.proofs.GivenLemmas.{given-front, given-whole}
 use Rattle.nvmhost.proofs.TellLemmas.{unanswered-none}
 

@@ -1,10 +1,8 @@
-mod BytesLemmas
 mod LineLemmas
 mod TellLemmas
 mod GivenLemmas
 mod GoingLemmas
 mod CountLemmas
-mod OpenLemmas
 mod StoreLemmas
 mod AgainLemmas
 mod RestLemmas

@@ -20,16 +20,16 @@ use Rattle.durable.proofs.FileLemmas.{files_through}
 use Rattle.durable.proofs.PassLemmas.{keeps_through}
 use Rattle.durable.proofs.ScriptLemmas.{bring-lines, bring-rest}
 use Rattle.durable.proofs.WholeLemmas.{whole-reading}
-use Rattle.nvmhost.specs.Begins.{Begins}
+use Rattle.program_base.specs.Begins.{Begins}
 use Rattle.nvmhost.specs.Forms.{Halts, IsCaused, IsThrough}
-use Rattle.nvmhost.specs.Opening.{CountsOpening, IsReady, opened}
+use Rattle.program_base.specs.Opening.{CountsOpening, IsReady, opened}
 use Rattle.nvmhost.specs.Running.{IsBroken, Performs}
 use Rattle.nvmhost.specs.Storing.{HoldsOn}
 use Rattle.nvmhost.specs.Whole.{GoesToRest, IsRun}
-use Rattle.nvmhost.specs.World.{World}
-use Rattle.nvmhost.specs.declared.ending.Ending.{Ending}
-use Rattle.nvmhost.specs.declared.ending.Ending.TheVariants.{Usage, Layout, Meta, Read, Write, Memory, Script}
-use Rattle.nvmhost.specs.declared.ending.Ending.TheVariants as endings
+use Rattle.program_base.specs.World.{World}
+use Rattle.program_base.specs.declared.ending.Ending.{Ending}
+use Rattle.program_base.specs.declared.ending.Ending.TheVariants.{Usage, Layout, Meta, Read, Write, Memory, Script}
+use Rattle.program_base.specs.declared.ending.Ending.TheVariants as endings
 use Rattle.nvmhost.proofs.TellLemmas.{tells_first-after}
 
 -- a run keeps what its commands made durable
@@ -73,11 +73,11 @@ pub halts-unperformed : (from to : List ℕ) (e : Ending) (host after : HostStat
     → Performs host after (Err e) old.left new.left old.written new.written opened new.device → IsBroken e old.reads new.reads old.writes new.writes
     → KeepsHeld (λ _. ⊤) old.held new.held → CountsOpening old.images new.images → Halts from to e old new
 halts-unperformed from to e host after opened old new ready performs broken kept counts =
-    let says = performs.says ready.begin ready.stands in
+    let says = performs.says ready.mounted.begin ready.mounted.stands in
     record {
       lines = ready.lines;
       there = ready.held_there;
-      right = ready.right;
+      right = ready.mounted.right;
       cause = run_cause e says.script old new says.read says.outcome.long broken;
       script = says.script;
       performed = says.lines;
@@ -88,11 +88,11 @@ halts-unperformed from to e host after opened old new ready performs broken kept
       read = says.read;
       split = says.split;
       whole = says.whole;
-      run = is_run-opened ready.lines old.device.panel says.lines says.said ready.begin says.end ready.begins says.run;
+      run = is_run-opened ready.lines old.device.panel says.lines says.said ready.mounted.begin says.end ready.mounted.begins says.run;
       front = says.front;
       answered = says.outcome.answered;
       wrote = says.wrote;
-      tells = inl (tells_first-after (λ count. count) says.said says.end old.device.panel opened.panel new.device.panel ready.tells says.outcome.tells);
+      tells = inl (tells_first-after (λ count. count) says.said says.end old.device.panel opened.panel new.device.panel ready.mounted.tells says.outcome.tells);
       replaced = inl counts.replaces;
       fetches = counts.fetches;
       holds = inl kept;
@@ -104,12 +104,12 @@ pub halts-unstored : (from to : List ℕ) (e : Ending) (host after : HostState) 
     → (new.images.replaces ≡ old.images.replaces) ⊎ (new.images.replaces ≡ raised old.images.replaces) → new.images.fetches ≡ raised old.images.fetches
     → HoldsOn to old.held new.held old.images new.images → Halts from to e old new
 halts-unstored from to e host after opened ran old new ready performs rests not_source caused replaces fetches holds =
-    let says = performs.says ready.begin ready.stands in
+    let says = performs.says ready.mounted.begin ready.mounted.stands in
     let through : IsThrough says.said says.part says.others new.left = record { none_left = says.outcome.none_left; all = says.outcome.all; ended = says.outcome.ended } in
     record {
       lines = ready.lines;
       there = ready.held_there;
-      right = ready.right;
+      right = ready.mounted.right;
       cause = caused;
       script = says.script;
       performed = says.lines;
@@ -120,12 +120,12 @@ halts-unstored from to e host after opened ran old new ready performs rests not_
       read = says.read;
       split = says.split;
       whole = says.whole;
-      run = is_run-opened ready.lines old.device.panel says.lines says.said ready.begin says.end ready.begins says.run;
+      run = is_run-opened ready.lines old.device.panel says.lines says.said ready.mounted.begin says.end ready.mounted.begins says.run;
       front = says.front;
       answered = λ by. absurd (not_source by);
       wrote = says.wrote;
       tells = inr (
-        tells_first-after raised says.said says.end old.device.panel opened.panel new.device.panel ready.tells (record {
+        tells_first-after raised says.said says.end old.device.panel opened.panel new.device.panel ready.mounted.tells (record {
           between = ran.panel;
           tells = says.outcome.tells;
           cut_armed = says.outcome.stands.device.cut_armed;

@@ -16,35 +16,7 @@ use Rattle.machine_host.specs.Meaning.{Starved}
 use Rattle.machine_host.specs.Meaning.Starved.{Untouched, WrittenBack, Unmounted, Unrecovered}
 use Rattle.machine_host.proofs.RunLemmas.{tells_then}
 use Rattle.nvmhost.specs.Whole.{TellsFirst, GoesUnanswered}
-use Rattle.nvmhost.specs.Opening.{opening}
-
--- setting up and mounting
-pub opens-set_up : (end : Outcome) (p q : Panel) → SetsUp end p q → Opens p q
-opens-set_up end p q sets = record {
-  faults = sets.faults;
-  cuts = sets.cuts;
-  calls = omega (arith, sets.calls);
-  persists = omega (arith, sets.persists);
-  setups = sets.setups;
-  armed = sets.armed;
-  orders = sets.orders;
-}
-
-pub tells_opening : (p q : Panel) → Opens p q → Tells opening p q
-tells_opening p q opens = record {
-  starts = opens.orders.starts;
-  restarts = opens.orders.restarts;
-  orders = opens.orders.last_order;
-  arms = opens.orders.arms;
-  offs = omega (arith, opens.orders.offs);
-  faults = opens.faults;
-  cuts = opens.cuts;
-  calls = opens.calls;
-  persists = opens.persists;
-  setups = opens.setups;
-  evicts = opens.orders.evicts;
-  disarms = opens.orders.disarms;
-}
+use Rattle.program_base.specs.Opening.{opening}
 
 pub unanswered-none : (p : Panel) → GoesUnanswered p p
 unanswered-none p = record {

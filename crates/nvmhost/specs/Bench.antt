@@ -18,14 +18,15 @@ use Rattle.machine_host.specs.Telling.{Tells}
 use Rattle.workload.specs.Lines.{lines}
 use Rattle.workload.specs.Summary.{added}
 use Rattle.workload.specs.declared.summary.Summary.{Summary}
-use Rattle.nvmhost.specs.Begins.{Begins}
-use Rattle.nvmhost.specs.Ending.{numbered_line}
-use Rattle.nvmhost.specs.Opening.{DeviceFailed, opening}
-use Rattle.nvmhost.specs.Whole.{IsRun, TellsFirst, WritesFront}
-use Rattle.nvmhost.specs.World.{LeavesScript, World}
-use Rattle.nvmhost.specs.declared.ending.Ending.{Ending}
-use Rattle.nvmhost.specs.declared.ending.Ending.TheVariants.{Usage, Image, Layout, Meta, Read, Write, Memory, Script}
-use Rattle.nvmhost.specs.declared.ending.Ending.TheVariants as endings
+use Rattle.program_base.specs.Begins.{Begins}
+use Rattle.program_base.specs.Ending.{numbered_line}
+use Rattle.program_base.specs.Opening.{DeviceFailed, opening}
+use Rattle.program_base.specs.Writing.{WritesFront}
+use Rattle.nvmhost.specs.Whole.{IsRun, TellsFirst}
+use Rattle.program_base.specs.World.{LeavesScript, World}
+use Rattle.program_base.specs.declared.ending.Ending.{Ending}
+use Rattle.program_base.specs.declared.ending.Ending.TheVariants.{Usage, Image, Layout, Meta, Read, Write, Memory, Script}
+use Rattle.program_base.specs.declared.ending.Ending.TheVariants as endings
 
 -- the sizes of its device
 abbrev pub bench_sizes : Geometry

@@ -19,14 +19,15 @@ use Rattle.script_text.specs.Script.{lines_of}
 use Rattle.word_tables.specs.Layout.{total_lines}
 use Rattle.word_tables.specs.declared.geometry.Geometry.{Geometry}
 use Rattle.nvmhost.specs.Bench.{Benches, BreaksOff, FailsToStart}
-use Rattle.nvmhost.specs.Ending.{numbered_line, status}
-use Rattle.nvmhost.specs.Opening.{CountsOpening, IsHeld, StaysClosed, opened, opening}
+use Rattle.program_base.specs.Ending.{ending_text, numbered_line, status}
+use Rattle.program_base.specs.Opening.{CountsOpening, FailsToOpen, IsHeld, opened, opening}
 use Rattle.nvmhost.specs.Storing.{Holds, HoldsOn, IsStored}
-use Rattle.nvmhost.specs.Whole.{IsAnswered, IsFront, IsRun, Ran, TellsFirst, WritesFront, WritesLine, bytes_of}
-use Rattle.nvmhost.specs.World.{LeavesScript, World}
-use Rattle.nvmhost.specs.declared.ending.Ending.{Ending}
-use Rattle.nvmhost.specs.declared.ending.Ending.TheVariants.{Usage, Image, Layout, Meta, Read, Write, Memory, Script}
-use Rattle.nvmhost.specs.declared.ending.Ending.TheVariants as endings
+use Rattle.program_base.specs.Writing.{IsFront, WritesFront, WritesLine}
+use Rattle.nvmhost.specs.Whole.{IsAnswered, IsRun, Ran, TellsFirst, bytes_of}
+use Rattle.program_base.specs.World.{LeavesScript, World}
+use Rattle.program_base.specs.declared.ending.Ending.{Ending}
+use Rattle.program_base.specs.declared.ending.Ending.TheVariants.{Usage, Image, Layout, Meta, Read, Write, Memory, Script}
+use Rattle.program_base.specs.declared.ending.Ending.TheVariants as endings
 
 -- what `new` writes, and what `check` does of the state that it read
 abbrev pub created_text : Geometry → List ℕ
@@ -121,15 +122,6 @@ pub record FailsToCreate (name : List ℕ) (geo : Geometry) (ending : Ending) (o
   pub device : new.device ≡ old.device
   pub script : LeavesScript old new
 
--- An image was not opened: nothing was read of the script, nothing written, and no name has changed.
-pub record FailsToOpen (name : List ℕ) (ending : Ending) (old new : World) : Type 0 where
-  pub cause : StaysClosed name old.held ending old.images new.images old.device.panel new.device.panel
-  pub opens : Opens old.device.panel new.device.panel
-  pub held : KeepsHeld (λ _. ⊤) old.held new.held
-  pub counts : (new.images ≡ old.images) ⊎ CountsOpening old.images new.images
-  pub written : new.written ≡ old.written
-  pub script : LeavesScript old new
-
 -- `check` came to no end after the image was opened
 pub record FailsToTell (name : List ℕ) (ending : Ending) (old new : World) : Type 0 where
   pub lines : List LineState
@@ -193,7 +185,7 @@ pub record EndsEarly (form : Form) (ended : ℕ) (old new : World) : Type 0 wher
   pub is : ended ≡ status ending
   pub between : World
   pub fails : Fails form ending old between
-  pub line : WritesLine ending between.writes new.writes between.written new.written
+  pub line : WritesLine (ending_text ending) between.writes new.writes between.written new.written
   pub rest : new ≡ record between { written = new.written; writes = new.writes }
 
 -- The words are in no form: the status says so, or there was no memory to read them. Nothing else was done.
@@ -201,5 +193,5 @@ pub record IsNoForm (ended : ℕ) (old new : World) : Type 0 where
   pub ending : Ending
   pub which : (ending ≡ Usage) ⊎ (ending ≡ Memory)
   pub is : ended ≡ status ending
-  pub line : WritesLine ending old.writes new.writes old.written new.written
+  pub line : WritesLine (ending_text ending) old.writes new.writes old.written new.written
   pub rest : new ≡ record old { written = new.written; writes = new.writes }

@@ -1,7 +1,3 @@
-pub mod Ending
-pub mod World
-pub mod Begins
-pub mod Opening
 pub mod Whole
 pub mod Storing
 pub mod Bench

@@ -14,10 +14,11 @@ use Rattle.machine_host.specs.Machine.{Machine}
 use Rattle.machine_host.specs.Run.{Transcript, Hears, Run}
 use Rattle.machine_host.specs.Telling.{Tells}
 use Rattle.machine_host.specs.Stands.{HostState, Stands}
-use Rattle.nvmhost.specs.declared.ending.Ending.{Ending}
-use Rattle.nvmhost.specs.declared.ending.Ending.TheVariants.{Usage, Image, Layout, Meta, Read, Write, Memory, Script}
-use Rattle.nvmhost.specs.declared.ending.Ending.TheVariants as endings
-use Rattle.nvmhost.specs.Whole.{GoesUnanswered, IsAnswered, IsFront, TellsFirst, bytes_of}
+use Rattle.program_base.specs.declared.ending.Ending.{Ending}
+use Rattle.program_base.specs.declared.ending.Ending.TheVariants.{Usage, Image, Layout, Meta, Read, Write, Memory, Script}
+use Rattle.program_base.specs.declared.ending.Ending.TheVariants as endings
+use Rattle.program_base.specs.Writing.{IsFront}
+use Rattle.nvmhost.specs.Whole.{GoesUnanswered, IsAnswered, TellsFirst, bytes_of}
 
 -- One line: it led the machine on, and its answers are appended.
 pub record LineGoes (h : Machine) (input : Input) (out_old out_new : List ℕ) (host : HostState) (old new : Device) : Type 0 where

@@ -17,10 +17,10 @@ use Rattle.machine_host.specs.Restarting.{RestartMayLeave}
 use Rattle.recovery.specs.Findings.{first_finding, geometry_told}
 use Rattle.word_log.specs.Mount.{Finding}
 use Rattle.word_log.specs.Mount.Finding.{bad_line}
-use Rattle.nvmhost.specs.Opening.{snapshot}
-use Rattle.nvmhost.specs.declared.ending.Ending.{Ending}
-use Rattle.nvmhost.specs.declared.ending.Ending.TheVariants.{Memory, Write}
-use Rattle.nvmhost.specs.declared.ending.Ending.TheVariants as endings
+use Rattle.program_base.specs.Opening.{snapshot}
+use Rattle.program_base.specs.declared.ending.Ending.{Ending}
+use Rattle.program_base.specs.declared.ending.Ending.TheVariants.{Memory, Write}
+use Rattle.program_base.specs.declared.ending.Ending.TheVariants as endings
 
 -- the image is held under the name, and what is held under other names stays
 pub record Holds (name : List ℕ) (image : Snapshot) (old new : Option Held) : Type 0 where

@@ -8,9 +8,9 @@ use Rattle.image_file.specs.Devices.{medium_of}
 use Rattle.image_file.specs.WrongField.{first_wrong_offset}
 use Rattle.line_device.specs.declared.line.LineState.{LineState}
 use Rattle.recovery.specs.Findings.{first_finding}
-use Rattle.nvmhost.specs.Ending.{most_bytes}
-use Rattle.nvmhost.specs.Opening.{IsHeld}
-use Rattle.nvmhost.specs.World.{World}
+use Rattle.program_base.specs.Ending.{most_bytes}
+use Rattle.program_base.specs.Opening.{IsHeld}
+use Rattle.program_base.specs.World.{World}
 
 -- No count of failures rose: of reads and writes, of the images, of setting up; nor the device's own, where nothing was read.
 pub record NothingFailed (old new : World) : Type 0 where

@@ -22,15 +22,10 @@ use Rattle.machine_host.specs.Costs.{mount_calls, mount_persists}
 use Rattle.durable.specs.Place.{Place}
 use Rattle.durable.specs.Durable.{KeepsThrough}
 use Rattle.durable.specs.Files.{FilesThrough, changes_files}
-use Rattle.nvmhost.specs.declared.ending.Ending.{Ending}
-use Rattle.nvmhost.specs.Begins.{Begins}
-use Rattle.nvmhost.specs.Ending.{ending_text, line}
-use Rattle.nvmhost.specs.Opening.{opening}
-
--- `part` is how `whole` begins
-pub record IsFront (part whole : List ℕ) : Type 0 where
-  pub rest : List ℕ
-  pub joined : part ++ rest ≡ whole
+use Rattle.program_base.specs.declared.ending.Ending.{Ending}
+use Rattle.program_base.specs.Begins.{Begins}
+use Rattle.program_base.specs.Ending.{ending_text, line}
+use Rattle.program_base.specs.Opening.{opening}
 
 -- The machine's run over these lines. What one of its commands made durable is there at its end, unless a later one changed it. So
 -- are the files that one made, deleted, renamed or resized: as it made them, or as before where it was stopped on the way.
@@ -60,12 +55,6 @@ pub record Ran (first : Machine) (lines : List (List ℕ)) (said : Transcript) (
   pub comes : SettlesTo end.mode end starts last
   pub settled : Settled said starts old.panel new.panel
   pub stands : DeviceStands new last
-
--- some of the text was written, from the front
-pub record WritesFront (text : List ℕ) (old new : Option (List ℕ)) : Type 0 where
-  pub part : List ℕ
-  pub front : IsFront part text
-  pub wrote : Appends old new part
 
 -- the bytes of these lines, each with its newline
 abbrev pub bytes_of : List (List ℕ) → List ℕ
@@ -112,9 +101,3 @@ pub record TellsFirst (disarmed : ℕ → ℕ) (said : Transcript) (end : Machin
   pub cut_armed : between.cut_armed ≡ end.cut_armed
   pub fail_armed : between.fail_armed ≡ end.fail_armed
   pub left : LeftBehind disarmed between new
-
--- The ending's line was written: all of it, unless the sink's count rose or it wanted memory.
-pub record WritesLine (ending : Ending) (count_old count_new : ℕ) (old new : Option (List ℕ)) : Type 0 where
-  pub outcome : Result (Unit {0}) WriteFault
-  pub wrote : WritesAll (ending_text ending) outcome old new
-  pub cause : outcome ≡ Err Failed → Rose count_old count_new

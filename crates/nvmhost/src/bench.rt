@@ -7,15 +7,14 @@ ghost use Rattle.machine_host.specs.Stands.{HostServes};
 ghost use Rattle.command_line.specs.Words.Form.{of_bench};
 ghost use Rattle.nvmhost.specs.Bench.{AddsReply, IsStarted, IsUnstarted, PerformsAll, summary_text};
 ghost use Rattle.nvmhost.specs.Forms.{Outcome};
-ghost use Rattle.nvmhost.specs.World.{world};
+ghost use Rattle.program_base.specs.World.{world};
 
-use crate::ending::Ending;
 use crate::running::perform_line;
-use crate::telling::tell;
 use host_io::Sink;
 use line_device::LineDevice;
 use machine_host::Host;
 use nvm_base::{Bytes, print_number};
+use program_base::{Ending, tell};
 use std::alloc::{AllocError, Global};
 use word_tables::Geometry;
 use workload::{Summary, Workload};

@@ -2,9 +2,6 @@
 #![tactic(auto)]
 
 mod bench;
-mod ending;
-mod faults;
-mod opening;
 mod running;
 mod storing;
 mod telling;

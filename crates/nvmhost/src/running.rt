@@ -9,11 +9,11 @@ ghost use Rattle.machine_host.specs.Stands.{HostServes, Stands};
 ghost use Rattle.nvmhost.specs.Running.{AnswersNext, IsBroken, Performs, LineGoes, Flushes};
 ghost use Rattle.nvmhost.specs.Whole.{GoesUnanswered};
 
-use crate::ending::Ending;
 use host_io::{Sink, Source, WriteFault, write_all};
 use line_device::LineDevice;
 use machine_host::Host;
 use nvm_base::Bytes;
+use program_base::Ending;
 use reply_text::{Reply, Why, print};
 use script_text::{LineFault, LineReader, NextLine, parse};
 use std::alloc::{AllocError, Global};

@@ -4,10 +4,10 @@ ghost use Rattle.image_file.specs.Text.{FitImage, fresh_snapshot, image_text};
 ghost use Rattle.word_tables.specs.Bounds.{IsValid};
 ghost use Rattle.nvmhost.specs.Storing.{ReadsOut, Stores};
 
-use crate::ending::Ending;
 use host_io::Images;
 use line_device::LineDevice;
 use nvm_base::Bytes;
+use program_base::Ending;
 use std::alloc::{AllocError, Global};
 use word_tables::Geometry;
 

@@ -5,22 +5,21 @@ ghost use Rattle.line_device.specs.Device.{Device as DeviceState};
 ghost use Rattle.word_tables.specs.Bounds.{IsValid};
 ghost use Rattle.command_line.specs.Words.{Form as FormOfWords, IsForm};
 ghost use Rattle.command_line.specs.Words.Form.{of_check, of_new, of_run};
-ghost use Rattle.nvmhost.specs.declared.ending.Ending.{Ending as Early};
-ghost use Rattle.nvmhost.specs.declared.ending.Ending.TheVariants.{Usage, Memory};
-ghost use Rattle.nvmhost.specs.Ending.{status};
+ghost use Rattle.program_base.specs.declared.ending.Ending.{Ending as Early};
+ghost use Rattle.program_base.specs.declared.ending.Ending.TheVariants.{Usage, Memory};
+ghost use Rattle.program_base.specs.Ending.{status};
 ghost use Rattle.nvmhost.specs.Forms.{Does, EndsEarly, IsNoForm, Outcome};
 ghost use Rattle.nvmhost.specs.Unfailing.{CanBegin, EndsWell, NothingFailed};
-ghost use Rattle.nvmhost.specs.World.{world};
+ghost use Rattle.program_base.specs.World.{world};
 
 use crate::bench::bench;
-use crate::ending::Ending;
-use crate::opening::open;
 use crate::running::run_script;
 use crate::storing::{fresh_text, store};
-use crate::telling::{checked, numbered, tell};
+use crate::telling::checked;
 use command_line::{Form, read_words};
 use host_io::{Images, Sink, Source};
 use line_device::LineDevice;
+use program_base::{Ending, numbered, open, tell};
 use std::alloc::Global;
 use word_tables::Geometry;
 

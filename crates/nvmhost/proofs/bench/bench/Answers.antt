@@ -2,11 +2,12 @@ use Rattle.std.proofs.Common.{Err, Ok, inl, inr, refl, subst}
 use Rattle.std.proofs.lemmas.Result.{err_from_is_err_and}
 use Rattle.nvmhost.specs.Bench.{PerformsAll, summary_text}
 use Rattle.nvmhost.specs.Forms.{IsUnwritten}
-use Rattle.nvmhost.specs.Ending.{of_write}
-use Rattle.nvmhost.specs.World.{world}
-use Rattle.nvmhost.specs.declared.ending.Ending.TheVariants.{Memory}
+use Rattle.program_base.specs.Ending.{of_write}
+use Rattle.program_base.specs.World.{world}
+use Rattle.program_base.specs.declared.ending.Ending.TheVariants.{Memory}
 use Rattle.nvmhost.proofs.BenchLemmas.{benches, breaks_off, breaks_unwritten}
-use Rattle.nvmhost.proofs.FormLemmas.{told_all, told_front, unwritten}
+use Rattle.program_base.proofs.WritingLemmas.{told_all, told_front}
+use Rattle.nvmhost.proofs.FormLemmas.{unwritten}
 use Rattle.nvmhost.proofs.bench.bench.Goals as goal
 
 pub returns-in_err-summary : goal.returns-in_err-summary

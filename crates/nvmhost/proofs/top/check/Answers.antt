@@ -1,8 +1,9 @@
 use Rattle.std.proofs.Common.{inl, inr, refl, ◌∙◌}
 use Rattle.std.proofs.lemmas.Result.{err_from_is_err_and, IfOk-weaker}
 use Rattle.nvmhost.specs.Forms.{checked_text}
-use Rattle.nvmhost.specs.World.{world}
-use Rattle.nvmhost.proofs.FormLemmas.{checked_ready, on_ready, told_all, told_front, unwritten}
+use Rattle.program_base.specs.World.{world}
+use Rattle.program_base.proofs.WritingLemmas.{told_all, told_front}
+use Rattle.nvmhost.proofs.FormLemmas.{checked_ready, on_ready, unwritten}
 use Rattle.nvmhost.proofs.top.check.Goals as goal
 
 pub returns-in_err-tell : goal.returns-in_err-tell
@@ -16,10 +17,10 @@ returns-in_err-tell g c left reads =
     rw (p.1, p.2) (inr (record {
       lines = ready.lines;
       there = ready.held_there;
-      right = ready.right;
+      right = ready.mounted.right;
       cause = unwritten c.in_err-tell.field-0.0 old new (λ is. inl (c.in_err-tell.ensures.cause is));
       wrote = told_front c.checked.result c.tell.result (checked_text ready.lines) old.written new.written line c.tell.ensures.bytes;
-      tells = ready.tells;
+      tells = ready.mounted.tells;
       held = c.in_ok-host.ensures.held;
       counts = c.in_ok-host.ensures.counts;
       script = record { left = refl; reads = refl };
@@ -33,9 +34,9 @@ returns g c left reads =
     record {
       lines = ready.lines;
       there = ready.held_there;
-      right = ready.right;
+      right = ready.mounted.right;
       wrote = told_all c.checked.result c.tell.result (checked_text ready.lines) (g.K.Sink.written c.args.replies.now) (g.K.Sink.written c.tell.new.replies) c.in_ok-tell.field-0 line c.tell.ensures.bytes c.in_ok-tell.was;
-      tells = ready.tells;
+      tells = ready.mounted.tells;
       held = c.in_ok-host.ensures.held;
       counts = c.in_ok-host.ensures.counts;
       script = record { left = refl; reads = refl };

@@ -1,10 +1,11 @@
 use Rattle.std.proofs.Common.{◌≡◌, Err, ap, codes, refl, ◌∙◌}
 use Rattle.std.proofs.lemmas.Result.{IfOk-weaker, err_from_is_err_and}
 use Rattle.host_io.specs.declared.sink.WriteFault.TheVariants as write
-use Rattle.nvmhost.specs.Ending.{numbered_line}
+use Rattle.program_base.specs.Ending.{numbered_line}
 use Rattle.nvmhost.specs.Forms.{created_text}
-use Rattle.nvmhost.specs.World.{world}
-use Rattle.nvmhost.proofs.FormLemmas.{told_all, told_front, unreplaced, untold}
+use Rattle.program_base.specs.World.{world}
+use Rattle.program_base.proofs.WritingLemmas.{told_all, told_front}
+use Rattle.nvmhost.proofs.FormLemmas.{unreplaced, untold}
 use Rattle.nvmhost.proofs.top.create.Goals as goal
 
 pub returns-in_err-tell : goal.returns-in_err-tell

@@ -1,7 +1,7 @@
 use Rattle.std.proofs.Common.{inl, inr}
 use Rattle.std.proofs.lemmas.Result.{err_from_is_err_and}
-use Rattle.nvmhost.specs.World.{world}
-use Rattle.nvmhost.specs.declared.ending.Ending.TheVariants.{Memory}
+use Rattle.program_base.specs.World.{world}
+use Rattle.program_base.specs.declared.ending.Ending.TheVariants.{Memory}
 use Rattle.nvmhost.proofs.FormLemmas.{run_over, served_settled}
 use Rattle.nvmhost.proofs.GoingLemmas.{memory_not_source}
 use Rattle.nvmhost.proofs.RestLemmas.{fit_served, rests-unsettled}

@@ -1,9 +1,10 @@
 // Opening an image: the device becomes the one that it tells of, and is mounted.
 ghost use Rattle.std.specs.Prelude.{◌≡◌, IfErr, IfOk, ⊤};
 ghost use Rattle.host_io.specs.Images.{KeepsHeld};
+ghost use Rattle.image_file.specs.Text.{IsSnapshot};
 ghost use Rattle.line_device.specs.Panel.{Panel};
 ghost use Rattle.machine_host.specs.Costs.{Opens};
-ghost use Rattle.nvmhost.specs.Opening.{CountsOpening, IsHeld, IsReady, StaysClosed};
+ghost use Rattle.program_base.specs.Opening.{CountsOpening, IsHeld, IsReady, Mounts, StaysClosed, StaysUnmounted, snapshot};
 
 use crate::ending::Ending;
 use host_io::Images;
@@ -30,12 +31,22 @@ pub fn open<D: LineDevice, F: Images>(
     ensures counts { CountsOpening (F.count images.old) (F.count images.new) }
 {
     let image = fetch(alloc, name, images)?;
-    image_file::install(device, &image)?;
+    start(alloc, device, &image)
+}
+
+/// Makes the device that of the image, and mounts it.
+pub fn start<D: LineDevice>(alloc: Global, device: &mut D, image: &Image) -> Result<Host, Ending>
+    requires { IsSnapshot (snapshot image.now.lines.items) }
+    ensures mounts { IfOk result (λ host. Mounts image.now.lines.items host (D.state device.old) (D.state device.new)) }
+    ensures cause { IfErr result (λ ending. StaysUnmounted image.now.lines.items ending (D.state device.old).panel (D.state device.new).panel) }
+    ensures opens { Opens (D.state device.old).panel (D.state device.new).panel }
+{
+    image_file::install(device, image)?;
     Ok(Host::mount(alloc, device)?)
 }
 
-// Its bytes are let go once they are read.
-fn fetch<F: Images>(alloc: Global, name: &str, images: &mut F) -> Result<Image, Ending>
+/// The image under this name. Its bytes are let go once they are read.
+pub fn fetch<F: Images>(alloc: Global, name: &str, images: &mut F) -> Result<Image, Ending>
     ensures there { IfOk result (λ image. IsHeld name.now (F.held images.old) image.lines.items) }
     ensures cause { (p : Panel) → IfErr result (λ ending. StaysClosed name.now (F.held images.old) ending (F.count images.old) (F.count images.new) p p) }
     ensures held { KeepsHeld (λ _. ⊤) (F.held images.old) (F.held images.new) }

@@ -1,7 +1,7 @@
 // How the faults of the crates below end a call.
 ghost use Rattle.std.specs.Prelude.{◌≡◌};
-ghost use Rattle.nvmhost.specs.Ending.{of_extract, of_fetch, of_image, of_input, of_mount, of_reset, of_words, of_write};
-ghost use Rattle.nvmhost.specs.declared.ending.Ending.TheVariants.{Memory};
+ghost use Rattle.program_base.specs.Ending.{of_extract, of_fetch, of_image, of_input, of_mount, of_reset, of_words, of_write};
+ghost use Rattle.program_base.specs.declared.ending.Ending.TheVariants.{Memory};
 
 use crate::ending::Ending;
 use crate::opening::MOST_BYTES;

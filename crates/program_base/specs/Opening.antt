@@ -1,7 +1,7 @@
 -- Opening an image: what is read of it, and why it is not opened.
-use Rattle.std.specs.Prelude.{◌≡◌, ◌⊎◌, ◌<◌, ◌≤◌, ℕ, List, length, Option, Some, None, IfSome, IsSomeAnd}
+use Rattle.std.specs.Prelude.{◌≡◌, ◌⊎◌, ◌<◌, ◌≤◌, ℕ, List, length, Option, Some, None, IfSome, IsSomeAnd, ⊤}
 use Rattle.nvm_base.specs.Counts.{Rose, raised}
-use Rattle.host_io.specs.Images.{Held}
+use Rattle.host_io.specs.Images.{Held, KeepsHeld}
 use Rattle.host_io.specs.declared.images.ImageCounts.{ImageCounts}
 use Rattle.image_file.specs.Devices.{image_of, medium_of}
 use Rattle.image_file.specs.Text.{IsSnapshot, Snapshot, image_text}
@@ -11,17 +11,18 @@ use Rattle.line_device.specs.Panel.{Panel}
 use Rattle.line_device.specs.declared.line.LineState.{LineState}
 use Rattle.machine_host.specs.Machine.{Machine}
 use Rattle.machine_host.specs.Restarting.{reading}
-use Rattle.machine_host.specs.Costs.{mount_calls, mount_persists}
+use Rattle.machine_host.specs.Costs.{Opens, mount_calls, mount_persists}
 use Rattle.machine_host.specs.Run.{Transcript, silence}
 use Rattle.machine_host.specs.Stands.{HostState, HostServes, Stands}
 use Rattle.machine_host.specs.Telling.{Tells}
 use Rattle.recovery.specs.Findings.{first_finding, geometry_told}
 use Rattle.word_log.specs.Mount.Finding.{bad_line, wrong_word}
-use Rattle.nvmhost.specs.Ending.{most_bytes}
-use Rattle.nvmhost.specs.Begins.{Begins}
-use Rattle.nvmhost.specs.declared.ending.Ending.{Ending}
-use Rattle.nvmhost.specs.declared.ending.Ending.TheVariants.{Usage, Image, Layout, Meta, Read, Write, Memory, Script}
-use Rattle.nvmhost.specs.declared.ending.Ending.TheVariants as endings
+use Rattle.program_base.specs.Ending.{most_bytes}
+use Rattle.program_base.specs.Begins.{Begins}
+use Rattle.program_base.specs.World.{LeavesScript, World}
+use Rattle.program_base.specs.declared.ending.Ending.{Ending}
+use Rattle.program_base.specs.declared.ending.Ending.TheVariants.{Usage, Image, Layout, Meta, Read, Write, Memory, Script}
+use Rattle.program_base.specs.declared.ending.Ending.TheVariants as endings
 
 -- what an image says: words of eight bytes, and these lines
 abbrev pub snapshot : List LineState → Snapshot
@@ -45,10 +46,8 @@ IsNoImage name held offset = IfSome held (λ look. IsSomeAnd (look name) (λ byt
 abbrev pub opening : Transcript
 opening = record silence { spent = record { calls = mount_calls; persists = mount_persists } }
 
--- The device was made that of the image under the name, and a host mounted it: they stand for what is read there.
-pub record IsReady (name : List ℕ) (held : Option Held) (host : HostState) (old new : Device) : Type 0 where
-  pub lines : List LineState
-  pub held_there : IsHeld name held lines
+-- The device was made that of these lines, and a host mounted it: they stand for what is read there.
+pub record Mounts (lines : List LineState) (host : HostState) (old new : Device) : Type 0 where
   pub right : first_finding (medium_of lines) ≡ None
   pub count : new.medium.count ≡ length lines
   pub serves : HostServes host new
@@ -57,9 +56,27 @@ pub record IsReady (name : List ℕ) (held : Option Held) (host : HostState) (ol
   pub begins : Begins (opened lines) old.panel begin
   pub stands : Stands host new begin
 
+-- It was that of the image under the name.
+pub record IsReady (name : List ℕ) (held : Option Held) (host : HostState) (old new : Device) : Type 0 where
+  pub lines : List LineState
+  pub held_there : IsHeld name held lines
+  pub mounted : Mounts lines host old new
+
 -- the device could not be set up or read out, or failed or lost power
 abbrev pub DeviceFailed : Panel → Panel → Type 0
 DeviceFailed old new = Rose old.counts.setups new.counts.setups ⊎ Rose old.counts.faults new.counts.faults ⊎ Rose old.counts.cuts new.counts.cuts
+
+-- Why no host mounted these lines.
+abbrev pub StaysUnmounted : List LineState → Ending → Panel → Panel → Type 0
+StaysUnmounted lines (Layout place) old new = first_finding (medium_of lines) ≡ Some (wrong_word place)
+StaysUnmounted lines (Meta line) old new = first_finding (medium_of lines) ≡ Some (bad_line line)
+StaysUnmounted lines Memory old new = Unit {0}
+StaysUnmounted lines endings.Device old new = DeviceFailed old new
+StaysUnmounted lines Usage old new = ⊥
+StaysUnmounted lines (Image offset) old new = ⊥
+StaysUnmounted lines Read old new = ⊥
+StaysUnmounted lines Write old new = ⊥
+StaysUnmounted lines Script old new = ⊥
 
 -- Why an image was not opened.
 abbrev pub StaysClosed : List ℕ → Option Held → Ending → ImageCounts → ImageCounts → Panel → Panel → Type 0
@@ -79,3 +96,12 @@ pub record CountsOpening (old new : ImageCounts) : Type 0 where
   pub fetch_faults : old.fetch_faults ≤ new.fetch_faults
   pub replaces : new.replaces ≡ old.replaces
   pub replace_faults : new.replace_faults ≡ old.replace_faults
+
+-- An image was not opened: nothing was read of the script, nothing written, and no name has changed.
+pub record FailsToOpen (name : List ℕ) (ending : Ending) (old new : World) : Type 0 where
+  pub cause : StaysClosed name old.held ending old.images new.images old.device.panel new.device.panel
+  pub opens : Opens old.device.panel new.device.panel
+  pub held : KeepsHeld (λ _. ⊤) old.held new.held
+  pub counts : (new.images ≡ old.images) ⊎ CountsOpening old.images new.images
+  pub written : new.written ≡ old.written
+  pub script : LeavesScript old new

@@ -16,8 +16,8 @@ use Rattle.recovery.specs.declared.fault.MountFault.{MountFault}
 use Rattle.recovery.specs.declared.fault.MountFault.TheVariants as mount
 use Rattle.script_text.specs.declared.next_line.InputFault.{InputFault}
 use Rattle.script_text.specs.declared.next_line.InputFault.TheVariants as input
-use Rattle.nvmhost.specs.declared.ending.Ending.{Ending}
-use Rattle.nvmhost.specs.declared.ending.Ending.TheVariants.{Usage, Image, Layout, Meta, Read, Write, Memory, Script, Device}
+use Rattle.program_base.specs.declared.ending.Ending.{Ending}
+use Rattle.program_base.specs.declared.ending.Ending.TheVariants.{Usage, Image, Layout, Meta, Read, Write, Memory, Script, Device}
 
 -- the exit status
 abbrev pub status : Ending → ℕ

@@ -2,7 +2,7 @@
 ghost use Rattle.std.specs.Prelude.{◌≡◌, ◌≤◌, IfErr, IfOk};
 ghost use Rattle.nvm_base.specs.Counts.{Rose};
 ghost use Rattle.host_io.specs.Writing.{WritesAll};
-ghost use Rattle.nvmhost.specs.Ending.{status, ending_text};
+ghost use Rattle.program_base.specs.Ending.{status, ending_text};
 
 use crate::telling::{numbered, plain_line, tell};
 use host_io::{Sink, WriteFault};
@@ -56,7 +56,8 @@ impl Ending {
         tell(self.line(alloc), replies)
     }
 
-    fn line(self, alloc: Global) -> Result<Bytes, AllocError>
+    /// That line.
+    pub fn line(self, alloc: Global) -> Result<Bytes, AllocError>
         ensures { IfOk result (λ line. line.items ≡ ending_text self) }
     {
         match self {

@@ -1,6 +1,7 @@
 -- An image that is opened, and one that is not.
 use Rattle.std.proofs.Common.{◌≡◌, ℕ, ◌/◌, ◌%◌, List, [], slice_get, Option, Some, None, refl, sym, ap, subst, ◌∙◌, arith}
 use Rattle.host_io.specs.Images.{Held}
+use Rattle.host_io.specs.declared.images.ImageCounts.{ImageCounts}
 use Rattle.image_file.specs.Devices.{image_of, medium_of, told_values}
 use Rattle.line_device.specs.History.{newest}
 use Rattle.line_device.specs.Word.{word_at}
@@ -23,8 +24,39 @@ use Rattle.machine_host.proofs.LayoutLemmas.{none_bad}
 use Rattle.machine_host.proofs.MountedLemmas.{layout_found}
 use Rattle.machine_host.proofs.ReadingLemmas.{read_whole}
 use Rattle.recovery.specs.Findings.{first_finding, geometry_told}
-use Rattle.nvmhost.specs.Opening.{IsHeld, IsReady, opened}
-use Rattle.nvmhost.proofs.TellLemmas.{tells_opening}
+use Rattle.program_base.specs.Opening.{IsHeld, Mounts, StaysClosed, StaysUnmounted, opened, opening}
+use Rattle.program_base.specs.declared.ending.Ending.{Ending}
+use Rattle.program_base.specs.declared.ending.Ending.TheVariants.{Usage, Image, Layout, Meta, Read, Write, Memory, Script}
+use Rattle.program_base.specs.declared.ending.Ending.TheVariants as endings
+use Rattle.machine_host.specs.Telling.{Tells}
+
+-- setting up and mounting
+pub opens-set_up : (end : Outcome) (p q : Panel) → SetsUp end p q → Opens p q
+opens-set_up end p q sets = record {
+  faults = sets.faults;
+  cuts = sets.cuts;
+  calls = omega (arith, sets.calls);
+  persists = omega (arith, sets.persists);
+  setups = sets.setups;
+  armed = sets.armed;
+  orders = sets.orders;
+}
+
+pub tells_opening : (p q : Panel) → Opens p q → Tells opening p q
+tells_opening p q opens = record {
+  starts = opens.orders.starts;
+  restarts = opens.orders.restarts;
+  orders = opens.orders.last_order;
+  arms = opens.orders.arms;
+  offs = omega (arith, opens.orders.offs);
+  faults = opens.faults;
+  cuts = opens.cuts;
+  calls = opens.calls;
+  persists = opens.persists;
+  setups = opens.setups;
+  evicts = opens.orders.evicts;
+  disarms = opens.orders.disarms;
+}
 
 -- each word of an image has one value
 pub flushed_of_image : (lines : List LineState) → IsFlushed (medium_of lines)
@@ -56,16 +88,14 @@ opens-mounted end p q r sets runs = record {
   orders = same_orders-trans p q r sets.orders runs.orders;
 }
 
--- an image that was opened
-pub is_ready : (name : List ℕ) (held : Option Held) (lines : List LineState) (host : HostState) (old mid new : Device) → IsHeld name held lines → mid.medium ≡ medium_of lines → SetsUp went old.panel mid.panel
+-- lines that were mounted
+pub mounts : (lines : List LineState) (host : HostState) (old mid new : Device) → mid.medium ≡ medium_of lines → SetsUp went old.panel mid.panel
     → first_finding mid.medium ≡ None → new.medium.count ≡ mid.medium.count → HostServes host new
     → Stands host new (record (reading (geometry_told mid.medium) (image_of lines)) { cut_armed = new.panel.cut_armed; fail_armed = new.panel.fail_armed })
-    → Runs mount_calls mount_persists went mid.panel new.panel → IsReady name held host old new
-is_ready name held lines host old mid new there is sets found count serves stands runs =
+    → Runs mount_calls mount_persists went mid.panel new.panel → Mounts lines host old new
+mounts lines host old mid new is sets found count serves stands runs =
     let armed = arms_nothing-trans old.panel mid.panel new.panel sets.armed runs.armed in
     record {
-      lines = lines;
-      held_there = there;
       right = sym (ap first_finding is) ∙ found;
       count = count ∙ ap (λ (m : Medium). m.count) is;
       serves = serves;
@@ -74,3 +104,16 @@ is_ready name held lines host old mid new there is sets found count serves stand
       begins = record { state = refl; cut = armed.cut; fail = armed.fail };
       stands = subst (λ (m : Medium). Stands host new (record (reading (geometry_told m) (image_of lines)) { cut_armed = new.panel.cut_armed; fail_armed = new.panel.fail_armed })) is stands;
     }
+
+-- an image that was not mounted was not opened
+pub closed_unmounted : (name : List ℕ) (held : Option Held) (lines : List LineState) (ending : Ending) (counted counts : ImageCounts) (old new : Panel) → IsHeld name held lines
+    → StaysUnmounted lines ending old new → StaysClosed name held ending counted counts old new
+closed_unmounted name held lines (Layout place) counted counts old new there is = (lines, there, is)
+closed_unmounted name held lines (Meta line) counted counts old new there is = (lines, there, is)
+closed_unmounted name held lines Memory counted counts old new there is = tt
+closed_unmounted name held lines endings.Device counted counts old new there is = is
+closed_unmounted name held lines Usage counted counts old new there is = is
+closed_unmounted name held lines (Image offset) counted counts old new there is = absurd is
+closed_unmounted name held lines Read counted counts old new there is = absurd is
+closed_unmounted name held lines Write counted counts old new there is = is
+closed_unmounted name held lines Script counted counts old new there is = is

@@ -1,0 +1,36 @@
+-- How a call ends before all questions are answered, and what it says then.
+use Rattle.std.specs.Prelude.{ℕ, List, codes}
+use Rattle.exploration.specs.declared.exploration.ScriptFault.{ScriptFault}
+use Rattle.exploration.specs.declared.exploration.ScriptFault.TheVariants as script
+use Rattle.explorer.specs.declared.fault.ExploreFault.{ExploreFault}
+use Rattle.explorer.specs.declared.fault.ExploreFault.TheVariants as explore
+use Rattle.host_io.specs.declared.sink.WriteFault.{WriteFault}
+use Rattle.program_base.specs.Ending.{ending_text, line, numbered_line, status}
+use Rattle.program_base.specs.Ending as base
+use Rattle.program_base.specs.declared.ending.Ending.TheVariants as endings
+use Rattle.nvmexplore.specs.declared.stop.Stop.{Stop}
+use Rattle.nvmexplore.specs.declared.stop.Stop.TheVariants.{Usage, Script, Early}
+
+-- the exit status
+abbrev pub stop_status : Stop → ℕ
+stop_status Usage = 2
+stop_status (Script n) = 7
+stop_status (Early ending) = status ending
+
+-- the line that is written, if any
+abbrev pub stop_text : Stop → List ℕ
+stop_text Usage = line (codes "usage: nvmexplore IN < script")
+stop_text (Script n) = numbered_line (codes "error script ") n
+stop_text (Early ending) = ending_text ending
+
+-- how a fault ends the call
+abbrev pub of_script : ScriptFault → Stop
+of_script (script.Line n) = Script n
+of_script script.Memory = Early endings.Memory
+
+abbrev pub of_explore : ExploreFault → Stop
+of_explore explore.Device = Early endings.Device
+of_explore explore.Memory = Early endings.Memory
+
+abbrev pub of_write : WriteFault → Stop
+of_write fault = Early (base.of_write fault)

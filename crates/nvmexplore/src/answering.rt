@@ -1,0 +1,44 @@
+// All questions of a script, one line each.
+ghost use Rattle.std.specs.Prelude.{List, All};
+ghost use Rattle.image_file.specs.Text.{IsSnapshot};
+ghost use Rattle.outcomes.specs.Seen.{Seen};
+ghost use Rattle.outcomes.specs.Stops.{IsProgram};
+ghost use Rattle.asked_reads.specs.Program.{IsBounded, inputs_of_lines};
+ghost use Rattle.exploration.specs.Reading.{AskOf};
+ghost use Rattle.explorer.specs.Places.{found_at};
+ghost use Rattle.program_base.specs.Opening.{opened, snapshot};
+ghost use Rattle.nvmexplore.specs.Calls.{AnswersAll};
+
+use crate::asking::find;
+use crate::stop::Stop;
+use crate::telling::answer_line;
+use exploration::Exploration;
+use host_io::Sink;
+use image_file::Image;
+use line_device::LineDevice;
+use program_base::tell;
+use std::alloc::Global;
+
+/// Answers all questions, and tells whether anything that was asked may be found.
+pub fn answer_all<D: LineDevice, K: Sink>(
+    alloc: Global,
+    image: &Image,
+    exploration: &Exploration,
+    device: &mut D,
+    answers: &mut K,
+) -> Result<bool, Stop>
+    requires image { IsSnapshot (snapshot image.now.lines.items) }
+    requires program { IsProgram (inputs_of_lines exploration.now.program.items) }
+    requires bounded { All IsBounded exploration.now.program.items }
+    ensures { (looks : List (List Seen)) → AskOf looks exploration.now.questions.items
+        → AnswersAll (found_at (opened image.now.lines.items) (inputs_of_lines exploration.now.program.items)) looks result
+        (K.written answers.old) (K.written answers.new) (K.count answers.old) (K.count answers.new) }
+{
+    let mut may = false;
+    for question in exploration.questions.iter() {
+        let found = find(alloc, image, &exploration.program, question, device)?;
+        tell(answer_line(alloc, found), answers)?;
+        may |= found.is_some();
+    }
+    Ok(may)
+}

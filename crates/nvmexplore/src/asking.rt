@@ -1,0 +1,40 @@
+// One question, on a device made anew of the image.
+ghost use Rattle.std.specs.Prelude.{◌≡◌, All, IfOk, List};
+ghost use Rattle.image_file.specs.Text.{IsSnapshot};
+ghost use Rattle.recovery.specs.Findings.{first_finding};
+ghost use Rattle.image_file.specs.Devices.{medium_of};
+ghost use Rattle.outcomes.specs.Seen.{Seen};
+ghost use Rattle.outcomes.specs.Stops.{IsProgram};
+ghost use Rattle.asked_reads.specs.Asking.{IsLook};
+ghost use Rattle.asked_reads.specs.Program.{IsBounded, inputs_of_lines};
+ghost use Rattle.explorer.specs.Places.{found_at};
+ghost use Rattle.program_base.specs.Opening.{opened, snapshot};
+
+use crate::stop::Stop;
+use asked_reads::Question;
+use explorer::{CutPlace, explore};
+use image_file::Image;
+use line_device::LineDevice;
+use program_base::start;
+use script_text::Command;
+use std::alloc::Global;
+
+/// The first place of a cut in the program after which the question's look may show what it asks for.
+pub fn find<D: LineDevice>(
+    alloc: Global,
+    image: &Image,
+    program: &[Option<Command>],
+    question: &Question,
+    device: &mut D,
+) -> Result<Option<CutPlace>, Stop>
+    requires image { IsSnapshot (snapshot image.now.lines.items) }
+    requires program { IsProgram (inputs_of_lines program.now) }
+    requires bounded { All IsBounded program.now }
+    ensures found { (look : List Seen) → IsLook look question.now
+        → IfOk result (λ found. found ≡ found_at (opened image.now.lines.items) (inputs_of_lines program.now) look) }
+{
+    // What the question before armed is not armed in this one's run.
+    device.disarm();
+    let mut host = start(alloc, device, image)?;
+    Ok(explore(alloc, &mut host, device, program, question)?)
+}

@@ -1,0 +1,5 @@
+pub mod Ending
+pub mod World
+pub mod Begins
+pub mod Opening
+pub mod Writing
