@@ -6,10 +6,9 @@ use Rattle.std.proofs.lemmas.Slice.Eq.{bytes_eq-Decides}
 use Rattle.byteorder.specs.Endian.{little_number}
 use Rattle.byteorder.specs.Numbers.{little_number-reads_back}
 use Rattle.line_device.specs.declared.line.LineState.TheVariants.{Healthy}
-use Rattle.image_file.specs.Text.{FitImage, IsSnapshot, Snapshot, image_head, image_magic, image_text, number_text}
+use Rattle.image_file.specs.Text.{AreFileBytes, FitImage, IsSnapshot, Snapshot, image_head, image_magic, image_text, number_text}
 use Rattle.image_file.specs.WrongField.{field_number, first_wrong_offset}
 use Rattle.image_file.specs.Fields.{IsFirstWrong, image_fields, line_fields}
-use Rattle.image_file.specs.Laws.{AreFileBytes}
 use Rattle.image_file.proofs.FieldLemmas.{WrongLines, lines_first, lines_joined}
 use Rattle.image_file.proofs.HeaderLemmas.{field_is, unit_is, count_read, wrong_by}
 use Rattle.image_file.proofs.TextLemmas.{found}

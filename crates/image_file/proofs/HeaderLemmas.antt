@@ -7,9 +7,9 @@ use Rattle.std.proofs.lemmas.Nat.{le_bytes_8}
 use Rattle.std.proofs.lemmas.List.{take-append-drop, length-take, length-drop, drop-drop, get_or-drop, get_or-take, get_or_past}
 use Rattle.byteorder.specs.Endian.{little_number}
 use Rattle.byteorder.specs.Numbers.{little_from-take}
-use Rattle.image_file.specs.Text.{image_head, image_magic, image_text, line_text, number_text}
+use Rattle.image_file.specs.Text.{AreFileBytes, image_head, image_magic, image_text, line_text, number_text}
 use Rattle.image_file.specs.WrongField.{field_number, first_wrong_offset, wrong_in_lines}
-use Rattle.image_file.specs.Laws.{AreFileBytes, IsSpelled}
+use Rattle.image_file.specs.Laws.{IsSpelled}
 use Rattle.image_file.proofs.LineLemmas.{lines_lined}
 use Rattle.std.specs.List.{flat_map}
 use Rattle.image_file.specs.Results.{ReadsCount}

@@ -2,6 +2,7 @@ mod FieldLemmas
 mod FirstLemmas
 mod HeaderLemmas
 mod LineLemmas
+mod ByteLemmas
 mod ReadingLemmas
 mod TextLemmas
 mod SetUpLemmas

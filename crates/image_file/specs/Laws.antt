@@ -1,12 +1,8 @@
 -- Laws of images and their bytes, and worked images.
 use Rattle.std.specs.Prelude.{◌≡◌, ◌+◌, ◌<◌, ℕ, List, [], ◌∷◌, ◌++◌, take, drop, replicate, slice_index, Some, None}
 use Rattle.line_device.specs.declared.line.LineState.TheVariants.{Healthy, Weak, Bad}
-use Rattle.image_file.specs.Text.{Snapshot, image_text, IsSnapshot}
+use Rattle.image_file.specs.Text.{AreFileBytes, Snapshot, image_text, IsSnapshot}
 use Rattle.image_file.specs.WrongField.{first_wrong_offset}
-
--- these are bytes
-abbrev pub AreFileBytes : List ℕ → Type 0
-AreFileBytes bytes = (i : ℕ) → slice_index bytes i < 256
 
 -- an image that these bytes spell
 pub record IsSpelled (bytes : List ℕ) : Type 0 where

@@ -1,5 +1,5 @@
 -- Images as bytes.
-use Rattle.std.specs.Prelude.{◌≡◌, ◌-◌, ◌≤◌, ℕ, List, [], ◌∷◌, ◌++◌, length, replicate, codes}
+use Rattle.std.specs.Prelude.{◌≡◌, ◌-◌, ◌<◌, ◌≤◌, ℕ, List, [], ◌∷◌, ◌++◌, length, replicate, slice_index, codes}
 use Rattle.std.specs.List.{flat_map, AllByRecursion}
 use Rattle.byteorder.specs.Endian.{little_bytes}
 use Rattle.line_device.specs.declared.line.LineState.{LineState}
@@ -43,6 +43,15 @@ abbrev pub IsImageLine : LineState → Type 0
 IsImageLine (Healthy bytes) = length bytes ≡ 64
 IsImageLine (Weak bytes) = length bytes ≡ 64
 IsImageLine Bad = Unit {0}
+
+-- these are bytes, and so are a line's
+abbrev pub AreFileBytes : List ℕ → Type 0
+AreFileBytes bytes = (i : ℕ) → slice_index bytes i < 256
+
+abbrev pub IsOfBytes : LineState → Type 0
+IsOfBytes (Healthy bytes) = AreFileBytes bytes
+IsOfBytes (Weak bytes) = AreFileBytes bytes
+IsOfBytes Bad = Unit {0}
 
 -- so many lines may stand in an image
 abbrev pub FitImage : ℕ → Type 0

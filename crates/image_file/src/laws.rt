@@ -5,9 +5,9 @@ ghost use Rattle.line_device.specs.Medium.{IsSound, Medium};
 ghost use Rattle.line_device.specs.declared.line.LineState.{LineState};
 ghost use Rattle.image_file.specs.Devices.{DepictsLast, IsLastImage, image_of, medium_of};
 ghost use Rattle.image_file.specs.Fields.{IsFirstWrong, image_fields};
-ghost use Rattle.image_file.specs.Text.{FitImage, IsImageLine, IsSnapshot, Snapshot, image_text};
+ghost use Rattle.image_file.specs.Text.{AreFileBytes, FitImage, IsImageLine, IsSnapshot, Snapshot, image_text};
 ghost use Rattle.image_file.specs.WrongField.{first_wrong_offset};
-ghost use Rattle.image_file.specs.Laws.{AreFileBytes, ImageRows, IsSpelled};
+ghost use Rattle.image_file.specs.Laws.{ImageRows, IsSpelled};
 
 /// Laws: no two images have the same bytes, and bytes of which no field is wrong are those of an image.
 pub fn images_have_one_text()

@@ -1,6 +1,7 @@
 // Bytes as an image, field by field from the first one on.
-ghost use Rattle.std.specs.Prelude.{◌≡◌, ◌<◌, ◌≤◌, ◌++◌, length, MatchOption};
-ghost use Rattle.image_file.specs.Text.{IsSnapshot, Snapshot, image_text};
+ghost use Rattle.std.specs.Prelude.{◌≡◌, ◌<◌, ◌≤◌, ◌++◌, IfOk, length, MatchOption};
+ghost use Rattle.std.specs.List.{AllByRecursion};
+ghost use Rattle.image_file.specs.Text.{IsOfBytes, IsSnapshot, Snapshot, image_text};
 ghost use Rattle.image_file.specs.WrongField.{field_number};
 ghost use Rattle.image_file.specs.Results.{GivesImage, ReadsCount, ReadsImage, ReadsLine, ReadsLines};
 
@@ -15,6 +16,7 @@ const HEADER: usize = 24;
 /// The image that the bytes spell. It takes memory for its list of lines alone.
 pub fn read(alloc: Global, bytes: &[u8]) -> Result<Image, ImageFault>
     ensures image { ReadsImage bytes.now result }
+    ensures bytes { IfOk result (λ image. AllByRecursion IsOfBytes image.lines.items) }
     ensures only { (m : Snapshot) → IsSnapshot m → bytes.now ≡ image_text m → GivesImage m result }
 {
     match read_count(bytes) {

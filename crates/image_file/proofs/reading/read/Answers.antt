@@ -1,6 +1,7 @@
-use Rattle.std.proofs.Common.{Ok, Err}
+use Rattle.std.proofs.Common.{Ok, Err, arith}
 use Rattle.std.proofs.lemmas.Result.{err_from_is_err_and}
 use Rattle.image_file.specs.declared.fault.ImageFault.TheVariants.{Bad}
+use Rattle.image_file.proofs.ByteLemmas.{bytes_behind}
 use Rattle.image_file.proofs.TextLemmas.{whole_read, lines_wrong, image_only}
 use Rattle.image_file.proofs.reading.read.Goals as goal
 
@@ -22,3 +23,6 @@ returns-in_err-lines-in-Ok-clause-only c =
 
 pub returns-in-Err-clause-only : goal.returns-in-Err-clause-only
 returns-in-Err-clause-only c = image_only c.args.bytes.now (Err (Bad c.in-Err.offset)) c.in-Err.ensures
+
+pub returns-in_ok-lines-in-Ok-clause-bytes : goal.returns-in_ok-lines-in-Ok-clause-bytes
+returns-in_ok-lines-in-Ok-clause-bytes c = bytes_behind 24 c.args.bytes.now c.in_ok-lines-in-Ok.lines.items (λ i. omega (arith, c.type_inv.bytes i)) c.in_ok-lines-in-Ok.ensures.0
