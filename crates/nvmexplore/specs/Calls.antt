@@ -1,20 +1,24 @@
 -- What a call does, and how it ends early.
-use Rattle.std.specs.Prelude.{◌≡◌, ◌⊎◌, ◌<◌, ◌≤◌, ◌>◌, ℕ, List, [], length, map, Option, None, IfSome, Result, Ok, Err, MatchResult, ⊤}
+use Rattle.std.specs.Prelude.{◌≡◌, ◌⊎◌, ◌<◌, ◌≤◌, ℕ, Bool, List, length, map, Option, Some, None, IfSome, Result, Ok, Err, MatchResult, if◌then◌else◌, ⊤}
+use Rattle.std.specs.List.{AllByRecursion}
 use Rattle.std.specs.Io.KnownBytes.{Appends, Consumes, IsAtEnd}
 use Rattle.nvm_base.specs.Counts.{Rose}
 use Rattle.nvm_base.specs.Stock.{Stock}
 use Rattle.host_io.specs.Images.{KeepsHeld}
 use Rattle.image_file.specs.Devices.{medium_of}
+use Rattle.image_file.specs.Text.{IsOfBytes, IsSnapshot}
 use Rattle.line_device.specs.declared.line.LineState.{LineState}
 use Rattle.machine_host.specs.Machine.{Machine}
 use Rattle.recovery.specs.Findings.{first_finding}
+use Rattle.script_text.specs.Script.{Input}
+use Rattle.outcomes.specs.Finds.{Finds}
 use Rattle.outcomes.specs.Seen.{Seen}
 use Rattle.asked_reads.specs.Program.{asks_for}
 use Rattle.exploration.specs.Exploration.{Exploration, Script, script_of}
 use Rattle.exploration.specs.Exploration.Script.{StopsAt, Taken}
 use Rattle.explorer.specs.Places.{found_at}
 use Rattle.explorer.specs.declared.place.CutPlace.{CutPlace}
-use Rattle.program_base.specs.Opening.{CountsOpening, FailsToOpen, IsHeld, opened}
+use Rattle.program_base.specs.Opening.{CountsOpening, FailsToOpen, IsHeld, opened, snapshot}
 use Rattle.program_base.specs.World.{World}
 use Rattle.program_base.specs.Writing.{WritesFront, WritesLine}
 use Rattle.program_base.specs.declared.ending.Ending.{Ending}
@@ -27,6 +31,12 @@ use Rattle.nvmexplore.specs.declared.stop.Stop.TheVariants as stops
 -- of each question the first place of a cut after which its look may be as asked, from that state on
 abbrev pub found : Machine → Exploration → List (Option CutPlace)
 found h e = map (found_at h (map asks_for e.program)) e.questions
+
+-- lines of an image, with which nothing is wrong
+pub record AreMountable (lines : List LineState) : Type 0 where
+  pub image : IsSnapshot (snapshot lines)
+  pub bytes : AllByRecursion IsOfBytes lines
+  pub right : first_finding (medium_of lines) ≡ None
 
 -- a script has fewer bytes than this
 abbrev pub most : ℕ
@@ -69,3 +79,83 @@ abbrev pub AnswersAll : (List Seen → Option CutPlace) → List (List Seen) →
 AnswersAll tell looks result old new count_old count_new = MatchResult result
     (λ may. (may ≡ is_any_found (map tell looks)) × Appends old new (answers_text (map tell looks)))
     (λ stop. IsUnanswered stop count_old count_new × WritesFront (answers_text (map tell looks)) old new)
+
+-- Each answer is a theorem: where it is never, no run of the machine from that state finds what was asked, and else some run does.
+pub record AreTheorems (h : Machine) (program : List Input) : Type 0 where
+  pub never : (look : List Seen) → found_at h program look ≡ None → Finds h program look → ⊥
+  pub may : (look : List Seen) (place : CutPlace) → found_at h program look ≡ Some place → Finds h program look
+
+-- The script was read to its end, and is taken.
+pub record IsTaken (script : List ℕ) (e : Exploration) (old new : World) : Type 0 where
+  pub read : Consumes old.left new.left script
+  pub ended : IsAtEnd new.left
+  pub short : length script < most
+  pub is : script_of script ≡ Taken e
+
+-- What is held is as it was, and one image was fetched.
+pub record LeavesImages (old new : World) : Type 0 where
+  pub held : KeepsHeld (λ _. ⊤) old.held new.held
+  pub counts : CountsOpening old.images new.images
+
+-- All questions of the script were answered, from the state that is read in the image.
+pub record Answers (name : List ℕ) (ended : ℕ) (old new : World) : Type 0 where
+  pub lines : List LineState
+  pub there : IsHeld name old.held lines
+  pub right : first_finding (medium_of lines) ≡ None
+  pub script : List ℕ
+  pub exploration : Exploration
+  pub taken : IsTaken script exploration old new
+  pub status : ended ≡ answers_status (found (opened lines) exploration)
+  pub wrote : Appends old.written new.written (answers_text (found (opened lines) exploration))
+  pub theorems : AreTheorems (opened lines) (map asks_for exploration.program)
+  pub images : LeavesImages old new
+
+-- why not all of them were, once the image was mounted
+abbrev pub IsCaused : Stop → List ℕ → World → World → Type 0
+IsCaused (stops.Script n) script old new = IsAtEnd new.left × (script_of script ≡ StopsAt n)
+IsCaused (stops.Early endings.Read) script old new = Rose old.reads new.reads
+IsCaused (stops.Early endings.Script) script old new = IfSome old.left (λ left. most ≤ length left)
+IsCaused (stops.Early endings.Write) script old new = Rose old.writes new.writes
+IsCaused (stops.Early endings.Memory) script old new = Unit {0}
+IsCaused (stops.Early endings.Device) script old new = Unit {0}
+IsCaused (stops.Early endings.Usage) script old new = ⊥
+IsCaused (stops.Early (endings.Image offset)) script old new = ⊥
+IsCaused (stops.Early (endings.Layout place)) script old new = ⊥
+IsCaused (stops.Early (endings.Meta line)) script old new = ⊥
+IsCaused stops.Usage script old new = ⊥
+
+-- The image was mounted, but not all questions were answered: of the answers that were due the first ones were written, and nothing
+-- where the script was not read to its end, or not taken.
+pub record Halts (name : List ℕ) (stop : Stop) (old new : World) : Type 0 where
+  pub lines : List LineState
+  pub there : IsHeld name old.held lines
+  pub right : first_finding (medium_of lines) ≡ None
+  pub script : List ℕ
+  pub read : Consumes old.left new.left script
+  pub cause : IsCaused stop script old new
+  pub wrote : (new.written ≡ old.written)
+      ⊎ ((e : Exploration) × IsTaken script e old new × WritesFront (answers_text (found (opened lines) e)) old.written new.written)
+  pub images : LeavesImages old new
+
+-- the image was not opened, or not all was answered
+abbrev pub Fails : List ℕ → Stop → World → World → Type 0
+Fails name stop old new = ((ending : Ending) × (stop ≡ stops.Early ending) × FailsToOpen name ending old new) ⊎ Halts name stop old new
+
+-- what came of it, or what came in its way
+abbrev pub Outcome : List ℕ → Result Bool Stop → World → World → Type 0
+Outcome name result old new = MatchResult result (λ may. Answers name (if may then 1 else 0) old new) (λ stop. Fails name stop old new)
+
+-- A call ended early with this status: it came to no answer or not to all, and then the status's line was written.
+pub record EndsEarly (name : List ℕ) (ended : ℕ) (old new : World) : Type 0 where
+  pub stop : Stop
+  pub is : ended ≡ stop_status stop
+  pub between : World
+  pub fails : Fails name stop old between
+  pub line : WritesLine (stop_text stop) between.writes new.writes between.written new.written
+  pub rest : new ≡ record between { written = new.written; writes = new.writes }
+
+-- The words don't name one image: the status says so, and nothing else was done.
+pub record IsNoCall (ended : ℕ) (old new : World) : Type 0 where
+  pub is : ended ≡ stop_status stops.Usage
+  pub line : WritesLine (stop_text stops.Usage) old.writes new.writes old.written new.written
+  pub rest : new ≡ record old { written = new.written; writes = new.writes }

@@ -1,13 +1,12 @@
 // All questions of a script, one line each.
 ghost use Rattle.std.specs.Prelude.{List, All};
-ghost use Rattle.image_file.specs.Text.{IsSnapshot};
 ghost use Rattle.outcomes.specs.Seen.{Seen};
 ghost use Rattle.outcomes.specs.Stops.{IsProgram};
 ghost use Rattle.asked_reads.specs.Program.{IsBounded, inputs_of_lines};
 ghost use Rattle.exploration.specs.Reading.{AskOf};
 ghost use Rattle.explorer.specs.Places.{found_at};
-ghost use Rattle.program_base.specs.Opening.{opened, snapshot};
-ghost use Rattle.nvmexplore.specs.Calls.{AnswersAll};
+ghost use Rattle.program_base.specs.Opening.{opened};
+ghost use Rattle.nvmexplore.specs.Calls.{AnswersAll, AreMountable};
 
 use crate::asking::find;
 use crate::stop::Stop;
@@ -27,7 +26,7 @@ pub fn answer_all<D: LineDevice, K: Sink>(
     device: &mut D,
     answers: &mut K,
 ) -> Result<bool, Stop>
-    requires image { IsSnapshot (snapshot image.now.lines.items) }
+    requires image { AreMountable image.now.lines.items }
     requires program { IsProgram (inputs_of_lines exploration.now.program.items) }
     requires bounded { All IsBounded exploration.now.program.items }
     ensures { (looks : List (List Seen)) → AskOf looks exploration.now.questions.items
@@ -38,7 +37,7 @@ pub fn answer_all<D: LineDevice, K: Sink>(
     for question in exploration.questions.iter() {
         let found = find(alloc, image, &exploration.program, question, device)?;
         tell(answer_line(alloc, found), answers)?;
-        may |= found.is_some();
+        may = may || found.is_some();
     }
     Ok(may)
 }

@@ -1,15 +1,14 @@
 // One question, on a device made anew of the image.
-ghost use Rattle.std.specs.Prelude.{◌≡◌, All, IfOk, List};
-ghost use Rattle.image_file.specs.Text.{IsSnapshot};
-ghost use Rattle.recovery.specs.Findings.{first_finding};
-ghost use Rattle.image_file.specs.Devices.{medium_of};
+ghost use Rattle.std.specs.Prelude.{◌≡◌, ℕ, All, IfErr, IfOk, List};
 ghost use Rattle.outcomes.specs.Seen.{Seen};
 ghost use Rattle.outcomes.specs.Stops.{IsProgram};
 ghost use Rattle.asked_reads.specs.Asking.{IsLook};
 ghost use Rattle.asked_reads.specs.Program.{IsBounded, inputs_of_lines};
 ghost use Rattle.explorer.specs.Places.{found_at};
-ghost use Rattle.program_base.specs.Opening.{opened, snapshot};
+ghost use Rattle.program_base.specs.Opening.{opened};
+ghost use Rattle.nvmexplore.specs.Calls.{AreMountable, IsUnanswered};
 
+use crate::laws::images_begin;
 use crate::stop::Stop;
 use asked_reads::Question;
 use explorer::{CutPlace, explore};
@@ -27,14 +26,16 @@ pub fn find<D: LineDevice>(
     question: &Question,
     device: &mut D,
 ) -> Result<Option<CutPlace>, Stop>
-    requires image { IsSnapshot (snapshot image.now.lines.items) }
+    requires image { AreMountable image.now.lines.items }
     requires program { IsProgram (inputs_of_lines program.now) }
     requires bounded { All IsBounded program.now }
     ensures found { (look : List Seen) → IsLook look question.now
         → IfOk result (λ found. found ≡ found_at (opened image.now.lines.items) (inputs_of_lines program.now) look) }
+    ensures cause { (counted counts : ℕ) → IfErr result (λ stop. IsUnanswered stop counted counts) }
 {
     // What the question before armed is not armed in this one's run.
     device.disarm();
+    images_begin();
     let mut host = start(alloc, device, image)?;
     Ok(explore(alloc, &mut host, device, program, question)?)
 }

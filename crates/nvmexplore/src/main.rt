@@ -3,6 +3,7 @@
 
 mod answering;
 mod asking;
+mod laws;
 mod reading;
 mod stop;
 mod telling;

@@ -1,5 +1,13 @@
 // The top call: the words, the device, the images, the script, the answers, the status.
+ghost use Rattle.std.specs.Prelude.{◌≡◌, ◌≤◌, ◌⊎◌, ℕ, List, [], ◌∷◌, map};
+ghost use Rattle.std.specs.String.{string_bytes};
+ghost use Rattle.program_base.specs.World.{world};
+ghost use Rattle.nvmexplore.specs.Calls.{Answers, EndsEarly, IsNoCall, Outcome};
+ghost use Rattle.nvmexplore.specs.Stops.{stop_status};
+ghost use Rattle.nvmexplore.specs.declared.stop.Stop.{Stop as Early};
+
 use crate::answering::answer_all;
+use crate::laws::answers_are_theorems;
 use crate::reading::read_all;
 use crate::stop::Stop;
 use exploration::read_script;
@@ -17,6 +25,25 @@ pub fn nvmexplore<D: LineDevice, F: Images, T: Source, K: Sink>(
     script: &mut T,
     answers: &mut K,
 ) -> u8
+    // All questions were answered, from the state that is read in the image, and each answer is a theorem about the machine's runs.
+    ensures done { result ≤ 1 → (name : List ℕ) → map (λ word. string_bytes word) words.now ≡ name ∷ []
+        → Answers name result
+        (world (D.state device.old) (F.held images.old) (F.count images.old) (T.left script.old) (T.count script.old) (K.written answers.old) (K.count answers.old))
+        (world (D.state device.new) (F.held images.new) (F.count images.new) (T.left script.new) (T.count script.new) (K.written answers.new) (K.count answers.new)) }
+
+    // Or it came to no end, by a cause that its status tells, and then comes the status's line. Want of memory alone is free.
+    ensures early_end { 2 ≤ result → (name : List ℕ) → map (λ word. string_bytes word) words.now ≡ name ∷ []
+        → EndsEarly name result
+        (world (D.state device.old) (F.held images.old) (F.count images.old) (T.left script.old) (T.count script.old) (K.written answers.old) (K.count answers.old))
+        (world (D.state device.new) (F.held images.new) (F.count images.new) (T.left script.new) (T.count script.new) (K.written answers.new) (K.count answers.new)) }
+
+    // Words that don't name one image leave all but the answers alone.
+    ensures usage { result ≡ 2 → (name : List ℕ) → map (λ word. string_bytes word) words.now ≡ name ∷ [] → ⊥ }
+    ensures no_call { ((name : List ℕ) → map (λ word. string_bytes word) words.now ≡ name ∷ [] → ⊥)
+        → IsNoCall result
+        (world (D.state device.old) (F.held images.old) (F.count images.old) (T.left script.old) (T.count script.old) (K.written answers.old) (K.count answers.old))
+        (world (D.state device.new) (F.held images.new) (F.count images.new) (T.left script.new) (T.count script.new) (K.written answers.new) (K.count answers.new)) }
+    ensures statuses { (result ≤ 1) ⊎ ((stop : Early) × (result ≡ stop_status stop)) }
 {
     match perform(alloc, words, device, images, script, answers) {
         Ok(may) => u8::from(may),
@@ -36,6 +63,14 @@ fn perform<D: LineDevice, F: Images, T: Source, K: Sink>(
     script: &mut T,
     answers: &mut K,
 ) -> Result<bool, Stop>
+    ensures call { (name : List ℕ) → map (λ word. string_bytes word) words.now ≡ name ∷ []
+        → Outcome name result
+        (world (D.state device.old) (F.held images.old) (F.count images.old) (T.left script.old) (T.count script.old) (K.written answers.old) (K.count answers.old))
+        (world (D.state device.new) (F.held images.new) (F.count images.new) (T.left script.new) (T.count script.new) (K.written answers.new) (K.count answers.new)) }
+    ensures no_call { ((name : List ℕ) → map (λ word. string_bytes word) words.now ≡ name ∷ [] → ⊥)
+        → (result ≡ Err Stop.Usage)
+        × (world (D.state device.new) (F.held images.new) (F.count images.new) (T.left script.new) (T.count script.new) (K.written answers.new) (K.count answers.new)
+        ≡ world (D.state device.old) (F.held images.old) (F.count images.old) (T.left script.old) (T.count script.old) (K.written answers.old) (K.count answers.old)) }
 {
     let [name] = words else {
         return Err(Stop::Usage);
@@ -51,11 +86,15 @@ fn answer_script<D: LineDevice, F: Images, T: Source, K: Sink>(
     script: &mut T,
     answers: &mut K,
 ) -> Result<bool, Stop>
+    ensures { Outcome name.now result
+        (world (D.state device.old) (F.held images.old) (F.count images.old) (T.left script.old) (T.count script.old) (K.written answers.old) (K.count answers.old))
+        (world (D.state device.new) (F.held images.new) (F.count images.new) (T.left script.new) (T.count script.new) (K.written answers.new) (K.count answers.new)) }
 {
     let image = fetch(alloc, name, images)?;
     // It is mounted before the script is read, so that a wrong one is told whatever is asked.
     start(alloc, device, &image)?;
     let text = read_all(alloc, script)?;
     let exploration = read_script(alloc, text.as_slice())?;
+    answers_are_theorems();
     answer_all(alloc, &image, &exploration, device, answers)
 }

@@ -1,7 +1,8 @@
 // Opening an image: the device becomes the one that it tells of, and is mounted.
 ghost use Rattle.std.specs.Prelude.{◌≡◌, IfErr, IfOk, ⊤};
+ghost use Rattle.std.specs.List.{AllByRecursion};
 ghost use Rattle.host_io.specs.Images.{KeepsHeld};
-ghost use Rattle.image_file.specs.Text.{IsSnapshot};
+ghost use Rattle.image_file.specs.Text.{IsOfBytes, IsSnapshot};
 ghost use Rattle.line_device.specs.Panel.{Panel};
 ghost use Rattle.machine_host.specs.Costs.{Opens};
 ghost use Rattle.program_base.specs.Opening.{CountsOpening, IsHeld, IsReady, Mounts, StaysClosed, StaysUnmounted, snapshot};
@@ -48,6 +49,7 @@ pub fn start<D: LineDevice>(alloc: Global, device: &mut D, image: &Image) -> Res
 /// The image under this name. Its bytes are let go once they are read.
 pub fn fetch<F: Images>(alloc: Global, name: &str, images: &mut F) -> Result<Image, Ending>
     ensures there { IfOk result (λ image. IsHeld name.now (F.held images.old) image.lines.items) }
+    ensures bytes { IfOk result (λ image. AllByRecursion IsOfBytes image.lines.items) }
     ensures cause { (p : Panel) → IfErr result (λ ending. StaysClosed name.now (F.held images.old) ending (F.count images.old) (F.count images.new) p p) }
     ensures held { KeepsHeld (λ _. ⊤) (F.held images.old) (F.held images.new) }
     ensures counts { CountsOpening (F.count images.old) (F.count images.new) }

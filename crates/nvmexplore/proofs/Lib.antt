@@ -1,0 +1,5 @@
+mod ReadingLemmas
+mod ProgramLemmas
+mod FoundLemmas
+mod BeginLemmas
+mod AnswerLemmas

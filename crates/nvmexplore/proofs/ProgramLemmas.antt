@@ -1,0 +1,91 @@
+-- The program of a script that was taken.
+use Rattle.std.proofs.Common.{◌≡◌, ◌+◌, ℕ, List, [], ◌∷◌, ◌++◌, length, map, map-append, option_map, Option, Some, None, Result, Ok, Err, refl, sym, ap, subst, ◌∙◌, if◌then◌else◌}
+use Rattle.std.specs.Prelude.{Bool, true, false}
+use Rattle.script_text.specs.declared.command.Command.{Command}
+use Rattle.script_text.specs.Action.{Action, action_of}
+use Rattle.script_text.specs.Script.{Input, inputs, inputs_of, line_input, lines_of}
+use Rattle.script_text.specs.Script.Input.{Skipped, Malformed, Overlong, Asked}
+use Rattle.questions.specs.Question.{QuestionLine, question_line}
+use Rattle.questions.specs.Question.QuestionLine.{Plain, Look, Lists, Never, Wrong}
+use Rattle.outcomes.specs.Stops.{is_of_program}
+use Rattle.outcome_runs.specs.Brings.{BringRight, BringsRight}
+use Rattle.asked_reads.specs.Program.{asks_for, inputs_of_lines}
+use Rattle.exploration.specs.Exploration.{Exploration, Parts, go_on, look_from, look_start, part_by, parts_from, script_of, script_of_parts, script_with}
+use Rattle.exploration.specs.Exploration as text
+use Rattle.exploration.specs.Exploration.Script.{StopsAt, Taken}
+use Rattle.exploration.specs.Lines.{ProgramLine, program_input, program_kind, program_line}
+use Rattle.exploration.specs.Lines.ProgramLine.{Does, Ends}
+
+-- what its lines ask for, where these are its commands
+pub same_inputs : (lines : List (Option Command)) (actions : List (Option Action)) → map (option_map action_of) lines ≡ actions → inputs_of_lines lines ≡ map asks_for actions
+same_inputs lines actions is = fused lines ∙ ap (map asks_for) is
+  where
+    fused : (ls : List (Option Command)) → inputs_of_lines ls ≡ map asks_for (map (option_map action_of) ls)
+    fused [] = refl
+    fused (l ∷ ls) = ap (λ rest. asks_for (option_map action_of l) ∷ rest) (fused ls)
+
+bring-append : (xs ys : List Input) → BringRight xs → BringRight ys → BringRight (xs ++ ys)
+bring-append [] ys first second = second
+bring-append (Skipped ∷ xs) ys first second = bring-append xs ys first second
+bring-append (Malformed ∷ xs) ys first second = bring-append xs ys first second
+bring-append (Overlong ∷ xs) ys first second = bring-append xs ys first second
+bring-append (Asked action ∷ xs) ys first second = (first.0, bring-append xs ys first.1 second)
+
+-- the first of some inputs, and the others
+bring-first : (input : Input) (rest : List Input) → BringRight (input ∷ rest) → BringRight (input ∷ [])
+bring-first Skipped rest right = tt
+bring-first Malformed rest right = tt
+bring-first Overlong rest right = tt
+bring-first (Asked action) rest right = (right.0, tt)
+
+bring-rest : (input : Input) (rest : List Input) → BringRight (input ∷ rest) → BringRight rest
+bring-rest Skipped rest right = right
+bring-rest Malformed rest right = right
+bring-rest Overlong rest right = right
+bring-rest (Asked action) rest right = right.1
+
+-- a line of a program asks for what its item does
+bring-taken : (action of : Action) (is_taken : Bool) → BringRight (Asked of ∷ []) → (if is_taken then Some (Does (Some of)) else None) ≡ Some (Does (Some action)) → BringRight (Asked action ∷ [])
+bring-taken action of true right is = let same : of ≡ action = cc is in subst (λ a. BringRight (Asked a ∷ [])) same right
+bring-taken action of false right is = absurd (cc is)
+
+bring-input : (item : Option Action) (input : Input) → BringRight (input ∷ []) → program_input input ≡ Some (Does item) → BringRight (asks_for item ∷ [])
+bring-input None input right is = tt
+bring-input (Some action) Skipped right is = absurd (cc is)
+bring-input (Some action) Malformed right is = absurd (cc is)
+bring-input (Some action) Overlong right is = absurd (cc is)
+bring-input (Some action) (Asked of) right is = bring-taken action of (is_of_program of) right is
+
+bring-kind : (item : Option Action) (question : QuestionLine) (input : Input) → BringRight (input ∷ []) → program_kind question input ≡ Some (Does item) → BringRight (asks_for item ∷ [])
+bring-kind item Plain input right is = bring-input item input right is
+bring-kind item Look input right is = absurd (cc is)
+bring-kind item Lists input right is = absurd (cc is)
+bring-kind item (Never replies) input right is = absurd (cc is)
+bring-kind item Wrong input right is = absurd (cc is)
+
+-- so the program brings what the script does
+parts_bring : (items : List (Option Action)) (lines : List (List ℕ)) (parts : Parts) → parts_from items lines ≡ Ok parts → BringRight (map asks_for items) → BringRight (inputs_of lines)
+    → BringRight (map asks_for parts.program)
+parts_bring items [] parts is right rest = let same : items ≡ parts.program = cc is in subst (λ program. BringRight (map asks_for program)) same right
+parts_bring items (line ∷ lines) parts is right rest = by_line (program_line line) refl is
+  where
+    by_line : (o : Option ProgramLine) → program_line line ≡ o → go_on (length items + 1) (part_by items lines (λ more. parts_from more lines)) o ≡ Ok parts → BringRight (map asks_for parts.program)
+    by_line None told next = absurd (cc next)
+    by_line (Some Ends) told next = let same : items ≡ parts.program = cc next in subst (λ program. BringRight (map asks_for program)) same right
+    by_line (Some (Does item)) told next =
+        let one = bring-kind item (question_line line) (line_input line) (bring-first (line_input line) (inputs_of lines) rest) told in
+        let more = subst BringRight (sym (map-append asks_for items (item ∷ []))) (bring-append (map asks_for items) (asks_for item ∷ []) right one) in
+        parts_bring (items ++ item ∷ []) lines parts next more (bring-rest (line_input line) (inputs_of lines) rest)
+
+pub taken_bring : (script : List ℕ) (e : Exploration) → BringRight (inputs script) → script_of script ≡ Taken e → BringRight (map asks_for e.program)
+taken_bring script e right is = by_parts (parts_from [] (lines_of script)) refl is
+  where
+    by_look : (program : List (Option Action)) (look : Result text.Look ℕ) → script_with program look ≡ Taken e → program ≡ e.program
+    by_look program (Ok look) same = cc same
+    by_look program (Err n) same = absurd (cc same)
+
+    by_parts : (r : Result Parts ℕ) → parts_from [] (lines_of script) ≡ r → script_of_parts r ≡ Taken e → BringRight (map asks_for e.program)
+    by_parts (Ok parts) told same =
+        subst (λ program. BringRight (map asks_for program)) (by_look parts.program (look_from (length parts.program + 2) look_start parts.look) same)
+        (parts_bring [] (lines_of script) parts told tt right)
+    by_parts (Err n) told same = absurd (cc same)

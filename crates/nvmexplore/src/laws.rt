@@ -1,0 +1,32 @@
+// What an answer rests on: functions without code.
+ghost use Rattle.std.specs.Prelude.{◌≡◌, ℕ, List, map, None};
+ghost use Rattle.image_file.specs.Devices.{medium_of};
+ghost use Rattle.line_device.specs.declared.line.LineState.{LineState};
+ghost use Rattle.recovery.specs.Findings.{first_finding};
+ghost use Rattle.outcomes.specs.Stops.{IsProgram};
+ghost use Rattle.asked_reads.specs.Program.{asks_for};
+ghost use Rattle.exploration.specs.Exploration.{Exploration, script_of};
+ghost use Rattle.exploration.specs.Exploration.Script.{Taken};
+ghost use Rattle.explorer.specs.Starting.{Begins};
+ghost use Rattle.program_base.specs.Opening.{opened};
+ghost use Rattle.nvmexplore.specs.Calls.{AreMountable, AreTheorems};
+
+use outcome_runs::{runs_keep_states, scripts_bring_right, the_test_tells_what_is_found};
+
+/// Law: an exploration may begin in the state of a right image.
+pub fn images_begin()
+    ensures { (lines : List LineState) → AreMountable lines → Begins (opened lines) }
+{
+    runs_keep_states();
+}
+
+/// Law: each answer about a script is a theorem about the machine's runs.
+pub fn answers_are_theorems()
+    ensures { (lines : List LineState) (script : List ℕ) (e : Exploration) → first_finding (medium_of lines) ≡ None
+        → script_of script ≡ Taken e → IsProgram (map asks_for e.program)
+        → AreTheorems (opened lines) (map asks_for e.program) }
+{
+    runs_keep_states();
+    scripts_bring_right();
+    the_test_tells_what_is_found();
+}
