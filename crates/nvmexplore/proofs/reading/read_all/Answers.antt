@@ -21,18 +21,17 @@ returns-in_default g c = (
 )
 
 pub returns-then-taken-eq0 : goal.returns-then-taken-eq0
-returns-then-taken-eq0 g c =
-    (
-      consumes-end _ _ _ c.loop-script.text.items c.read.new.buf c.loop-script.invariant.read
+returns-then-taken-eq0 g c = (
+  consumes-end _ _ _ c.loop-script.text.items c.read.new.buf c.loop-script.invariant.read
       (subst (λ n. Consumes (g.T.Source.left c.loop-script.script) (g.T.Source.left c.read.new.self) (take n c.read.new.buf)) c.if-taken-eq0.true c.in-Ok.ensures.bytes.0),
-      c.in-Ok.ensures.bytes.1 c.if-taken-eq0.true (omega (arith, c.read.auto.buf, c.deref_mut.ensures.len, c.loop-script.invariant.size)),
-      subst (λ n. n < 1073741824) c.len.ensures c.loop-script-test.true,
-    )
+  c.in-Ok.ensures.bytes.1 c.if-taken-eq0.true (omega (arith, c.read.auto.buf, c.deref_mut.ensures.len, c.loop-script.invariant.size)),
+  subst (λ n. n < 1073741824) c.len.ensures c.loop-script-test.true,
+)
 
 pub loop-script-preserved : goal.loop-script-preserved
 loop-script-preserved g c = record {
   read = subst (Consumes (g.T.Source.left c.args.script.now) (g.T.Source.left c.read.new.self)) (sym (c.in_ok-extend.ensures.ok ∙ ap (λ piece. c.loop-script.text.items ++ take c.in-Ok.taken piece) c.deref.ensures.value
-          ∙ ap (λ piece. c.loop-script.text.items ++ take c.in-Ok.taken piece) (lent_whole c.loop-script.piece.len c.read.new.buf c.loop-script.piece.items (omega (arith, c.read.auto.buf, c.deref_mut.ensures.len)))))
+      ∙ ap (λ piece. c.loop-script.text.items ++ take c.in-Ok.taken piece) (lent_whole c.loop-script.piece.len c.read.new.buf c.loop-script.piece.items (omega (arith, c.read.auto.buf, c.deref_mut.ensures.len)))))
       (consumes_then _ _ _ c.loop-script.text.items (take c.in-Ok.taken c.read.new.buf) c.loop-script.invariant.read c.in-Ok.ensures.bytes.0);
   later = omega (arith, c.loop-script.invariant.later, c.in-Ok.ensures.later);
   size = c.loop-script.invariant.size;
