@@ -1,16 +1,33 @@
 -- Questions that are answered one after another.
-use Rattle.std.proofs.Common.{◌≡◌, ◌≤◌, ◌<◌, ◌+◌, ◌||◌, ℕ, zero, suc, Bool, true, false, List, [], ◌∷◌, ◌++◌, length, map, take, drop, Option, Some, None, is_some, slice_get, Result, Ok, Err, refl, sym, ap, ap₂, subst, ◌∙◌, append_assoc, append-nil, arith}
-use Rattle.std.specs.Prelude.{IfOk}
-use Rattle.std.specs.List.{list_any}
+use Rattle.std.proofs.Common.{◌≡◌, ◌≤◌, ◌<◌, ◌+◌, ◌||◌, ℕ, zero, suc, Bool, true, false, List, [], ◌∷◌, ◌++◌, length, map, take, drop, Option, Some, is_some, slice_get, get_or, Result, Ok, Err, refl, sym, ap, ap₂, subst, ◌∙◌, append_assoc, append-nil, arith}
+use Rattle.std.specs.Prelude.{IfOk, MatchResult}
 use Rattle.std.specs.Io.KnownBytes.{Appends}
+use Rattle.nvm_base.specs.Counts.{Rose}
+use Rattle.nvm_base.specs.Stock.{Stock}
+use Rattle.host_io.specs.Writing.{WritesAll}
+use Rattle.host_io.specs.declared.sink.WriteFault.{WriteFault}
+use Rattle.host_io.specs.declared.sink.WriteFault.TheVariants as write
 use Rattle.outcomes.specs.Seen.{Seen}
 use Rattle.asked_reads.specs.declared.question.Question.{Question}
 use Rattle.asked_reads.specs.Asking.{IsLook}
 use Rattle.exploration.specs.Reading.{AskOf}
 use Rattle.explorer.specs.declared.place.CutPlace.{CutPlace}
-use Rattle.program_base.specs.Writing.{IsFront, WritesFront}
+use Rattle.explorer.specs.declared.fault.ExploreFault.{ExploreFault}
+use Rattle.explorer.specs.declared.fault.ExploreFault.TheVariants as explore
+use Rattle.program_base.specs.Writing.{WritesFront}
 use Rattle.program_base.proofs.BytesLemmas.{appends-none, appends_then}
+use Rattle.program_base.proofs.WritingLemmas.{told_all, told_front}
+use Rattle.nvmexplore.specs.Calls.{AnswersAll, IsUnanswered}
+use Rattle.nvmexplore.specs.declared.stop.Stop.{Stop}
+use Rattle.nvmexplore.specs.Stops.{of_explore, of_write}
+use Rattle.nvmexplore.proofs.ReadingLemmas.{rose-from}
 use Rattle.nvmexplore.specs.Telling.{answer_line, answers_text, is_any_found}
+
+-- a question by its number
+pub asked_at : (questions : List Question) (i : ℕ) (q : Question) → i < length questions → q ≡ get_or questions i q → slice_get questions i ≡ Some q
+asked_at [] i q below is = absurd (omega (arith, below))
+asked_at (x ∷ questions) zero q below is = ap Some (sym is)
+asked_at (x ∷ questions) (suc i) q below is = asked_at questions i q (omega (arith, below)) is
 
 -- the look of a question
 pub look_of : (looks : List (List Seen)) (questions : List Question) (i : ℕ) (q : Question) → AskOf looks questions → slice_get questions i ≡ Some q
@@ -28,18 +45,18 @@ as_many (look ∷ looks) [] ask = absurd ask
 as_many (look ∷ looks) (x ∷ questions) ask = ap suc (as_many looks questions ask.1)
 
 module _ (tell : List Seen → Option CutPlace) where
-  text_of : List (List Seen) → List ℕ
+  abbrev text_of : List (List Seen) → List ℕ
   text_of looks = answers_text (map tell looks)
 
   -- what was written once the first i are answered, and what is said of them
   pub record Answered (looks : List (List Seen)) (i : ℕ) (may : Bool) (old now : Option (List ℕ)) : Type 0 where
-    pub may : may ≡ is_any_found (map tell (take i looks))
+    pub found : may ≡ is_any_found (map tell (take i looks))
     pub wrote : Appends old now (text_of (take i looks))
 
   pub answered_none : (looks : List (List Seen)) (old : Option (List ℕ)) → Answered looks 0 false old old
-  answered_none looks old = record { may = refl; wrote = appends-none old }
+  answered_none looks old = record { found = refl; wrote = appends-none old }
 
-  text-more : (looks : List (List Seen)) (i : ℕ) (look : List Seen) → slice_get looks i ≡ Some look → text_of (take (i + 1) looks) ≡ text_of (take i looks) ++ answer_line (tell look)
+  text-more : (looks : List (List Seen)) (i : ℕ) (look : List Seen) → slice_get looks i ≡ Some look → text_of (take (suc i) looks) ≡ text_of (take i looks) ++ answer_line (tell look)
   text-more [] i look at = absurd (cc at)
   text-more (x ∷ looks) zero look at =
       let same : x ≡ look = cc at in
@@ -47,7 +64,7 @@ module _ (tell : List Seen → Option CutPlace) where
   text-more (x ∷ looks) (suc i) look at = ap (λ text. answer_line (tell x) ++ text) (text-more looks i look at) ∙ sym (append_assoc (answer_line (tell x)) (text_of (take i looks)) (answer_line (tell look)))
 
   any-more : (looks : List (List Seen)) (i : ℕ) (look : List Seen) → slice_get looks i ≡ Some look
-      → is_any_found (map tell (take (i + 1) looks)) ≡ (is_any_found (map tell (take i looks)) || is_some (tell look))
+      → is_any_found (map tell (take (suc i) looks)) ≡ (is_any_found (map tell (take i looks)) || is_some (tell look))
   any-more [] i look at = absurd (cc at)
   any-more (x ∷ looks) zero look at = let same : x ≡ look = cc at in by_one (is_some (tell x)) ∙ ap (λ l. is_some (tell l)) same
     where
@@ -56,16 +73,16 @@ module _ (tell : List Seen → Option CutPlace) where
       by_one false = refl
   any-more (x ∷ looks) (suc i) look at = by_first (is_some (tell x)) (any-more looks i look at)
     where
-      by_first : (b : Bool) → is_any_found (map tell (take (i + 1) looks)) ≡ (is_any_found (map tell (take i looks)) || is_some (tell look))
-          → (b || is_any_found (map tell (take (i + 1) looks))) ≡ ((b || is_any_found (map tell (take i looks))) || is_some (tell look))
+      by_first : (b : Bool) → is_any_found (map tell (take (suc i) looks)) ≡ (is_any_found (map tell (take i looks)) || is_some (tell look))
+          → (b || is_any_found (map tell (take (suc i) looks))) ≡ ((b || is_any_found (map tell (take i looks))) || is_some (tell look))
       by_first true rest = refl
       by_first false rest = rest
 
   -- one question more
   pub answered_more : (looks : List (List Seen)) (i : ℕ) (look : List Seen) (found : Option CutPlace) (may next : Bool) (old now new : Option (List ℕ)) → slice_get looks i ≡ Some look → found ≡ tell look
-      → Answered looks i may old now → Appends now new (answer_line found) → next ≡ (may || is_some found) → Answered looks (i + 1) next old new
+      → Answered looks i may old now → Appends now new (answer_line found) → next ≡ (may || is_some found) → Answered looks (suc i) next old new
   answered_more looks i look found may next old now new at is so_far line says = record {
-    may = says ∙ ap₂ (λ m f. m || is_some f) so_far.may is ∙ sym (any-more looks i look at);
+    found = says ∙ ap₂ (λ m f. m || is_some f) so_far.found is ∙ sym (any-more looks i look at);
     wrote = subst (Appends old new) (sym (text-more looks i look at)) (appends_then old now new (text_of (take i looks)) (answer_line (tell look)) so_far.wrote (subst (λ f. Appends now new (answer_line f)) is line));
   }
 
@@ -86,7 +103,7 @@ module _ (tell : List Seen → Option CutPlace) where
   pub part_answers : (looks : List (List Seen)) (i : ℕ) (look : List Seen) (found : Option CutPlace) (may : Bool) (old now new : Option (List ℕ)) → slice_get looks i ≡ Some look → found ≡ tell look
       → Answered looks i may old now → WritesFront (answer_line found) now new → WritesFront (text_of looks) old new
   part_answers looks i look found may old now new at is so_far line =
-      let behind = text_of (drop (i + 1) looks) in
+      let behind = text_of (drop (suc i) looks) in
       record {
         part = text_of (take i looks) ++ line.part;
         front = record {
@@ -95,7 +112,7 @@ module _ (tell : List Seen → Option CutPlace) where
               ∙ ap (λ text. text_of (take i looks) ++ text) (sym (append_assoc line.part line.front.rest behind) ∙ ap (λ text. text ++ behind) (line.front.joined ∙ ap answer_line is))
               ∙ sym (append_assoc (text_of (take i looks)) (answer_line (tell look)) behind)
               ∙ ap (λ text. text ++ behind) (sym (text-more looks i look at))
-              ∙ sym (text-split looks (i + 1));
+              ∙ sym (text-split looks (suc i));
         };
         wrote = appends_then old now new (text_of (take i looks)) line.part so_far.wrote line.wrote;
       }
@@ -110,4 +127,52 @@ module _ (tell : List Seen → Option CutPlace) where
   pub all_answers : (looks : List (List Seen)) (i : ℕ) (may : Bool) (old now : Option (List ℕ)) → length looks ≤ i → Answered looks i may old now
       → (may ≡ is_any_found (map tell looks)) × Appends old now (text_of looks)
   all_answers looks i may old now past so_far =
-      let whole = take_all looks i past in (so_far.may ∙ ap (λ l. is_any_found (map tell l)) whole, subst (λ l. Appends old now (text_of l)) whole so_far.wrote)
+      let whole = take_all looks i past in (so_far.found ∙ ap (λ l. is_any_found (map tell l)) whole, subst (λ l. Appends old now (text_of l)) whole so_far.wrote)
+
+  -- the first i of these questions were answered
+  pub record Goes (questions : List Question) (i : ℕ) (may : Bool) (old now : Option (List ℕ)) (counted counts : ℕ) : Type 0 where
+    pub later : counted ≤ counts
+    pub answered : (looks : List (List Seen)) → AskOf looks questions → Answered looks i may old now
+
+-- an exploration that came to no end
+pub explore_unanswered : (fault : ExploreFault) (counted counts : ℕ) → IsUnanswered (of_explore fault) counted counts
+explore_unanswered explore.Device counted counts = tt
+explore_unanswered explore.Memory counted counts = tt
+
+unanswered_write : (fault : WriteFault) (counted between counts : ℕ) → counted ≤ between → (fault ≡ write.Failed → Rose between counts) → IsUnanswered (of_write fault) counted counts
+unanswered_write write.Failed counted between counts later rose = rose-from counted between counts later (rose refl)
+unanswered_write write.Memory counted between counts later rose = tt
+
+module _ (tell : List Seen → Option CutPlace) (questions : List Question) (i : ℕ) (q : Question) (may : Bool) (old now new : Option (List ℕ)) (counted between counts : ℕ) (at : slice_get questions i ≡ Some q)
+    (goes : Goes tell questions i may old now counted between) where
+  -- one question more
+  pub goes_more : {E : Type 0} (found : Option CutPlace) (next : Bool) (line : Result (Stock ℕ) E) (told : Result (Unit {0}) WriteFault) (x : Unit {0}) → ((look : List Seen) → IsLook look q → found ≡ tell look)
+      → IfOk line (λ l. l.items ≡ answer_line found) → MatchResult line (λ l. WritesAll l.items told now new) (λ _. (told ≡ Err write.Memory) × (new ≡ now)) → told ≡ Ok x → between ≤ counts
+      → next ≡ (may || is_some found) → Goes tell questions (i + 1) next old new counted counts
+  goes_more found next line told x finds is wrote ok later says = record {
+    later = omega (arith, goes.later, later);
+    answered = λ looks ask.
+        let look = look_of looks questions i q ask at in
+        let next_is : suc i ≡ i + 1 = omega arith in
+        subst (λ k. Answered tell looks k next old new) next_is
+        (answered_more tell looks i look.0 found may next old now new look.1 (finds look.0 look.2) (goes.answered looks ask) (told_all line told (answer_line found) now new x is wrote ok) says);
+  }
+
+  -- what came in the way of its exploration, or of its line
+  pub goes_unfound : (stop : Stop) → ((counted counts : ℕ) → IsUnanswered stop counted counts) → (looks : List (List Seen)) → AskOf looks questions
+      → AnswersAll tell looks (Err stop) old now counted counts
+  goes_unfound stop cause looks ask = (cause counted counts, first_answers tell looks i may old now (goes.answered looks ask))
+
+  pub goes_untold : {E : Type 0} (fault : WriteFault) (found : Option CutPlace) (line : Result (Stock ℕ) E) (told : Result (Unit {0}) WriteFault) → ((look : List Seen) → IsLook look q → found ≡ tell look)
+      → IfOk line (λ l. l.items ≡ answer_line found) → MatchResult line (λ l. WritesAll l.items told now new) (λ _. (told ≡ Err write.Memory) × (new ≡ now))
+      → (fault ≡ write.Failed → Rose between counts) → (looks : List (List Seen)) → AskOf looks questions → AnswersAll tell looks (Err (of_write fault)) old new counted counts
+  goes_untold fault found line told finds is wrote rose looks ask =
+      let look = look_of looks questions i q ask at in (
+        unanswered_write fault counted between counts goes.later rose,
+        part_answers tell looks i look.0 found may old now new look.1 (finds look.0 look.2) (goes.answered looks ask) (told_front line told (answer_line found) now new is wrote),
+      )
+
+-- at the end all are answered
+pub goes_through : (tell : List Seen → Option CutPlace) (questions : List Question) (i : ℕ) (may : Bool) (old now : Option (List ℕ)) (counted counts : ℕ) → length questions ≤ i
+    → Goes tell questions i may old now counted counts → (looks : List (List Seen)) → AskOf looks questions → AnswersAll tell looks (Ok may) old now counted counts
+goes_through tell questions i may old now counted counts past goes looks ask = all_answers tell looks i may old now (omega (arith, past, as_many looks questions ask)) (goes.answered looks ask)

@@ -2,23 +2,21 @@
 use Rattle.std.proofs.Common.{◌≡◌, ◌+◌, ◌*◌, ◌/◌, ◌%◌, ◌<◌, ℕ, zero, suc, Bool, true, false, List, [], ◌∷◌, Option, Some, None, inl, inr, slice_get, replicate, refl, sym, ap, subst, ◌∙◌, if◌then◌else◌, arith}
 use Rattle.std.specs.Prelude.{IsTrue, slice_index}
 use Rattle.std.specs.List.{AllByRecursion}
-use Rattle.std.proofs.lemmas.Bool.{cases_Bool, cases_lt}
+use Rattle.std.proofs.lemmas.Bool.{cases_lt}
 use Rattle.std.proofs.lemmas.List.{get_or-replicate, get_or_past, length-replicate}
-use Rattle.std.proofs.lemmas.Option.{same_Some}
 use Rattle.line_device.specs.History.{newest}
 use Rattle.line_device.specs.Medium.{last_image}
 use Rattle.line_device.specs.Panel.{Image, Panel}
 use Rattle.line_device.specs.Word.{word_at, word_from}
 use Rattle.line_device.specs.declared.line.LineState.{LineState}
 use Rattle.line_device.specs.declared.line.LineState.TheVariants.{Healthy, Weak, Bad}
-use Rattle.line_device.proofs.WordLemmas.{below_eight}
 use Rattle.word_tables.specs.declared.geometry.Geometry.{Geometry}
 use Rattle.word_tables.specs.Bounds.{IsValid}
 use Rattle.word_tables.specs.Layout.{total_lines, volume_line}
 use Rattle.nvm_model.specs.Cell.{Cell, read_cell}
-use Rattle.nvm_model.specs.Cell.Cell as cells
+use Rattle.nvm_model.specs.Cell.Cell.{Bad as BadCell, Kept}
 use Rattle.nvm_model.specs.Numbered.{list_from}
-use Rattle.nvm_model.specs.Page.{cell_of, read_pages}
+use Rattle.nvm_model.specs.Page.{read_pages}
 use Rattle.nvm_model.proofs.PageLemmas.{cell_of-read_pages, read_pages-there}
 use Rattle.pm_volume.specs.Presence.{presence_read}
 use Rattle.file_journal.specs.Reading.{wrong_file_place}
@@ -73,7 +71,7 @@ is_of_line (line ∷ lines) (suc n) whole bytes = is_of_line lines n whole.1 byt
 zeros_small : AreFileBytes (replicate 64 0)
 zeros_small i = elim (cases_lt i 64) as (λ _. slice_index (replicate 64 0) i < 256) [
   | inl below ↦ subst (λ b. b < 256) (sym (get_or-replicate 64 i 0 0 below)) (omega arith)
-  | inr past ↦ subst (λ b. b < 256) (sym (get_or_past (replicate 64 0) i 0 (omega (arith, past, length-replicate 64 0)))) (omega arith)
+  | inr past ↦ subst (λ b. b < 256) (sym (get_or_past (replicate 64 0) i 0 (omega (arith, past, length-replicate {A = ℕ} 64 0)))) (omega arith)
 ]
 
 zeros_are : list_from (λ w. 0 ∷ []) 0 8 ≡ list_from (λ w. word_at (replicate 64 0) w ∷ []) 0 8
@@ -81,7 +79,7 @@ unfolding word_from
 zeros_are = refl
 
 of_zeros : AreOfBytes (list_from (λ w. 0 ∷ []) 0 8)
-of_zeros = record { bytes = replicate 64 0; size = length-replicate 64 0; small = zeros_small; are = zeros_are }
+of_zeros = record { bytes = replicate 64 0; size = length-replicate {A = ℕ} 64 0; small = zeros_small; are = zeros_are }
 
 words_of : (line : Option LineState) → IsOfLine line → AreOfBytes (list_from (λ w. told_word line w ∷ []) 0 8)
 words_of None of = of_zeros
@@ -110,20 +108,23 @@ line_words lines m =
     (λ i. told_word (slice_get lines (line i)) (place i) ∷ []))
 
 -- of each line of pages that are read, each word has one value
-of_cell : (lines : List LineState) (m : ℕ) (weak : Bool) (words : List (List ℕ)) → IsOfLine (slice_get lines m) → read_cell (image_of lines) m ≡ cells.Kept weak words → AreOfBytes words
+of_cell : (lines : List LineState) (m : ℕ) (weak : Bool) (words : List (List ℕ)) → IsOfLine (slice_get lines m) → read_cell (image_of lines) m ≡ Kept weak words → AreOfBytes words
 of_cell lines m weak words of is = by_mark ((image_of lines).is_bad m) is
   where
-    by_mark : (b : Bool) → (if b then cells.Bad else cells.Kept ((image_of lines).is_weak m) (list_from (λ p. (image_of lines).word p ∷ []) (8 * m) 8)) ≡ cells.Kept weak words → AreOfBytes words
+    by_mark : (b : Bool) → (if b then BadCell else Kept ((image_of lines).is_weak m) (list_from (λ p. (image_of lines).word p ∷ []) (8 * m) 8)) ≡ Kept weak words → AreOfBytes words
     by_mark true same = absurd (cc same)
     by_mark false same =
         let are : list_from (λ p. (image_of lines).word p ∷ []) (8 * m) 8 ≡ words = cc same in
         subst AreOfBytes (sym (line_words lines m) ∙ are) (words_of (slice_get lines m) of)
 
+same_cell : (a b : Cell) → Some a ≡ Some b → a ≡ b
+same_cell a b is = cc is
+
 durable_read : (place : ℕ → ℕ) (there : List Bool) (lines : List LineState) → AllByRecursion IsImageLine lines → AllByRecursion IsOfBytes lines
     → AreDurable (read_pages place (image_of lines) there)
 durable_read place there lines whole bytes n weak words is =
-    let cell = cell_of-read_pages place (image_of lines) there n (read_pages-there place (image_of lines) there n (cells.Kept weak words) is) in
-    of_cell lines (place n) weak words (is_of_line lines (place n) whole bytes) (same_Some (sym cell ∙ is))
+    let cell = cell_of-read_pages place (image_of lines) there n (read_pages-there place (image_of lines) there n (Kept weak words) is) in
+    of_cell lines (place n) weak words (is_of_line lines (place n) whole bytes) (same_cell (read_cell (image_of lines) (place n)) (Kept weak words) (sym cell ∙ is))
 
 pub begins_opened : Mounted → (lines : List LineState) → first_finding (medium_of lines) ≡ None → AllByRecursion IsImageLine lines → AllByRecursion IsOfBytes lines
     → Begins (opened lines)

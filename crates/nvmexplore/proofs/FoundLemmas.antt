@@ -1,5 +1,5 @@
 -- The first place of a cut is there exactly where the test tells that something may be found.
-use Rattle.std.proofs.Common.{◌≡◌, ◌||◌, ℕ, suc, Bool, true, false, List, [], ◌∷◌, ◌++◌, map, Option, Some, None, is_some, refl, sym, ap, ◌∙◌, if◌then◌else◌}
+use Rattle.std.proofs.Common.{◌≡◌, ◌||◌, ℕ, suc, Bool, true, false, List, [], ◌∷◌, ◌++◌, map, Some, is_some, refl, sym, ap, ◌∙◌, if◌then◌else◌}
 use Rattle.std.specs.List.{list_any}
 use Rattle.std.proofs.lemmas.Bool.{true≢false}
 use Rattle.script_text.specs.Script.{Input}
@@ -9,7 +9,6 @@ use Rattle.machine_host.specs.Commands.{fate}
 use Rattle.outcomes.specs.Finds.{Finds, armed, may_find}
 use Rattle.outcomes.specs.Seen.{Seen, may_show}
 use Rattle.outcomes.specs.Stops.{inside, led_to, stops}
-use Rattle.explorer.specs.declared.place.CutPlace.{CutPlace}
 use Rattle.explorer.specs.declared.place.CutPlace.TheVariants.{Inside}
 use Rattle.explorer.specs.Places.{Stop, cut_places, first_place, found_at}
 use Rattle.nvmexplore.specs.Calls.{AreTheorems}

@@ -3,3 +3,4 @@ mod ProgramLemmas
 mod FoundLemmas
 mod BeginLemmas
 mod AnswerLemmas
+mod CallLemmas

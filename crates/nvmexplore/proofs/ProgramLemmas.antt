@@ -1,6 +1,7 @@
 -- The program of a script that was taken.
-use Rattle.std.proofs.Common.{◌≡◌, ◌+◌, ℕ, List, [], ◌∷◌, ◌++◌, length, map, map-append, option_map, Option, Some, None, Result, Ok, Err, refl, sym, ap, subst, ◌∙◌, if◌then◌else◌}
+use Rattle.std.proofs.Common.{◌≡◌, ◌+◌, ℕ, List, [], ◌∷◌, ◌++◌, length, map, option_map, Option, Some, None, Result, Ok, Err, refl, sym, ap, subst, ◌∙◌, if◌then◌else◌}
 use Rattle.std.specs.Prelude.{Bool, true, false}
+use Rattle.std.proofs.lemmas.List.{map-append}
 use Rattle.script_text.specs.declared.command.Command.{Command}
 use Rattle.script_text.specs.Action.{Action, action_of}
 use Rattle.script_text.specs.Script.{Input, inputs, inputs_of, line_input, lines_of}
@@ -8,7 +9,7 @@ use Rattle.script_text.specs.Script.Input.{Skipped, Malformed, Overlong, Asked}
 use Rattle.questions.specs.Question.{QuestionLine, question_line}
 use Rattle.questions.specs.Question.QuestionLine.{Plain, Look, Lists, Never, Wrong}
 use Rattle.outcomes.specs.Stops.{is_of_program}
-use Rattle.outcome_runs.specs.Brings.{BringRight, BringsRight}
+use Rattle.outcome_runs.specs.Brings.{BringRight}
 use Rattle.asked_reads.specs.Program.{asks_for, inputs_of_lines}
 use Rattle.exploration.specs.Exploration.{Exploration, Parts, go_on, look_from, look_start, part_by, parts_from, script_of, script_of_parts, script_with}
 use Rattle.exploration.specs.Exploration as text
@@ -64,18 +65,23 @@ bring-kind item (Never replies) input right is = absurd (cc is)
 bring-kind item Wrong input right is = absurd (cc is)
 
 -- so the program brings what the script does
+parts_line : (items : List (Option Action)) (line : List ℕ) (lines : List (List ℕ)) (parts : Parts) → BringRight (map asks_for items)
+    → ((item : Option Action) → program_line line ≡ Some (Does item) → parts_from (items ++ item ∷ []) lines ≡ Ok parts → BringRight (map asks_for parts.program))
+    → (o : Option ProgramLine) → program_line line ≡ o → go_on (length items + 1) (part_by items lines (λ more. parts_from more lines)) o ≡ Ok parts → BringRight (map asks_for parts.program)
+parts_line items line lines parts right others None told is = absurd (cc is)
+parts_line items line lines parts right others (Some Ends) told is = let same : items ≡ parts.program = cc is in subst (λ program. BringRight (map asks_for program)) same right
+parts_line items line lines parts right others (Some (Does item)) told is = others item told is
+
 parts_bring : (items : List (Option Action)) (lines : List (List ℕ)) (parts : Parts) → parts_from items lines ≡ Ok parts → BringRight (map asks_for items) → BringRight (inputs_of lines)
     → BringRight (map asks_for parts.program)
 parts_bring items [] parts is right rest = let same : items ≡ parts.program = cc is in subst (λ program. BringRight (map asks_for program)) same right
-parts_bring items (line ∷ lines) parts is right rest = by_line (program_line line) refl is
-  where
-    by_line : (o : Option ProgramLine) → program_line line ≡ o → go_on (length items + 1) (part_by items lines (λ more. parts_from more lines)) o ≡ Ok parts → BringRight (map asks_for parts.program)
-    by_line None told next = absurd (cc next)
-    by_line (Some Ends) told next = let same : items ≡ parts.program = cc next in subst (λ program. BringRight (map asks_for program)) same right
-    by_line (Some (Does item)) told next =
-        let one = bring-kind item (question_line line) (line_input line) (bring-first (line_input line) (inputs_of lines) rest) told in
-        let more = subst BringRight (sym (map-append asks_for items (item ∷ []))) (bring-append (map asks_for items) (asks_for item ∷ []) right one) in
-        parts_bring (items ++ item ∷ []) lines parts next more (bring-rest (line_input line) (inputs_of lines) rest)
+parts_bring items (line ∷ lines) parts is right rest =
+    parts_line items line lines parts right
+    (λ item told next.
+    let one = bring-kind item (question_line line) (line_input line) (bring-first (line_input line) (inputs_of lines) rest) told in
+    let more = subst BringRight (sym (map-append asks_for items (item ∷ []))) (bring-append (map asks_for items) (asks_for item ∷ []) right one) in
+    parts_bring (items ++ item ∷ []) lines parts next more (bring-rest (line_input line) (inputs_of lines) rest))
+    (program_line line) refl is
 
 pub taken_bring : (script : List ℕ) (e : Exploration) → BringRight (inputs script) → script_of script ≡ Taken e → BringRight (map asks_for e.program)
 taken_bring script e right is = by_parts (parts_from [] (lines_of script)) refl is

@@ -14,7 +14,7 @@ use Rattle.script_text.specs.Script.{Input}
 use Rattle.outcomes.specs.Finds.{Finds}
 use Rattle.outcomes.specs.Seen.{Seen}
 use Rattle.asked_reads.specs.Program.{asks_for}
-use Rattle.exploration.specs.Exploration.{Exploration, Script, script_of}
+use Rattle.exploration.specs.Exploration.{Exploration, script_of}
 use Rattle.exploration.specs.Exploration.Script.{StopsAt, Taken}
 use Rattle.explorer.specs.Places.{found_at}
 use Rattle.explorer.specs.declared.place.CutPlace.{CutPlace}

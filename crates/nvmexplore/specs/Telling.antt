@@ -1,5 +1,5 @@
 -- What is said of the questions, and the status.
-use Rattle.std.specs.Prelude.{ℕ, Bool, true, false, List, [], ◌∷◌, ◌++◌, Option, Some, None, codes, is_some, if◌then◌else◌}
+use Rattle.std.specs.Prelude.{ℕ, Bool, List, [], ◌∷◌, ◌++◌, Option, Some, None, codes, is_some, if◌then◌else◌}
 use Rattle.std.specs.List.{list_any}
 use Rattle.explorer.specs.declared.place.CutPlace.{CutPlace}
 use Rattle.explorer.specs.declared.place.CutPlace.TheVariants.{Before, Inside}

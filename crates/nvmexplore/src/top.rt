@@ -46,7 +46,8 @@ pub fn nvmexplore<D: LineDevice, F: Images, T: Source, K: Sink>(
     ensures statuses { (result ≤ 1) ⊎ ((stop : Early) × (result ≡ stop_status stop)) }
 {
     match perform(alloc, words, device, images, script, answers) {
-        Ok(may) => u8::from(may),
+        Ok(true) => 1,
+        Ok(false) => 0,
         Err(stop) => {
             // Where the line can't be written either, the status stays.
             let _ = stop.tell(alloc, answers);

@@ -1,7 +1,6 @@
-use Rattle.std.proofs.Common.{◌≡◌, ◌≤◌, ◌<◌, ◌++◌, length, take, refl, sym, ap, subst, ◌∙◌, arith, drop}
+use Rattle.std.proofs.Common.{◌<◌, ◌++◌, take, sym, ap, subst, ◌∙◌, arith}
 use Rattle.std.specs.Io.KnownBytes.{Consumes}
 use Rattle.std.proofs.lemmas.Result.{err_from_is_err_and}
-use Rattle.nvm_base.specs.Counts.{Rose}
 use Rattle.program_base.proofs.BytesLemmas.{consumes-none, consumes_then}
 use Rattle.nvmexplore.proofs.ReadingLemmas.{consumes-end, consumes-kept, had_bytes, lent_whole, rose-from}
 use Rattle.nvmexplore.proofs.reading.read_all.Goals as goal

@@ -1,0 +1,175 @@
+-- A call once its image is mounted: what came of its script.
+use Rattle.std.proofs.Common.{◌≡◌, ◌<◌, ◌≤◌, ℕ, Bool, List, [], ◌∷◌, length, map, Option, None, Result, Ok, Err, inl, inr, refl, sym, ap, subst, ◌∙◌, if◌then◌else◌, arith}
+use Rattle.std.specs.Prelude.{IfErr}
+use Rattle.std.specs.Io.KnownBytes.{Consumes, IsAtEnd}
+use Rattle.nvm_base.specs.Counts.{Rose}
+use Rattle.host_io.specs.Writing.{WritesAll}
+use Rattle.host_io.specs.declared.sink.WriteFault.{WriteFault}
+use Rattle.host_io.specs.declared.sink.WriteFault.TheVariants as write
+use Rattle.image_file.specs.Devices.{medium_of}
+use Rattle.line_device.specs.declared.line.LineState.{LineState}
+use Rattle.recovery.specs.Findings.{first_finding}
+use Rattle.script_text.specs.Script.{Input}
+use Rattle.outcomes.specs.Seen.{Seen}
+use Rattle.outcomes.specs.Stops.{IsProgram}
+use Rattle.asked_reads.specs.Program.{asks_for, inputs_of_lines}
+use Rattle.exploration.specs.Exploration.{Exploration, Script, script_of}
+use Rattle.exploration.specs.Exploration.Script.{StopsAt, Taken}
+use Rattle.exploration.specs.Reading.{AskOf, Holds, ReadsScript}
+use Rattle.exploration.specs.declared.exploration.Exploration.{Exploration as Read}
+use Rattle.exploration.specs.declared.exploration.ScriptFault.{ScriptFault}
+use Rattle.exploration.specs.declared.exploration.ScriptFault.TheVariants as script
+use Rattle.explorer.specs.Places.{found_at}
+use Rattle.program_base.specs.Ending.{status}
+use Rattle.program_base.specs.Opening.{FailsToOpen, IsHeld, opened}
+use Rattle.program_base.specs.World.{World}
+use Rattle.program_base.specs.Writing.{WritesLine}
+use Rattle.program_base.specs.declared.ending.Ending.{Ending}
+use Rattle.program_base.specs.declared.ending.Ending.TheVariants as endings
+use Rattle.nvmexplore.specs.Calls.{AnswersAll, AreTheorems, Fails, Halts, IsCaused, IsTaken, IsUnanswered, IsUnread, LeavesImages, Outcome, most}
+use Rattle.nvmexplore.specs.Stops.{of_script, stop_status}
+use Rattle.nvmexplore.specs.declared.stop.Stop.{Stop}
+use Rattle.nvmexplore.specs.declared.stop.Stop.TheVariants as stops
+use Rattle.nvmexplore.proofs.ProgramLemmas.{same_inputs}
+
+-- what came in the way, as a cause of the call's end
+caused_unread : (ending : Ending) (taken : List ℕ) (old new : World) → IsUnread ending old.left old.reads new.reads → IsCaused (stops.Early ending) taken old new
+caused_unread endings.Read taken old new cause = cause
+caused_unread endings.Script taken old new cause = cause
+caused_unread endings.Memory taken old new cause = tt
+caused_unread endings.Usage taken old new cause = cause
+caused_unread (endings.Image offset) taken old new cause = cause
+caused_unread (endings.Layout place) taken old new cause = cause
+caused_unread (endings.Meta line) taken old new cause = cause
+caused_unread endings.Write taken old new cause = absurd cause
+caused_unread endings.Device taken old new cause = tt
+
+caused_untaken : (fault : ScriptFault) (text : List ℕ) (old new : World) → IsAtEnd new.left → ReadsScript (script_of text) (Err fault) → IsCaused (of_script fault) text old new
+caused_untaken (script.Line n) text old new ended is = (ended, is)
+caused_untaken script.Memory text old new ended is = tt
+
+caused_unanswered : (stop : Stop) (text : List ℕ) (old new : World) → IsUnanswered stop old.writes new.writes → IsCaused stop text old new
+caused_unanswered (stops.Early endings.Write) text old new cause = cause
+caused_unanswered (stops.Early endings.Memory) text old new cause = tt
+caused_unanswered (stops.Early endings.Device) text old new cause = tt
+caused_unanswered (stops.Early endings.Read) text old new cause = absurd cause
+caused_unanswered (stops.Early endings.Script) text old new cause = absurd cause
+caused_unanswered (stops.Early endings.Usage) text old new cause = cause
+caused_unanswered (stops.Early (endings.Image offset)) text old new cause = cause
+caused_unanswered (stops.Early (endings.Layout place)) text old new cause = cause
+caused_unanswered (stops.Early (endings.Meta line)) text old new cause = cause
+caused_unanswered (stops.Script n) text old new cause = absurd cause
+caused_unanswered stops.Usage text old new cause = cause
+
+module _ (name : List ℕ) (lines : List LineState) (old new : World) (there : IsHeld name old.held lines) (right : first_finding (medium_of lines) ≡ None) (images : LeavesImages old new) where
+  -- the script was not read to its end
+  pub halts_unread : (ending : Ending) → (taken : List ℕ) × Consumes old.left new.left taken × IsUnread ending old.left old.reads new.reads → new.written ≡ old.written → Halts name (stops.Early ending) old new
+  halts_unread ending unread none = record {
+    lines = lines;
+    there = there;
+    right = right;
+    script = unread.0;
+    read = unread.1;
+    cause = caused_unread ending unread.0 old new unread.2;
+    wrote = inl none;
+    images = images;
+  }
+
+  -- a line of it is not taken
+  pub halts_untaken : (fault : ScriptFault) (text : List ℕ) → Consumes old.left new.left text → IsAtEnd new.left → ReadsScript (script_of text) (Err fault) → new.written ≡ old.written
+      → Halts name (of_script fault) old new
+  halts_untaken fault text read ended is none = record {
+    lines = lines;
+    there = there;
+    right = right;
+    script = text;
+    read = read;
+    cause = caused_untaken fault text old new ended is;
+    wrote = inl none;
+    images = images;
+  }
+
+  module _ (text : List ℕ) (e : Exploration) (taken : IsTaken text e old new) (theorems : AreTheorems (opened lines) (map asks_for e.program)) where
+    outcome_taken : (result : Result Bool Stop) → AnswersAll (found_at (opened lines) (map asks_for e.program)) e.questions result old.written new.written old.writes new.writes → Outcome name result old new
+    outcome_taken (Ok may) told = record {
+      lines = lines;
+      there = there;
+      right = right;
+      script = text;
+      exploration = e;
+      taken = taken;
+      status = ap (λ b. if b then 1 else 0) told.0;
+      wrote = told.1;
+      theorems = theorems;
+      images = images;
+    }
+    outcome_taken (Err stop) told = inr (record {
+      lines = lines;
+      there = there;
+      right = right;
+      script = text;
+      read = taken.read;
+      cause = caused_unanswered stop text old new told.0;
+      wrote = inr (e, taken, told.1);
+      images = images;
+    })
+
+  -- the script was read and taken
+  pub outcome_read : (text : List ℕ) (x : Read) (result : Result Bool Stop) → Consumes old.left new.left text → IsAtEnd new.left → length text < most → ReadsScript (script_of text) (Ok x)
+      → IsProgram (inputs_of_lines x.program.items)
+      → ((e : Exploration) → script_of text ≡ Taken e → IsProgram (map asks_for e.program) → AreTheorems (opened lines) (map asks_for e.program))
+      → ((looks : List (List Seen)) → AskOf looks x.questions.items
+      → AnswersAll (found_at (opened lines) (inputs_of_lines x.program.items)) looks result old.written new.written old.writes new.writes)
+      → Outcome name result old new
+  outcome_read text x result read ended short is program theorems tells = by_script (script_of text) refl is
+    where
+      by_script : (s : Script) → script_of text ≡ s → Holds s x → Outcome name result old new
+      by_script (Taken e) told holds =
+          let same : inputs_of_lines x.program.items ≡ map asks_for e.program = same_inputs x.program.items e.program holds.0 in
+          outcome_taken text e (record { read = read; ended = ended; short = short; is = told }) (theorems e told (subst IsProgram same program)) result
+          (subst (λ (inputs : List Input). AnswersAll (found_at (opened lines) inputs) e.questions result old.written new.written old.writes new.writes) same (tells e.questions holds.1))
+      by_script (StopsAt n) told holds = absurd holds
+
+-- words of which there is one name it
+pub one_word : {A : Type 0} (f : A → List ℕ) (words : List A) → 1 ≤ length words → length words < 2 → ((name : List ℕ) → map f words ≡ name ∷ [] → ⊥) → ⊥
+one_word f [] some few none = omega (arith, some)
+one_word f (word ∷ []) some few none = none (f word) refl
+one_word f (word ∷ other ∷ words) some few none = omega (arith, few)
+
+-- a line that was to be written
+pub line_written : (text : List ℕ) (r : Result (Unit {0}) WriteFault) (old new : Option (List ℕ)) (counted counts : ℕ) → WritesAll text r old new → IfErr r (λ e. e ≡ write.Failed → Rose counted counts)
+    → WritesLine text counted counts old new
+line_written text r old new counted counts wrote cause = record { outcome = r; wrote = wrote; cause = by_result r cause }
+  where
+    by_result : (r : Result (Unit {0}) WriteFault) → IfErr r (λ e. e ≡ write.Failed → Rose counted counts) → r ≡ Err write.Failed → Rose counted counts
+    by_result (Ok x) rose is = absurd (cc is)
+    by_result (Err e) rose is = rose (cc is)
+
+-- a call with one word does not end as one with none
+unopened_usage : (name : List ℕ) (ending : Ending) (old new : World) → FailsToOpen name ending old new → status ending ≡ 2 → ⊥
+unopened_usage name endings.Usage old new fails is = fails.cause
+unopened_usage name (endings.Image offset) old new fails is = cc is
+unopened_usage name (endings.Layout place) old new fails is = cc is
+unopened_usage name (endings.Meta line) old new fails is = cc is
+unopened_usage name endings.Read old new fails is = cc is
+unopened_usage name endings.Write old new fails is = cc is
+unopened_usage name endings.Memory old new fails is = cc is
+unopened_usage name endings.Script old new fails is = cc is
+unopened_usage name endings.Device old new fails is = cc is
+
+caused_usage : (stop : Stop) (text : List ℕ) (old new : World) → IsCaused stop text old new → stop_status stop ≡ 2 → ⊥
+caused_usage stops.Usage text old new cause is = cause
+caused_usage (stops.Script n) text old new cause is = cc is
+caused_usage (stops.Early endings.Usage) text old new cause is = cause
+caused_usage (stops.Early (endings.Image offset)) text old new cause is = cc is
+caused_usage (stops.Early (endings.Layout place)) text old new cause is = cc is
+caused_usage (stops.Early (endings.Meta line)) text old new cause is = cc is
+caused_usage (stops.Early endings.Read) text old new cause is = cc is
+caused_usage (stops.Early endings.Write) text old new cause is = cc is
+caused_usage (stops.Early endings.Memory) text old new cause is = cc is
+caused_usage (stops.Early endings.Script) text old new cause is = cc is
+caused_usage (stops.Early endings.Device) text old new cause is = cc is
+
+pub no_usage : (name : List ℕ) (stop : Stop) (old new : World) → Fails name stop old new → stop_status stop ≡ 2 → ⊥
+no_usage name stop old new (inl (ending, same, fails)) is = unopened_usage name ending old new fails (sym (ap stop_status same) ∙ is)
+no_usage name stop old new (inr halts) is = caused_usage stop halts.script old new halts.cause is

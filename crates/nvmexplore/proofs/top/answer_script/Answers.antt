@@ -1,0 +1,38 @@
+use Rattle.std.proofs.Common.{Ok, Err, inr, refl, subst}
+use Rattle.std.proofs.lemmas.Result.{err_from_is_err_and}
+use Rattle.exploration.specs.Exploration.{script_of}
+use Rattle.exploration.specs.Reading.{ReadsScript}
+use Rattle.program_base.specs.World.{world}
+use Rattle.nvmexplore.proofs.CallLemmas.{halts_unread, halts_untaken, outcome_read}
+use Rattle.nvmexplore.proofs.top.answer_script.Goals as goal
+
+pub returns-in_err-text : goal.returns-in_err-text
+returns-in_err-text g c =
+    let p = err_from_is_err_and c.from_residual-in_err-text.result c.from_residual-in_err-text.ensures.1 in
+    let old = world (g.D.Lines.state c.args.device.now) (g.F.Images.held c.args.images.now) (g.F.Images.count c.args.images.now) (g.T.Source.left c.args.script.now) (g.T.Source.count c.args.script.now) (g.K.Sink.written c.args.answers.now) (g.K.Sink.count c.args.answers.now) in
+    let new = world (g.D.Lines.state c.start.new.device) (g.F.Images.held c.fetch.new.images) (g.F.Images.count c.fetch.new.images) (g.T.Source.left c.read_all.new.script) (g.T.Source.count c.read_all.new.script) (g.K.Sink.written c.args.answers.now) (g.K.Sink.count c.args.answers.now) in
+    let fetched = c.in_ok-image.ensures in
+    rw (p.1, p.2) (inr (halts_unread c.args.name.now c.in_ok-image.image.lines.items old new fetched.there c.in_ok-start.ensures.mounts.right (record { held = fetched.held; counts = fetched.counts }) c.in_err-text.field-0.0 c.in_err-text.ensures refl))
+
+pub returns-in_err-exploration : goal.returns-in_err-exploration
+returns-in_err-exploration g c =
+    let p = err_from_is_err_and c.from_residual-in_err-exploration.result c.from_residual-in_err-exploration.ensures.1 in
+    let old = world (g.D.Lines.state c.args.device.now) (g.F.Images.held c.args.images.now) (g.F.Images.count c.args.images.now) (g.T.Source.left c.args.script.now) (g.T.Source.count c.args.script.now) (g.K.Sink.written c.args.answers.now) (g.K.Sink.count c.args.answers.now) in
+    let new = world (g.D.Lines.state c.start.new.device) (g.F.Images.held c.fetch.new.images) (g.F.Images.count c.fetch.new.images) (g.T.Source.left c.read_all.new.script) (g.T.Source.count c.read_all.new.script) (g.K.Sink.written c.args.answers.now) (g.K.Sink.count c.args.answers.now) in
+    let fetched = c.in_ok-image.ensures in
+    let text = c.in_ok-text.ensures in
+    rw (p.1, p.2) (inr (halts_untaken c.args.name.now c.in_ok-image.image.lines.items old new fetched.there c.in_ok-start.ensures.mounts.right (record { held = fetched.held; counts = fetched.counts })
+    c.in_err-exploration.field-0.0 c.in_ok-text.text.items text.0 text.1
+    (subst (λ script. ReadsScript (script_of script) (Err c.in_err-exploration.field-0.0)) c.as_slice.ensures c.in_err-exploration.ensures.script) refl))
+
+pub returns : goal.returns
+returns g c =
+    let old = world (g.D.Lines.state c.args.device.now) (g.F.Images.held c.args.images.now) (g.F.Images.count c.args.images.now) (g.T.Source.left c.args.script.now) (g.T.Source.count c.args.script.now) (g.K.Sink.written c.args.answers.now) (g.K.Sink.count c.args.answers.now) in
+    let new = world (g.D.Lines.state c.answer_all.new.device) (g.F.Images.held c.fetch.new.images) (g.F.Images.count c.fetch.new.images) (g.T.Source.left c.read_all.new.script) (g.T.Source.count c.read_all.new.script) (g.K.Sink.written c.answer_all.new.answers) (g.K.Sink.count c.answer_all.new.answers) in
+    let fetched = c.in_ok-image.ensures in
+    let text = c.in_ok-text.ensures in
+    let lines = c.in_ok-image.image.lines.items in
+    let right = c.in_ok-start.ensures.mounts.right in
+    outcome_read c.args.name.now lines old new fetched.there right (record { held = fetched.held; counts = fetched.counts }) c.in_ok-text.text.items c.in_ok-exploration.exploration c.answer_all.result text.0 text.1 text.2
+    (subst (λ script. ReadsScript (script_of script) (Ok c.in_ok-exploration.exploration)) c.as_slice.ensures c.in_ok-exploration.ensures.script)
+    c.in_ok-exploration.ensures.program (λ e is program. c.answers_are_theorems.ensures lines c.in_ok-text.text.items e right is program) c.answer_all.ensures
