@@ -7,12 +7,12 @@ use Rattle.script_text.specs.Script.{Input}
 use Rattle.script_text.specs.Script.Input.{Asked, Skipped}
 
 -- what a line asks for
-abbrev pub asked : Option Action → Input
-asked None = Skipped
-asked (Some action) = Asked action
+abbrev pub asks_for : Option Action → Input
+asks_for None = Skipped
+asks_for (Some action) = Asked action
 
 abbrev pub input_of : Option Command → Input
-input_of line = asked (option_map action_of line)
+input_of line = asks_for (option_map action_of line)
 
 abbrev pub inputs_of_lines : List (Option Command) → List Input
 inputs_of_lines lines = map input_of lines

@@ -9,7 +9,7 @@ use Rattle.line_device.specs.declared.line.LineState.{LineState}
 use Rattle.machine_host.specs.Machine.{Machine}
 use Rattle.recovery.specs.Findings.{first_finding}
 use Rattle.outcomes.specs.Seen.{Seen}
-use Rattle.asked_reads.specs.Program.{asked}
+use Rattle.asked_reads.specs.Program.{asks_for}
 use Rattle.exploration.specs.Exploration.{Exploration, Script, script_of}
 use Rattle.exploration.specs.Exploration.Script.{StopsAt, Taken}
 use Rattle.explorer.specs.Places.{found_at}
@@ -26,7 +26,7 @@ use Rattle.nvmexplore.specs.declared.stop.Stop.TheVariants as stops
 
 -- of each question the first place of a cut after which its look may be as asked, from that state on
 abbrev pub found : Machine → Exploration → List (Option CutPlace)
-found h e = map (found_at h (map asked e.program)) e.questions
+found h e = map (found_at h (map asks_for e.program)) e.questions
 
 -- a script has fewer bytes than this
 abbrev pub most : ℕ
