@@ -7,20 +7,20 @@ use Rattle.nvm_base.specs.Stock.{Stock}
 use Rattle.host_io.specs.Writing.{WritesAll}
 use Rattle.host_io.specs.declared.sink.WriteFault.{WriteFault}
 use Rattle.host_io.specs.declared.sink.WriteFault.TheVariants as write
+use Rattle.line_device.specs.Panel.{Panel}
 use Rattle.outcomes.specs.Seen.{Seen}
 use Rattle.asked_reads.specs.declared.question.Question.{Question}
 use Rattle.asked_reads.specs.Asking.{IsLook}
 use Rattle.exploration.specs.Reading.{AskOf}
+use Rattle.explorer.specs.Stopping.{NoneFell}
 use Rattle.explorer.specs.declared.place.CutPlace.{CutPlace}
-use Rattle.explorer.specs.declared.fault.ExploreFault.{ExploreFault}
-use Rattle.explorer.specs.declared.fault.ExploreFault.TheVariants as explore
 use Rattle.program_base.specs.Writing.{WritesFront}
 use Rattle.program_base.proofs.BytesLemmas.{appends-none, appends_then}
 use Rattle.program_base.proofs.WritingLemmas.{told_all, told_front}
 use Rattle.nvmexplore.specs.Calls.{AnswersAll, IsUnanswered}
 use Rattle.nvmexplore.specs.declared.stop.Stop.{Stop}
-use Rattle.nvmexplore.specs.Stops.{of_explore, of_write}
-use Rattle.nvmexplore.proofs.ReadingLemmas.{rose-from}
+use Rattle.nvmexplore.specs.Stops.{of_write}
+use Rattle.nvmexplore.proofs.CauseLemmas.{fell_on, unanswered_later, unanswered_write}
 use Rattle.nvmexplore.specs.Telling.{answer_line, answers_text, is_any_found}
 
 -- a question by its number
@@ -129,50 +129,43 @@ module _ (tell : List Seen → Option CutPlace) where
   all_answers looks i may old now past so_far =
       let whole = take_all looks i past in (so_far.found ∙ ap (λ l. is_any_found (map tell l)) whole, subst (λ l. Appends old now (text_of l)) whole so_far.wrote)
 
-  -- the first i of these questions were answered
-  pub record Goes (questions : List Question) (i : ℕ) (may : Bool) (old now : Option (List ℕ)) (counted counts : ℕ) : Type 0 where
+  -- the first i of these questions were answered, and no count of what fails fell
+  pub record Goes (questions : List Question) (i : ℕ) (may : Bool) (old now : Option (List ℕ)) (counted counts : ℕ) (began at : Panel) : Type 0 where
     pub later : counted ≤ counts
+    pub device : NoneFell began at
     pub answered : (looks : List (List Seen)) → AskOf looks questions → Answered looks i may old now
 
--- an exploration that came to no end
-pub explore_unanswered : (fault : ExploreFault) (counted counts : ℕ) → IsUnanswered (of_explore fault) counted counts
-explore_unanswered explore.Device counted counts = tt
-explore_unanswered explore.Memory counted counts = tt
-
-unanswered_write : (fault : WriteFault) (counted between counts : ℕ) → counted ≤ between → (fault ≡ write.Failed → Rose between counts) → IsUnanswered (of_write fault) counted counts
-unanswered_write write.Failed counted between counts later rose = rose-from counted between counts later (rose refl)
-unanswered_write write.Memory counted between counts later rose = tt
-
-module _ (tell : List Seen → Option CutPlace) (questions : List Question) (i : ℕ) (q : Question) (may : Bool) (old now new : Option (List ℕ)) (counted between counts : ℕ) (at : slice_get questions i ≡ Some q)
-    (goes : Goes tell questions i may old now counted between) where
+module _ (tell : List Seen → Option CutPlace) (questions : List Question) (i : ℕ) (q : Question) (may : Bool) (old now new : Option (List ℕ)) (counted between counts : ℕ) (began was is : Panel)
+    (at : slice_get questions i ≡ Some q) (goes : Goes tell questions i may old now counted between began was) where
   -- one question more
   pub goes_more : {E : Type 0} (found : Option CutPlace) (next : Bool) (line : Result (Stock ℕ) E) (told : Result (Unit {0}) WriteFault) (x : Unit {0}) → ((look : List Seen) → IsLook look q → found ≡ tell look)
-      → IfOk line (λ l. l.items ≡ answer_line found) → MatchResult line (λ l. WritesAll l.items told now new) (λ _. (told ≡ Err write.Memory) × (new ≡ now)) → told ≡ Ok x → between ≤ counts
-      → next ≡ (may || is_some found) → Goes tell questions (i + 1) next old new counted counts
-  goes_more found next line told x finds is wrote ok later says = record {
+      → NoneFell was is → IfOk line (λ l. l.items ≡ answer_line found) → MatchResult line (λ l. WritesAll l.items told now new) (λ _. (told ≡ Err write.Memory) × (new ≡ now)) → told ≡ Ok x
+      → between ≤ counts → next ≡ (may || is_some found) → Goes tell questions (i + 1) next old new counted counts began is
+  goes_more found next line told x finds fell spelled wrote ok later says = record {
     later = omega (arith, goes.later, later);
+    device = fell_on began was is goes.device fell;
     answered = λ looks ask.
         let look = look_of looks questions i q ask at in
         let next_is : suc i ≡ i + 1 = omega arith in
         subst (λ k. Answered tell looks k next old new) next_is
-        (answered_more tell looks i look.0 found may next old now new look.1 (finds look.0 look.2) (goes.answered looks ask) (told_all line told (answer_line found) now new x is wrote ok) says);
+        (answered_more tell looks i look.0 found may next old now new look.1 (finds look.0 look.2) (goes.answered looks ask) (told_all line told (answer_line found) now new x spelled wrote ok) says);
   }
 
   -- what came in the way of its exploration, or of its line
-  pub goes_unfound : (stop : Stop) → ((counted counts : ℕ) → IsUnanswered stop counted counts) → (looks : List (List Seen)) → AskOf looks questions
-      → AnswersAll tell looks (Err stop) old now counted counts
-  goes_unfound stop cause looks ask = (cause counted counts, first_answers tell looks i may old now (goes.answered looks ask))
+  pub goes_unfound : (stop : Stop) → ((counted counts : ℕ) → IsUnanswered stop counted counts was is) → (looks : List (List Seen)) → AskOf looks questions
+      → AnswersAll tell looks (Err stop) old now counted counts began is
+  goes_unfound stop cause looks ask = (unanswered_later stop counted counts began was is goes.device (cause counted counts), first_answers tell looks i may old now (goes.answered looks ask))
 
   pub goes_untold : {E : Type 0} (fault : WriteFault) (found : Option CutPlace) (line : Result (Stock ℕ) E) (told : Result (Unit {0}) WriteFault) → ((look : List Seen) → IsLook look q → found ≡ tell look)
       → IfOk line (λ l. l.items ≡ answer_line found) → MatchResult line (λ l. WritesAll l.items told now new) (λ _. (told ≡ Err write.Memory) × (new ≡ now))
-      → (fault ≡ write.Failed → Rose between counts) → (looks : List (List Seen)) → AskOf looks questions → AnswersAll tell looks (Err (of_write fault)) old new counted counts
-  goes_untold fault found line told finds is wrote rose looks ask =
+      → (fault ≡ write.Failed → Rose between counts) → (looks : List (List Seen)) → AskOf looks questions → AnswersAll tell looks (Err (of_write fault)) old new counted counts began is
+  goes_untold fault found line told finds spelled wrote rose looks ask =
       let look = look_of looks questions i q ask at in (
-        unanswered_write fault counted between counts goes.later rose,
-        part_answers tell looks i look.0 found may old now new look.1 (finds look.0 look.2) (goes.answered looks ask) (told_front line told (answer_line found) now new is wrote),
+        unanswered_write fault counted between counts began is goes.later rose,
+        part_answers tell looks i look.0 found may old now new look.1 (finds look.0 look.2) (goes.answered looks ask) (told_front line told (answer_line found) now new spelled wrote),
       )
 
 -- at the end all are answered
-pub goes_through : (tell : List Seen → Option CutPlace) (questions : List Question) (i : ℕ) (may : Bool) (old now : Option (List ℕ)) (counted counts : ℕ) → length questions ≤ i
-    → Goes tell questions i may old now counted counts → (looks : List (List Seen)) → AskOf looks questions → AnswersAll tell looks (Ok may) old now counted counts
-goes_through tell questions i may old now counted counts past goes looks ask = all_answers tell looks i may old now (omega (arith, past, as_many looks questions ask)) (goes.answered looks ask)
+pub goes_through : (tell : List Seen → Option CutPlace) (questions : List Question) (i : ℕ) (may : Bool) (old now : Option (List ℕ)) (counted counts : ℕ) (began at : Panel) → length questions ≤ i
+    → Goes tell questions i may old now counted counts began at → (looks : List (List Seen)) → AskOf looks questions → AnswersAll tell looks (Ok may) old now counted counts began at
+goes_through tell questions i may old now counted counts began at past goes looks ask = all_answers tell looks i may old now (omega (arith, past, as_many looks questions ask)) (goes.answered looks ask)

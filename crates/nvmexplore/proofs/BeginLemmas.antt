@@ -4,6 +4,7 @@ use Rattle.std.specs.Prelude.{IsTrue, slice_index}
 use Rattle.std.specs.List.{AllByRecursion}
 use Rattle.std.proofs.lemmas.Bool.{cases_lt}
 use Rattle.std.proofs.lemmas.List.{get_or-replicate, get_or_past, length-replicate}
+use Rattle.line_device.specs.Device.{Device}
 use Rattle.line_device.specs.History.{newest}
 use Rattle.line_device.specs.Medium.{last_image}
 use Rattle.line_device.specs.Panel.{Image, Panel}
@@ -27,13 +28,14 @@ use Rattle.recovery.proofs.FindingLemmas.{nothing_found}
 use Rattle.machine_host.specs.Lines.{bad_metadata}
 use Rattle.machine_host.specs.Machine.{Machine}
 use Rattle.machine_host.specs.Restarting.{reading}
+use Rattle.machine_host.specs.Stands.{HostState, Stands}
 use Rattle.machine_host.proofs.MountedLemmas.{layout_found}
 use Rattle.machine_host.proofs.ReadingLemmas.{read_whole}
 use Rattle.outcomes.specs.Finds.{IsReady}
 use Rattle.outcome_runs.specs.Kept.{IsKept}
 use Rattle.explorer.specs.Starting.{AreDurable, AreOfBytes, Begins}
 use Rattle.program_base.specs.Begins as base
-use Rattle.program_base.specs.Opening.{opened}
+use Rattle.program_base.specs.Opening.{Mounts, opened}
 use Rattle.program_base.proofs.OpenLemmas.{flushed_of_image, good_image}
 
 -- what a mount finds nothing wrong with is ready, and is kept
@@ -150,3 +152,7 @@ begin_is lines p h right begins no_cut no_failure =
     ∙ (λ i. record (opened lines) { cut_armed = not_armed h.cut_armed p.cut_armed begins.cut no_cut i; fail_armed = not_armed h.fail_armed p.fail_armed begins.fail no_failure i })
     ∙ ap (λ (k : Machine). record k { cut_armed = false; fail_armed = false }) whole
     ∙ sym whole
+
+-- so a host that was mounted on it stands for that state
+pub at_start : (lines : List LineState) (host : HostState) (old new : Device) → Mounts lines host old new → old.panel.cut_armed ≡ false → old.panel.fail_armed ≡ false → Stands host new (opened lines)
+at_start lines host old new mounted no_cut no_failure = subst (Stands host new) (begin_is lines old.panel mounted.begin mounted.right mounted.begins no_cut no_failure) mounted.stands

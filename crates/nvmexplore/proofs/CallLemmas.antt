@@ -7,6 +7,7 @@ use Rattle.host_io.specs.Writing.{WritesAll}
 use Rattle.host_io.specs.declared.sink.WriteFault.{WriteFault}
 use Rattle.host_io.specs.declared.sink.WriteFault.TheVariants as write
 use Rattle.image_file.specs.Devices.{medium_of}
+use Rattle.line_device.specs.Panel.{Panel}
 use Rattle.line_device.specs.declared.line.LineState.{LineState}
 use Rattle.recovery.specs.Findings.{first_finding}
 use Rattle.script_text.specs.Script.{Input}
@@ -19,6 +20,7 @@ use Rattle.exploration.specs.Reading.{AskOf, Holds, ReadsScript}
 use Rattle.exploration.specs.declared.exploration.Exploration.{Exploration as Read}
 use Rattle.exploration.specs.declared.exploration.ScriptFault.{ScriptFault}
 use Rattle.exploration.specs.declared.exploration.ScriptFault.TheVariants as script
+use Rattle.explorer.specs.Stopping.{NoneFell}
 use Rattle.explorer.specs.Places.{found_at}
 use Rattle.program_base.specs.Ending.{status}
 use Rattle.program_base.specs.Opening.{FailsToOpen, IsHeld, opened}
@@ -30,6 +32,7 @@ use Rattle.nvmexplore.specs.Calls.{AnswersAll, AreTheorems, Fails, Halts, IsCaus
 use Rattle.nvmexplore.specs.Stops.{of_script, stop_status}
 use Rattle.nvmexplore.specs.declared.stop.Stop.{Stop}
 use Rattle.nvmexplore.specs.declared.stop.Stop.TheVariants as stops
+use Rattle.nvmexplore.proofs.CauseLemmas.{unanswered_later}
 use Rattle.nvmexplore.proofs.ProgramLemmas.{same_inputs}
 
 -- what came in the way, as a cause of the call's end
@@ -42,16 +45,16 @@ caused_unread (endings.Image offset) taken old new cause = cause
 caused_unread (endings.Layout place) taken old new cause = cause
 caused_unread (endings.Meta line) taken old new cause = cause
 caused_unread endings.Write taken old new cause = absurd cause
-caused_unread endings.Device taken old new cause = tt
+caused_unread endings.Device taken old new cause = absurd cause
 
 caused_untaken : (fault : ScriptFault) (text : List ℕ) (old new : World) → IsAtEnd new.left → ReadsScript (script_of text) (Err fault) → IsCaused (of_script fault) text old new
 caused_untaken (script.Line n) text old new ended is = (ended, is)
 caused_untaken script.Memory text old new ended is = tt
 
-caused_unanswered : (stop : Stop) (text : List ℕ) (old new : World) → IsUnanswered stop old.writes new.writes → IsCaused stop text old new
+caused_unanswered : (stop : Stop) (text : List ℕ) (old new : World) → IsUnanswered stop old.writes new.writes old.device.panel new.device.panel → IsCaused stop text old new
 caused_unanswered (stops.Early endings.Write) text old new cause = cause
 caused_unanswered (stops.Early endings.Memory) text old new cause = tt
-caused_unanswered (stops.Early endings.Device) text old new cause = tt
+caused_unanswered (stops.Early endings.Device) text old new cause = cause
 caused_unanswered (stops.Early endings.Read) text old new cause = absurd cause
 caused_unanswered (stops.Early endings.Script) text old new cause = absurd cause
 caused_unanswered (stops.Early endings.Usage) text old new cause = cause
@@ -89,8 +92,8 @@ module _ (name : List ℕ) (lines : List LineState) (old new : World) (there : I
     images = images;
   }
 
-  module _ (text : List ℕ) (e : Exploration) (taken : IsTaken text e old new) (theorems : AreTheorems (opened lines) (map asks_for e.program)) where
-    outcome_taken : (result : Result Bool Stop) → AnswersAll (found_at (opened lines) (map asks_for e.program)) e.questions result old.written new.written old.writes new.writes → Outcome name result old new
+  module _ (text : List ℕ) (e : Exploration) (taken : IsTaken text e old new) (theorems : AreTheorems (opened lines) (map asks_for e.program)) (started : Panel) (fell : NoneFell old.device.panel started) where
+    outcome_taken : (result : Result Bool Stop) → AnswersAll (found_at (opened lines) (map asks_for e.program)) e.questions result old.written new.written old.writes new.writes started new.device.panel → Outcome name result old new
     outcome_taken (Ok may) told = record {
       lines = lines;
       there = there;
@@ -109,25 +112,25 @@ module _ (name : List ℕ) (lines : List LineState) (old new : World) (there : I
       right = right;
       script = text;
       read = taken.read;
-      cause = caused_unanswered stop text old new told.0;
+      cause = caused_unanswered stop text old new (unanswered_later stop old.writes new.writes old.device.panel started new.device.panel fell told.0);
       wrote = inr (e, taken, told.1);
       images = images;
     })
 
   -- the script was read and taken
-  pub outcome_read : (text : List ℕ) (x : Read) (result : Result Bool Stop) → Consumes old.left new.left text → IsAtEnd new.left → length text < most → ReadsScript (script_of text) (Ok x)
+  pub outcome_read : (text : List ℕ) (x : Read) (result : Result Bool Stop) (started : Panel) → NoneFell old.device.panel started → Consumes old.left new.left text → IsAtEnd new.left → length text < most → ReadsScript (script_of text) (Ok x)
       → IsProgram (inputs_of_lines x.program.items)
       → ((e : Exploration) → script_of text ≡ Taken e → IsProgram (map asks_for e.program) → AreTheorems (opened lines) (map asks_for e.program))
       → ((looks : List (List Seen)) → AskOf looks x.questions.items
-      → AnswersAll (found_at (opened lines) (inputs_of_lines x.program.items)) looks result old.written new.written old.writes new.writes)
+      → AnswersAll (found_at (opened lines) (inputs_of_lines x.program.items)) looks result old.written new.written old.writes new.writes started new.device.panel)
       → Outcome name result old new
-  outcome_read text x result read ended short is program theorems tells = by_script (script_of text) refl is
+  outcome_read text x result started fell read ended short is program theorems tells = by_script (script_of text) refl is
     where
       by_script : (s : Script) → script_of text ≡ s → Holds s x → Outcome name result old new
       by_script (Taken e) told holds =
           let same : inputs_of_lines x.program.items ≡ map asks_for e.program = same_inputs x.program.items e.program holds.0 in
-          outcome_taken text e (record { read = read; ended = ended; short = short; is = told }) (theorems e told (subst IsProgram same program)) result
-          (subst (λ (inputs : List Input). AnswersAll (found_at (opened lines) inputs) e.questions result old.written new.written old.writes new.writes) same (tells e.questions holds.1))
+          outcome_taken text e (record { read = read; ended = ended; short = short; is = told }) (theorems e told (subst IsProgram same program)) started fell result
+          (subst (λ (inputs : List Input). AnswersAll (found_at (opened lines) inputs) e.questions result old.written new.written old.writes new.writes started new.device.panel) same (tells e.questions holds.1))
       by_script (StopsAt n) told holds = absurd holds
 
 -- words of which there is one name it

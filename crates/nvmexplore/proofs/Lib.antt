@@ -2,5 +2,6 @@ mod ReadingLemmas
 mod ProgramLemmas
 mod FoundLemmas
 mod BeginLemmas
+mod CauseLemmas
 mod AnswerLemmas
 mod CallLemmas

@@ -7,6 +7,7 @@ use Rattle.nvm_base.specs.Stock.{Stock}
 use Rattle.host_io.specs.Images.{KeepsHeld}
 use Rattle.image_file.specs.Devices.{medium_of}
 use Rattle.image_file.specs.Text.{IsOfBytes, IsSnapshot}
+use Rattle.line_device.specs.Panel.{Panel}
 use Rattle.line_device.specs.declared.line.LineState.{LineState}
 use Rattle.machine_host.specs.Machine.{Machine}
 use Rattle.recovery.specs.Findings.{first_finding}
@@ -18,7 +19,7 @@ use Rattle.exploration.specs.Exploration.{Exploration, script_of}
 use Rattle.exploration.specs.Exploration.Script.{StopsAt, Taken}
 use Rattle.explorer.specs.Places.{found_at}
 use Rattle.explorer.specs.declared.place.CutPlace.{CutPlace}
-use Rattle.program_base.specs.Opening.{CountsOpening, FailsToOpen, IsHeld, opened, snapshot}
+use Rattle.program_base.specs.Opening.{CountsOpening, DeviceFailed, FailsToOpen, IsHeld, opened, snapshot}
 use Rattle.program_base.specs.World.{World}
 use Rattle.program_base.specs.Writing.{WritesFront, WritesLine}
 use Rattle.program_base.specs.declared.ending.Ending.{Ending}
@@ -61,24 +62,24 @@ ReadsAll (Err ending) left_old left_new count_old count_new =
     (taken : List ℕ) × Consumes left_old left_new taken × IsUnread ending left_old count_old count_new
 
 -- why some questions were not answered, once they were read
-abbrev pub IsUnanswered : Stop → ℕ → ℕ → Type 0
-IsUnanswered (stops.Early endings.Write) count_old count_new = Rose count_old count_new
-IsUnanswered (stops.Early endings.Memory) count_old count_new = Unit {0}
-IsUnanswered (stops.Early endings.Device) count_old count_new = Unit {0}
-IsUnanswered (stops.Early endings.Read) count_old count_new = ⊥
-IsUnanswered (stops.Early endings.Script) count_old count_new = ⊥
-IsUnanswered (stops.Early endings.Usage) count_old count_new = ⊥
-IsUnanswered (stops.Early (endings.Image offset)) count_old count_new = ⊥
-IsUnanswered (stops.Early (endings.Layout place)) count_old count_new = ⊥
-IsUnanswered (stops.Early (endings.Meta line)) count_old count_new = ⊥
-IsUnanswered (stops.Script n) count_old count_new = ⊥
-IsUnanswered stops.Usage count_old count_new = ⊥
+abbrev pub IsUnanswered : Stop → ℕ → ℕ → Panel → Panel → Type 0
+IsUnanswered (stops.Early endings.Write) count_old count_new old new = Rose count_old count_new
+IsUnanswered (stops.Early endings.Memory) count_old count_new old new = Unit {0}
+IsUnanswered (stops.Early endings.Device) count_old count_new old new = DeviceFailed old new
+IsUnanswered (stops.Early endings.Read) count_old count_new old new = ⊥
+IsUnanswered (stops.Early endings.Script) count_old count_new old new = ⊥
+IsUnanswered (stops.Early endings.Usage) count_old count_new old new = ⊥
+IsUnanswered (stops.Early (endings.Image offset)) count_old count_new old new = ⊥
+IsUnanswered (stops.Early (endings.Layout place)) count_old count_new old new = ⊥
+IsUnanswered (stops.Early (endings.Meta line)) count_old count_new old new = ⊥
+IsUnanswered (stops.Script n) count_old count_new old new = ⊥
+IsUnanswered stops.Usage count_old count_new old new = ⊥
 
 -- All questions were answered, each as this tells of its look; or the first ones, and then came that.
-abbrev pub AnswersAll : (List Seen → Option CutPlace) → List (List Seen) → Result Bool Stop → Option (List ℕ) → Option (List ℕ) → ℕ → ℕ → Type 0
-AnswersAll tell looks result old new count_old count_new = MatchResult result
+abbrev pub AnswersAll : (List Seen → Option CutPlace) → List (List Seen) → Result Bool Stop → Option (List ℕ) → Option (List ℕ) → ℕ → ℕ → Panel → Panel → Type 0
+AnswersAll tell looks result old new count_old count_new device_old device_new = MatchResult result
     (λ may. (may ≡ is_any_found (map tell looks)) × Appends old new (answers_text (map tell looks)))
-    (λ stop. IsUnanswered stop count_old count_new × WritesFront (answers_text (map tell looks)) old new)
+    (λ stop. IsUnanswered stop count_old count_new device_old device_new × WritesFront (answers_text (map tell looks)) old new)
 
 -- Each answer is a theorem: where it is never, no run of the machine from that state finds what was asked, and else some run does.
 pub record AreTheorems (h : Machine) (program : List Input) : Type 0 where
@@ -117,7 +118,7 @@ IsCaused (stops.Early endings.Read) script old new = Rose old.reads new.reads
 IsCaused (stops.Early endings.Script) script old new = IfSome old.left (λ left. most ≤ length left)
 IsCaused (stops.Early endings.Write) script old new = Rose old.writes new.writes
 IsCaused (stops.Early endings.Memory) script old new = Unit {0}
-IsCaused (stops.Early endings.Device) script old new = Unit {0}
+IsCaused (stops.Early endings.Device) script old new = DeviceFailed old.device.panel new.device.panel
 IsCaused (stops.Early endings.Usage) script old new = ⊥
 IsCaused (stops.Early (endings.Image offset)) script old new = ⊥
 IsCaused (stops.Early (endings.Layout place)) script old new = ⊥

@@ -31,7 +31,7 @@ pub fn answer_all<D: LineDevice, K: Sink>(
     requires bounded { All IsBounded exploration.now.program.items }
     ensures { (looks : List (List Seen)) → AskOf looks exploration.now.questions.items
         → AnswersAll (found_at (opened image.now.lines.items) (inputs_of_lines exploration.now.program.items)) looks result
-        (K.written answers.old) (K.written answers.new) (K.count answers.old) (K.count answers.new) }
+        (K.written answers.old) (K.written answers.new) (K.count answers.old) (K.count answers.new) (D.state device.old).panel (D.state device.new).panel }
 {
     let mut may = false;
     for question in exploration.questions.iter() {

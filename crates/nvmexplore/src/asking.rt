@@ -1,10 +1,11 @@
 // One question, on a device made anew of the image.
-ghost use Rattle.std.specs.Prelude.{◌≡◌, ℕ, All, IfErr, IfOk, List};
+ghost use Rattle.std.specs.Prelude.{◌≡◌, ℕ, All, IfErr, IfOk, List, OnOk};
 ghost use Rattle.outcomes.specs.Seen.{Seen};
 ghost use Rattle.outcomes.specs.Stops.{IsProgram};
 ghost use Rattle.asked_reads.specs.Asking.{IsLook};
 ghost use Rattle.asked_reads.specs.Program.{IsBounded, inputs_of_lines};
 ghost use Rattle.explorer.specs.Places.{found_at};
+ghost use Rattle.explorer.specs.Stopping.{NoneFell};
 ghost use Rattle.program_base.specs.Opening.{opened};
 ghost use Rattle.nvmexplore.specs.Calls.{AreMountable, IsUnanswered};
 
@@ -31,7 +32,8 @@ pub fn find<D: LineDevice>(
     requires bounded { All IsBounded program.now }
     ensures found { (look : List Seen) → IsLook look question.now
         → IfOk result (λ found. found ≡ found_at (opened image.now.lines.items) (inputs_of_lines program.now) look) }
-    ensures cause { (counted counts : ℕ) → IfErr result (λ stop. IsUnanswered stop counted counts) }
+    ensures cause { (counted counts : ℕ) → IfErr result (λ stop. IsUnanswered stop counted counts (D.state device.old).panel (D.state device.new).panel) }
+    ensures counts { OnOk result (NoneFell (D.state device.old).panel (D.state device.new).panel) }
 {
     // What the question before armed is not armed in this one's run.
     device.disarm();

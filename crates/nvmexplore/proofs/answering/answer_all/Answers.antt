@@ -8,14 +8,14 @@ use Rattle.nvmexplore.proofs.answering.answer_all.Goals.{then-may, else-may}
 use Rattle.nvmexplore.proofs.answering.answer_all.Goals as goal
 
 pub loop-question-init : goal.loop-question-init
-loop-question-init g c = record { later = omega arith; answered = λ looks ask. answered_none _ looks (g.K.Sink.written c.args.answers.now) }
+loop-question-init g c = record { later = omega arith; device = record { setups = omega arith; faults = omega arith; cuts = omega arith }; answered = λ looks ask. answered_none _ looks (g.K.Sink.written c.args.answers.now) }
 
 pub returns-in_err-found : goal.returns-in_err-found
 returns-in_err-found g c looks ask =
     let p = err_from_is_err_and c.from_residual.result c.from_residual.ensures.1 in
     let at = subst (λ questions. slice_get questions c.loop-question.question-index ≡ Some c.question-item.result) c.deref-question-items.ensures.value
     (asked_at c.deref-question-items.result.now c.loop-question.question-index c.question-item.result c.loop-question-test.true c.question-item.is) in
-    rw (p.1, p.2) (goes_unfound _ c.args.exploration.now.questions.items c.loop-question.question-index c.question-item.result c.loop-question.may _ _ (g.K.Sink.written c.loop-question.answers) _ _ (g.K.Sink.count c.loop-question.answers) at
+    rw (p.1, p.2) (goes_unfound _ c.args.exploration.now.questions.items c.loop-question.question-index c.question-item.result c.loop-question.may _ _ (g.K.Sink.written c.loop-question.answers) _ _ (g.K.Sink.count c.loop-question.answers) _ _ (g.D.Lines.state c.find.new.device).panel at
     c.loop-question.invariant c.in_err-found.field-0.0 c.in_err-found.ensures.cause looks ask)
 
 pub returns-in_err-tell : goal.returns-in_err-tell
@@ -23,7 +23,7 @@ returns-in_err-tell g c looks ask =
     let p = err_from_is_err_and c.from_residual-in_err-tell.result c.from_residual-in_err-tell.ensures.1 in
     let at = subst (λ questions. slice_get questions c.loop-question.question-index ≡ Some c.question-item.result) c.deref-question-items.ensures.value
     (asked_at c.deref-question-items.result.now c.loop-question.question-index c.question-item.result c.loop-question-test.true c.question-item.is) in
-    rw (p.1, p.2) (goes_untold _ c.args.exploration.now.questions.items c.loop-question.question-index c.question-item.result c.loop-question.may _ _ _ _ _ _ at
+    rw (p.1, p.2) (goes_untold _ c.args.exploration.now.questions.items c.loop-question.question-index c.question-item.result c.loop-question.may _ _ _ _ _ _ _ _ (g.D.Lines.state c.find.new.device).panel at
     c.loop-question.invariant c.in_err-tell.field-0.0 c.in_ok-found.found c.answer_line.result c.tell.result
     (λ look is. subst (λ program. c.in_ok-found.found ≡ found_at (opened c.args.image.now.lines.items) (inputs_of_lines program) look) c.deref.ensures.value (c.in_ok-found.ensures.found look is))
     c.answer_line.ensures c.tell.ensures.bytes c.in_err-tell.ensures.cause looks ask)
@@ -36,10 +36,10 @@ loop-question-preserved g c =
       | then-may w ↦ w.may-is ∙ w.if-may.true ∙ sym (ap (λ b. b || is_some c.in_ok-found.found) w.if-may.true)
       | else-may w ↦ w.may-is ∙ w.is_some-may.ensures ∙ sym (ap (λ b. b || is_some c.in_ok-found.found) w.if-may.false)
     ] in
-    goes_more _ c.args.exploration.now.questions.items c.loop-question.question-index c.question-item.result c.loop-question.may _ _ _ _ _ _ at
+    goes_more _ c.args.exploration.now.questions.items c.loop-question.question-index c.question-item.result c.loop-question.may _ _ _ _ _ _ _ _ (g.D.Lines.state c.find.new.device).panel at
     c.loop-question.invariant c.in_ok-found.found c.if-may.may c.answer_line.result c.tell.result c.in_ok-tell.field-0
     (λ look is. subst (λ program. c.in_ok-found.found ≡ found_at (opened c.args.image.now.lines.items) (inputs_of_lines program) look) c.deref.ensures.value (c.in_ok-found.ensures.found look is))
-    c.answer_line.ensures c.tell.ensures.bytes c.in_ok-tell.was c.tell.ensures.later says
+    c.in_ok-found.ensures.counts c.answer_line.ensures c.tell.ensures.bytes c.in_ok-tell.was c.tell.ensures.later says
 
 pub returns : goal.returns
-returns g c looks ask = goes_through _ c.args.exploration.now.questions.items c.loop-question.question-index c.loop-question.may _ _ _ _ (omega (arith, c.loop-question-test.false, c.deref-question-items.ensures.len)) c.loop-question.invariant looks ask
+returns g c looks ask = goes_through _ c.args.exploration.now.questions.items c.loop-question.question-index c.loop-question.may _ _ _ _ _ _ (omega (arith, c.loop-question-test.false, c.deref-question-items.ensures.len)) c.loop-question.invariant looks ask

@@ -33,6 +33,8 @@ returns g c =
     let text = c.in_ok-text.ensures in
     let lines = c.in_ok-image.image.lines.items in
     let right = c.in_ok-start.ensures.mounts.right in
-    outcome_read c.args.name.now lines old new fetched.there right (record { held = fetched.held; counts = fetched.counts }) c.in_ok-text.text.items c.in_ok-exploration.exploration c.answer_all.result text.0 text.1 text.2
+    let opens = c.in_ok-start.ensures.opens in
+    outcome_read c.args.name.now lines old new fetched.there right (record { held = fetched.held; counts = fetched.counts }) c.in_ok-text.text.items c.in_ok-exploration.exploration c.answer_all.result
+    (g.D.Lines.state c.start.new.device).panel (record { setups = opens.setups; faults = opens.faults; cuts = opens.cuts }) text.0 text.1 text.2
     (subst (λ script. ReadsScript (script_of script) (Ok c.in_ok-exploration.exploration)) c.as_slice.ensures c.in_ok-exploration.ensures.script)
     c.in_ok-exploration.ensures.program (λ e is program. c.answers_are_theorems.ensures lines c.in_ok-text.text.items e right is program) c.answer_all.ensures
