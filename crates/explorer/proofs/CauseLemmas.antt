@@ -26,13 +26,11 @@ use Rattle.explorer.specs.Stopping.{DeviceStopped, NoneFell}
 use Rattle.explorer.proofs.ComesLemmas.{CameTo, came_to, done, refused, stopped, was_stopped}
 use Rattle.explorer.proofs.StepLemmas.{cut_in_allowed}
 
--- one more than less is one more still
+-- what rose above a later count rose above the earlier one
 rose_later : (a b c : ℕ) → a ≤ b → Rose b c → Rose a c
 rose_later a b c later rose = omega arith
 
-pub none_fell : (p : Panel) → NoneFell p p
-none_fell p = record { faults = omega arith; cuts = omega arith }
-
+-- of two calls, one after the other
 module _ (a b c : Panel) (before : NoneFell a b) where
   pub fell_later : NoneFell b c → NoneFell a c
   fell_later after =
@@ -46,7 +44,7 @@ module _ (a b c : Panel) (before : NoneFell a b) where
   stopped_later (inl faults) = inl (rose_later a.counts.faults b.counts.faults c.counts.faults before.faults faults)
   stopped_later (inr cuts) = inr (rose_later a.counts.cuts b.counts.cuts c.counts.cuts before.cuts cuts)
 
--- what stopped nothing is no interruption
+-- an answer of what was not stopped tells no interruption
 ran : (answer : Answer) → came_of answer ≢ Stopped → stop_in answer ≡ None
 ran DeviceFailed some = absurd (some refl)
 ran PowerLost some = absurd (some refl)
@@ -89,6 +87,7 @@ module _ (host : HostState) (h : Machine) (action : Action) (answer : Answer) (o
       by_case (done is allowed same) = absurd (some is)
       by_case (stopped by is) = by_answer by is
 
+-- what is not done
 undone : (came : Came) → (came ≡ Refused) ⊎ (came ≡ Stopped) → came ≢ Done
 undone came (inl is) = λ e. cc (sym is ∙ e)
 undone came (inr is) = λ e. cc (sym is ∙ e)
@@ -99,27 +98,28 @@ pub unarmed : (host : HostState) (h : Machine) (calls : ℕ) (answer : Answer) (
 unarmed host h calls answer old new comes some came told other =
     cut_off_unless_done host h (CutIn calls) answer old new comes refl (cut_in_allowed h calls some) (λ is. undone came other (told ∙ is))
 
--- of a call that only memory fails
-pub only_memory : {A : Type 0} (P : Type 0) (result : Result A ExploreFault) → IfErr result (λ fault. fault ≡ Memory) → IfErr result (λ fault. fault ≡ FromDevice → P)
-only_memory P (Ok found) memory = tt
-only_memory P (Err fault) memory = λ is. cc (sym is ∙ memory)
-
+-- what holds anyhow
 pub always : {A E P : Type 0} (result : Result A E) → P → OnOk result P
 always (Ok found) is = is
 always (Err fault) is = tt
 
--- where the device stopped it in any case
+-- the cause of an error: where only memory was wanting
+pub only_memory : {A : Type 0} (P : Type 0) (result : Result A ExploreFault) → IfErr result (λ fault. fault ≡ Memory) → IfErr result (λ fault. fault ≡ FromDevice → P)
+only_memory P (Ok found) memory = tt
+only_memory P (Err fault) memory = λ is. cc (sym is ∙ memory)
+
+-- where the device stopped it
 pub stopped_so : {A : Type 0} (P : Type 0) (result : Result A ExploreFault) → P → IfErr result (λ fault. fault ≡ FromDevice → P)
 stopped_so P (Ok found) is = tt
 stopped_so P (Err fault) is = λ told. is
 
--- of a call whose error is handed on
+-- where the error of a call is handed on
 pub handed_on : {A : Type 0} (P : Type 0) (fault : ExploreFault) (result : Result A ExploreFault) → IsErrAnd result (λ e. e ≡ fault) → (fault ≡ FromDevice → P)
     → IfErr result (λ fault. fault ≡ FromDevice → P)
 handed_on P fault (Ok found) is cause = tt
 handed_on P fault (Err e) is cause = λ told. cause (sym is ∙ told)
 
--- of a call behind one that stopped nothing
+-- and where the call came behind others
 pub caused_later : {A : Type 0} (result : Result A ExploreFault) (a b c : Panel) → NoneFell a b → IfErr result (λ fault. fault ≡ FromDevice → DeviceStopped b c)
     → IfErr result (λ fault. fault ≡ FromDevice → DeviceStopped a c)
 caused_later (Ok found) a b c before cause = tt

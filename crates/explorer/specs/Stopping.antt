@@ -14,7 +14,7 @@ pub record NoneFell (old new : Panel) : Type 0 where
   pub faults : old.counts.faults ≤ new.counts.faults
   pub cuts : old.counts.cuts ≤ new.counts.cuts
 
--- an answer of which a block isn't known
+-- an answer that doesn't tell of a block
 pub record TellsNoBlock (answer : Answer) : Type 0 where
   pub bytes : (bytes : List ℕ) → answer ≢ Bytes bytes
   pub scarred : (b : ℕ) → answer ≢ Scarred b
