@@ -34,11 +34,13 @@ rose_later a b c later rose = omega arith
 module _ (a b c : Panel) (before : NoneFell a b) where
   pub fell_later : NoneFell b c → NoneFell a c
   fell_later after =
+      let setups : a.counts.setups ≤ b.counts.setups = before.setups in
+      let more_setups : b.counts.setups ≤ c.counts.setups = after.setups in
       let faults : a.counts.faults ≤ b.counts.faults = before.faults in
       let cuts : a.counts.cuts ≤ b.counts.cuts = before.cuts in
       let more_faults : b.counts.faults ≤ c.counts.faults = after.faults in
       let more_cuts : b.counts.cuts ≤ c.counts.cuts = after.cuts in
-      record { faults = omega arith; cuts = omega arith }
+      record { setups = omega arith; faults = omega arith; cuts = omega arith }
 
   pub stopped_later : DeviceStopped b c → DeviceStopped a c
   stopped_later (inl faults) = inl (rose_later a.counts.faults b.counts.faults c.counts.faults before.faults faults)
@@ -59,6 +61,7 @@ module _ (said : Transcript) (old new : Panel) (answer : Answer) (tells : Tells 
 
   told_none : stop_in answer ≡ None → NoneFell old new
   told_none none = record {
+    setups = tells.setups;
     faults = subst (λ by. faults_after by old.counts.faults ≤ new.counts.faults) none
         (subst (λ answers. counted_by faults_after answers old.counts.faults ≤ new.counts.faults) is tells.faults);
     cuts = subst (λ by. cuts_after by old.counts.cuts ≤ new.counts.cuts) none
@@ -124,3 +127,10 @@ pub caused_later : {A : Type 0} (result : Result A ExploreFault) (a b c : Panel)
     → IfErr result (λ fault. fault ≡ FromDevice → DeviceStopped a c)
 caused_later (Ok found) a b c before cause = tt
 caused_later (Err fault) a b c before cause = λ is. stopped_later a b c before (cause is)
+
+pub none_fell : (p : Panel) → NoneFell p p
+none_fell p = record { setups = omega arith; faults = omega arith; cuts = omega arith }
+
+pub fell_behind : {A : Type 0} (result : Result A ExploreFault) (a b c : Panel) → NoneFell a b → OnOk result (NoneFell b c) → OnOk result (NoneFell a c)
+fell_behind (Ok found) a b c before after = fell_later a b c before after
+fell_behind (Err fault) a b c before after = tt

@@ -9,8 +9,9 @@ use Rattle.reply_text.specs.Answer.Answer.{Bytes, PoisonBlock, Scarred}
 abbrev pub DeviceStopped : Panel → Panel → Type 0
 DeviceStopped old new = Rose old.counts.faults new.counts.faults ⊎ Rose old.counts.cuts new.counts.cuts
 
--- neither count fell
+-- none of the counts of what fails fell, that of set-ups among them
 pub record NoneFell (old new : Panel) : Type 0 where
+  pub setups : old.counts.setups ≤ new.counts.setups
   pub faults : old.counts.faults ≤ new.counts.faults
   pub cuts : old.counts.cuts ≤ new.counts.cuts
 

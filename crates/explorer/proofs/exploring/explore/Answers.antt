@@ -9,7 +9,7 @@ use Rattle.asked_reads.specs.Reads.{blocks_asked, pages_asked}
 use Rattle.asked_reads.specs.Program.{inputs_of_lines}
 use Rattle.explorer.specs.Stopping.{DeviceStopped}
 use Rattle.explorer.proofs.BeginLemmas.{blocks_within, found_nowhere, lines_within}
-use Rattle.explorer.proofs.CauseLemmas.{caused_later, fell_later, handed_on, stopped_later}
+use Rattle.explorer.proofs.CauseLemmas.{caused_later, fell_behind, fell_later, handed_on, none_fell, stopped_later}
 use Rattle.explorer.proofs.StepLemmas.{ready_armed}
 use Rattle.explorer.proofs.exploring.explore.Goals as goal
 
@@ -94,3 +94,14 @@ returns-clause-cause g c = λ h stands begins.
     let mid = (g.D.Lines.state c.arm.new.device).panel in
     let fell = fell_later old (g.D.Lines.state c.look_lines.new.device).panel seen c.in_ok-look_lines.ensures.counts c.in_ok-look_blocks.ensures.counts in
     caused_later c.follow.result old mid (g.D.Lines.state c.follow.new.device).panel (fell_later old seen mid fell c.in_ok-arm.ensures.counts) c.follow.ensures.cause
+
+pub returns-then-not-may_be_replies-clause-counts : goal.returns-then-not-may_be_replies-clause-counts
+returns-then-not-may_be_replies-clause-counts g c = none_fell (g.D.Lines.state c.args.device.now).panel
+
+pub returns-clause-counts : goal.returns-clause-counts
+returns-clause-counts g c =
+    let old = (g.D.Lines.state c.args.device.now).panel in
+    let seen = (g.D.Lines.state c.look_blocks.new.device).panel in
+    let mid = (g.D.Lines.state c.arm.new.device).panel in
+    let fell = fell_later old (g.D.Lines.state c.look_lines.new.device).panel seen c.in_ok-look_lines.ensures.counts c.in_ok-look_blocks.ensures.counts in
+    fell_behind c.follow.result old mid (g.D.Lines.state c.follow.new.device).panel (fell_later old seen mid fell c.in_ok-arm.ensures.counts) c.follow.ensures.counts

@@ -1,6 +1,6 @@
 use Rattle.std.proofs.Common.{◌+◌, ap, sym, ◌∙◌}
 use Rattle.explorer.specs.Stopping.{DeviceStopped}
-use Rattle.explorer.proofs.CauseLemmas.{handed_on, stopped_later}
+use Rattle.explorer.proofs.CauseLemmas.{fell_later, handed_on, stopped_later}
 use Rattle.explorer.proofs.GoingLemmas.{at_end, found_first, goes_at, goes_past, goes_unless_found, program_at}
 use Rattle.explorer.proofs.exploring.follow.Goals.{in-Some+in_ok-found+else-is_some, in_default}
 use Rattle.explorer.proofs.exploring.follow.Goals as goal
@@ -46,3 +46,13 @@ returns-in_err-found-clause-cause g c =
     let new = (g.D.Lines.state c.step.new.device).panel in
     handed_on (DeviceStopped old new) c.in_err-found.field-0.0 c.from_residual.result c.from_residual.ensures.1
     (λ is. stopped_later old (g.D.Lines.state c.loop-i.device).panel new c.loop-i.invariant.counts (c.in_err-found.ensures.cause is))
+
+pub returns-then-is_some-clause-counts : goal.returns-then-is_some-clause-counts
+returns-then-is_some-clause-counts g c =
+    fell_later (g.D.Lines.state c.args.device.now).panel (g.D.Lines.state c.loop-i.device).panel (g.D.Lines.state c.step.new.device).panel c.loop-i.invariant.counts c.in_ok-found.ensures.counts
+
+pub returns-then-shows-clause-counts : goal.returns-then-shows-clause-counts
+returns-then-shows-clause-counts g c = c.loop-i.invariant.counts
+
+pub returns-clause-counts : goal.returns-clause-counts
+returns-clause-counts g c = c.loop-i.invariant.counts
