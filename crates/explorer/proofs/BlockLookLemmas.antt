@@ -128,7 +128,7 @@ stays h b host answer old new comes some = by_case (came_to host h (BRead b 1) a
     by_case : CameTo h (BRead b 1) answer comes.next → comes.next ≡ h
     by_case (refused is why same) = same
     by_case (done is allowed same) = same
-    by_case (stopped is) = absurd (some is)
+    by_case (stopped by is) = absurd (some (ap came_of is ∙ stop_came by))
 
 -- so host and device stand for it again
 pub stands_again : (h : Machine) (b : ℕ) (host : HostState) (answer : Answer) (old new : Device) → Comes h (BRead b 1) (fate h (BRead b 1)) answer host old new

@@ -190,7 +190,7 @@ module _ (h : Machine) where
 pub data CameTo (h : Machine) (action : Action) (answer : Answer) (next : Machine) : Type 0 where
   refused : came_of answer ≡ Refused → refusal h action ≡ Some answer → next ≡ h → CameTo h action answer next
   done : came_of answer ≡ Done → refusal h action ≡ None → next ≡ led_to h ((meaning action).comes h) → CameTo h action answer next
-  stopped : came_of answer ≡ Stopped → CameTo h action answer next
+  stopped : (by : Interruption) → answer ≡ interrupted_answer by → CameTo h action answer next
 
 same_answer : (a b : Answer) → a ∷ [] ≡ b ∷ [] → a ≡ b
 same_answer a b is = cc is
@@ -212,7 +212,7 @@ came_to host h action answer old new program comes = by_refusal (refusal h actio
 
         by_end : Ends good to (while_interrupted h action) took.0 comes.next → CameTo h action answer comes.next
         by_end (inl end) = done (ap came_of (given ∙ end.0) ∙ answers) allowed (end.1 ∙ sym (ap (led_to h) is))
-        by_end (inr end) = stopped (ap came_of (given ∙ end.1) ∙ stop_came end.0)
+        by_end (inr end) = stopped end.0 (given ∙ end.1)
     by_fate (Orders order to) is allowed answers took =
         done (ap came_of (told Right (ap (λ (t : Transcript). t.answers) took.0))) allowed (took.1 ∙ sym (ap (led_to h) is))
     by_fate (Cuts to) is allowed answers took = absurd answers
@@ -229,10 +229,16 @@ pub was_done : (h : Machine) (action : Action) (answer : Answer) (next : Machine
     → (refusal h action ≡ None) × (next ≡ led_to h ((meaning action).comes h))
 was_done h action answer next (refused is why same) told = cc (told ∙ is)
 was_done h action answer next (done is allowed same) told = (allowed, same)
-was_done h action answer next (stopped is) told = cc (told ∙ is)
+was_done h action answer next (stopped by is) told = cc (told ∙ ap came_of is ∙ stop_came by)
 
 pub was_refused : (h : Machine) (action : Action) (answer : Answer) (next : Machine) → CameTo h action answer next → Refused ≡ came_of answer
     → (refusal h action ≡ Some answer) × (next ≡ h)
 was_refused h action answer next (refused is why same) told = (why, same)
 was_refused h action answer next (done is allowed same) told = cc (told ∙ is)
-was_refused h action answer next (stopped is) told = cc (told ∙ is)
+was_refused h action answer next (stopped by is) told = cc (told ∙ ap came_of is ∙ stop_came by)
+
+pub was_stopped : (h : Machine) (action : Action) (answer : Answer) (next : Machine) → CameTo h action answer next → Stopped ≡ came_of answer
+    → (by : Interruption) × (answer ≡ interrupted_answer by)
+was_stopped h action answer next (refused is why same) told = cc (told ∙ is)
+was_stopped h action answer next (done is allowed same) told = cc (told ∙ is)
+was_stopped h action answer next (stopped by is) told = (by, is)

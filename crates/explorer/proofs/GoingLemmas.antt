@@ -20,16 +20,19 @@ use Rattle.asked_reads.specs.Program.{inputs_of_lines}
 use Rattle.explorer.specs.Exploring.{Explores, Follows, IsWhole, IsWithin, command_stops}
 use Rattle.explorer.specs.Places.{cut_places, first_place}
 use Rattle.explorer.specs.Sights.{shows}
+use Rattle.explorer.specs.Stopping.{NoneFell}
+use Rattle.explorer.proofs.CauseLemmas.{fell_later}
 use Rattle.explorer.proofs.MayShowLemmas.{shows_now}
 use Rattle.explorer.proofs.StepLemmas.{replies_at}
 use Rattle.explorer.proofs.StopLemmas.{none_before, some_before}
 
--- The lines before this one show nothing, and what is behind them tells what all do.
+-- The lines before this one show nothing, and what is behind them tells what all do; the device stopped none.
 pub record Goes (program : List (Option Command)) (q : Question) (began : Sight) (first : HostState) (begun : Device) (i : ℕ) (now : Sight) (host : HostState) (d : Device) : Type 0 where
   pub known : GoesOn host d
   pub geometry : host.geometry ≡ first.geometry
   pub whole : IsWhole now q
   pub within : IsWithin now host.geometry
+  pub counts : NoneFell begun.panel d.panel
   pub comes : (h : Machine) (look : List Seen) → Follows began first begun h → IsLook look q
       → (to : Machine) × Follows now host d to
       × (first_place (may_show look) (cut_places 1 h (inputs_of_lines program)) ≡ first_place (may_show look) (cut_places (i + 1) to (inputs_of_lines (drop i program))))
@@ -74,6 +77,7 @@ module _ (program : List (Option Command)) (q : Question) (began : Sight) (first
     geometry = goes.geometry;
     whole = goes.whole;
     within = goes.within;
+    counts = goes.counts;
     comes = λ h look follows shown.
         let before = goes.comes h look follows shown in (
           before.0,
@@ -93,14 +97,15 @@ module _ (program : List (Option Command)) (q : Question) (began : Sight) (first
     parted look h = ap (λ lines. first_place (may_show look) (cut_places (i + 1) h (inputs_of_lines lines))) next
 
     -- a command after which nothing is found
-    pub goes_on : (after : Sight) (to : HostState) (new : Device) → GoesOn to new → to.geometry ≡ host.geometry → IsWhole after q → IsWithin after to.geometry
+    pub goes_on : (after : Sight) (to : HostState) (new : Device) → GoesOn to new → to.geometry ≡ host.geometry → IsWhole after q → IsWithin after to.geometry → NoneFell d.panel new.panel
         → ((h : Machine) (look : List Seen) → Follows now host d h → IsLook look q → Explores look after to new (command_stops (i + 1) h (action_of command)) (led_to h (fate h (action_of command))) None)
         → Goes program q began first begun (i + 1) after to new
-    goes_on after to new known geometry whole within explores = record {
+    goes_on after to new known geometry whole within counts explores = record {
       known = known;
       geometry = geometry ∙ goes.geometry;
       whole = whole;
       within = within;
+      counts = fell_later begun.panel d.panel new.panel goes.counts counts;
       comes = λ h look follows shown.
           let before = goes.comes h look follows shown in
           let state = before.0 in
@@ -133,11 +138,11 @@ module _ (program : List (Option Command)) (q : Question) (began : Sight) (first
         found_is_first h look place follows shown (λ state at. explores state look at shown)
 
     pub goes_unless_found : (after : Sight) (to : HostState) (new : Device) (found : Option CutPlace) → is_some found ≡ false → GoesOn to new → to.geometry ≡ host.geometry → IsWhole after q
-        → IsWithin after to.geometry
+        → IsWithin after to.geometry → NoneFell d.panel new.panel
         → ((h : Machine) (look : List Seen) → Follows now host d h → IsLook look q → Explores look after to new (command_stops (i + 1) h (action_of command)) (led_to h (fate h (action_of command))) found)
         → Goes program q began first begun (i + 1) after to new
-    goes_unless_found after to new found told known geometry whole within explores =
-        goes_on after to new known geometry whole within (λ h look follows shown. subst (Explores look after to new (command_stops (i + 1) h (action_of command)) (led_to h (fate h (action_of command))))
+    goes_unless_found after to new found told known geometry whole within counts explores =
+        goes_on after to new known geometry whole within counts (λ h look follows shown. subst (Explores look after to new (command_stops (i + 1) h (action_of command)) (led_to h (fate h (action_of command))))
         (none_is found told) (explores h look follows shown))
 
   -- behind the last line

@@ -16,3 +16,5 @@ pub mod GoingLemmas
 pub mod BlockLookLemmas
 pub mod LookLemmas
 pub mod BeginLemmas
+pub mod CauseLemmas
+pub mod UntoldLemmas

@@ -235,7 +235,7 @@ cut_in_told h calls o is = by_mode h.mode
     by_mode Unsettled = places
     by_mode Stopped = places
 
-cut_in_allowed : (h : Machine) (calls : ℕ) → calls ≢ 0 → refusal h (CutIn calls) ≡ None
+pub cut_in_allowed : (h : Machine) (calls : ℕ) → calls ≢ 0 → refusal h (CutIn calls) ≡ None
 cut_in_allowed h calls some = cut_in_told h calls None (ap (λ b. option_map Refused (if b then Some because.Range else None)) (ne_eqb calls 0 some))
 
 cut_in_refused : (h : Machine) (calls : ℕ) → calls ≡ 0 → refusal h (CutIn calls) ≡ Some (Refused because.Range)

@@ -7,4 +7,5 @@ pub mod Sights
 pub mod Coming
 pub mod Places
 pub mod Starting
+pub mod Stopping
 pub mod Exploring

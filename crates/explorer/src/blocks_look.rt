@@ -1,5 +1,5 @@
 // The blocks that a question's reads look at, as they are before the program.
-ghost use Rattle.std.specs.Prelude.{◌≡◌, ◌≢◌, ◌+◌, ◌<◌, ◌≤◌, ◌++◌, ℕ, true, List, IfOk, OnOk, length};
+ghost use Rattle.std.specs.Prelude.{◌≡◌, ◌≢◌, ◌+◌, ◌<◌, ◌≤◌, ◌++◌, ℕ, true, List, IfErr, IfOk, OnOk, length};
 ghost use Rattle.std.specs.List.{list_all, range_with_len};
 ghost use Rattle.nvm_model.specs.Blocks.{nth};
 ghost use Rattle.block_sights.specs.Sights.{sight};
@@ -14,6 +14,7 @@ ghost use Rattle.outcomes.specs.Finds.{IsReady};
 ghost use Rattle.asked_reads.specs.Reads.{block_read, block_reply, blocks_asked};
 ghost use Rattle.explorer.specs.Coming.{came_of};
 ghost use Rattle.explorer.specs.declared.came.Came.TheVariants.{Stopped};
+ghost use Rattle.explorer.specs.Stopping.{DeviceStopped, NoneFell, TellsNoBlock};
 ghost use Rattle.explorer.specs.Units.{AreBlocks, block_numbers};
 
 use crate::block_seen::BlockSeen;
@@ -43,6 +44,9 @@ pub fn look_blocks<D: LineDevice>(
         → IfOk result (λ blocks. AreBlocks (λ b. sight (nth h.blocks b)) blocks.items × Stands host.new (D.state device.new) h) }
     ensures geometry { OnOk result (host.new.geometry ≡ host.old.geometry) }
     ensures known { OnOk result (GoesOn host.new (D.state device.new)) }
+    ensures counts { OnOk result (NoneFell (D.state device.old).panel (D.state device.new).panel) }
+    ensures cause { (h : Machine) → Stands host.old (D.state device.old) h → IsReady h
+        → IfErr result (λ fault. fault ≡ ExploreFault.Device → DeviceStopped (D.state device.old).panel (D.state device.new).panel) }
 {
     let mut blocks = Vec::new(alloc);
     for read in reads {
@@ -70,6 +74,9 @@ fn look_read<D: LineDevice>(
         × Stands host.new (D.state device.new) h) }
     ensures geometry { OnOk result (host.new.geometry ≡ host.old.geometry) }
     ensures known { OnOk result (GoesOn host.new (D.state device.new)) }
+    ensures counts { OnOk result (NoneFell (D.state device.old).panel (D.state device.new).panel) }
+    ensures cause { (h : Machine) → Stands host.old (D.state device.old) h → IsReady h
+        → IfErr result (λ fault. fault ≡ ExploreFault.Device → DeviceStopped (D.state device.old).panel (D.state device.new).panel) }
 {
     let count = looked_at(read);
     for b in read.first..read.first + count {
@@ -105,6 +112,9 @@ fn look_block<D: LineDevice>(
         → IfOk result (λ found. (found.block ≡ sight (nth h.blocks b)) × Stands host.new (D.state device.new) h) }
     ensures geometry { OnOk result (host.new.geometry ≡ host.old.geometry) }
     ensures known { OnOk result (GoesOn host.new (D.state device.new)) }
+    ensures counts { OnOk result (NoneFell (D.state device.old).panel (D.state device.new).panel) }
+    ensures cause { (h : Machine) → Stands host.old (D.state device.old) h → IsReady h
+        → IfErr result (λ fault. fault ≡ ExploreFault.Device → DeviceStopped (D.state device.old).panel (D.state device.new).panel) }
 {
     let read = Command::BRead { block: b, count: 1 };
     let outcome = host.answer(device, &read, work)?;
@@ -121,6 +131,7 @@ fn block_told(alloc: Global, outcome: &Outcome, work: &[u8]) -> Result<HeldBlock
     ensures bad_line { (b line : ℕ) → outcome_answer work.now outcome.now ≡ PoisonBlock b line
         → IfOk result (λ block. block ≡ BadLine line) }
     ensures came { OnOk result (came_of (outcome_answer work.now outcome.now) ≢ Stopped) }
+    ensures none { IfErr result (λ fault. fault ≡ ExploreFault.Device → TellsNoBlock (outcome_answer work.now outcome.now)) }
 {
     match outcome {
         Outcome::Read(_) => Ok(HeldBlock::of_bytes(alloc, &work[..BLOCK as usize])?),

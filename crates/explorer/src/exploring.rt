@@ -1,5 +1,5 @@
 // A program is performed on a device, and what a question looks at is followed beside it, with all that a cut may leave.
-ghost use Rattle.std.specs.Prelude.{◌≡◌, ◌+◌, ◌<◌, ◌^◌, ℕ, true, All, IfOk, List, length};
+ghost use Rattle.std.specs.Prelude.{◌≡◌, ◌+◌, ◌<◌, ◌^◌, ℕ, true, All, IfErr, IfOk, List, OnOk, length};
 ghost use Rattle.machine_host.specs.Machine.{Machine};
 ghost use Rattle.machine_host.specs.Settling.{GoesOn};
 ghost use Rattle.machine_host.specs.Stands.{Stands};
@@ -11,6 +11,7 @@ ghost use Rattle.asked_reads.specs.Program.{IsBounded, inputs_of_lines};
 ghost use Rattle.explorer.specs.Exploring.{Follows, IsWhole, IsWithin};
 ghost use Rattle.explorer.specs.Places.{cut_places, first_place, found_at};
 ghost use Rattle.explorer.specs.Starting.{Begins};
+ghost use Rattle.explorer.specs.Stopping.{DeviceStopped, NoneFell};
 
 use crate::blocks_look::look_blocks;
 use crate::fault::ExploreFault;
@@ -40,6 +41,9 @@ pub fn explore<D: LineDevice>(
     requires bounded { All IsBounded program.now }
     ensures found { (h : Machine) (look : List Seen) → Stands host.old (D.state device.old) h → Begins h → IsLook look question.now
         → IfOk result (λ found. found ≡ found_at h (inputs_of_lines program.now) look) }
+    ensures counts { OnOk result (NoneFell (D.state device.old).panel (D.state device.new).panel) }
+    ensures cause { (h : Machine) → Stands host.old (D.state device.old) h → Begins h
+        → IfErr result (λ fault. fault ≡ ExploreFault.Device → DeviceStopped (D.state device.old).panel (D.state device.new).panel) }
 {
     if !may_be_replies(question, host.geometry()) {
         return Ok(None);
@@ -72,6 +76,8 @@ fn follow<D: LineDevice>(
     requires replies { may_be_replies host.old.geometry question.now ≡ true }
     ensures found { (h : Machine) (look : List Seen) → Follows sight.old host.old (D.state device.old) h → IsLook look question.now
         → IfOk result (λ found. found ≡ first_place (may_show look) (cut_places 1 h (inputs_of_lines program.now))) }
+    ensures counts { OnOk result (NoneFell (D.state device.old).panel (D.state device.new).panel) }
+    ensures cause { IfErr result (λ fault. fault ≡ ExploreFault.Device → DeviceStopped (D.state device.old).panel (D.state device.new).panel) }
 {
     for (i, line) in program.iter().enumerate() {
         if let Some(command) = line {

@@ -1,5 +1,5 @@
 // One command of the program: on the device, and on what is looked at.
-ghost use Rattle.std.specs.Prelude.{◌≡◌, ◌≢◌, true, IfOk, IsTrue, List, OnOk, length};
+ghost use Rattle.std.specs.Prelude.{◌≡◌, ◌≢◌, true, IfErr, IfOk, IsTrue, List, OnOk, length};
 ghost use Rattle.script_text.specs.Action.{action_of};
 ghost use Rattle.script_text.specs.Parsing.{InBounds};
 ghost use Rattle.word_tables.specs.Bounds.{IsValid};
@@ -13,6 +13,7 @@ ghost use Rattle.outcomes.specs.Stops.{is_of_program, led_to};
 ghost use Rattle.asked_reads.specs.Asking.{may_be_replies};
 ghost use Rattle.asked_reads.specs.Asking.{IsLook};
 ghost use Rattle.explorer.specs.Exploring.{Explores, Follows, IsWhole, IsWithin, Passes, command_stops};
+ghost use Rattle.explorer.specs.Stopping.{DeviceStopped, NoneFell};
 
 use crate::came::Came;
 use crate::fault::ExploreFault;
@@ -50,6 +51,8 @@ pub fn step<D: LineDevice>(
     ensures within { OnOk result (IsWithin sight.new host.new.geometry) }
     ensures geometry { OnOk result (host.new.geometry ≡ host.old.geometry) }
     ensures known { OnOk result (GoesOn host.new (D.state device.new)) }
+    ensures counts { OnOk result (NoneFell (D.state device.old).panel (D.state device.new).panel) }
+    ensures cause { IfErr result (λ fault. fault ≡ ExploreFault.Device → DeviceStopped (D.state device.old).panel (D.state device.new).panel) }
 {
     if sight.shows(question) {
         return Ok(Some(CutPlace::Before(line)));
@@ -79,6 +82,7 @@ fn pass(
     requires valid { IsValid host.now.geometry }
     requires bounded { InBounds (action_of command.now) }
     ensures passes { IfOk result (Passes host.now.geometry (action_of command.now) line question.now sight.old sight.new) }
+    ensures memory { IfErr result (λ fault. fault ≡ ExploreFault.Memory) }
 {
     if sight.shows_inside(question, host.geometry(), command)? {
         return Ok(Some(CutPlace::Inside(line)));
@@ -98,6 +102,8 @@ pub fn arm<D: LineDevice>(
     ensures arms { (h : Machine) → Stands host.old (D.state device.old) h → IsReady h → OnOk result (Stands host.new (D.state device.new) (armed h)) }
     ensures geometry { OnOk result (host.new.geometry ≡ host.old.geometry) }
     ensures known { OnOk result (GoesOn host.new (D.state device.new)) }
+    ensures counts { OnOk result (NoneFell (D.state device.old).panel (D.state device.new).panel) }
+    ensures cause { IfErr result (λ fault. fault ≡ ExploreFault.Device → DeviceStopped (D.state device.old).panel (D.state device.new).panel) }
 {
     let cut = Command::CutIn { calls: FAR };
     match Came::of(&host.answer(device, &cut, work)?) {

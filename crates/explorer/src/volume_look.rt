@@ -1,5 +1,5 @@
 // The lines of the volume that a question's reads look at, as they are before the program.
-ghost use Rattle.std.specs.Prelude.{◌≡◌, ◌+◌, ◌*◌, ◌<◌, ◌≤◌, ◌++◌, ◌^◌, true, IfOk, OnOk, length};
+ghost use Rattle.std.specs.Prelude.{◌≡◌, ◌+◌, ◌*◌, ◌<◌, ◌≤◌, ◌++◌, ◌^◌, true, IfErr, IfOk, OnOk, length};
 ghost use Rattle.std.specs.List.{list_all};
 ghost use Rattle.machine_host.specs.Machine.{Machine};
 ghost use Rattle.machine_host.specs.Settling.{GoesOn};
@@ -8,6 +8,7 @@ ghost use Rattle.outcomes.specs.Pages.{all_lines_read, is_reply, lines_read};
 ghost use Rattle.asked_reads.specs.Reads.{page_read, page_reply, pages_asked};
 ghost use Rattle.explorer.specs.Seeing.{is_weak_cell, seen};
 ghost use Rattle.explorer.specs.Starting.{Begins};
+ghost use Rattle.explorer.specs.Stopping.{DeviceStopped, NoneFell};
 ghost use Rattle.explorer.specs.Units.{AreLines, line_numbers};
 
 use crate::fault::ExploreFault;
@@ -37,6 +38,9 @@ pub fn look_lines<D: LineDevice>(
         → IfOk result (λ lines. AreLines (seen h.volume) lines.items × Stands host.new (D.state device.new) h) }
     ensures geometry { OnOk result (host.new.geometry ≡ host.old.geometry) }
     ensures known { OnOk result (GoesOn host.new (D.state device.new)) }
+    ensures counts { OnOk result (NoneFell (D.state device.old).panel (D.state device.new).panel) }
+    ensures cause { (h : Machine) → Stands host.old (D.state device.old) h → Begins h
+        → IfErr result (λ fault. fault ≡ ExploreFault.Device → DeviceStopped (D.state device.old).panel (D.state device.new).panel) }
 {
     let mut lines = Vec::new(alloc);
     for read in reads {
@@ -64,6 +68,9 @@ fn look_read<D: LineDevice>(
         × Stands host.new (D.state device.new) h) }
     ensures geometry { OnOk result (host.new.geometry ≡ host.old.geometry) }
     ensures known { OnOk result (GoesOn host.new (D.state device.new)) }
+    ensures counts { OnOk result (NoneFell (D.state device.old).panel (D.state device.new).panel) }
+    ensures cause { (h : Machine) → Stands host.old (D.state device.old) h → Begins h
+        → IfErr result (λ fault. fault ≡ ExploreFault.Device → DeviceStopped (D.state device.old).panel (D.state device.new).panel) }
 {
     let touched = match &read.reply {
         PageReply::Shows(_) | PageReply::Poison(_) => lines_of(Span {
@@ -94,6 +101,9 @@ fn look_line<D: LineDevice>(
         → IfOk result (λ found. (found.line ≡ seen h.volume n) × Stands host.new (D.state device.new) h) }
     ensures geometry { OnOk result (host.new.geometry ≡ host.old.geometry) }
     ensures known { OnOk result (GoesOn host.new (D.state device.new)) }
+    ensures counts { OnOk result (NoneFell (D.state device.old).panel (D.state device.new).panel) }
+    ensures cause { (h : Machine) → Stands host.old (D.state device.old) h → Begins h
+        → IfErr result (λ fault. fault ≡ ExploreFault.Device → DeviceStopped (D.state device.old).panel (D.state device.new).panel) }
 {
     let weak = is_weak(host, device, n, work)?;
     let load = Command::VLoad {
@@ -127,6 +137,9 @@ fn is_weak<D: LineDevice>(
         → IfOk result (λ weak. (weak ≡ is_weak_cell (seen h.volume n)) × Stands host.new (D.state device.new) h) }
     ensures geometry { OnOk result (host.new.geometry ≡ host.old.geometry) }
     ensures known { OnOk result (GoesOn host.new (D.state device.new)) }
+    ensures counts { OnOk result (NoneFell (D.state device.old).panel (D.state device.new).panel) }
+    ensures cause { (h : Machine) → Stands host.old (D.state device.old) h → Begins h
+        → IfErr result (λ fault. fault ≡ ExploreFault.Device → DeviceStopped (D.state device.old).panel (D.state device.new).panel) }
 {
     let exists = Command::VExists {
         page: n / (PAGE / LINE),

@@ -7,6 +7,7 @@ use Rattle.machine_host.specs.Stands.{Stands}
 use Rattle.outcomes.specs.Blocks.{all_numbers_read}
 use Rattle.outcomes.specs.Finds.{IsReady}
 use Rattle.asked_reads.specs.Reads.{blocks_asked}
+use Rattle.explorer.specs.Stopping.{NoneFell}
 use Rattle.explorer.specs.Units.{AreBlocks, block_numbers}
 use Rattle.explorer.proofs.blocks_look.look_blocks.Given as goal
 
@@ -15,6 +16,7 @@ invariant-loop-read g l =
     GoesOn l.host (g.D.Lines.state l.device)
     × (length l.work ≡ 65536)
     × (l.host.geometry ≡ l.fn.host.geometry)
+    × NoneFell (g.D.Lines.state l.fn.device).panel (g.D.Lines.state l.device).panel
     × (block_numbers l.blocks.items ≡ all_numbers_read (blocks_asked (take l.read-index l.reads)))
     × ((h : Machine) → Stands l.fn.host (g.D.Lines.state l.fn.device) h → IsReady h
     → AreBlocks (λ b. sight (nth h.blocks b)) l.blocks.items × Stands l.host (g.D.Lines.state l.device) h)

@@ -6,6 +6,7 @@ use Rattle.machine_host.specs.Machine.{Machine}
 use Rattle.machine_host.specs.Settling.{GoesOn}
 use Rattle.machine_host.specs.Stands.{Stands}
 use Rattle.outcomes.specs.Finds.{IsReady}
+use Rattle.explorer.specs.Stopping.{NoneFell}
 use Rattle.explorer.specs.Units.{AreBlocks, block_numbers}
 use Rattle.explorer.proofs.blocks_look.look_read.Given as goal
 
@@ -14,6 +15,7 @@ invariant-loop-b g l =
     GoesOn l.host (g.D.Lines.state l.device)
     × (length l.work ≡ 65536)
     × (l.host.geometry ≡ l.fn.host.geometry)
+    × NoneFell (g.D.Lines.state l.fn.device).panel (g.D.Lines.state l.device).panel
     × (block_numbers l.blocks.items ≡ block_numbers l.fn.blocks.items ++ range_with_len l.read.first (l.b - l.read.first))
     × ((h : Machine) → Stands l.fn.host (g.D.Lines.state l.fn.device) h → IsReady h
     → (AreBlocks (λ b. sight (nth h.blocks b)) l.fn.blocks.items → AreBlocks (λ b. sight (nth h.blocks b)) l.blocks.items)

@@ -3,7 +3,10 @@ use Rattle.script_text.specs.Action.{action_of}
 use Rattle.machine_host.specs.Commands.{fate}
 use Rattle.machine_host.specs.Responding.{outcome_answer}
 use Rattle.outcomes.specs.Stops.{led_to}
+use Rattle.explorer.specs.declared.came.Came.TheVariants.{Done, Refused}
+use Rattle.explorer.specs.Stopping.{DeviceStopped}
 use Rattle.explorer.specs.Exploring.{Explores, IsWithin, command_stops}
+use Rattle.explorer.proofs.CauseLemmas.{always, only_memory, was_cut_off, went_on}
 use Rattle.explorer.proofs.StepLemmas.{cut_in_explored, cut_in_none, done_explored, done_keeps_sizes, found_before, on_any, on_found, passes_whole, passes_within, refused_explored, refused_keeps_sizes, replies_at}
 use Rattle.explorer.proofs.stepping.step.Goals as goal
 
@@ -78,3 +81,25 @@ returns-in-Refused-clause-geometry g c =
     refused_keeps_sizes c.args.host.now c.answer.new.self old new c.requires.known.state (action_of c.args.command.now)
     (outcome_answer c.answer.new.work c.in_ok-answer.field-0) c.requires.program c.requires.known.stands (c.in_ok-answer.ensures.step c.requires.known.state c.requires.known.stands)
     (c.in-Refused.ensures c.answer.new.work)
+
+pub returns-in-Done-clause-counts : goal.returns-in-Done-clause-counts
+returns-in-Done-clause-counts g c =
+    let known = c.requires.known in
+    always c.pass.result (went_on c.answer.new.self known.state (action_of c.args.command.now) (outcome_answer c.answer.new.work c.in_ok-answer.field-0) (g.D.Lines.state c.args.device.now)
+    (g.D.Lines.state c.answer.new.device) (c.in_ok-answer.ensures.step known.state known.stands) Done (c.in-Done.ensures c.answer.new.work) (λ e. cc e))
+
+pub returns-in-Refused-clause-counts : goal.returns-in-Refused-clause-counts
+returns-in-Refused-clause-counts g c =
+    let known = c.requires.known in
+    went_on c.answer.new.self known.state (action_of c.args.command.now) (outcome_answer c.answer.new.work c.in_ok-answer.field-0) (g.D.Lines.state c.args.device.now)
+    (g.D.Lines.state c.answer.new.device) (c.in_ok-answer.ensures.step known.state known.stands) Refused (c.in-Refused.ensures c.answer.new.work) (λ e. cc e)
+
+pub returns-in-Done-clause-cause : goal.returns-in-Done-clause-cause
+returns-in-Done-clause-cause g c =
+    only_memory (DeviceStopped (g.D.Lines.state c.args.device.now).panel (g.D.Lines.state c.answer.new.device).panel) c.pass.result c.pass.ensures.memory
+
+pub returns-clause-cause : goal.returns-clause-cause
+returns-clause-cause g c = λ is.
+    let known = c.requires.known in
+    was_cut_off c.answer.new.self known.state (action_of c.args.command.now) (outcome_answer c.answer.new.work c.in_ok-answer.field-0) (g.D.Lines.state c.args.device.now)
+    (g.D.Lines.state c.answer.new.device) (c.in_ok-answer.ensures.step known.state known.stands) c.requires.program (c.in-Stopped.ensures c.answer.new.work)

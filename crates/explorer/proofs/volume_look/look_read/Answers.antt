@@ -1,7 +1,9 @@
 use Rattle.std.proofs.Common.{◌≡◌, Bool, cond, ◌++◌, [], ◌∷◌, sym, ap, subst, ◌∙◌}
 use Rattle.std.specs.Result.{is_ok}
 use Rattle.explorer.specs.Seeing.{seen}
+use Rattle.explorer.specs.Stopping.{DeviceStopped}
 use Rattle.explorer.specs.Units.{AreLines, line_numbers}
+use Rattle.explorer.proofs.CauseLemmas.{fell_later, handed_on, stopped_later}
 use Rattle.explorer.proofs.LookLemmas.{are_more, numbers_more}
 use Rattle.explorer.proofs.volume_look.look_read.Goals as goal
 
@@ -14,6 +16,7 @@ loop-n-preserved g c =
     record {
       known = c.in_ok-seen.ensures.known;
       geometry = c.in_ok-seen.ensures.geometry ∙ i.geometry;
+      counts = fell_later (g.D.Lines.state c.args.device.now).panel (g.D.Lines.state c.loop-n.device).panel (g.D.Lines.state c.look_line.new.device).panel i.counts c.in_ok-seen.ensures.counts;
       ordered = i.ordered;
       within = i.within;
       reads = i.reads;
@@ -26,3 +29,11 @@ loop-n-preserved g c =
             told.1,
           );
     }
+
+pub returns-in_err-seen-clause-cause : goal.returns-in_err-seen-clause-cause
+returns-in_err-seen-clause-cause g c = λ h stands begins.
+    let i = c.loop-n.invariant in
+    let old = (g.D.Lines.state c.args.device.now).panel in
+    let new = (g.D.Lines.state c.look_line.new.device).panel in
+    handed_on (DeviceStopped old new) c.in_err-seen.field-0.0 c.from_residual.result c.from_residual.ensures.1
+    (λ is. stopped_later old (g.D.Lines.state c.loop-n.device).panel new i.counts (c.in_err-seen.ensures.cause h (i.sees h stands begins).1 begins is))

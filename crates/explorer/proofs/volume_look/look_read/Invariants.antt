@@ -7,6 +7,7 @@ use Rattle.outcomes.specs.Pages.{lines_read}
 use Rattle.asked_reads.specs.Reads.{page_reply}
 use Rattle.explorer.specs.Seeing.{seen}
 use Rattle.explorer.specs.Starting.{Begins}
+use Rattle.explorer.specs.Stopping.{NoneFell}
 use Rattle.explorer.specs.Units.{AreLines, line_numbers}
 use Rattle.explorer.proofs.volume_look.look_read.Given as goal
 
@@ -14,6 +15,7 @@ abbrev pub invariant-loop-n : goal.invariant-loop-n
 invariant-loop-n g l = record {
   known : GoesOn l.host (g.D.Lines.state l.device);
   geometry : l.host.geometry ≡ l.fn.host.geometry;
+  counts : NoneFell (g.D.Lines.state l.fn.device).panel (g.D.Lines.state l.device).panel;
   ordered : l.initial.n ≤ l.n-end;
   within : l.n-end ≤ 64 * l.fn.host.geometry.vpages;
   reads : range_with_len l.initial.n (l.n-end - l.initial.n) ≡ lines_read l.read.start l.read.len (page_reply l.read.reply);
