@@ -95,8 +95,9 @@ def vstore(state, at, data):
 
 
 def vsync(state, at, size, fault):
-    fault = fault or lowest_bad(state, touched(at, size))
-    return refused(state, fault) if fault else lines_changed(state, {n: synced(state.lines[n]) for n in touched(at, size) if n in state.lines})
+    lines = touched(at, size)
+    fault = fault or lowest_bad(state, lines)
+    return refused(state, fault) if fault else lines_changed(state, {n: synced(state.lines[n]) for n in lines if n in state.lines})
 
 
 def vdiscard(state, first, count, together):

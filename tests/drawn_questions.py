@@ -20,7 +20,7 @@ AT_ONCE = 10  # seconds of a processor, for questions of many words
 HOMES = (0, 1, 2, 62, 63, 64, 65, 127, 128, 129, 191)  # lines of the volume, and from the number eight on blocks anew
 FEW = ("vstore", "vstore", "vstore", "vsync", "bwrite", "batomic")
 FIRST = ("vstore", "vstore", "vsync", "bwrite")
-ALL = FEW + (
+ALL = FEW + (  # `cut in` is last: lines that leave an image have all but that
     "vstore", "vsync", "vpsync", "vdiscard", "vdiscardif", "bmulti", "bdiscard", "bdiscardif", "bscar", "poison volume", "weaken volume",
     "weaken volume", "clear volume", "poison block", "vload", "bread", "evict", "other", "other", "cut in")
 OTHERS = (
@@ -263,8 +263,7 @@ def main():
         told = [int(word) for word in replies_to(program, room, ["img", "out"], ["vranges"])[0].split()[1:]]
         ranges = list(zip(told[::3], told[1::3], told[2::3]))
         for i in range(0, count, BY_IMAGE):
-            kinds = FIRST * 6 + ALL[:-1]
-            lines = [] if i <= BY_IMAGE else [order(draw, HOMES, ranges, kinds) for _ in range(draw.randrange(50))]
+            lines = [] if i <= BY_IMAGE else [order(draw, HOMES, ranges, FIRST * 6 + ALL[:-1]) for _ in range(draw.randrange(50))]
             image = Image(f"img{i}", lines, ranges)
             replies_to(program, room, ["img", image.name], lines)
             scripts = [Script(draw, image, ranges, ALL if i else FEW) for _ in range(min(BY_IMAGE, count - i))]
