@@ -35,8 +35,8 @@ use Rattle.outcomes.specs.Blocks.{all_numbers_read, is_block_reply, numbers_read
 use Rattle.asked_reads.specs.Reads.{block_read, block_reply, blocks_asked}
 use Rattle.asked_reads.specs.declared.reads.BlockRead.{BlockRead as Asked}
 use Rattle.nvm_model.proofs.RangeLemmas.{range-split}
-use Rattle.explorer.specs.declared.block_seen.BlockSeen.{BlockSeen}
-use Rattle.explorer.specs.Units.{AreBlocks, block_numbers}
+use Rattle.sights.specs.declared.block_seen.BlockSeen.{BlockSeen}
+use Rattle.sights.specs.Units.{AreBlocks, block_numbers}
 use Rattle.explorer.proofs.ComesLemmas.{CameTo, came_to, done, refused, stopped}
 
 -- the head of what was read, of one block

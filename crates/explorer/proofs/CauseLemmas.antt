@@ -24,7 +24,7 @@ use Rattle.explorer.specs.declared.fault.ExploreFault.TheVariants.{Device as Fro
 use Rattle.explorer.specs.Coming.{came_of}
 use Rattle.explorer.specs.Stopping.{DeviceStopped, NoneFell}
 use Rattle.explorer.proofs.ComesLemmas.{CameTo, came_to, done, refused, stopped, was_stopped}
-use Rattle.explorer.proofs.StepLemmas.{cut_in_allowed}
+use Rattle.explorer.proofs.PerformLemmas.{cut_in_allowed}
 
 -- what rose above a later count rose above the earlier one
 rose_later : (a b c : ℕ) → a ≤ b → Rose b c → Rose a c

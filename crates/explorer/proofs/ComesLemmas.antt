@@ -32,7 +32,7 @@ use Rattle.durable.proofs.RefusedAnswerLemmas.{is_refused}
 use Rattle.outcomes.specs.Stops.{is_of_program, led_to}
 use Rattle.explorer.specs.declared.came.Came.TheVariants.{Done, Refused, Stopped}
 use Rattle.explorer.specs.Coming.{came_of}
-use Rattle.explorer.proofs.VolumeChangeLemmas.{none_first, none_second}
+use Rattle.sights.proofs.VolumeChangeLemmas.{none_first, none_second}
 
 refused_came : (answer : Answer) → is_refused answer ≡ true → came_of answer ≡ Refused
 refused_came Right is = cc is

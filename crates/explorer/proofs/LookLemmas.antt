@@ -45,13 +45,13 @@ use Rattle.outcomes.specs.Stops.{is_of_program}
 use Rattle.asked_reads.specs.declared.reads.PageRead.{PageRead as AskedPages}
 use Rattle.asked_reads.specs.Reads.{page_read, page_reply, pages_asked}
 use Rattle.explorer.specs.declared.came.Came.TheVariants.{Done, Stopped}
-use Rattle.explorer.specs.declared.line_seen.LineSeen.{LineSeen}
+use Rattle.sights.specs.declared.line_seen.LineSeen.{LineSeen}
 use Rattle.explorer.specs.Coming.{came_of}
-use Rattle.explorer.specs.Seeing.{is_weak_cell, or_zeros, seen}
+use Rattle.sights.specs.Seeing.{is_weak_cell, or_zeros, seen}
 use Rattle.explorer.specs.Starting.{AreDurable, AreOfBytes, Begins}
-use Rattle.explorer.specs.Units.{AreLines, line_numbers}
+use Rattle.sights.specs.Units.{AreLines, line_numbers}
 use Rattle.explorer.proofs.ComesLemmas.{came_to, was_done, was_refused}
-use Rattle.explorer.proofs.VolumeChangeLemmas.{none_second}
+use Rattle.sights.proofs.VolumeChangeLemmas.{none_second}
 
 -- it was answered as what comes of it is
 abbrev pub GaveIt : Fate → Answer → Machine → Type 0

@@ -1,11 +1,4 @@
-pub mod Seeing
-pub mod Changing
-pub mod ChangingBlocks
-pub mod Ways
-pub mod Units
-pub mod Sights
 pub mod Coming
-pub mod Places
 pub mod Starting
 pub mod Stopping
-pub mod Exploring
+pub mod Performing

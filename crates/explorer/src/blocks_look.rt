@@ -15,9 +15,9 @@ ghost use Rattle.asked_reads.specs.Reads.{block_read, block_reply, blocks_asked}
 ghost use Rattle.explorer.specs.Coming.{came_of};
 ghost use Rattle.explorer.specs.declared.came.Came.TheVariants.{Stopped};
 ghost use Rattle.explorer.specs.Stopping.{DeviceStopped, NoneFell, TellsNoBlock};
-ghost use Rattle.explorer.specs.Units.{AreBlocks, block_numbers};
+ghost use Rattle.sights.specs.Units.{AreBlocks, block_numbers};
 
-use crate::block_seen::BlockSeen;
+use sights::BlockSeen;
 use crate::fault::ExploreFault;
 use asked_reads::{BlockRead, BlockReply};
 use block_sights::{HeldBlock, Unreadable};

@@ -6,13 +6,13 @@ ghost use Rattle.machine_host.specs.Settling.{GoesOn};
 ghost use Rattle.machine_host.specs.Stands.{Stands};
 ghost use Rattle.outcomes.specs.Pages.{all_lines_read, is_reply, lines_read};
 ghost use Rattle.asked_reads.specs.Reads.{page_read, page_reply, pages_asked};
-ghost use Rattle.explorer.specs.Seeing.{is_weak_cell, seen};
+ghost use Rattle.sights.specs.Seeing.{is_weak_cell, seen};
 ghost use Rattle.explorer.specs.Starting.{Begins};
 ghost use Rattle.explorer.specs.Stopping.{DeviceStopped, NoneFell};
-ghost use Rattle.explorer.specs.Units.{AreLines, line_numbers};
+ghost use Rattle.sights.specs.Units.{AreLines, line_numbers};
 
 use crate::fault::ExploreFault;
-use crate::line_seen::LineSeen;
+use sights::LineSeen;
 use asked_reads::{PageRead, PageReply};
 use line_device::LineDevice;
 use line_histories::HeldLine;

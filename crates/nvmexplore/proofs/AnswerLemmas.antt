@@ -13,7 +13,7 @@ use Rattle.asked_reads.specs.declared.question.Question.{Question}
 use Rattle.asked_reads.specs.Asking.{IsLook}
 use Rattle.exploration.specs.Reading.{AskOf}
 use Rattle.explorer.specs.Stopping.{NoneFell}
-use Rattle.explorer.specs.declared.place.CutPlace.{CutPlace}
+use Rattle.sights.specs.declared.place.CutPlace.{CutPlace}
 use Rattle.program_base.specs.Writing.{WritesFront}
 use Rattle.program_base.proofs.BytesLemmas.{appends-none, appends_then}
 use Rattle.program_base.proofs.WritingLemmas.{told_all, told_front}

@@ -9,8 +9,8 @@ use Rattle.machine_host.specs.Commands.{fate}
 use Rattle.outcomes.specs.Finds.{Finds, armed, may_find}
 use Rattle.outcomes.specs.Seen.{Seen, may_show}
 use Rattle.outcomes.specs.Stops.{inside, led_to, stops}
-use Rattle.explorer.specs.declared.place.CutPlace.TheVariants.{Inside}
-use Rattle.explorer.specs.Places.{Stop, cut_places, first_place, found_at}
+use Rattle.sights.specs.declared.place.CutPlace.TheVariants.{Inside}
+use Rattle.sights.specs.Places.{Stop, cut_places, first_place, found_at}
 use Rattle.nvmexplore.specs.Calls.{AreTheorems}
 
 module _ (test : Machine → Bool) where

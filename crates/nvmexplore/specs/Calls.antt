@@ -17,8 +17,8 @@ use Rattle.outcomes.specs.Seen.{Seen}
 use Rattle.asked_reads.specs.Program.{asks_for}
 use Rattle.exploration.specs.Exploration.{Exploration, script_of}
 use Rattle.exploration.specs.Exploration.Script.{StopsAt, Taken}
-use Rattle.explorer.specs.Places.{found_at}
-use Rattle.explorer.specs.declared.place.CutPlace.{CutPlace}
+use Rattle.sights.specs.Places.{found_at}
+use Rattle.sights.specs.declared.place.CutPlace.{CutPlace}
 use Rattle.program_base.specs.Opening.{CountsOpening, DeviceFailed, FailsToOpen, IsHeld, opened, snapshot}
 use Rattle.program_base.specs.World.{World}
 use Rattle.program_base.specs.Writing.{WritesFront, WritesLine}

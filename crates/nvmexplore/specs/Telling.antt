@@ -1,8 +1,8 @@
 -- What is said of the questions, and the status.
 use Rattle.std.specs.Prelude.{ℕ, Bool, List, [], ◌∷◌, ◌++◌, Option, Some, None, codes, is_some, if◌then◌else◌}
 use Rattle.std.specs.List.{list_any}
-use Rattle.explorer.specs.declared.place.CutPlace.{CutPlace}
-use Rattle.explorer.specs.declared.place.CutPlace.TheVariants.{Before, Inside}
+use Rattle.sights.specs.declared.place.CutPlace.{CutPlace}
+use Rattle.sights.specs.declared.place.CutPlace.TheVariants.{Before, Inside}
 use Rattle.program_base.specs.Ending.{line, numbered_line}
 
 -- of one question: never, or the first place of a cut that may leave it

@@ -4,7 +4,7 @@ ghost use Rattle.outcomes.specs.Seen.{Seen};
 ghost use Rattle.outcomes.specs.Stops.{IsProgram};
 ghost use Rattle.asked_reads.specs.Asking.{IsLook};
 ghost use Rattle.asked_reads.specs.Program.{IsBounded, inputs_of_lines};
-ghost use Rattle.explorer.specs.Places.{found_at};
+ghost use Rattle.sights.specs.Places.{found_at};
 ghost use Rattle.explorer.specs.Stopping.{NoneFell};
 ghost use Rattle.program_base.specs.Opening.{opened};
 ghost use Rattle.nvmexplore.specs.Calls.{AreMountable, IsUnanswered};
@@ -12,11 +12,12 @@ ghost use Rattle.nvmexplore.specs.Calls.{AreMountable, IsUnanswered};
 use crate::laws::images_begin;
 use crate::stop::Stop;
 use asked_reads::Question;
-use explorer::{CutPlace, explore};
+use explorer::explore;
 use image_file::Image;
 use line_device::LineDevice;
 use program_base::start;
 use script_text::Command;
+use sights::CutPlace;
 use std::alloc::Global;
 
 /// The first place of a cut in the program after which the question's look may show what it asks for.

@@ -2,7 +2,7 @@
 ghost use Rattle.std.specs.Prelude.{◌≡◌, IfOk};
 ghost use Rattle.nvmexplore.specs.Telling.{answer_line};
 
-use explorer::CutPlace;
+use sights::CutPlace;
 use nvm_base::Bytes;
 use program_base::{numbered, plain_line};
 use std::alloc::{AllocError, Global};

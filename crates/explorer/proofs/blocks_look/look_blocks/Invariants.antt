@@ -8,7 +8,7 @@ use Rattle.outcomes.specs.Blocks.{all_numbers_read}
 use Rattle.outcomes.specs.Finds.{IsReady}
 use Rattle.asked_reads.specs.Reads.{blocks_asked}
 use Rattle.explorer.specs.Stopping.{NoneFell}
-use Rattle.explorer.specs.Units.{AreBlocks, block_numbers}
+use Rattle.sights.specs.Units.{AreBlocks, block_numbers}
 use Rattle.explorer.proofs.blocks_look.look_blocks.Given as goal
 
 abbrev pub invariant-loop-read : goal.invariant-loop-read

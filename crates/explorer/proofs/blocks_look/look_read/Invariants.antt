@@ -7,7 +7,7 @@ use Rattle.machine_host.specs.Settling.{GoesOn}
 use Rattle.machine_host.specs.Stands.{Stands}
 use Rattle.outcomes.specs.Finds.{IsReady}
 use Rattle.explorer.specs.Stopping.{NoneFell}
-use Rattle.explorer.specs.Units.{AreBlocks, block_numbers}
+use Rattle.sights.specs.Units.{AreBlocks, block_numbers}
 use Rattle.explorer.proofs.blocks_look.look_read.Given as goal
 
 abbrev pub invariant-loop-b : goal.invariant-loop-b

@@ -3,7 +3,7 @@ use Rattle.word_tables.specs.declared.geometry.Geometry.{Geometry}
 use Rattle.outcomes.specs.Pages.{is_reply}
 use Rattle.asked_reads.specs.Reads.{page_read}
 use Rattle.explorer.specs.Stopping.{DeviceStopped}
-use Rattle.explorer.specs.Units.{line_numbers}
+use Rattle.sights.specs.Units.{line_numbers}
 use Rattle.explorer.proofs.CauseLemmas.{fell_later, handed_on, stopped_later}
 use Rattle.explorer.proofs.LookLemmas.{reads_more, reply_at}
 use Rattle.explorer.proofs.volume_look.look_lines.Goals as goal

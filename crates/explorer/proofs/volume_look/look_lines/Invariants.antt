@@ -4,10 +4,10 @@ use Rattle.machine_host.specs.Settling.{GoesOn}
 use Rattle.machine_host.specs.Stands.{Stands}
 use Rattle.outcomes.specs.Pages.{all_lines_read}
 use Rattle.asked_reads.specs.Reads.{pages_asked}
-use Rattle.explorer.specs.Seeing.{seen}
+use Rattle.sights.specs.Seeing.{seen}
 use Rattle.explorer.specs.Starting.{Begins}
 use Rattle.explorer.specs.Stopping.{NoneFell}
-use Rattle.explorer.specs.Units.{AreLines, line_numbers}
+use Rattle.sights.specs.Units.{AreLines, line_numbers}
 use Rattle.explorer.proofs.volume_look.look_lines.Given as goal
 
 abbrev pub invariant-loop-read : goal.invariant-loop-read

@@ -5,10 +5,10 @@ use Rattle.machine_host.specs.Settling.{GoesOn}
 use Rattle.machine_host.specs.Stands.{Stands}
 use Rattle.outcomes.specs.Pages.{lines_read}
 use Rattle.asked_reads.specs.Reads.{page_reply}
-use Rattle.explorer.specs.Seeing.{seen}
+use Rattle.sights.specs.Seeing.{seen}
 use Rattle.explorer.specs.Starting.{Begins}
 use Rattle.explorer.specs.Stopping.{NoneFell}
-use Rattle.explorer.specs.Units.{AreLines, line_numbers}
+use Rattle.sights.specs.Units.{AreLines, line_numbers}
 use Rattle.explorer.proofs.volume_look.look_read.Given as goal
 
 abbrev pub invariant-loop-n : goal.invariant-loop-n

@@ -1,5 +1,5 @@
 use Rattle.asked_reads.specs.Program.{inputs_of_lines}
-use Rattle.explorer.specs.Places.{found_at}
+use Rattle.sights.specs.Places.{found_at}
 use Rattle.program_base.specs.Opening.{opened}
 use Rattle.nvmexplore.proofs.AnswerLemmas.{Goes}
 use Rattle.nvmexplore.proofs.answering.answer_all.Given as goal

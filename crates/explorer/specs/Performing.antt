@@ -1,0 +1,21 @@
+-- What came of a command of a program that was performed.
+use Rattle.std.specs.Prelude.{◌≡◌, Bool, Option, Some, None, is_none}
+use Rattle.line_device.specs.Device.{Device}
+use Rattle.script_text.specs.declared.command.Command.{Command}
+use Rattle.script_text.specs.Action.{Action, action_of}
+use Rattle.machine_host.specs.Machine.{Machine}
+use Rattle.machine_host.specs.Commands.{fate, refusal}
+use Rattle.machine_host.specs.Stands.{HostState, Stands}
+use Rattle.outcomes.specs.Finds.{IsReady}
+use Rattle.outcomes.specs.Stops.{led_to}
+
+-- whether it was done in that state, and that host and device stand for the state behind it, in which nothing is interrupted
+pub record IsDone (h : Machine) (action : Action) (host : HostState) (d : Device) (is : Bool) : Type 0 where
+  pub told : is_none (refusal h action) ≡ is
+  pub stands : Stands host d (led_to h (fate h action))
+  pub ready : IsReady (led_to h (fate h action))
+
+-- the same of a line, of which nothing comes where it has no command
+abbrev pub LineDone : Machine → Option Command → HostState → Device → Bool → Type 0
+LineDone h None host d is = Stands host d h × IsReady h
+LineDone h (Some command) host d is = IsDone h (action_of command) host d is

@@ -1,0 +1,153 @@
+-- A program is followed, line by line.
+use Rattle.std.proofs.Common.{◌≡◌, ◌+◌, ◌<◌, ◌≤◌, ◌&&◌, ℕ, zero, suc, Bool, true, false, cond, IsTrue, Option, Some, None, List, [], ◌∷◌, length, drop, drop-cons, get_or, refl, sym, ap, subst, ◌∙◌, arith}
+use Rattle.std.specs.Option.{is_none, is_some}
+use Rattle.std.proofs.lemmas.List.{drop_all}
+use Rattle.word_tables.specs.declared.geometry.Geometry.{Geometry}
+use Rattle.script_text.specs.declared.command.Command.{Command}
+use Rattle.script_text.specs.Action.{action_of}
+use Rattle.machine_host.specs.Machine.{Machine}
+use Rattle.machine_host.specs.Commands.{fate, refusal}
+use Rattle.outcomes.specs.Seen.{Seen, may_show}
+use Rattle.outcomes.specs.Stops.{IsProgram, is_of_program, led_to}
+use Rattle.asked_reads.specs.declared.question.Question.{Question}
+use Rattle.asked_reads.specs.Asking.{IsLook, may_be_replies}
+use Rattle.asked_reads.specs.Program.{inputs_of_lines}
+use Rattle.sights.specs.declared.place.CutPlace.{CutPlace}
+use Rattle.sights.specs.declared.place.CutPlace.TheVariants.{Before}
+use Rattle.sights.specs.declared.sight.Sight.{Sight}
+use Rattle.sights.specs.Following.{AreDone, Explores, Follows, IsWhole, IsWithin, command_stops}
+use Rattle.sights.specs.Places.{cut_places, first_place}
+use Rattle.sights.specs.Sights.{shows}
+use Rattle.sights.proofs.MayShowLemmas.{shows_now}
+use Rattle.sights.proofs.StopLemmas.{none_before, some_before}
+
+-- The lines before this one show nothing, and what is behind them tells what all do.
+pub record Goes (program : List (Option Command)) (done : List Bool) (q : Question) (geo : Geometry) (began : Sight) (i : ℕ) (now : Sight) : Type 0 where
+  pub whole : IsWhole now q
+  pub within : IsWithin now geo
+  pub comes : (h : Machine) (look : List Seen) → Follows began geo h → AreDone h program done → IsLook look q
+      → (to : Machine) × Follows now geo to × AreDone to (drop i program) (drop i done)
+      × (first_place (may_show look) (cut_places 1 h (inputs_of_lines program)) ≡ first_place (may_show look) (cut_places (i + 1) to (inputs_of_lines (drop i program))))
+
+suc_is : (n : ℕ) → suc n ≡ n + 1
+suc_is n = omega arith
+
+none_is : (found : Option CutPlace) → is_some found ≡ false → found ≡ None
+none_is None told = refl
+none_is (Some place) told = cc told
+
+-- what goes on stands where what is looked at does
+pub goes_at : (program : List (Option Command)) (done : List Bool) (q : Question) (geo : Geometry) (began : Sight) (i : ℕ) (now now2 : Sight)
+    → now2 ≡ now → Goes program done q geo began i now → Goes program done q geo began i now2
+goes_at program done q geo began i now now2 same goes = subst (Goes program done q geo began i) (sym same) goes
+
+-- the line that is next, and whether it is done
+pub at_line : {A : Type 0} (xs : List A) (i : ℕ) (x : A) → i < length xs → x ≡ get_or xs i x → drop i xs ≡ x ∷ drop (i + 1) xs
+at_line xs i x lt is = drop-cons xs i x lt ∙ ap (λ y. y ∷ drop (suc i) xs) (sym is) ∙ ap (λ n. x ∷ drop n xs) (suc_is i)
+
+pub program_at : (program : List (Option Command)) (i : ℕ) (command : Command) (d : Option Command) → i < length program → Some command ≡ get_or program i d
+    → IsProgram (inputs_of_lines program) → IsTrue (is_of_program (action_of command))
+program_at [] i command d lt is all = absurd (omega (arith, lt))
+program_at (None ∷ program) zero command d lt is all = cc is
+program_at (Some first ∷ program) zero command d lt is all =
+    let same : first ≡ command = cc is in
+    subst (λ c. IsTrue (is_of_program (action_of c))) same all.0
+program_at (None ∷ program) (suc i) command d lt is all = program_at program i command d (omega (arith, lt)) is all
+program_at (Some first ∷ program) (suc i) command d lt is all = program_at program i command d (omega (arith, lt)) is all.1
+
+pub goes_first : (program : List (Option Command)) (done : List Bool) (q : Question) (geo : Geometry) (began : Sight) → IsWhole began q → IsWithin began geo → Goes program done q geo began 0 began
+goes_first program done q geo began whole within = record { whole = whole; within = within; comes = λ h look follows told shown. (h, follows, told, refl) }
+
+module _ (program : List (Option Command)) (done : List Bool) (q : Question) (geo : Geometry) (began : Sight) (i : ℕ) (now : Sight)
+    (goes : Goes program done q geo began i now) (line : Option Command) (is_done : Bool) (lt : i < length program) (same : length done ≡ length program)
+    (is : line ≡ get_or program i line) (told : is_done ≡ get_or done i is_done) where
+  lines_next : drop i program ≡ line ∷ drop (i + 1) program
+  lines_next = at_line program i line lt is
+
+  done_next : drop i done ≡ is_done ∷ drop (i + 1) done
+  done_next = at_line done i is_done (omega (arith, lt, same)) told
+
+  -- what is done of the lines from this one on
+  told_next : (to : Machine) → AreDone to (drop i program) (drop i done) → AreDone to (line ∷ drop (i + 1) program) (is_done ∷ drop (i + 1) done)
+  told_next to all = subst (λ lines. AreDone to lines (is_done ∷ drop (i + 1) done)) lines_next (subst (AreDone to (drop i program)) done_next all)
+
+  -- a line without a command
+  pub goes_past : line ≡ None → Goes program done q geo began (i + 1) now
+  goes_past none = record {
+    whole = goes.whole;
+    within = goes.within;
+    comes = λ h look follows all shown.
+        let before = goes.comes h look follows all shown in (
+          before.0,
+          before.1,
+          subst (λ l. AreDone before.0 (l ∷ drop (i + 1) program) (is_done ∷ drop (i + 1) done)) none (told_next before.0 before.2),
+          before.3 ∙ ap (λ lines. first_place (may_show look) (cut_places (i + 1) before.0 (inputs_of_lines lines))) (lines_next ∙ ap (λ l. l ∷ drop (i + 1) program) none)
+              ∙ ap (λ n. first_place (may_show look) (cut_places n before.0 (inputs_of_lines (drop (i + 1) program)))) (suc_is (i + 1)),
+        );
+  }
+
+  module _ (command : Command) (some : line ≡ Some command) where
+    -- of its stops, and of those behind it
+    parted : (look : List Seen) (h : Machine) → first_place (may_show look) (cut_places (i + 1) h (inputs_of_lines (drop i program)))
+        ≡ first_place (may_show look) (cut_places (i + 1) h (inputs_of_lines (Some command ∷ drop (i + 1) program)))
+    parted look h = ap (λ lines. first_place (may_show look) (cut_places (i + 1) h (inputs_of_lines lines))) (lines_next ∙ ap (λ l. l ∷ drop (i + 1) program) some)
+
+    told_of : (to : Machine) → AreDone to (drop i program) (drop i done) → AreDone to (Some command ∷ drop (i + 1) program) (is_done ∷ drop (i + 1) done)
+    told_of to all = subst (λ l. AreDone to (l ∷ drop (i + 1) program) (is_done ∷ drop (i + 1) done)) some (told_next to all)
+
+    -- the place that was found in it is the first
+    of_found : (after : Sight) (found : Option CutPlace) → is_some found ≡ true → (h : Machine) (look : List Seen) → Follows began geo h → AreDone h program done → IsLook look q
+        → ((to : Machine) → Follows now geo to → is_none (refusal to (action_of command)) ≡ is_done → Explores look after geo (command_stops (i + 1) to (action_of command)) (led_to to (fate to (action_of command))) found)
+        → found ≡ first_place (may_show look) (cut_places 1 h (inputs_of_lines program))
+    of_found after None has h look follows all shown explores = cc has
+    of_found after (Some place) has h look follows all shown explores =
+        let before = goes.comes h look follows all shown in
+        let state = before.0 in
+        sym (before.3 ∙ parted look state
+        ∙ some_before (may_show look) (command_stops (i + 1) state (action_of command))
+        (cut_places (suc (i + 1)) (led_to state (fate state (action_of command))) (inputs_of_lines (drop (i + 1) program))) place
+        (explores state before.1 (told_of state before.2).0))
+
+    pub found_first : (after : Sight) (found : Option CutPlace) → is_some found ≡ true
+        → ((h : Machine) (look : List Seen) → Follows now geo h → IsLook look q → is_none (refusal h (action_of command)) ≡ is_done
+        → Explores look after geo (command_stops (i + 1) h (action_of command)) (led_to h (fate h (action_of command))) found)
+        → (h : Machine) (look : List Seen) → Follows began geo h → AreDone h program done → IsLook look q → found ≡ first_place (may_show look) (cut_places 1 h (inputs_of_lines program))
+    found_first after found has explores h look follows all shown = of_found after found has h look follows all shown (λ to at is_as. explores to look at shown is_as)
+
+    -- a command after which nothing is found
+    pub goes_on : (after : Sight) (found : Option CutPlace) → is_some found ≡ false → IsWhole after q → IsWithin after geo
+        → ((h : Machine) (look : List Seen) → Follows now geo h → IsLook look q → is_none (refusal h (action_of command)) ≡ is_done
+        → Explores look after geo (command_stops (i + 1) h (action_of command)) (led_to h (fate h (action_of command))) found)
+        → Goes program done q geo began (i + 1) after
+    goes_on after found has whole within explores = record {
+      whole = whole;
+      within = within;
+      comes = λ h look follows all shown.
+          let before = goes.comes h look follows all shown in
+          let state = before.0 in
+          let after_it = led_to state (fate state (action_of command)) in
+          let of = told_of state before.2 in
+          let explored = subst (Explores look after geo (command_stops (i + 1) state (action_of command)) after_it) (none_is found has) (explores state look before.1 shown of.0) in (
+            after_it,
+            explored.1,
+            of.1,
+            before.3 ∙ parted look state
+                ∙ none_before (may_show look) (command_stops (i + 1) state (action_of command)) (cut_places (suc (i + 1)) after_it (inputs_of_lines (drop (i + 1) program))) explored.0
+                ∙ ap (λ n. first_place (may_show look) (cut_places n after_it (inputs_of_lines (drop (i + 1) program)))) (suc_is (i + 1)),
+          );
+    }
+
+module _ (program : List (Option Command)) (done : List Bool) (q : Question) (geo : Geometry) (began : Sight) (i : ℕ) (now : Sight) (goes : Goes program done q geo began i now) where
+  -- behind the last line
+  pub at_end : (told : Bool) → shows q now ≡ told → length program ≤ i → i ≤ length program → may_be_replies geo q ≡ true
+      → (h : Machine) (look : List Seen) → Follows began geo h → AreDone h program done → IsLook look q
+      → cond told (Some (Before (length program + 1))) None ≡ first_place (may_show look) (cut_places 1 h (inputs_of_lines program))
+  at_end told told_is ends last replies h look follows all shown =
+      let before = goes.comes h look follows all shown in
+      let state = before.0 in
+      let at : i ≡ length program = omega (arith, ends, last) in
+      let seen_at : may_show look state ≡ told =
+      shows_now state look q now shown before.1.sees goes.whole before.1.ready.settled
+      ∙ ap (λ r. r && shows q now) (ap (λ sizes. may_be_replies sizes q) before.1.sizes ∙ replies) ∙ told_is in
+      sym (before.3 ∙ ap (λ lines. first_place (may_show look) (cut_places (i + 1) state (inputs_of_lines lines))) (drop_all program i ends)
+      ∙ ap (λ b. cond b (Some (Before (i + 1))) None) seen_at ∙ ap (λ n. cond told (Some (Before (n + 1))) None) at)

@@ -1,0 +1,279 @@
+-- One command: the places of a cut in it, and the state that it leads to.
+use Rattle.std.proofs.Common.{◌≡◌, ◌⊎◌, inl, inr, ℕ, ◌/◌, ◌<◌, ◌&&◌, Bool, true, false, cond, Option, Some, None, Result, Ok, Err, List, [], ◌∷◌, length, map, IsTrue, refl, sym, ap, subst, ◌∙◌, arith}
+use Rattle.std.specs.List.{list_all}
+use Rattle.std.specs.Option.{is_none}
+use Rattle.std.specs.Result.{IfOk, OnOk}
+use Rattle.std.proofs.lemmas.Bool.{both_ways}
+use Rattle.word_tables.specs.declared.geometry.Geometry.{Geometry}
+use Rattle.nvm_model.specs.Blocks.{nth}
+use Rattle.nvm_model.specs.Page.{Page}
+use Rattle.nvm_model.specs.Storage.{Block}
+use Rattle.block_sights.specs.Sights.{sight}
+use Rattle.reply_text.specs.Answer.{Answer}
+use Rattle.reply_text.specs.Answer.Answer.{Done}
+use Rattle.script_text.specs.Action.{Action}
+use Rattle.script_text.specs.Script.Input.{Asked}
+use Rattle.machine_host.specs.Machine.{Machine, Fate}
+use Rattle.machine_host.specs.Machine.Fate.{Gives, Works, Orders, Cuts, Restarts, Recovers}
+use Rattle.machine_host.specs.Commands.{fate, meaning, refusal, spending, unless_refused, while_interrupted}
+use Rattle.machine_host.specs.Run.{Takes, Transcript, answered, with_order, worked}
+use Rattle.durable.specs.Durable.{IsComplete, IsCounted}
+use Rattle.durable.proofs.WholeLemmas.{whole-heard}
+use Rattle.outcomes.specs.Finds.{IsReady}
+use Rattle.outcomes.specs.Seen.{Seen, may_show}
+use Rattle.outcomes.specs.Stops.{inside, is_of_program, led_to}
+use Rattle.outcomes.proofs.FollowLemmas.{Follows as FollowsFate, Keeps, of_program}
+use Rattle.asked_reads.specs.declared.question.Question.{Question}
+use Rattle.asked_reads.specs.Asking.{IsLook, may_be_replies}
+use Rattle.sights.specs.declared.line_seen.LineSeen.{LineSeen}
+use Rattle.sights.specs.declared.block_seen.BlockSeen.{BlockSeen}
+use Rattle.sights.specs.declared.place.CutPlace.{CutPlace}
+use Rattle.sights.specs.declared.place.CutPlace.TheVariants.{Before, Inside}
+use Rattle.sights.specs.declared.sight.Sight.{Sight}
+use Rattle.sights.specs.Changing.{line_changed, volume_change}
+use Rattle.sights.specs.ChangingBlocks.{block_changed}
+use Rattle.sights.specs.Following.{Explores, Follows, IsWhole, IsWithin, Passes, Sees, command_stops}
+use Rattle.sights.specs.Places.{first_place}
+use Rattle.sights.specs.Seeing.{seen}
+use Rattle.sights.specs.Sights.{shows, shows_inside}
+use Rattle.sights.specs.Units.{AreAmong, AreBlocks, AreLines, AreWithin, block_may_fit, block_numbers, block_once_done, line_may_fit, line_numbers, line_once_done}
+use Rattle.sights.specs.Ways.{blocks_way, passes_inside}
+use Rattle.sights.proofs.BlockChangeLemmas.{blocks_changed}
+use Rattle.sights.proofs.InsideLemmas.{AreThere, HaveLine}
+use Rattle.sights.proofs.MayShowLemmas.{shows_now, shows_within}
+use Rattle.sights.proofs.SizeLemmas.{geometry_stays}
+use Rattle.sights.proofs.VolumeChangeLemmas.{volume_changed}
+use Rattle.sights.proofs.WorkLemmas.{ChangesNone, IsWork, works_or_none}
+
+-- the storage of a state that is ready is counted
+counted : (h : Machine) → IsReady h → IsCounted h
+counted h ready = elim ready.whole.counted as (λ _. IsCounted h) [ inl is ↦ is | inr nothing ↦ absurd (nothing.mode ready.mode) ]
+
+have_line : (pages : List Page) (geo : Geometry) (lines : List LineSeen) → length pages ≡ geo.vpages → AreWithin geo lines → HaveLine pages lines
+have_line pages geo [] size within = tt
+have_line pages geo (s ∷ lines) size within = (
+  let lt = within.0 in let bound : s.number / 64 < geo.vpages = omega (arith, lt) in subst (λ n. s.number / 64 < n) (sym size) bound,
+  have_line pages geo lines size within.1,
+)
+
+are_there : (blocks : List Block) (geo : Geometry) (units : List BlockSeen) → length blocks ≡ geo.blocks → AreAmong geo units → AreThere blocks units
+are_there blocks geo [] size among = tt
+are_there blocks geo (s ∷ units) size among = (subst (λ n. s.number < n) (sym size) among.0, are_there blocks geo units size among.1)
+
+pub lines_of : (h : Machine) (now : Sight) → IsReady h → IsWithin now h.geometry → HaveLine h.volume now.lines.items
+lines_of h now ready within = have_line h.volume h.geometry now.lines.items (counted h ready).pages within.lines
+
+pub blocks_in : (h : Machine) (now : Sight) → IsReady h → IsWithin now h.geometry → AreThere h.blocks now.blocks.items
+blocks_in h now ready within = are_there h.blocks h.geometry now.blocks.items (counted h ready).blocks within.blocks
+
+-- what is looked at, once the command is done
+lines_after : (h : Machine) (action : Action) (lines : List LineSeen) → refusal h action ≡ None → IsComplete h → AreLines (seen h.volume) lines → HaveLine h.volume lines
+    → AreLines (seen (led_to h ((meaning action).comes h)).volume) (map (line_once_done h.geometry action) lines)
+lines_after h action [] allowed whole are within = tt
+lines_after h action (s ∷ lines) allowed whole are within = (
+  ap (line_changed (volume_change h.geometry action) s.number) are.0 ∙ sym (volume_changed h action s.number allowed whole.lines within.0),
+  lines_after h action lines allowed whole are.1 within.1,
+)
+
+blocks_after : (h : Machine) (action : Action) (units : List BlockSeen) → refusal h action ≡ None → IsComplete h → AreBlocks (λ b. sight (nth h.blocks b)) units → AreThere h.blocks units
+    → AreBlocks (λ b. sight (nth (led_to h ((meaning action).comes h)).blocks b)) (map (block_once_done h.geometry action) units)
+blocks_after h action [] allowed whole are among = tt
+blocks_after h action (s ∷ units) allowed whole are among = (
+  ap (block_changed action s.number) are.0 ∙ sym (blocks_changed h action s.number allowed whole.eight among.0),
+  blocks_after h action units allowed whole are.1 among.1,
+)
+
+pub sees_after : (h : Machine) (action : Action) (now after : Sight) → refusal h action ≡ None → IsReady h → Sees now h → IsWithin now h.geometry
+    → after.lines.items ≡ map (line_once_done h.geometry action) now.lines.items → after.blocks.items ≡ map (block_once_done h.geometry action) now.blocks.items
+    → Sees after (led_to h ((meaning action).comes h))
+sees_after h action now after allowed ready sees within lines blocks =
+    let to = led_to h ((meaning action).comes h) in record {
+      lines = subst (AreLines (seen to.volume)) (sym lines) (lines_after h action now.lines.items allowed ready.whole sees.lines (lines_of h now ready within));
+      blocks = subst (AreBlocks (λ b. sight (nth to.blocks b))) (sym blocks) (blocks_after h action now.blocks.items allowed ready.whole sees.blocks (blocks_in h now ready within));
+    }
+
+-- the same lines and blocks are looked at
+line_numbers_stay : (geo : Geometry) (action : Action) (lines : List LineSeen) → line_numbers (map (line_once_done geo action) lines) ≡ line_numbers lines
+line_numbers_stay geo action [] = refl
+line_numbers_stay geo action (s ∷ lines) = ap (λ ns. s.number ∷ ns) (line_numbers_stay geo action lines)
+
+block_numbers_stay : (geo : Geometry) (action : Action) (units : List BlockSeen) → block_numbers (map (block_once_done geo action) units) ≡ block_numbers units
+block_numbers_stay geo action [] = refl
+block_numbers_stay geo action (s ∷ units) = ap (λ ns. s.number ∷ ns) (block_numbers_stay geo action units)
+
+lines_within : (sizes geo : Geometry) (action : Action) (lines : List LineSeen) → AreWithin sizes lines → AreWithin sizes (map (line_once_done geo action) lines)
+lines_within sizes geo action [] within = tt
+lines_within sizes geo action (s ∷ lines) within = (within.0, lines_within sizes geo action lines within.1)
+
+blocks_among : (sizes geo : Geometry) (action : Action) (units : List BlockSeen) → AreAmong sizes units → AreAmong sizes (map (block_once_done geo action) units)
+blocks_among sizes geo action [] among = tt
+blocks_among sizes geo action (s ∷ units) among = (among.0, blocks_among sizes geo action units among.1)
+
+pub whole_after : (geo : Geometry) (action : Action) (q : Question) (now after : Sight) → IsWhole now q
+    → after.lines.items ≡ map (line_once_done geo action) now.lines.items → after.blocks.items ≡ map (block_once_done geo action) now.blocks.items → IsWhole after q
+whole_after geo action q now after whole lines blocks = record {
+  lines = ap line_numbers lines ∙ line_numbers_stay geo action now.lines.items ∙ whole.lines;
+  blocks = ap block_numbers blocks ∙ block_numbers_stay geo action now.blocks.items ∙ whole.blocks;
+}
+
+pub within_after : (sizes geo : Geometry) (action : Action) (now after : Sight) → IsWithin now sizes
+    → after.lines.items ≡ map (line_once_done geo action) now.lines.items → after.blocks.items ≡ map (block_once_done geo action) now.blocks.items → IsWithin after sizes
+within_after sizes geo action now after within lines blocks = record {
+  lines = subst (AreWithin sizes) (sym lines) (lines_within sizes geo action now.lines.items within.lines);
+  blocks = subst (AreAmong sizes) (sym blocks) (blocks_among sizes geo action now.blocks.items within.blocks);
+}
+
+-- the state is ready still
+keeps_led : (h : Machine) (to : Fate) → FollowsFate h to → Keeps h (led_to h to)
+keeps_led h (Gives answer to) follows = follows
+keeps_led h (Works answer to) follows = follows
+keeps_led h (Orders order to) follows = follows
+keeps_led h (Cuts to) follows = absurd follows
+keeps_led h (Restarts choice) follows = absurd follows
+keeps_led h Recovers follows = absurd follows
+
+-- it comes to that state
+takes_led : (h : Machine) (action : Action) (to : Fate) → FollowsFate h to → (said : Transcript) × Takes h action to said (led_to h to)
+takes_led h action (Gives answer to) follows = (answered answer, (refl, refl))
+takes_led h action (Works answer to) follows = (worked (spending h action) answer, (answer, refl, inl (refl, refl)))
+takes_led h action (Orders order to) follows = (with_order order Done, (refl, refl))
+takes_led h action (Cuts to) follows = absurd follows
+takes_led h action (Restarts choice) follows = absurd follows
+takes_led h action Recovers follows = absurd follows
+
+fate_of : (h : Machine) (action : Action) → refusal h action ≡ None → fate h action ≡ (meaning action).comes h
+fate_of h action allowed = ap (λ o. unless_refused h o ((meaning action).comes h)) allowed
+
+pub ready_after : (h : Machine) (action : Action) → IsReady h → IsTrue (is_of_program action) → refusal h action ≡ None → IsReady (led_to h ((meaning action).comes h))
+ready_after h action ready program allowed =
+    let follows = (of_program h action program).0 in
+    let next = led_to h ((meaning action).comes h) in
+    let kept : Keeps h next = keeps_led h ((meaning action).comes h) follows in
+    let taken = takes_led h action ((meaning action).comes h) follows in
+    record {
+      whole = whole-heard h (Asked action) taken.0 next ready.whole (subst (λ to. Takes h action to taken.0 next) (sym (fate_of h action allowed)) taken.1);
+      mode = kept.mode ∙ ready.mode;
+      settled = kept.interrupted ∙ ready.settled;
+      metadata = kept.metadata ∙ ready.metadata;
+      failures = kept.failures ∙ ready.failures;
+    }
+
+module _ (look : List Seen) (q : Question) (now : Sight) (h : Machine) (is : IsLook look q) (sees : Sees now h) (whole : IsWhole now q) (ready : IsReady h)
+    (replies : may_be_replies h.geometry q ≡ true) (line : ℕ) (action : Action) where
+  shown : (b : Bool) → shows q now ≡ b → may_show look h ≡ b
+  shown b told = shows_now h look q now is sees whole ready.settled ∙ ap (λ r. r && shows q now) replies ∙ told
+
+  pub found_before : shows q now ≡ true → first_place (may_show look) (command_stops line h action) ≡ Some (Before line)
+  found_before told =
+      ap (λ b. cond b (Some (Before line)) (first_place (may_show look) (map (λ m. record { place = Inside line; state = m }) (inside h action (fate h action))))) (shown true told)
+
+  -- not before the command
+  later : shows q now ≡ false
+      → first_place (may_show look) (command_stops line h action) ≡ first_place (may_show look) (map (λ m. record { place = Inside line; state = m }) (inside h action (fate h action)))
+  later told =
+      ap (λ b. cond b (Some (Before line)) (first_place (may_show look) (map (λ m. record { place = Inside line; state = m }) (inside h action (fate h action))))) (shown false told)
+
+  -- inside a command that is refused there is no place
+  pub none_refused : (why : Answer) → shows q now ≡ false → refusal h action ≡ Some why → first_place (may_show look) (command_stops line h action) ≡ None
+  none_refused why told is_refused =
+      later told ∙ ap (λ o. first_place (may_show look) (map (λ m. record { place = Inside line; state = m }) (inside h action (unless_refused h o ((meaning action).comes h))))) is_refused
+
+  module _ (allowed : refusal h action ≡ None) (within : IsWithin now h.geometry) where
+    cut_shown : (b : Bool) → shows_inside h.geometry action q now ≡ b → may_show look (while_interrupted h action) ≡ b
+    cut_shown b told =
+        shows_within h look q now is sees whole action allowed ready.whole (lines_of h now ready within) (blocks_in h now ready within)
+        ∙ ap (λ r. r && shows_inside h.geometry action q now) replies ∙ told
+
+    by_fate : (b : Bool) → may_show look (while_interrupted h action) ≡ b → (to : Fate) → first_place (may_show look) (map (λ m. record { place = Inside line; state = m }) (inside h action to)) ≡ None
+        ⊎ (first_place (may_show look) (map (λ m. record { place = Inside line; state = m }) (inside h action to)) ≡ cond b (Some (Inside line)) None)
+    by_fate b told (Gives answer to) = inl refl
+    by_fate b told (Works answer to) = inr (ap (λ t. cond t (Some (Inside line)) None) told)
+    by_fate b told (Orders order to) = inl refl
+    by_fate b told (Cuts to) = inl refl
+    by_fate b told (Restarts choice) = inl refl
+    by_fate b told Recovers = inl refl
+
+    fate_is : fate h action ≡ (meaning action).comes h
+    fate_is = ap (λ o. unless_refused h o ((meaning action).comes h)) allowed
+
+    pub none_inside : shows q now ≡ false → shows_inside h.geometry action q now ≡ false → first_place (may_show look) (command_stops line h action) ≡ None
+    none_inside told inside_told =
+        later told ∙ elim (by_fate false (cut_shown false inside_told) (fate h action)) [ inl none ↦ none | inr none ↦ none ]
+
+    -- what a command changes nothing of shows inside what it shows before
+    same_inside : ChangesNone action → shows_inside h.geometry action q now ≡ shows q now
+    same_inside none =
+        ap (λ way. passes_inside way (line_may_fit q) (λ s. line_may_fit q (line_once_done h.geometry action s)) (λ (s : LineSeen). s.number / 64) now.lines.items
+        && passes_inside (blocks_way action) (block_may_fit q) (λ s. block_may_fit q (block_once_done h.geometry action s)) (λ (s : BlockSeen). s.number) now.blocks.items) none.lines
+        ∙ ap (λ way. list_all (line_may_fit q) now.lines.items && passes_inside way (block_may_fit q) (λ s. block_may_fit q (block_once_done h.geometry action s)) (λ (s : BlockSeen). s.number) now.blocks.items) none.blocks
+
+    pub found_inside : shows q now ≡ false → shows_inside h.geometry action q now ≡ true → first_place (may_show look) (command_stops line h action) ≡ Some (Inside line)
+    found_inside told inside_told = later told ∙ by_kind (works_or_none h action)
+      where
+        by_kind : IsWork h action ⊎ ChangesNone action → first_place (may_show look) (map (λ m. record { place = Inside line; state = m }) (inside h action (fate h action))) ≡ Some (Inside line)
+        by_kind (inl work) =
+            ap (λ to. first_place (may_show look) (map (λ m. record { place = Inside line; state = m }) (inside h action to))) (fate_is ∙ work.is)
+            ∙ ap (λ t. cond t (Some (Inside line)) None) (cut_shown true inside_told)
+        by_kind (inr none) = absurd (both_ways (shows q now) told (sym (same_inside none) ∙ inside_told))
+
+-- what comes of one command, where the look was not shown before it
+module _ (look : List Seen) (q : Question) (now after : Sight) (geo : Geometry) (h : Machine) (line : ℕ) (action : Action)
+    (is : IsLook look q) (whole : IsWhole now q) (replies : may_be_replies geo q ≡ true) (told : shows q now ≡ false) (follows : Follows now geo h) where
+  at_state : may_be_replies h.geometry q ≡ true
+  at_state = ap (λ sizes. may_be_replies sizes q) follows.sizes ∙ replies
+
+  of_refused : (o : Option Answer) → refusal h action ≡ o → is_none o ≡ false → Explores look now geo (command_stops line h action) (led_to h (fate h action)) None
+  of_refused None is_refused refused = cc refused
+  of_refused (Some why) is_refused refused = (
+    none_refused look q now h is follows.sees whole follows.ready at_state line action why told is_refused,
+    subst (Follows now geo) (sym (ap (λ o. led_to h (unless_refused h o ((meaning action).comes h))) is_refused)) follows,
+  )
+
+  pub refused_explored : is_none (refusal h action) ≡ false → Explores look now geo (command_stops line h action) (led_to h (fate h action)) None
+  refused_explored refused = of_refused (refusal h action) refl refused
+
+  allowed_none : (o : Option Answer) → is_none o ≡ true → o ≡ None
+  allowed_none None none = refl
+  allowed_none (Some why) none = cc none
+
+  module _ (program : IsTrue (is_of_program action)) (within : IsWithin now geo) (done : is_none (refusal h action) ≡ true) where
+    allowed : refusal h action ≡ None
+    allowed = allowed_none (refusal h action) done
+
+    lines_in : IsWithin now h.geometry
+    lines_in = subst (IsWithin now) (sym follows.sizes) within
+
+    by_found : (found : Option CutPlace) → Passes h.geometry action line q now after found → Explores look after geo (command_stops line h action) (led_to h (fate h action)) found
+    by_found None passes = (
+      none_inside look q now h is follows.sees whole follows.ready at_state line action allowed lines_in told passes.0,
+      subst (Follows after geo) (sym (ap (led_to h) (fate_of h action allowed))) (record {
+        ready = ready_after h action follows.ready program allowed;
+        sizes = geometry_stays h action ∙ follows.sizes;
+        sees = sees_after h action now after allowed follows.ready follows.sees lines_in passes.1 passes.2;
+      }),
+    )
+    by_found (Some place) passes =
+        found_inside look q now h is follows.sees whole follows.ready at_state line action allowed lines_in told passes.0 ∙ ap Some (sym passes.1)
+
+    pub done_explored : (found : Option CutPlace) → Passes geo action line q now after found → Explores look after geo (command_stops line h action) (led_to h (fate h action)) found
+    done_explored found passes = by_found found (subst (λ sizes. Passes sizes action line q now after found) (sym follows.sizes) passes)
+
+-- what is looked at stays whole, and within the sizes
+pub passes_whole : (geo : Geometry) (action : Action) (line : ℕ) (q : Question) (now after : Sight) (found : Option CutPlace) → Passes geo action line q now after found
+    → IsWhole now q → IsWhole after q
+passes_whole geo action line q now after None passes whole = whole_after geo action q now after whole passes.1 passes.2
+passes_whole geo action line q now after (Some place) passes whole = subst (λ s. IsWhole s q) (sym passes.2) whole
+
+pub passes_within : (geo : Geometry) (action : Action) (line : ℕ) (q : Question) (now after : Sight) (found : Option CutPlace) → Passes geo action line q now after found
+    → IsWithin now geo → IsWithin after geo
+passes_within geo action line q now after None passes within = within_after geo geo action now after within passes.1 passes.2
+passes_within geo action line q now after (Some place) passes within = subst (λ s. IsWithin s geo) (sym passes.2) within
+
+pub on_any : {A E : Type 0} {P : A → Type 0} {B : Type 0} (result : Result A E) → ((found : A) → P found → B) → IfOk result P → OnOk result B
+on_any (Ok found) to is = to found is
+on_any (Err e) to is = tt
+
+-- of what was found, where something was
+pub on_found : {A E : Type 0} {P Q : A → Type 0} (result : Result A E) → ((found : A) → P found → Q found) → IfOk result P → IfOk result Q
+on_found (Ok found) to is = to found is
+on_found (Err e) to is = tt

@@ -1,0 +1,68 @@
+-- What is looked at, where the machine is in this state, and what following it through a program finds.
+use Rattle.std.specs.Prelude.{◌≡◌, ℕ, Bool, true, false, List, [], ◌∷◌, map, Option, Some, None, is_none}
+use Rattle.word_tables.specs.declared.geometry.Geometry.{Geometry}
+use Rattle.nvm_model.specs.Blocks.{nth}
+use Rattle.block_sights.specs.Sights.{sight}
+use Rattle.script_text.specs.declared.command.Command.{Command}
+use Rattle.script_text.specs.Action.{Action, action_of}
+use Rattle.machine_host.specs.Machine.{Machine}
+use Rattle.machine_host.specs.Commands.{fate, refusal}
+use Rattle.outcomes.specs.Blocks.{all_numbers_read}
+use Rattle.outcomes.specs.Finds.{IsReady}
+use Rattle.outcomes.specs.Pages.{all_lines_read}
+use Rattle.outcomes.specs.Seen.{Seen, may_show}
+use Rattle.outcomes.specs.Stops.{inside, led_to}
+use Rattle.asked_reads.specs.declared.question.Question.{Question}
+use Rattle.asked_reads.specs.Asking.{blocks_of, volume_asked}
+use Rattle.sights.specs.declared.sight.Sight.{Sight}
+use Rattle.sights.specs.declared.place.CutPlace.{CutPlace}
+use Rattle.sights.specs.declared.place.CutPlace.TheVariants.{Before, Inside}
+use Rattle.sights.specs.Places.{Stop, first_place}
+use Rattle.sights.specs.Seeing.{seen}
+use Rattle.sights.specs.Sights.{shows_inside}
+use Rattle.sights.specs.Units.{AreAmong, AreBlocks, AreLines, AreWithin, block_numbers, block_once_done, line_numbers, line_once_done}
+
+-- it looks at all lines and blocks of which a question asks, read by read
+pub record IsWhole (sight : Sight) (q : Question) : Type 0 where
+  pub lines : line_numbers sight.lines.items ≡ all_lines_read (volume_asked q)
+  pub blocks : block_numbers sight.blocks.items ≡ all_numbers_read (blocks_of q)
+
+-- they are lines of the volume and blocks of a device of these sizes
+pub record IsWithin (sight : Sight) (geo : Geometry) : Type 0 where
+  pub lines : AreWithin geo sight.lines.items
+  pub blocks : AreAmong geo sight.blocks.items
+
+-- the lines and blocks are those of the state
+pub record Sees (now : Sight) (h : Machine) : Type 0 where
+  pub lines : AreLines (seen h.volume) now.lines.items
+  pub blocks : AreBlocks (λ b. sight (nth h.blocks b)) now.blocks.items
+
+-- So is the state, which is of these sizes and in which nothing is interrupted.
+pub record Follows (now : Sight) (geo : Geometry) (h : Machine) : Type 0 where
+  pub ready : IsReady h
+  pub sizes : h.geometry ≡ geo
+  pub sees : Sees now h
+
+-- which lines of a program are done from a state on; those without a command tell nothing
+abbrev pub AreDone : Machine → List (Option Command) → List Bool → Type 0
+AreDone h [] done = Unit {0}
+AreDone h (line ∷ lines) [] = ⊥
+AreDone h (None ∷ lines) (is ∷ done) = AreDone h lines done
+AreDone h (Some command ∷ lines) (is ∷ done) =
+    (is_none (refusal h (action_of command)) ≡ is) × AreDone (led_to h (fate h (action_of command))) lines done
+
+-- the places of a cut of one command, on the line of that number
+abbrev pub command_stops : ℕ → Machine → Action → List Stop
+command_stops n h action = record { place = Before n; state = h } ∷ map (λ m. record { place = Inside n; state = m }) (inside h action (fate h action))
+
+-- None of these places shows it, and what is looked at is that of the next state; or the first that does was found.
+abbrev pub Explores : List Seen → Sight → Geometry → List Stop → Machine → Option CutPlace → Type 0
+Explores look now geo stops next None = (first_place (may_show look) stops ≡ None) × Follows now geo next
+Explores look now geo stops next (Some place) = first_place (may_show look) stops ≡ Some place
+
+-- No cut inside a command that is done shows what is asked, and what is looked at is as after it; or one does.
+abbrev pub Passes : Geometry → Action → ℕ → Question → Sight → Sight → Option CutPlace → Type 0
+Passes geo action line q old new None =
+    (shows_inside geo action q old ≡ false) × (new.lines.items ≡ map (line_once_done geo action) old.lines.items)
+    × (new.blocks.items ≡ map (block_once_done geo action) old.blocks.items)
+Passes geo action line q old new (Some place) = (shows_inside geo action q old ≡ true) × (place ≡ Inside line) × (new ≡ old)

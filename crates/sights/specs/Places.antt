@@ -1,0 +1,35 @@
+-- Where in a program a cut falls, and the first place at which a look may show what is asked.
+use Rattle.std.specs.Prelude.{ℕ, suc, Bool, List, [], ◌∷◌, ◌++◌, map, Option, Some, None, if◌then◌else◌}
+use Rattle.script_text.specs.Script.{Input}
+use Rattle.script_text.specs.Script.Input.{Skipped, Malformed, Overlong, Asked}
+use Rattle.machine_host.specs.Machine.{Machine}
+use Rattle.machine_host.specs.Commands.{fate}
+use Rattle.outcomes.specs.Finds.{armed}
+use Rattle.outcomes.specs.Seen.{Seen, may_show}
+use Rattle.outcomes.specs.Stops.{inside, led_to}
+use Rattle.sights.specs.declared.place.CutPlace.{CutPlace}
+use Rattle.sights.specs.declared.place.CutPlace.TheVariants.{Before, Inside}
+
+-- a place, and the state that is there
+pub record Stop : Type 0 where
+  pub place : CutPlace
+  pub state : Machine
+
+-- those of a program whose first line has this number; its end is before the line behind it
+abbrev pub cut_places : ℕ → Machine → List Input → List Stop
+cut_places n h [] = record { place = Before n; state = h } ∷ []
+cut_places n h (Skipped ∷ inputs) = cut_places (suc n) h inputs
+cut_places n h (Malformed ∷ inputs) = cut_places (suc n) h inputs
+cut_places n h (Overlong ∷ inputs) = cut_places (suc n) h inputs
+cut_places n h (Asked action ∷ inputs) =
+    record { place = Before n; state = h } ∷ map (λ m. record { place = Inside n; state = m }) (inside h action (fate h action))
+    ++ cut_places (suc n) (led_to h (fate h action)) inputs
+
+-- the first that passes
+abbrev pub first_place : (Machine → Bool) → List Stop → Option CutPlace
+first_place test [] = None
+first_place test (stop ∷ stops) = if test stop.state then Some stop.place else first_place test stops
+
+-- where a program's look may show this, the first place of a cut after which it may
+abbrev pub found_at : Machine → List Input → List Seen → Option CutPlace
+found_at h program look = first_place (may_show look) (cut_places 1 (armed h) program)

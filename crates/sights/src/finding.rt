@@ -1,0 +1,51 @@
+// Where in a program a cut first leaves what a question asks for.
+ghost use Rattle.std.specs.Prelude.{◌≡◌, true, All, IfOk, List, length};
+ghost use Rattle.word_tables.specs.Bounds.{IsValid};
+ghost use Rattle.machine_host.specs.Machine.{Machine};
+ghost use Rattle.outcomes.specs.Seen.{Seen, may_show};
+ghost use Rattle.outcomes.specs.Stops.{IsProgram};
+ghost use Rattle.asked_reads.specs.Asking.{IsLook, may_be_replies};
+ghost use Rattle.asked_reads.specs.Program.{IsBounded, inputs_of_lines};
+ghost use Rattle.sights.specs.Following.{AreDone, Follows, IsWhole, IsWithin};
+ghost use Rattle.sights.specs.Places.{cut_places, first_place};
+
+use crate::place::CutPlace;
+use crate::sight::Sight;
+use crate::stepping::step;
+use asked_reads::Question;
+use script_text::Command;
+use std::alloc::AllocError;
+use word_tables::Geometry;
+
+/// The first place of a cut in the program after which the question's look may show what it asks for, None where no cut leaves it. A
+/// line of the program without a command is None; `done` tells which commands the machine does not refuse.
+pub fn find(
+    program: &[Option<Command>],
+    done: &[bool],
+    geometry: Geometry,
+    question: &Question,
+    sight: &mut Sight,
+) -> Result<Option<CutPlace>, AllocError>
+    requires valid { IsValid geometry }
+    requires program { IsProgram (inputs_of_lines program.now) }
+    requires bounded { All IsBounded program.now }
+    requires told { length done.now ≡ length program.now }
+    requires whole { IsWhole sight.old question.now }
+    requires within { IsWithin sight.old geometry }
+    requires replies { may_be_replies geometry question.now ≡ true }
+    ensures { (h : Machine) (look : List Seen) → Follows sight.old geometry h → AreDone h program.now done.now → IsLook look question.now
+        → IfOk result (λ found. found ≡ first_place (may_show look) (cut_places 1 h (inputs_of_lines program.now))) }
+{
+    for (i, line) in program.iter().enumerate() {
+        if let Some(command) = line {
+            let found = step(command, done[i], i as u64 + 1, geometry, question, sight)?;
+            if found.is_some() {
+                return Ok(found);
+            }
+        }
+    }
+    if sight.shows(question) {
+        return Ok(Some(CutPlace::Before(program.len() as u64 + 1)));
+    }
+    Ok(None)
+}
