@@ -55,6 +55,20 @@ program_at (Some first ∷ program) zero command d lt is all =
 program_at (None ∷ program) (suc i) command d lt is all = program_at program i command d (omega (arith, lt)) is all
 program_at (Some first ∷ program) (suc i) command d lt is all = program_at program i command d (omega (arith, lt)) is all.1
 
+-- an item that is there is the same by any default
+pub any_default : {A : Type 0} (xs : List A) (i : ℕ) (d : A) → i < length xs → get_or xs i d ≡ get_or xs i (get_or xs i d)
+any_default [] i d lt = absurd (omega (arith, lt))
+any_default (x ∷ xs) zero d lt = refl
+any_default (x ∷ xs) (suc i) d lt = items_agree xs i d (get_or xs i d) (omega (arith, lt))
+  where
+    items_agree : {A : Type 0} (ys : List A) (k : ℕ) (d e : A) → k < length ys → get_or ys k d ≡ get_or ys k e
+    items_agree [] k d e lt = absurd (omega (arith, lt))
+    items_agree (y ∷ ys) zero d e lt = refl
+    items_agree (y ∷ ys) (suc k) d e lt = items_agree ys k d e (omega (arith, lt))
+
+pub below : (program : List (Option Command)) (done : List Bool) (i : ℕ) → length done ≡ length program → i < length program → i < length done
+below program done i same lt = omega (arith, lt, same)
+
 minus_one : (n : ℕ) → (n + 1) - 1 ≡ n
 minus_one n = omega arith
 
@@ -170,7 +184,7 @@ module _ (program : List (Option Command)) (done : List Bool) (q : Question) (ge
       shows_now state look q now shown before.1.sees goes.whole before.1.ready.settled
       ∙ ap (λ r. r && shows q now) (ap (λ sizes. may_be_replies sizes q) before.1.sizes ∙ replies) ∙ told_is in
       of_told told state before.1
-      (before.3 ∙ ap (λ lines. first_stop (may_show look) (cut_places (i + 1) state (inputs_of_lines lines))) (drop_all program i ends)
+      (before.3 ∙ ap (λ lines. first_stop (may_show look) (cut_places (i + 1) state (inputs_of_lines lines))) (drop_all i program ends)
       ∙ ap (λ b. cond b (Some (record { place = Before (i + 1); state = state })) None) seen_at ∙ ap (λ n. cond told (Some (record { place = Before (n + 1); state = state })) None) at)
     where
       of_told : (b : Bool) (state : Machine) → Follows now geo state
