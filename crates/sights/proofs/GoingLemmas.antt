@@ -1,5 +1,5 @@
 -- A program is followed, line by line.
-use Rattle.std.proofs.Common.{◌≡◌, ◌+◌, ◌-◌, ◌<◌, ◌≤◌, ◌&&◌, ℕ, zero, suc, Bool, true, false, cond, IsTrue, Option, Some, None, List, [], ◌∷◌, length, drop, drop-cons, get_or, slice_get, map, refl, sym, ap, subst, ◌∙◌, arith}
+use Rattle.std.proofs.Common.{◌≡◌, ◌+◌, ◌-◌, ◌<◌, ◌≤◌, ◌&&◌, ℕ, zero, suc, Bool, true, false, cond, IsTrue, Option, Some, None, List, [], ◌∷◌, length, drop, drop-cons, get_or, slice_get, refl, sym, ap, subst, ◌∙◌, arith}
 use Rattle.std.specs.Option.{is_none, is_some}
 use Rattle.std.proofs.lemmas.List.{drop_all}
 use Rattle.word_tables.specs.declared.geometry.Geometry.{Geometry}
@@ -16,7 +16,7 @@ use Rattle.sights.specs.declared.place.CutPlace.{CutPlace}
 use Rattle.sights.specs.declared.place.CutPlace.TheVariants.{Before, Inside}
 use Rattle.sights.specs.declared.sight.Sight.{Sight}
 use Rattle.sights.specs.Following.{AreDone, Explores, Follows, IsAt, IsFirst, IsIn, IsWhole, IsWithin, command_stops}
-use Rattle.sights.specs.Places.{Stop, cut_places, first_stop}
+use Rattle.sights.specs.Places.{cut_places, first_stop}
 use Rattle.sights.specs.Sights.{shows}
 use Rattle.sights.proofs.MayShowLemmas.{shows_now}
 use Rattle.sights.proofs.StopLemmas.{none_before, some_before}
