@@ -24,7 +24,6 @@ use Rattle.outcomes.specs.Stops.{IsProgram, is_of_program, led_to}
 use Rattle.asked_reads.specs.Program.{input_of, inputs_of_lines}
 use Rattle.sights.specs.Following.{AreDone}
 use Rattle.sights.proofs.GoingLemmas.{at_line}
-use Rattle.sights.proofs.SizeLemmas.{geometry_stays}
 use Rattle.sights.proofs.StepLemmas.{ready_after}
 use Rattle.explorer.specs.declared.came.Came.TheVariants as came_as
 use Rattle.explorer.specs.Coming.{came_of}
@@ -101,7 +100,6 @@ pub record Performs (program : List (Option Command)) (first : HostState) (begun
   pub size : length done ≡ i
   pub comes : (h : Machine) → Stands first begun h → IsReady h
       → (to : Machine) × Stands host d to × IsReady to × ((rest : List Bool) → AreDone to (drop i program) rest → AreDone h program (done ++ rest))
-
 
 pub performs_first : (program : List (Option Command)) (first : HostState) (begun : Device) → GoesOn first begun → NoneFell begun.panel begun.panel → Performs program first begun 0 [] first begun
 performs_first program first begun known counts = record { known = known; counts = counts; size = refl; comes = λ h stands ready. (h, stands, ready, λ rest told. told) }
