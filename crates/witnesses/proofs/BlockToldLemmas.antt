@@ -20,7 +20,7 @@ abbrev pub told_as : (BlockSeen → Sight) → BlockSeen → BlockRead
 told_as seen s = record { first = s.number; count = 1; reply = block_reply s.number (seen s) }
 
 -- block b is the only one of a read of it
-among_own : (b : ℕ) → is_among b 1 b ≡ true
+pub among_own : (b : ℕ) → is_among b 1 b ≡ true
 among_own b = ap (λ t. t && nat_lt b (b + 1)) (le-leb b b (omega arith)) ∙ lt-ltb b (b + 1) (omega arith)
 
 among_other : (a b : ℕ) → (a ≡ b → ⊥) → is_among a 1 b ≡ false

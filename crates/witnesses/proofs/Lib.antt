@@ -5,3 +5,6 @@ pub mod LineToldLemmas
 pub mod MoreLemmas
 pub mod ValueLemmas
 pub mod BlockToldLemmas
+pub mod SeenLemmas
+pub mod AskedLemmas
+pub mod KeepLemmas

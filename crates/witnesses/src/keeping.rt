@@ -19,7 +19,7 @@ use crate::kept::Kept;
 use crate::line_kept::LineKept;
 use crate::sameness::same_block;
 use crate::staying::{make, stays};
-use crate::words::{line_left, free_words};
+use crate::words::{free_words, line_left};
 use asked_reads::Question;
 use script_text::Command;
 use sights::{BlockSeen, LineSeen, Sight, Way};

@@ -1,6 +1,6 @@
 // Where there is memory, words keep a value on which all reads agree.
 use crate::line_kept::LineLeft;
-use crate::words::{line_left, free_words};
+use crate::words::{free_words, line_left};
 use asked_reads::{PageRead, PageReply};
 use line_histories::HeldLine;
 use nvm_base::Bytes;
@@ -21,7 +21,10 @@ fn a_word_keeps_the_value_that_is_read(rt: HostRuntime) -> Result<(), Fail> {
         reply: PageReply::Shows(bytes),
     };
     let left = line_left(&[read], 0, &line);
-    assert_eq!(rt; left, LineLeft::Words([0x0202_0202_0202_0202, 0, 0, 0, 0, 0, 0, 0]));
+    assert_eq!(rt;
+        left,
+        LineLeft::Words([0x0202_0202_0202_0202, 0, 0, 0, 0, 0, 0, 0])
+    );
     assert_eq!(rt;
         free_words(&line, &line, &left),
         [true, true, false, false, false, false, false, false]

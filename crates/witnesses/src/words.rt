@@ -81,5 +81,8 @@ fn has_other(line: &HeldLine, w: u64, value: u64) -> bool
     ensures { HasOther line.now w value result }
 {
     let (durable, log) = line.values(w);
-    durable != value || log.iter().any(|stored| stored.word == w && stored.value != value)
+    durable != value
+        || log
+            .iter()
+            .any(|stored| stored.word == w && stored.value != value)
 }
