@@ -3,3 +3,4 @@ pub mod Lines
 pub mod Blocks
 pub mod Telling
 pub mod Places
+pub mod Texts
