@@ -4,3 +4,4 @@ pub mod Blocks
 pub mod Telling
 pub mod Places
 pub mod Texts
+pub mod Rows
