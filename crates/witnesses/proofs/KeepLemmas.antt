@@ -158,10 +158,10 @@ module _ (h : Machine) (look : List Seen) (q : Question) (inside : Option Action
   units = now.blocks.items
 
   abbrev pub cell : LineSeen → Cell
-  cell s = (line_left h.geometry inside q now.lines.items s).line
+  cell s = (line_left h.geometry inside (volume_asked q) now.lines.items s).line
 
   abbrev pub block : BlockSeen → Look
-  block s = (block_left h.geometry inside q now.blocks.items s).block
+  block s = (block_left h.geometry inside (blocks_of q) now.blocks.items s).block
 
   lines_fit : (s : LineSeen) → IsAmong s lines → cell_fits (volume_asked q) s.number (cell s) ≡ true
   lines_fit s among =
@@ -200,15 +200,15 @@ module _ (h : Machine) (look : List Seen) (q : Question) (inside : Option Action
   abbrev asks : Question
   asks = told_question (volume_asked q) cell block now
 
-  line_passes : (s : LineSeen) → IsAmong s lines → line_may_fit asks (line_left geo inside q lines s) ≡ true
+  line_passes : (s : LineSeen) → IsAmong s lines → line_may_fit asks (line_left geo inside (volume_asked q) lines s) ≡ true
   line_passes s among =
-      ap (λ rs. cell_fits rs (line_left geo inside q lines s).number (cell s)) (volume_told (volume_asked q) cell block now)
+      ap (λ rs. cell_fits rs (line_left geo inside (volume_asked q) lines s).number (cell s)) (volume_told (volume_asked q) cell block now)
       ∙ ap (λ n. cell_fits pages_told n (cell s)) (line_number geo inside (stays (option_and_then lines_way inside) (line_may_fit q) (λ (t : LineSeen). t.number / 64) lines s) s)
       ∙ line_kept_fits (volume_asked q) lines cell lines_fit lines_alike s among
 
-  unit_passes : (s : BlockSeen) → IsAmong s units → block_may_fit asks (block_left geo inside q units s) ≡ true
+  unit_passes : (s : BlockSeen) → IsAmong s units → block_may_fit asks (block_left geo inside (blocks_of q) units s) ≡ true
   unit_passes s among =
-      ap (λ rs. sight_fits rs (block_left geo inside q units s).number (block s)) (blocks_told (volume_asked q) cell block now)
+      ap (λ rs. sight_fits rs (block_left geo inside (blocks_of q) units s).number (block s)) (blocks_told (volume_asked q) cell block now)
       ∙ ap (λ n. sight_fits blocks_told_so n (block s)) (block_number geo inside (stays (option_and_then blocks_way inside) (block_may_fit q) (λ (t : BlockSeen). t.number) units s) s)
       ∙ block_kept_fits (blocks_of q) units block units_fit units_alike s among
 
@@ -269,18 +269,18 @@ module _ (h : Machine) (look : List Seen) (q : Question) (inside : Option Action
       from_numbers (λ (s : BlockSeen). s.number) units (λ n. (b : Block) → block_fits blocks_told_so n b ≡ true → block_fits (blocks_of q ++ blocks_told_so) n b ≡ true)
       (block_told_fits (blocks_of q) units block units_fit units_alike) n (subst (IsAmong n) (blocks_looked (volume_asked q) cell block units) among))
 
-  told_lines : (all lines : List LineSeen) → map (λ (k : LineKept). of_volume (line_told k)) (map (line_kept geo inside q all) lines)
-      ≡ map of_volume (map (line_told_as (volume_asked q) (λ s. (line_left geo inside q all s).line)) lines)
+  told_lines : (all lines : List LineSeen) → map (λ (k : LineKept). of_volume (line_told k)) (map (line_kept geo inside (volume_asked q) all) lines)
+      ≡ map of_volume (map (line_told_as (volume_asked q) (λ s. (line_left geo inside (volume_asked q) all s).line)) lines)
   told_lines all [] = refl
-  told_lines all (s ∷ lines) = ap (λ seen. of_volume (line_told (line_kept geo inside q all s)) ∷ seen) (told_lines all lines)
+  told_lines all (s ∷ lines) = ap (λ seen. of_volume (line_told (line_kept geo inside (volume_asked q) all s)) ∷ seen) (told_lines all lines)
 
-  told_units : (all units : List BlockSeen) → map (λ (k : BlockKept). of_blocks (block_told k)) (map (block_kept geo inside q all) units)
-      ≡ map of_blocks (map (block_told_as (λ s. (block_left geo inside q all s).block)) units)
+  told_units : (all units : List BlockSeen) → map (λ (k : BlockKept). of_blocks (block_told k)) (map (block_kept geo inside (blocks_of q) all) units)
+      ≡ map of_blocks (map (block_told_as (λ s. (block_left geo inside (blocks_of q) all s).block)) units)
   told_units all [] = refl
-  told_units all (s ∷ units) = ap (λ seen. of_blocks (block_told (block_kept geo inside q all s)) ∷ seen) (told_units all units)
+  told_units all (s ∷ units) = ap (λ seen. of_blocks (block_told (block_kept geo inside (blocks_of q) all s)) ∷ seen) (told_units all units)
 
   -- what is told of all that is kept is that
-  pub kept_told : (kept : Kept) → kept.lines.items ≡ map (line_kept geo inside q lines) lines → kept.blocks.items ≡ map (block_kept geo inside q units) units
+  pub kept_told : (kept : Kept) → kept.lines.items ≡ map (line_kept geo inside (volume_asked q) lines) lines → kept.blocks.items ≡ map (block_kept geo inside (blocks_of q) units) units
       → may_show (look ++ told kept) (state_at h inside) ≡ true
   kept_told kept of_lines of_units =
       ap (λ seen. may_show (look ++ seen) (state_at h inside))
@@ -293,20 +293,20 @@ module _ (h : Machine) (look : List Seen) (q : Question) (inside : Option Action
 -- the same where the sizes are those of the state
 pub kept_so : (h : Machine) (look : List Seen) (q : Question) (inside : Option Action) (now : Sight) (sizes : Geometry) (kept : Kept) → Follows now sizes h → IsLook look q → IsWhole now q
     → IsWithin now sizes → may_be_replies sizes q ≡ true → shows_at sizes inside q now ≡ true → IsReached h inside
-    → kept.lines.items ≡ map (line_kept sizes inside q now.lines.items) now.lines.items → kept.blocks.items ≡ map (block_kept sizes inside q now.blocks.items) now.blocks.items
+    → kept.lines.items ≡ map (line_kept sizes inside (volume_asked q) now.lines.items) now.lines.items → kept.blocks.items ≡ map (block_kept sizes inside (blocks_of q) now.blocks.items) now.blocks.items
     → may_show (look ++ told kept) (state_at h inside) ≡ true
 kept_so h look q inside now sizes kept follows is whole within replies shown reached lines blocks =
     let at : sizes ≡ h.geometry = sym follows.sizes in
     kept_told h look q inside now (subst (λ g. Follows now g h) at follows) is whole (subst (IsWithin now) at within) (subst (λ g. may_be_replies g q ≡ true) at replies)
     (subst (λ g. shows_at g inside q now ≡ true) at shown) reached kept
-    (subst (λ g. kept.lines.items ≡ map (line_kept g inside q now.lines.items) now.lines.items) at lines)
-    (subst (λ g. kept.blocks.items ≡ map (block_kept g inside q now.blocks.items) now.blocks.items) at blocks)
+    (subst (λ g. kept.lines.items ≡ map (line_kept g inside (volume_asked q) now.lines.items) now.lines.items) at lines)
+    (subst (λ g. kept.blocks.items ≡ map (block_kept g inside (blocks_of q) now.blocks.items) now.blocks.items) at blocks)
 
 -- what is kept has the numbers of what is looked at
-pub numbers_kept : (sizes : Geometry) (inside : Option Action) (q : Question) (all lines : List LineSeen) → numbers_of_lines (map (line_kept sizes inside q all) lines) ≡ line_numbers lines
-numbers_kept sizes inside q all [] = refl
-numbers_kept sizes inside q all (s ∷ lines) = ap (λ ns. s.number ∷ ns) (numbers_kept sizes inside q all lines)
+pub numbers_kept : (sizes : Geometry) (inside : Option Action) (reads : List PageRead) (all lines : List LineSeen) → numbers_of_lines (map (line_kept sizes inside reads all) lines) ≡ line_numbers lines
+numbers_kept sizes inside reads all [] = refl
+numbers_kept sizes inside reads all (s ∷ lines) = ap (λ ns. s.number ∷ ns) (numbers_kept sizes inside reads all lines)
 
-pub numbers_kept_of_blocks : (sizes : Geometry) (inside : Option Action) (q : Question) (all units : List BlockSeen) → numbers_of_blocks (map (block_kept sizes inside q all) units) ≡ block_numbers units
-numbers_kept_of_blocks sizes inside q all [] = refl
-numbers_kept_of_blocks sizes inside q all (s ∷ units) = ap (λ ns. s.number ∷ ns) (numbers_kept_of_blocks sizes inside q all units)
+pub numbers_kept_of_blocks : (sizes : Geometry) (inside : Option Action) (reads : List BlockRead) (all units : List BlockSeen) → numbers_of_blocks (map (block_kept sizes inside reads all) units) ≡ block_numbers units
+numbers_kept_of_blocks sizes inside reads all [] = refl
+numbers_kept_of_blocks sizes inside reads all (s ∷ units) = ap (λ ns. s.number ∷ ns) (numbers_kept_of_blocks sizes inside reads all units)

@@ -8,3 +8,4 @@ pub mod BlockToldLemmas
 pub mod SeenLemmas
 pub mod AskedLemmas
 pub mod KeepLemmas
+pub mod TextLemmas

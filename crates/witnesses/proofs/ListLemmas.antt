@@ -80,3 +80,7 @@ any_more f g (x ∷ xs) each any = by_first (any_more f g xs each) (f x) refl an
     by_first : (list_any f xs ≡ true → list_any g xs ≡ true) → (b : Bool) → f x ≡ b → (b || list_any f xs) ≡ true → (g x || list_any g xs) ≡ true
     by_first later true is some = or_left (g x) (list_any g xs) (each x is)
     by_first later false is some = or_right (g x) (list_any g xs) (later some)
+
+pub any_map : {A B : Type 0} (f : B → Bool) (g : A → B) (xs : List A) → list_any f (map g xs) ≡ list_any (λ x. f (g x)) xs
+any_map f g [] = refl
+any_map f g (x ∷ xs) = ap (λ b. f (g x) || b) (any_map f g xs)
