@@ -1,5 +1,5 @@
 -- What is kept is left by a cut that leaves what the question asks.
-use Rattle.std.proofs.Common.{◌≡◌, ℕ, ◌*◌, ◌/◌, ◌<◌, ◌&&◌, Bool, true, false, cond, Option, Some, None, inl, inr, List, [], ◌∷◌, ◌++◌, map, length, refl, sym, ap, subst, ◌∙◌}
+use Rattle.std.proofs.Common.{◌≡◌, ℕ, ◌*◌, ◌/◌, ◌<◌, Bool, true, false, cond, Option, Some, None, inl, inr, List, [], ◌∷◌, ◌++◌, map, length, refl, sym, ap, subst, ◌∙◌}
 use Rattle.std.specs.List.{list_all}
 use Rattle.std.specs.Option.{option_and_then}
 use Rattle.std.proofs.lemmas.Bool.{and_from, and_parts}
@@ -13,7 +13,7 @@ use Rattle.block_sights.specs.Sights.Sight.{Whole}
 use Rattle.block_sights.proofs.SeenLemmas.{seen_size}
 use Rattle.script_text.specs.Action.{Action}
 use Rattle.machine_host.specs.Machine.{Machine}
-use Rattle.machine_host.specs.Commands.{meaning, refusal}
+use Rattle.machine_host.specs.Commands.{meaning}
 use Rattle.durable.specs.Durable.{HaveEightLines}
 use Rattle.outcomes.specs.Blocks.{BlockRead, all_numbers_read, block_fits, is_block_reply}
 use Rattle.outcomes.specs.Pages.{PageRead, all_lines_read, is_reply, line_fits}

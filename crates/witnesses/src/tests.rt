@@ -28,7 +28,10 @@ fn a_word_keeps_the_value_that_is_read(rt: HostRuntime) -> Result<(), Fail> {
         reply: PageReply::Shows(bytes),
     };
     let left = line_left(&[read], 0, &line);
-    assert_eq!(rt; left, LineLeft::Words([0x0202_0202_0202_0202, 0, 0, 0, 0, 0, 0, 0]));
+    assert_eq!(rt;
+        left,
+        LineLeft::Words([0x0202_0202_0202_0202, 0, 0, 0, 0, 0, 0, 0])
+    );
     assert_eq!(rt;
         free_words(&line, &line, &left),
         [true, true, false, false, false, false, false, false]
