@@ -20,5 +20,6 @@ pub use finding::find;
 pub use line_seen::LineSeen;
 pub use lines_fit::{byte_in, is_among, line_fits, touches};
 pub use place::CutPlace;
-pub use replies::may_be_replies;
+pub use replies::{may_be_replies, most_refusal};
 pub use sight::Sight;
+pub use way::Way;
