@@ -1,0 +1,4 @@
+pub mod OnceLemmas
+pub mod WordLemmas
+pub mod LeftLemmas
+pub mod ListedLemmas

@@ -1,0 +1,59 @@
+// What is looked at once a command is done.
+ghost use Rattle.std.specs.Prelude.{◌≡◌, IfOk, map};
+ghost use Rattle.script_text.specs.Action.{action_of};
+ghost use Rattle.script_text.specs.Parsing.{InBounds};
+ghost use Rattle.word_tables.specs.Bounds.{IsValid};
+ghost use Rattle.sights.specs.Units.{block_once_done, line_once_done};
+
+use script_text::Command;
+use sights::{BlockSeen, LineSeen, Sight};
+use std::alloc::{AllocError, Global};
+use word_tables::Geometry;
+
+/// What the command makes of it, beside what it is.
+pub fn once_done(
+    alloc: Global,
+    sight: &Sight,
+    geometry: Geometry,
+    command: &Command,
+) -> Result<Sight, AllocError>
+    requires valid { IsValid geometry }
+    requires bounded { InBounds (action_of command.now) }
+    ensures lines { IfOk result (λ after. after.lines.items ≡ map (line_once_done geometry (action_of command.now)) sight.now.lines.items) }
+    ensures blocks { IfOk result (λ after. after.blocks.items ≡ map (block_once_done geometry (action_of command.now)) sight.now.blocks.items) }
+{
+    let mut after = Sight {
+        lines: copied_lines(alloc, &sight.lines)?,
+        blocks: copied_blocks(alloc, &sight.blocks)?,
+    };
+    after.change(geometry, command)?;
+    Ok(after)
+}
+
+fn copied_lines(alloc: Global, lines: &[LineSeen]) -> Result<Vec<LineSeen>, AllocError>
+    ensures { IfOk result (λ copies. copies.items ≡ lines.now) }
+{
+    let mut copies = Vec::new(alloc);
+    for seen in lines {
+        let copy = LineSeen {
+            number: seen.number,
+            line: seen.line.duplicate()?,
+        };
+        copies.push(copy).map_err(AllocError::from)?;
+    }
+    Ok(copies)
+}
+
+fn copied_blocks(alloc: Global, blocks: &[BlockSeen]) -> Result<Vec<BlockSeen>, AllocError>
+    ensures { IfOk result (λ copies. copies.items ≡ blocks.now) }
+{
+    let mut copies = Vec::new(alloc);
+    for seen in blocks {
+        let copy = BlockSeen {
+            number: seen.number,
+            block: seen.block.duplicate()?,
+        };
+        copies.push(copy).map_err(AllocError::from)?;
+    }
+    Ok(copies)
+}

@@ -1,0 +1,1 @@
+// That a table can be printed at all.
