@@ -1,5 +1,5 @@
 -- Each item is listed once, and none is lost.
-use Rattle.std.proofs.Common.{◌≡◌, ℕ, ◌==◌, ◌||◌, Bool, true, false, cond, List, [], ◌∷◌, ◌++◌, refl, sym, ap, ◌∙◌}
+use Rattle.std.proofs.Common.{◌≡◌, ◌⊎◌, inl, inr, ℕ, ◌==◌, ◌||◌, Bool, true, false, cond, List, [], ◌∷◌, ◌++◌, refl, sym, ap, ◌∙◌}
 use Rattle.std.specs.List.{list_any}
 use Rattle.std.specs.Str.{bytes_eq}
 use Rattle.std.proofs.lemmas.Bool.{eqb-true, or_cases, or_left, or_right}
@@ -8,6 +8,7 @@ use Rattle.std.proofs.lemmas.Slice.Eq.{bytes_eq-Decides}
 use Rattle.nvm_model.specs.Cell.{Cell}
 use Rattle.block_sights.specs.Sights.{Sight}
 use Rattle.block_sights.specs.Sights.Sight.{Whole, Scar, BadLine}
+use Rattle.sights.proofs.PassLemmas.{EachUnit}
 use Rattle.value_tables.specs.Values.{history_of, same_sight, values_with, with_all, with_one}
 
 or_none : (a b : Bool) → (a || (b || false)) ≡ (a || b)
@@ -71,3 +72,8 @@ same_is (BadLine line) (BadLine other) is = ap BadLine (eqb-true line other is)
 
 pub any_sight : (f : Sight → Bool) (sights : List Sight) → list_any f (with_all same_sight [] sights) ≡ list_any f sights
 any_sight f sights = any_all same_sight f (λ x y is. ap f (same_is x y is)) [] sights
+
+-- a test that is another one of these
+pub any_of : {A : Type 0} (P : A → Type 0) (f g : A → Bool) (xs : List A) → EachUnit P xs → ((x : A) → P x → f x ≡ g x) → list_any f xs ≡ list_any g xs
+any_of P f g [] each same = refl
+any_of P f g (x ∷ xs) each same = ap (λ b. b || list_any f xs) (same x each.0) ∙ ap (λ b. g x || b) (any_of P f g xs each.1 same)

@@ -1,5 +1,5 @@
 -- What a read of one word shows of a line.
-use Rattle.std.proofs.Common.{◌≡◌, ◌⊎◌, inl, inr, ℕ, ◌+◌, ◌-◌, ◌*◌, ◌/◌, ◌%◌, ◌<◌, ◌≤◌, ◌==◌, ◌&&◌, ◌||◌, nat_le, nat_lt, not, Bool, true, false, List, [], ◌∷◌, length, get_or, refl, sym, ap, subst, ◌∙◌, arith}
+use Rattle.std.proofs.Common.{◌≡◌, ◌⊎◌, inl, inr, ℕ, ◌+◌, ◌-◌, ◌*◌, ◌/◌, ◌%◌, ◌<◌, ◌≤◌, ◌==◌, ◌&&◌, ◌||◌, nat_le, nat_lt, not, Bool, true, false, Some, List, [], ◌∷◌, length, get_or, refl, sym, ap, subst, ◌∙◌, arith}
 use Rattle.std.specs.Prelude.{slice_index, slice_index_or}
 use Rattle.std.specs.Bool.{Decides}
 use Rattle.std.specs.Int.{byte_at, w64, to_le_bytes}
@@ -16,29 +16,17 @@ use Rattle.nvm_model.specs.Numbered.{is_among}
 use Rattle.nvm_model.specs.Page.{is_bad_cell}
 use Rattle.outcomes.specs.Pages.{PageRead, PageReply, agrees, all_agree, words_fit}
 use Rattle.outcomes.specs.Pages.PageReply.{Shows, Poison}
-use Rattle.outcomes.proofs.TestLemmas.{below_all, below_each, range_all, range_each}
 use Rattle.asked_reads.specs.Fitting.{cell_fits}
 use Rattle.value_tables.specs.Listed.{has_bytes, lists_bytes}
 use Rattle.value_tables.specs.Values.{history_of}
+use Rattle.value_tables.proofs.HistoryLemmas.{HasWords, word_has}
+use Rattle.value_tables.proofs.RangeLemmas.{only_one, range_all, range_each}
 
 abbrev pub read_of : ℕ → PageReply → List PageRead
 read_of p reply = record { start = 8 * p; len = 8; reply = reply } ∷ []
 
--- each word of the line has a value
-abbrev pub HasWords : Cell → Type 0
-HasWords Bad = Unit {0}
-HasWords (Kept weak words) = (w : ℕ) → w < 8 → 1 ≤ length (slice_index_or words w [])
-
--- a test of all numbers below 8 that all but one pass is that of this one
-only_one : (f : ℕ → Bool) (w : ℕ) → w < 8 → ((k : ℕ) → k < 8 → (k ≡ w → ⊥) → f k ≡ true) → list_all f (range_with_len 0 8) ≡ f w
-only_one f w lt others = same_from_decides {P = f w ≡ true} (list_all f (range_with_len 0 8)) (f w) (λ all. below_each f 8 all w lt, λ is. below_all f 8 (λ k below. by_place k below is))
-    (λ is. is, λ is. is)
-  where
-    by_place : (k : ℕ) → k < 8 → f w ≡ true → f k ≡ true
-    by_place k below is = elim (cases_eq k w) as (λ _. f k ≡ true) [ inl same ↦ ap f same ∙ is | inr other ↦ others k below other ]
-
 module _ (p : ℕ) (bytes : List ℕ) where
-  agrees_at : ℕ → ℕ → ℕ → Bool
+  abbrev agrees_at : ℕ → ℕ → ℕ → Bool
   agrees_at q v i = not (is_among (8 * p) 8 i) || (slice_index bytes (i - 8 * p) == byte_at (i % 8) v)
 
   outside : (i : ℕ) → (8 * p ≤ i → i < 8 * p + 8 → ⊥) → is_among (8 * p) 8 i ≡ false
@@ -105,12 +93,18 @@ module _ (p : ℕ) (bytes : List ℕ) where
       touched true is = refl
       touched false is = cc is
   shows_word (Kept weak words) have eight =
-      only_one (λ w. list_any (all_agree (read_of p (Shows bytes)) (8 * (p / 8) + w)) (slice_index_or words w [])) (p % 8) (omega arith)
-      (λ k lt other. some_value (all_agree (read_of p (Shows bytes)) (8 * (p / 8) + k)) (slice_index_or words k []) (have k lt)
+      only_one (λ w. list_any (all_agree (read_of p (Shows bytes)) (8 * (p / 8) + w)) (slice_index_or words w [])) 8 (p % 8) (omega arith)
+      (λ k lt other. some_value (all_agree (read_of p (Shows bytes)) (8 * (p / 8) + k)) (slice_index_or words k []) (word_has words k (subst (λ m. k < m) (sym have.0) lt) have.1)
           (λ v. ap (λ b. b && true) (beside (8 * (p / 8) + k) v (λ same. other (omega (arith, same, lt))))))
       ∙ any_same (all_agree (read_of p (Shows bytes)) (8 * (p / 8) + p % 8)) (has_bytes bytes) (slice_index_or words (p % 8) [])
       (λ v. and_all (agrees (8 * (p / 8) + p % 8) v (8 * p) 8 (Shows bytes)) ∙ ap (λ q. agrees q v (8 * p) 8 (Shows bytes)) (omega arith) ∙ shown v eight)
 
 -- a line shows that it is bad where it is
 pub shows_poison : (p : ℕ) (cell : Cell) → cell_fits (read_of p (Poison (64 * (p / 8)))) (p / 8) cell ≡ is_bad_cell (Some cell)
-shows_poison p cell = ?
+shows_poison p Bad = not_below (touches (8 * p) 8 (p / 8)) (nat_lt (p / 8) (64 * (p / 8) / 64)) (le-ltb (p / 8) (64 * (p / 8) / 64) (omega arith))
+  where
+    not_below : (t b : Bool) → b ≡ false → (not (t && b) && true) ≡ true
+    not_below true b is = ap (λ c. not c && true) is
+    not_below false b is = refl
+shows_poison p (Kept weak words) =
+    ap (λ b. (not b && true) && words_fit (read_of p (Poison (64 * (p / 8)))) (p / 8) words) (eq-eqb (p / 8) (64 * (p / 8) / 64) (omega arith))
