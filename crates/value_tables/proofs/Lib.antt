@@ -5,3 +5,6 @@ pub mod WordLemmas
 pub mod LeftLemmas
 pub mod ListedLemmas
 pub mod BlockLemmas
+pub mod RowLemmas
+pub mod ChangedLemmas
+pub mod LookLemmas

@@ -1,5 +1,6 @@
 -- What is looked at where a cut falls: as it is, and as the command that is cut makes it, where some of it may be new.
-use Rattle.std.specs.Prelude.{◌≡◌, ◌++◌, ℕ, List, [], ◌∷◌, drop, map, Option, Some, None, slice_get}
+use Rattle.std.specs.Prelude.{◌≡◌, ◌++◌, ℕ, Bool, false, List, [], ◌∷◌, drop, map, Option, Some, None, slice_get}
+use Rattle.std.specs.Str.{bytes_eq}
 use Rattle.nvm_base.specs.Stock.{Stock}
 use Rattle.nvm_model.specs.Cell.{Cell}
 use Rattle.block_sights.specs.Sights.{Sight}
@@ -46,3 +47,8 @@ pub record HasRun (numbers : List ℕ) (at : ℕ) (run : List ℕ) : Type 0 wher
 -- lists of bytes, without their spare
 abbrev pub texts : List (Stock ℕ) → List (List ℕ)
 texts rows = map (λ row. row.items) rows
+
+-- an item is there, and has these bytes
+abbrev pub is_row : Option (Stock ℕ) → List ℕ → Bool
+is_row None row = false
+is_row (Some other) row = bytes_eq other.items row

@@ -5,6 +5,7 @@ ghost use Rattle.script_text.specs.Parsing.{InBounds};
 ghost use Rattle.word_tables.specs.Bounds.{IsValid};
 ghost use Rattle.sights.specs.Units.{block_once_done, line_once_done};
 
+use crate::keeping::keep;
 use script_text::Command;
 use sights::{BlockSeen, LineSeen, Sight};
 use std::alloc::{AllocError, Global};
@@ -39,7 +40,7 @@ fn copied_lines(alloc: Global, lines: &[LineSeen]) -> Result<Vec<LineSeen>, Allo
             number: seen.number,
             line: seen.line.duplicate()?,
         };
-        copies.push(copy).map_err(AllocError::from)?;
+        keep(&mut copies, copy)?;
     }
     Ok(copies)
 }
@@ -53,7 +54,7 @@ fn copied_blocks(alloc: Global, blocks: &[BlockSeen]) -> Result<Vec<BlockSeen>, 
             number: seen.number,
             block: seen.block.duplicate()?,
         };
-        copies.push(copy).map_err(AllocError::from)?;
+        keep(&mut copies, copy)?;
     }
     Ok(copies)
 }

@@ -3,6 +3,7 @@
 
 mod after;
 mod blocks;
+mod keeping;
 mod laws;
 mod listing;
 mod looks;

@@ -1,9 +1,9 @@
 // One row as text.
-ghost use Rattle.std.specs.Prelude.{◌≡◌, ◌+◌, ◌*◌, ◌%◌, ◌<◌, ◌^◌, ◌++◌, [], ◌∷◌, ℕ, List, IfOk, OnOk, codes, decimal, length};
+ghost use Rattle.std.specs.Prelude.{◌≡◌, ◌*◌, ◌%◌, ◌<◌, ◌^◌, ◌++◌, ◌||◌, [], ◌∷◌, ℕ, List, IfOk, OnOk, codes, decimal, length};
 ghost use Rattle.nvm_model.specs.Cell.{Cell};
 ghost use Rattle.block_sights.specs.Sights.{Sight};
 ghost use Rattle.value_tables.specs.Sides.{block_at, line_at};
-ghost use Rattle.value_tables.specs.Values.{block_values, values_with};
+ghost use Rattle.value_tables.specs.Values.{block_values, may_be_bad, values_with};
 ghost use Rattle.value_tables.specs.Rows.{row_text, sights_text, word_text};
 ghost use Rattle.value_tables.specs.declared.shown.Shown.TheVariants.{Refuses};
 

@@ -1,5 +1,5 @@
 // The rows of a look, as text.
-ghost use Rattle.std.specs.Prelude.{◌≡◌, ◌+◌, ◌*◌, ◌≤◌, ◌<◌, ◌^◌, ◌++◌, ◌∷◌, [], ℕ, List, IfOk, OnOk, length, map};
+ghost use Rattle.std.specs.Prelude.{◌≡◌, None, ◌+◌, ◌*◌, ◌≤◌, ◌<◌, ◌^◌, ◌++◌, ℕ, List, IfOk, OnOk, length, map};
 ghost use Rattle.std.specs.List.{range_with_len};
 ghost use Rattle.nvm_base.specs.Units.{units_of};
 ghost use Rattle.word_tables.specs.Bounds.{IsValid};
@@ -8,9 +8,10 @@ ghost use Rattle.block_sights.specs.Sights.{Sight};
 ghost use Rattle.sights.specs.Units.{block_numbers, line_numbers};
 ghost use Rattle.value_tables.specs.declared.shown.Shown.TheVariants.{Block, Word};
 ghost use Rattle.value_tables.specs.Looking.{blocks_looked_at, blocks_touched, lines_looked_at, lines_touched, none_refused};
-ghost use Rattle.value_tables.specs.Rows.{read_refusal, row_text, rows_of_read, rows_text};
+ghost use Rattle.value_tables.specs.Rows.{read_refusal, row_text, rows_of_read, rows_text, touched};
 ghost use Rattle.value_tables.specs.Sides.{AreBlocksLeft, AreLeft, HasRun, texts};
 
+use crate::keeping::keep;
 use crate::refusal::refusal;
 use crate::row::{block_row, refused_row, word_row};
 use crate::sides::Sides;
@@ -34,6 +35,8 @@ pub fn rows_of(
     sides: &Sides,
 ) -> Result<Vec<Bytes>, AllocError>
     requires valid { IsValid geometry }
+    requires lines_fit { length sides.now.lines.now < 2 ^ 63 }
+    requires blocks_fit { length sides.now.blocks.now < 2 ^ 63 }
     requires lines { line_numbers sides.now.lines.now ≡ lines_looked_at geometry reads.now }
     requires blocks { block_numbers sides.now.blocks.now ≡ blocks_looked_at geometry reads.now }
     ensures { (lines : ℕ → List Cell) (blocks : ℕ → List Sight) → AreLeft lines sides.now.lines.now sides.now.new_lines.now
@@ -62,6 +65,8 @@ fn add_rows(
     rows: &mut Vec<Bytes>,
 ) -> Result<(), AllocError>
     requires valid { IsValid geometry }
+    requires lines_fit { length sides.now.lines.now < 2 ^ 63 }
+    requires blocks_fit { length sides.now.blocks.now < 2 ^ 63 }
     requires lines { HasRun (line_numbers sides.now.lines.now) passed.old.lines (none_refused (read_refusal geometry read) (lines_touched read)) }
     requires blocks { HasRun (block_numbers sides.now.blocks.now) passed.old.blocks (none_refused (read_refusal geometry read) (blocks_touched read)) }
     ensures text { (lines : ℕ → List Cell) (blocks : ℕ → List Sight) → AreLeft lines sides.now.lines.now sides.now.new_lines.now
@@ -70,14 +75,43 @@ fn add_rows(
     ensures lines { OnOk result (passed.new.lines ≡ passed.old.lines + length (none_refused (read_refusal geometry read) (lines_touched read))) }
     ensures blocks { OnOk result (passed.new.blocks ≡ passed.old.blocks + length (none_refused (read_refusal geometry read) (blocks_touched read))) }
 {
-    if let Some(why) = refusal(read, geometry) {
-        let row = refused_row(alloc, k, why)?;
-        return keep(rows, row);
+    match refusal(read, geometry) {
+        Some(why) => {
+            let row = refused_row(alloc, k, why)?;
+            keep(rows, row)
+        }
+        None => add_touched(alloc, geometry, k, read, sides, passed, rows),
     }
+}
+
+// Those of one that is not refused.
+fn add_touched(
+    alloc: Global,
+    geometry: Geometry,
+    k: u64,
+    read: Read,
+    sides: &Sides,
+    passed: &mut Passed,
+    rows: &mut Vec<Bytes>,
+) -> Result<(), AllocError>
+    requires valid { IsValid geometry }
+    requires taken { read_refusal geometry read ≡ None }
+    requires lines_fit { length sides.now.lines.now < 2 ^ 63 }
+    requires blocks_fit { length sides.now.blocks.now < 2 ^ 63 }
+    requires lines { HasRun (line_numbers sides.now.lines.now) passed.old.lines (lines_touched read) }
+    requires blocks { HasRun (block_numbers sides.now.blocks.now) passed.old.blocks (blocks_touched read) }
+    ensures text { (lines : ℕ → List Cell) (blocks : ℕ → List Sight) → AreLeft lines sides.now.lines.now sides.now.new_lines.now
+        → AreBlocksLeft blocks sides.now.blocks.now sides.now.new_blocks.now
+        → OnOk result (texts rows.new.items ≡ texts rows.old.items ++ map (row_text lines blocks k) (touched read)) }
+    ensures lines { OnOk result (passed.new.lines ≡ passed.old.lines + length (lines_touched read)) }
+    ensures blocks { OnOk result (passed.new.blocks ≡ passed.old.blocks + length (blocks_touched read)) }
+{
     match read {
         Read::Volume { start, len } => {
-            add_words(alloc, k, Span { start, len }, passed.lines, sides, rows)?;
-            passed.lines += lines_of(Span { start, len }).len;
+            let span = Span { start, len };
+            let lines = lines_of(span);
+            add_words(alloc, k, span, passed.lines, sides, rows)?;
+            passed.lines += lines.len;
         }
         Read::Blocks { first, count } => {
             add_blocks(alloc, k, u64::from(first), count, passed.blocks, sides, rows)?;
@@ -98,6 +132,7 @@ fn add_words(
 ) -> Result<(), AllocError>
     requires some { 1 ≤ span.len }
     requires within { span.start + span.len ≤ 2 ^ 32 }
+    requires lines_fit { length sides.now.lines.now < 2 ^ 63 }
     requires run { HasRun (line_numbers sides.now.lines.now) at (range_with_len (units_of 64 span).start (units_of 64 span).len) }
     ensures { (lines : ℕ → List Cell) (blocks : ℕ → List Sight) → AreLeft lines sides.now.lines.now sides.now.new_lines.now
         → OnOk result (texts rows.new.items ≡ texts rows.old.items ++ map (row_text lines blocks k) (map Word (range_with_len (units_of 8 span).start (units_of 8 span).len))) }
@@ -121,6 +156,7 @@ fn add_blocks(
     rows: &mut Vec<Bytes>,
 ) -> Result<(), AllocError>
     requires within { first + count ≤ 2 ^ 32 }
+    requires blocks_fit { length sides.now.blocks.now < 2 ^ 63 }
     requires run { HasRun (block_numbers sides.now.blocks.now) at (range_with_len first count) }
     ensures { (lines : ℕ → List Cell) (blocks : ℕ → List Sight) → AreBlocksLeft blocks sides.now.blocks.now sides.now.new_blocks.now
         → OnOk result (texts rows.new.items ≡ texts rows.old.items ++ map (row_text lines blocks k) (map Block (range_with_len first count))) }
@@ -130,10 +166,4 @@ fn add_blocks(
         keep(rows, row)?;
     }
     Ok(())
-}
-
-fn keep(rows: &mut Vec<Bytes>, row: Bytes) -> Result<(), AllocError>
-    ensures { OnOk result (rows.new.items ≡ rows.old.items ++ row ∷ []) }
-{
-    rows.push(row).map_err(AllocError::from)
 }

@@ -1,6 +1,6 @@
 // A table as it is printed, place by place.
-ghost use Rattle.std.specs.Prelude.{◌≡◌, ◌++◌, [], IfOk, OnOk};
-ghost use Rattle.value_tables.specs.Sides.{texts};
+ghost use Rattle.std.specs.Prelude.{◌≡◌, ◌++◌, [], IfOk, OnOk, slice_get};
+ghost use Rattle.value_tables.specs.Sides.{is_row, texts};
 ghost use Rattle.value_tables.specs.Tables.{changed, part, place_line};
 
 use nvm_base::{Bytes, print_number};
@@ -56,7 +56,7 @@ fn changed_rows(alloc: Global, last: &[Bytes], rows: &[Bytes]) -> Result<Bytes, 
 
 // Whether row i is this one.
 fn is_there(rows: &[Bytes], i: usize, row: &Bytes) -> bool
-    ensures { result ≡ is_same_row (slice_get rows.now i) row.now.items }
+    ensures { result ≡ is_row (slice_get rows.now i) row.now.items }
 {
     match rows.get(i) {
         Some(other) => other.as_slice() == row.as_slice(),
