@@ -22,4 +22,5 @@ pub use lines_fit::{byte_in, is_among, line_fits, touches};
 pub use place::CutPlace;
 pub use replies::{may_be_replies, most_refusal};
 pub use sight::Sight;
+pub use unit::Unit;
 pub use way::Way;

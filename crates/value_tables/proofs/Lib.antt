@@ -8,3 +8,6 @@ pub mod BlockLemmas
 pub mod RowLemmas
 pub mod ChangedLemmas
 pub mod LookLemmas
+pub mod SideLemmas
+pub mod PlaceLemmas
+pub mod GoLemmas

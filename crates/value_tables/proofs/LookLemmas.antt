@@ -10,14 +10,14 @@ use Rattle.value_tables.specs.Rows.{read_refusal, row_text, rows_of_read, rows_t
 use Rattle.value_tables.specs.Sides.{HasRun}
 use Rattle.value_tables.proofs.RowLemmas.{run_rest}
 
-suc_is : (n : ℕ) → suc n ≡ n + 1
+abbrev pub suc_is : (n : ℕ) → suc n ≡ n + 1
 suc_is n = omega arith
 
 abbrev pub read_at : List Read → ℕ → Read
 read_at reads i = get_or reads i (Volume 0 0)
 
 module _ (geo : Geometry) (reads : List Read) (i : ℕ) (lt : i < length reads) where
-  next : drop i reads ≡ read_at reads i ∷ drop (i + 1) reads
+  abbrev pub next : drop i reads ≡ read_at reads i ∷ drop (i + 1) reads
   next = drop-cons reads i (Volume 0 0) lt ∙ ap (λ n. read_at reads i ∷ drop n reads) (suc_is i)
 
   module _ (numbers : List ℕ) (at : ℕ) where

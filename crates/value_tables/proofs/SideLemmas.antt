@@ -23,8 +23,9 @@ use Rattle.sights.specs.Units.{AreBlocks, AreLines, block_once_done, line_once_d
 use Rattle.sights.specs.Ways.{blocks_way, lines_way}
 use Rattle.sights.proofs.BlockChangeLemmas.{blocks_changed}
 use Rattle.sights.proofs.InsideLemmas.{AreThere, HaveLine}
+use Rattle.sights.proofs.PassLemmas.{EachUnit}
 use Rattle.sights.proofs.VolumeChangeLemmas.{volume_changed}
-use Rattle.value_tables.specs.Left.{block_left, line_left, of_blocks, of_lines}
+use Rattle.value_tables.specs.Left.{block_left, blocks_left, line_left, lines_left, of_blocks, of_lines}
 use Rattle.value_tables.specs.Sides.{AreBlocksLeft, AreLeft, where_mixed}
 
 module _ (h : Machine) (settled : h.interrupted ≡ None) where
@@ -33,7 +34,7 @@ module _ (h : Machine) (settled : h.interrupted ≡ None) where
   lines_rest [] are = tt
   lines_rest (s ∷ lines) are = (at_rest h.interrupted settled ∙ ap (λ cell. cell ∷ []) (sym are.0), lines_rest lines are.1)
     where
-      at_rest : (o : Option Action) → o ≡ None → Rattle.value_tables.specs.Left.lines_left h.geometry o h.volume s.number ≡ seen h.volume s.number ∷ []
+      at_rest : (o : Option Action) → o ≡ None → lines_left h.geometry o h.volume s.number ≡ seen h.volume s.number ∷ []
       at_rest None is = refl
       at_rest (Some action) is = cc is
 
@@ -41,7 +42,7 @@ module _ (h : Machine) (settled : h.interrupted ≡ None) where
   blocks_rest [] are = tt
   blocks_rest (s ∷ blocks) are = (at_rest h.interrupted settled ∙ ap (λ one. one ∷ []) (sym are.0), blocks_rest blocks are.1)
     where
-      at_rest : (o : Option Action) → o ≡ None → Rattle.value_tables.specs.Left.blocks_left o h.blocks s.number ≡ sight (nth h.blocks s.number) ∷ []
+      at_rest : (o : Option Action) → o ≡ None → blocks_left o h.blocks s.number ≡ sight (nth h.blocks s.number) ∷ []
       at_rest None is = refl
       at_rest (Some action) is = cc is
 
@@ -82,13 +83,49 @@ module _ (h : Machine) (b : ℕ) (eight : HaveEightLines h.blocks) (within : b <
   block_inside (BScar ranges) allowed = ap (λ one. sight (nth h.blocks b) ∷ one ∷ []) (blocks_changed h (BScar ranges) b allowed eight within)
   block_inside action allowed = refl
 
-mixed_lines : (way : Option Way) (geo : Geometry) (action : Action) (f : ℕ → List Cell) (old : ℕ → Cell) (lines : List LineSeen) → AreLines old lines
-    → ((s : LineSeen) → s.line ≡ old s.number → f s.number ≡ by_way way (old s.number) (line_changed (volume_change geo action) s.number (old s.number)))
-    → AreLeft f lines (where_mixed way (map (line_once_done geo action) lines))
-mixed_lines None geo action f old [] are each = tt
-mixed_lines None geo action f old (s ∷ lines) are each = (each s are.0 ∙ ap (λ cell. cell ∷ []) (sym are.0), mixed_lines None geo action f old lines are.1 each)
-mixed_lines (Some way) geo action f old [] are each = tt
-mixed_lines (Some way) geo action f old (s ∷ lines) are each = (
-  each s are.0 ∙ ap (λ cell. cell ∷ line_changed (volume_change geo action) s.number cell ∷ []) (sym are.0),
-  mixed_lines (Some way) geo action f old lines are.1 each,
-)
+module _ (way : Option Way) (geo : Geometry) (action : Action) where
+  mixed_lines : (f : ℕ → List Cell) (old : ℕ → Cell) (limit : ℕ) (lines : List LineSeen) → AreLines old lines → EachUnit (λ (s : LineSeen). s.number / 64 < limit) lines
+      → ((n : ℕ) → n / 64 < limit → f n ≡ by_way way (old n) (line_changed (volume_change geo action) n (old n)))
+      → AreLeft f lines (where_mixed way (map (line_once_done geo action) lines))
+  mixed_lines f old limit lines are within each = by_kind way each lines are within
+    where
+      by_kind : (way : Option Way) → ((n : ℕ) → n / 64 < limit → f n ≡ by_way way (old n) (line_changed (volume_change geo action) n (old n)))
+          → (lines : List LineSeen) → AreLines old lines → EachUnit (λ (s : LineSeen). s.number / 64 < limit) lines
+          → AreLeft f lines (where_mixed way (map (line_once_done geo action) lines))
+      by_kind None each [] are within = tt
+      by_kind None each (s ∷ lines) are within = (each s.number within.0 ∙ ap (λ cell. cell ∷ []) (sym are.0), by_kind None each lines are.1 within.1)
+      by_kind (Some way) each [] are within = tt
+      by_kind (Some way) each (s ∷ lines) are within = (
+        each s.number within.0 ∙ ap (λ cell. cell ∷ line_changed (volume_change geo action) s.number cell ∷ []) (sym are.0),
+        by_kind (Some way) each lines are.1 within.1,
+      )
+
+  mixed_blocks : (f : ℕ → List Sight) (old : ℕ → Sight) (limit : ℕ) (blocks : List BlockSeen) → AreBlocks old blocks → EachUnit (λ (s : BlockSeen). s.number < limit) blocks
+      → ((b : ℕ) → b < limit → f b ≡ by_way way (old b) (block_changed action b (old b)))
+      → AreBlocksLeft f blocks (where_mixed way (map (block_once_done geo action) blocks))
+  mixed_blocks f old limit blocks are within each = by_kind way each blocks are within
+    where
+      by_kind : (way : Option Way) → ((b : ℕ) → b < limit → f b ≡ by_way way (old b) (block_changed action b (old b)))
+          → (blocks : List BlockSeen) → AreBlocks old blocks → EachUnit (λ (s : BlockSeen). s.number < limit) blocks
+          → AreBlocksLeft f blocks (where_mixed way (map (block_once_done geo action) blocks))
+      by_kind None each [] are within = tt
+      by_kind None each (s ∷ blocks) are within = (each s.number within.0 ∙ ap (λ one. one ∷ []) (sym are.0), by_kind None each blocks are.1 within.1)
+      by_kind (Some way) each [] are within = tt
+      by_kind (Some way) each (s ∷ blocks) are within = (
+        each s.number within.0 ∙ ap (λ one. one ∷ block_changed action s.number one ∷ []) (sym are.0),
+        by_kind (Some way) each blocks are.1 within.1,
+      )
+
+module _ (h : Machine) (action : Action) where
+  -- inside a command
+  pub lines_cut : (lines : List LineSeen) → refusal h action ≡ None → HaveLines h.volume → AreLines (seen h.volume) lines → HaveLine h.volume lines
+      → AreLeft (line_left (while_interrupted h action)) lines (where_mixed (lines_way action) (map (line_once_done h.geometry action) lines))
+  lines_cut lines allowed whole are within =
+      mixed_lines (lines_way action) h.geometry action (line_left (while_interrupted h action)) (seen h.volume) (length h.volume) lines are within
+      (λ n lt. line_inside h n whole lt action allowed)
+
+  pub blocks_cut : (blocks : List BlockSeen) → refusal h action ≡ None → HaveEightLines h.blocks → AreBlocks (λ b. sight (nth h.blocks b)) blocks → AreThere h.blocks blocks
+      → AreBlocksLeft (block_left (while_interrupted h action)) blocks (where_mixed (blocks_way action) (map (block_once_done h.geometry action) blocks))
+  blocks_cut blocks allowed eight are within =
+      mixed_blocks (blocks_way action) h.geometry action (block_left (while_interrupted h action)) (λ b. sight (nth h.blocks b)) (length h.blocks) blocks are within
+      (λ b lt. block_inside h b eight lt action allowed)

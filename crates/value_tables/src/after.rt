@@ -7,7 +7,7 @@ ghost use Rattle.sights.specs.Units.{block_once_done, line_once_done};
 
 use crate::keeping::keep;
 use script_text::Command;
-use sights::{BlockSeen, LineSeen, Sight};
+use sights::{Sight, Unit};
 use std::alloc::{AllocError, Global};
 use word_tables::Geometry;
 
@@ -24,36 +24,19 @@ pub fn once_done(
     ensures blocks { IfOk result (λ after. after.blocks.items ≡ map (block_once_done geometry (action_of command.now)) sight.now.blocks.items) }
 {
     let mut after = Sight {
-        lines: copied_lines(alloc, &sight.lines)?,
-        blocks: copied_blocks(alloc, &sight.blocks)?,
+        lines: copied(alloc, &sight.lines)?,
+        blocks: copied(alloc, &sight.blocks)?,
     };
     after.change(geometry, command)?;
     Ok(after)
 }
 
-fn copied_lines(alloc: Global, lines: &[LineSeen]) -> Result<Vec<LineSeen>, AllocError>
-    ensures { IfOk result (λ copies. copies.items ≡ lines.now) }
+fn copied<U: Unit>(alloc: Global, units: &[U]) -> Result<Vec<U>, AllocError>
+    ensures { IfOk result (λ copies. copies.items ≡ units.now) }
 {
     let mut copies = Vec::new(alloc);
-    for seen in lines {
-        let copy = LineSeen {
-            number: seen.number,
-            line: seen.line.duplicate()?,
-        };
-        keep(&mut copies, copy)?;
-    }
-    Ok(copies)
-}
-
-fn copied_blocks(alloc: Global, blocks: &[BlockSeen]) -> Result<Vec<BlockSeen>, AllocError>
-    ensures { IfOk result (λ copies. copies.items ≡ blocks.now) }
-{
-    let mut copies = Vec::new(alloc);
-    for seen in blocks {
-        let copy = BlockSeen {
-            number: seen.number,
-            block: seen.block.duplicate()?,
-        };
+    for unit in units {
+        let copy = unit.duplicate()?;
         keep(&mut copies, copy)?;
     }
     Ok(copies)

@@ -33,7 +33,7 @@ impl Table {
         rows: Vec<Bytes>,
     ) -> Result<(), AllocError>
         ensures text { OnOk result (self.new.text.items ≡ self.old.text.items ++ part place (changed (texts self.old.last.items) (texts rows.items))) }
-        ensures last { OnOk result (self.new.last ≡ rows) }
+        ensures last { OnOk result (texts self.new.last.items ≡ texts rows.items) }
     {
         let changed = changed_rows(alloc, &self.last, &rows)?;
         print_part(place, changed.as_slice(), &mut self.text)?;
