@@ -19,3 +19,4 @@ mod values;
 
 pub use laws::{a_value_is_listed_where_it_may_be_shown, worked_tables};
 pub use listing::table_of;
+pub use refusal::read_refusal;

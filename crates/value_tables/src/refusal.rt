@@ -12,14 +12,14 @@ use word_tables::Geometry;
 const MOST_BLOCKS: u64 = 128;
 
 /// Why a read is refused, whatever is stored.
-pub fn refusal(read: Read, geometry: Geometry) -> Option<Why>
+pub fn read_refusal(geometry: Geometry, read: &Read) -> Option<Why>
     requires { IsValid geometry }
-    ensures { result ≡ read_refusal geometry read }
+    ensures { result ≡ read_refusal geometry read.now }
 {
     match read {
-        Read::Volume { start, len } => most_refusal(MOST, PAGE * geometry.vpages, start, len),
+        Read::Volume { start, len } => most_refusal(MOST, PAGE * geometry.vpages, *start, *len),
         Read::Blocks { first, count } => {
-            most_refusal(MOST_BLOCKS, geometry.blocks, u64::from(first), count)
+            most_refusal(MOST_BLOCKS, geometry.blocks, u64::from(*first), *count)
         }
     }
 }

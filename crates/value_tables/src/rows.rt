@@ -12,7 +12,7 @@ ghost use Rattle.value_tables.specs.Rows.{read_refusal, row_text, rows_of_read, 
 ghost use Rattle.value_tables.specs.Sides.{AreBlocksLeft, AreLeft, HasRun, texts};
 
 use crate::keeping::keep;
-use crate::refusal::refusal;
+use crate::refusal::read_refusal;
 use crate::row::{block_row, refused_row, word_row};
 use crate::sides::Sides;
 use asked_reads::Read;
@@ -75,7 +75,7 @@ fn add_rows(
     ensures lines { OnOk result (passed.new.lines ≡ passed.old.lines + length (none_refused (read_refusal geometry read) (lines_touched read))) }
     ensures blocks { OnOk result (passed.new.blocks ≡ passed.old.blocks + length (none_refused (read_refusal geometry read) (blocks_touched read))) }
 {
-    match refusal(read, geometry) {
+    match read_refusal(geometry, &read) {
         Some(why) => {
             let row = refused_row(alloc, k, why)?;
             keep(rows, row)
