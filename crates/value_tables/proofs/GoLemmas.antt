@@ -12,7 +12,7 @@ use Rattle.asked_reads.specs.Program.{inputs_of_lines}
 use Rattle.asked_reads.specs.declared.read.Read.{Read}
 use Rattle.sights.specs.declared.place.CutPlace.TheVariants.{Before}
 use Rattle.sights.specs.declared.sight.Sight.{Sight}
-use Rattle.sights.specs.Following.{AreDone, Follows, IsWithin, command_stops}
+use Rattle.sights.specs.Following.{AreDone, Follows}
 use Rattle.sights.specs.Places.{cut_places}
 use Rattle.sights.proofs.GoingLemmas.{at_line}
 use Rattle.value_tables.specs.declared.table.Table.{Table}
@@ -26,7 +26,6 @@ use Rattle.value_tables.proofs.PlaceLemmas.{Printed, place_printed}
 -- The places up to this line are printed, and those behind them make the table whole.
 pub record Goes (program : List (Option Command)) (done : List Bool) (look : List Read) (geo : Geometry) (began : Sight) (i : ℕ) (now : Sight) (table : Table) : Type 0 where
   pub looks : IsOf now geo look
-  pub within : IsWithin now geo
   pub comes : (h : Machine) → Follows began geo h → AreDone h program done
       → (to : Machine) × Follows now geo to × AreDone to (drop i program) (drop i done)
       × (with_places look table (cut_places (i + 1) to (inputs_of_lines (drop i program))) ≡ table_text look (cut_places 1 h (inputs_of_lines program)))
@@ -34,11 +33,10 @@ pub record Goes (program : List (Option Command)) (done : List Bool) (look : Lis
 suc_is : (n : ℕ) → suc n ≡ n + 1
 suc_is n = omega arith
 
-pub goes_first : (program : List (Option Command)) (done : List Bool) (look : List Read) (geo : Geometry) (began : Sight) (table : Table) → IsOf began geo look → IsWithin began geo
+pub goes_first : (program : List (Option Command)) (done : List Bool) (look : List Read) (geo : Geometry) (began : Sight) (table : Table) → IsOf began geo look
     → table.text.items ≡ [] → texts table.last.items ≡ [] → Goes program done look geo began 0 began table
-goes_first program done look geo began table looks within text last = record {
+goes_first program done look geo began table looks text last = record {
   looks = looks;
-  within = within;
   comes = λ h follows told. (h, follows, told,
       ap (λ t. t ++ table_from (texts table.last.items) look (cut_places 1 h (inputs_of_lines program))) text
       ∙ ap (λ l. table_from l look (cut_places 1 h (inputs_of_lines program))) last);
@@ -66,7 +64,6 @@ module _ (program : List (Option Command)) (done : List Bool) (look : List Read)
     pub goes_past : line ≡ None → Goes program done look geo began (i + 1) now table
     goes_past none = record {
       looks = goes.looks;
-      within = goes.within;
       comes = λ h follows all.
           let before = goes.comes h follows all in (
             before.0,
@@ -79,13 +76,12 @@ module _ (program : List (Option Command)) (done : List Bool) (look : List Read)
     }
 
     -- a command
-    pub goes_on : (command : Command) → line ≡ Some command → (after : Sight) (next : Table) → IsOf after geo look → IsWithin after geo
+    pub goes_on : (command : Command) → line ≡ Some command → (after : Sight) (next : Table) → IsOf after geo look
         → ((h : Machine) → Follows now geo h → is_none (refusal h (action_of command)) ≡ is_done → Prints look geo (i + 1) (action_of command) h table next after)
         → Goes program done look geo began (i + 1) after next
-    goes_on command some after next looks within prints = record {
+    goes_on command some after next looks prints = record {
       looks = looks;
-      within = within;
-      comes = λ h follows all.
+          comes = λ h follows all.
           let before = goes.comes h follows all in
           let state = before.0 in
           let of : AreDone state (Some command ∷ drop (i + 1) program) (is_done ∷ drop (i + 1) done) =

@@ -6,7 +6,7 @@ use Rattle.line_device.specs.History.{latest, newest}
 use Rattle.line_device.specs.Medium.{word_stored}
 use Rattle.line_device.specs.Word.{reaches, word_over}
 use Rattle.word_tables.specs.declared.geometry.Geometry.{Geometry}
-use Rattle.nvm_model.specs.Cell.{Cell, clear_cell, covers, flush_cell, persist_cell, put_cell, touches, zero_cell}
+use Rattle.nvm_model.specs.Cell.{Cell, clear_cell, covers, flush_cell, lose_cell, persist_cell, put_cell, touches, weaken_cell, zero_cell}
 use Rattle.nvm_model.specs.Cell.Cell.{Bad, Kept}
 use Rattle.nvm_model.specs.Numbered.{is_among, map_from}
 use Rattle.nvm_model.specs.Page.{Page, at_line, cell_of, change_line, discard, fill, persist, put}
@@ -16,21 +16,12 @@ use Rattle.script_text.specs.Action.{Action}
 use Rattle.script_text.specs.Action.Action.{VStore, VSync, VPSync, VDiscard, VDiscardIf, ClearVolume}
 use Rattle.machine_host.specs.Commands.{meaning}
 use Rattle.machine_host.specs.OnVolume.{persist_at}
-use Rattle.durable.specs.Durable.{HaveLines, IsLineThere}
-use Rattle.durable.specs.Place.{is_line_present}
-use Rattle.durable.proofs.PresenceLemmas.{absent_line}
-use Rattle.outcomes.specs.Outcome.{HasValues, HaveValues}
+use Rattle.durable.specs.Durable.{HaveLines}
+use Rattle.sights.specs.Changing.{LinesChange, line_changed}
+use Rattle.sights.specs.Changing.LinesChange.{Nothing, Puts, Persists, Zeroes, Loses, Weakens, Clears}
 use Rattle.sights.specs.Seeing.{or_zeros, seen}
-use Rattle.sights.proofs.PassLemmas.{EachUnit}
 use Rattle.sights.proofs.SeenLemmas.{seen-discard, seen-persist, seen-put}
-
--- so many words, each with a value
-abbrev pub HaveOne : List (List ℕ) → Type 0
-HaveOne words = EachUnit (λ history. 1 ≤ length history) words
-
-abbrev pub HasWords : Cell → Type 0
-HasWords Bad = Unit {0}
-HasWords (Kept weak words) = (length words ≡ 8) × HaveOne words
+use Rattle.value_tables.specs.Listed.{HasWords, HaveOne}
 
 pub word_has : (words : List (List ℕ)) (w : ℕ) → w < length words → HaveOne words → 1 ≤ length (slice_index_or words w [])
 word_has [] w lt have = absurd (omega (arith, lt))
@@ -98,44 +89,43 @@ gone_has : (b : Bool) (cell : Cell) → HasWords cell → HasWords (cond b zero_
 gone_has true cell have = zero_has
 gone_has false cell have = have
 
-each_value : (words : List (List ℕ)) → ((w : ℕ) (history : List ℕ) → slice_get words w ≡ Some history → 1 ≤ length history) → HaveOne words
-each_value [] have = tt
-each_value (history ∷ words) have = (have 0 history refl, each_value words (λ w h is. have (suc w) h is))
+module _ (pages : List Page) (whole : HaveLines pages) (n : ℕ) (have : HasWords (seen pages n)) where
+  synced_has : (o : Option ℕ) (len : ℕ) → HasWords (seen (persist_at o len pages) n)
+  synced_has None len = have
+  synced_has (Some start) len = subst HasWords (sym (seen-persist start len pages n)) (flushed_has (touches start len n) (seen pages n) have)
 
-module _ (pages : List Page) (whole : HaveLines pages) (n : ℕ) where
-  -- pages that are there have lines of eight words
-  eight_words : (weak : Bool) (words : List (List ℕ)) → cell_of pages n ≡ Some (Kept weak words) → length words ≡ 8
-  eight_words weak words is = by_presence (is_line_present pages n) refl
+  cleared : (line : ℕ) → HasWords (seen (change_line clear_cell line pages) n)
+  cleared line = subst HasWords (sym (ap or_zeros (cell_of-change clear_cell line pages n))) (by_line (cell_of pages n) have)
     where
-      by_presence : (b : Bool) → is_line_present pages n ≡ b → length words ≡ 8
-      by_presence true there = subst IsLineThere is (whole n there)
-      by_presence false gone = cc (sym (absent_line pages n gone) ∙ is)
-
-  pub seen_has : HaveValues pages → HasWords (seen pages n)
-  seen_has values = by_line (cell_of pages n) refl
-    where
-      by_line : (o : Option Cell) → cell_of pages n ≡ o → HasWords (or_zeros o)
-      by_line None is = zero_has
-      by_line (Some Bad) is = tt
-      by_line (Some (Kept weak words)) is = (eight_words weak words is, each_value words (λ w history at. values n (Kept weak words) is w history at))
-
-  synced_has : (o : Option ℕ) (len : ℕ) → HasWords (seen pages n) → HasWords (seen (persist_at o len pages) n)
-  synced_has None len have = have
-  synced_has (Some start) len have = subst HasWords (sym (seen-persist start len pages n)) (flushed_has (touches start len n) (seen pages n) have)
-
-  cleared : (line : ℕ) → HaveValues pages → HasWords (seen (change_line clear_cell line pages) n)
-  cleared line values = subst HasWords (sym (ap or_zeros (cell_of-change clear_cell line pages n))) (by_line (cell_of pages n) refl)
-    where
-      by_line : (o : Option Cell) → cell_of pages n ≡ o → HasWords (or_zeros (option_map (at_line clear_cell line n) o))
-      by_line None is = zero_has
-      by_line (Some cell) is = cleared_has (n == line) cell (subst (λ o. HasWords (or_zeros o)) is (seen_has values))
+      by_line : (o : Option Cell) → HasWords (or_zeros o) → HasWords (or_zeros (option_map (at_line clear_cell line n) o))
+      by_line None has = zero_has
+      by_line (Some cell) has = cleared_has (n == line) cell has
 
   -- what a command makes of the volume
-  pub made_has : (geo : Geometry) (action : Action) → n / 64 < length pages → HaveValues pages → HasWords (seen ((meaning action).volume geo pages) n)
-  made_has geo (VStore offset bytes) within values = subst HasWords (sym (seen-put offset bytes pages n whole within)) (put_has offset bytes n (seen pages n) (seen_has values))
-  made_has geo (VSync offset len) within values = synced_has (Some offset) len (seen_has values)
-  made_has geo (VPSync address len) within values = synced_has (physical_offset geo address len) len (seen_has values)
-  made_has geo (VDiscard page count) within values = subst HasWords (sym (seen-discard page count pages n)) (gone_has (is_among (64 * page) (64 * count) n) (seen pages n) (seen_has values))
-  made_has geo (VDiscardIf page count) within values = subst HasWords (sym (seen-discard page count pages n)) (gone_has (is_among (64 * page) (64 * count) n) (seen pages n) (seen_has values))
-  made_has geo (ClearVolume offset) within values = cleared (offset / 64) values
-  made_has geo action within values = seen_has values
+  pub made_has : (geo : Geometry) (action : Action) → n / 64 < length pages → HasWords (seen ((meaning action).volume geo pages) n)
+  made_has geo (VStore offset bytes) within = subst HasWords (sym (seen-put offset bytes pages n whole within)) (put_has offset bytes n (seen pages n) have)
+  made_has geo (VSync offset len) within = synced_has (Some offset) len
+  made_has geo (VPSync address len) within = synced_has (physical_offset geo address len) len
+  made_has geo (VDiscard page count) within = subst HasWords (sym (seen-discard page count pages n)) (gone_has (is_among (64 * page) (64 * count) n) (seen pages n) have)
+  made_has geo (VDiscardIf page count) within = subst HasWords (sym (seen-discard page count pages n)) (gone_has (is_among (64 * page) (64 * count) n) (seen pages n) have)
+  made_has geo (ClearVolume offset) within = cleared (offset / 64)
+  made_has geo action within = have
+
+weakened_has : (b : Bool) (cell : Cell) → HasWords cell → HasWords (cond b (weaken_cell cell) cell)
+weakened_has true Bad have = tt
+weakened_has true (Kept weak words) have = have
+weakened_has false cell have = have
+
+lost_has : (b : Bool) (cell : Cell) → HasWords cell → HasWords (cond b (lose_cell cell) cell)
+lost_has true cell have = tt
+lost_has false cell have = have
+
+-- and what one that is done makes of a line
+pub changed_has : (change : LinesChange) (n : ℕ) (cell : Cell) → HasWords cell → HasWords (line_changed change n cell)
+changed_has Nothing n cell have = have
+changed_has (Puts at bytes) n cell have = put_has at bytes n cell have
+changed_has (Persists start len) n cell have = flushed_has (touches start len n) cell have
+changed_has (Zeroes first count) n cell have = gone_has (is_among first count n) cell have
+changed_has (Loses line) n cell have = lost_has (n == line) cell have
+changed_has (Weakens line) n cell have = weakened_has (n == line) cell have
+changed_has (Clears line) n cell have = cleared_has (n == line) cell have

@@ -11,3 +11,5 @@ pub mod LookLemmas
 pub mod SideLemmas
 pub mod PlaceLemmas
 pub mod GoLemmas
+pub mod SoundLemmas
+pub mod WithinLemmas

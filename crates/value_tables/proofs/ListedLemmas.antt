@@ -20,7 +20,6 @@ use Rattle.machine_host.specs.Meaning.VolumeLeft.{Kept as Unchanged, PartStored,
 use Rattle.durable.specs.Durable.{HaveLines}
 use Rattle.outcomes.specs.Blocks.{block_fits}
 use Rattle.outcomes.specs.Left.{blocks_may_pass, blocks_pass, files_may_pass, volume_may_pass, volume_passes}
-use Rattle.outcomes.specs.Outcome.{HasValues, HaveValues}
 use Rattle.outcomes.specs.Pages.{PageRead, PageReply, all_lines_read, is_given, is_reply, is_reply_by, line_fits}
 use Rattle.outcomes.specs.Pages.PageReply.{Shows, Poison}
 use Rattle.outcomes.specs.Seen.{blocks_may_show, files_may_show, may_show, volume_may_show}
@@ -29,9 +28,9 @@ use Rattle.sights.specs.Seeing.{or_zeros, seen}
 use Rattle.sights.proofs.MayShowLemmas.{files_show_none}
 use Rattle.sights.proofs.PassLemmas.{EachUnit}
 use Rattle.value_tables.specs.Left.{line_left, lines_left, of_lines}
-use Rattle.value_tables.specs.Listed.{IsSound, has_bytes, lists_bytes, word_read}
+use Rattle.value_tables.specs.Listed.{HasWords, IsSound, has_bytes, lists_bytes, word_read}
 use Rattle.value_tables.specs.Values.{history_of, may_be_bad, word_values}
-use Rattle.value_tables.proofs.HistoryLemmas.{HasWords, made_has, seen_has}
+use Rattle.value_tables.proofs.HistoryLemmas.{made_has}
 use Rattle.value_tables.proofs.LeftLemmas.{line_passes}
 use Rattle.value_tables.proofs.OnceLemmas.{any_of, any_value}
 use Rattle.value_tables.proofs.WordLemmas.{read_of, shows_poison, shows_word}
@@ -44,11 +43,10 @@ both_have (PartSynced offset len) old new has had = (has, (had, tt))
 both_have AllOrNone old new has had = (has, (had, tt))
 both_have PageByPage old new has had = (has, (had, tt))
 
-all_have : (geo : Geometry) (o : Option Action) (pages : List Page) (n : ℕ) → HaveLines pages → n / 64 < length pages → HaveValues pages → EachUnit HasWords (lines_left geo o pages n)
-all_have geo None pages n lines within values = (seen_has pages lines n values, tt)
-all_have geo (Some action) pages n lines within values =
-    both_have ((meaning action).volume_left geo) (seen pages n) (seen ((meaning action).volume geo pages) n) (seen_has pages lines n values)
-    (made_has pages lines n geo action within values)
+all_have : (geo : Geometry) (o : Option Action) (pages : List Page) (n : ℕ) → HaveLines pages → n / 64 < length pages → HasWords (seen pages n) → EachUnit HasWords (lines_left geo o pages n)
+all_have geo None pages n lines within have = (have, tt)
+all_have geo (Some action) pages n lines within have =
+    both_have ((meaning action).volume_left geo) (seen pages n) (seen ((meaning action).volume geo pages) n) have (made_has pages lines n have geo action within)
 
 always : {A : Type 0} (xs : List A) → EachUnit (λ x. Unit {0}) xs
 always [] = tt
@@ -93,13 +91,13 @@ module _ (off : Machine) (p : ℕ) (sound : IsSound off) (within : p < 512 * off
         (blocks_may_pass off.interrupted (block_fits []) off.blocks []) (files_may_show off [])
         (ap (λ o. is_reply_by o (8 * p) 8 reply) allowed ∙ given) (no_block off.interrupted off.blocks) (files_show_none off.mappings off.interrupted off.files)
         ∙ ap (volume_may_pass off.geometry off.interrupted (line_fits (read_of p reply)) off.volume) line
-        ∙ line_passes (read_of p reply) off.geometry off.volume (p / 8) sound.complete.lines there off.interrupted
+        ∙ line_passes (read_of p reply) off.geometry off.volume (p / 8) sound.lines there off.interrupted
 
   pub words_listed : (bytes : List ℕ) → length bytes ≡ 8 → lists_bytes bytes (word_values (p % 8) (line_left off (p / 8))) ≡ may_show (word_read p (Shows bytes)) off
   words_listed bytes eight =
       any_value (has_bytes bytes) (p % 8) [] (line_left off (p / 8))
       ∙ sym (any_of HasWords (cell_fits (read_of p (Shows bytes)) (p / 8)) (λ cell. lists_bytes bytes (history_of (p % 8) cell)) (line_left off (p / 8))
-      (all_have off.geometry off.interrupted off.volume (p / 8) sound.complete.lines there sound.values) (λ cell have. shows_word p bytes cell have eight))
+      (all_have off.geometry off.interrupted off.volume (p / 8) sound.lines there (sound.words (p / 8) there)) (λ cell have. shows_word p bytes cell have eight))
       ∙ sym (shown (Shows bytes) (eq-eqb (length bytes) 8 eight) (one_line (Shows bytes) (λ start len. refl)))
 
   pub poison_listed : may_be_bad (line_left off (p / 8)) ≡ may_show (word_read p (Poison (64 * (p / 8)))) off

@@ -17,9 +17,9 @@ use Rattle.nvm_model.specs.Page.{is_bad_cell}
 use Rattle.outcomes.specs.Pages.{PageRead, PageReply, agrees, all_agree, words_fit}
 use Rattle.outcomes.specs.Pages.PageReply.{Shows, Poison}
 use Rattle.asked_reads.specs.Fitting.{cell_fits}
-use Rattle.value_tables.specs.Listed.{has_bytes, lists_bytes}
+use Rattle.value_tables.specs.Listed.{HasWords, has_bytes, lists_bytes}
 use Rattle.value_tables.specs.Values.{history_of}
-use Rattle.value_tables.proofs.HistoryLemmas.{HasWords, word_has}
+use Rattle.value_tables.proofs.HistoryLemmas.{word_has}
 use Rattle.value_tables.proofs.RangeLemmas.{only_one, range_all, range_each}
 
 abbrev pub read_of : ℕ → PageReply → List PageRead

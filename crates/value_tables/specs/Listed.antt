@@ -1,25 +1,36 @@
--- Looks of one word or one block, and what of it may be listed.
-use Rattle.std.specs.Prelude.{◌≡◌, ◌*◌, ◌<◌, ℕ, Bool, List, [], ◌∷◌, length}
+-- Looks of one word or one block, and the states of which a table lists what they may show.
+use Rattle.std.specs.Prelude.{◌≡◌, ◌*◌, ◌/◌, ◌<◌, ◌≤◌, ℕ, Bool, List, [], ◌∷◌, length}
 use Rattle.std.specs.Int.{w64, to_le_bytes}
 use Rattle.std.specs.List.{list_any}
 use Rattle.std.specs.Str.{bytes_eq}
+use Rattle.nvm_model.specs.Cell.{Cell}
+use Rattle.nvm_model.specs.Cell.Cell.{Bad, Kept}
 use Rattle.block_sights.specs.Sights.{Sight}
 use Rattle.block_sights.specs.Sights.Sight.{Whole, Scar, BadLine}
 use Rattle.machine_host.specs.Machine.{Machine}
-use Rattle.durable.specs.Durable.{IsComplete, IsCounted}
+use Rattle.durable.specs.Durable.{HaveLines, IsCounted}
 use Rattle.outcomes.specs.Blocks.{BlockReply}
 use Rattle.outcomes.specs.Blocks.BlockReply.{Shows as ShowsBlocks, Scar as Scarred, BadLine as Poisoned}
-use Rattle.outcomes.specs.Outcome.{HaveValues}
 use Rattle.outcomes.specs.Pages.{PageReply}
 use Rattle.outcomes.specs.Seen.{Seen}
 use Rattle.outcomes.specs.Seen.Seen.{of_blocks, of_volume}
+use Rattle.sights.specs.Seeing.{seen}
 use Rattle.value_tables.specs.Values.{same_sight}
 
--- a state that a run may come to, in which each word has a value
+-- a line is bad, or has eight words, each with a value
+abbrev pub HaveOne : List (List ℕ) → Type 0
+HaveOne [] = Unit {0}
+HaveOne (history ∷ words) = (1 ≤ length history) × HaveOne words
+
+abbrev pub HasWords : Cell → Type 0
+HasWords Bad = Unit {0}
+HasWords (Kept weak words) = (length words ≡ 8) × HaveOne words
+
+-- all blocks and pages are there, and so are their lines as reads see them
 pub record IsSound (off : Machine) : Type 0 where
-  pub complete : IsComplete off
   pub counted : IsCounted off
-  pub values : HaveValues off.volume
+  pub lines : HaveLines off.volume
+  pub words : (n : ℕ) → n / 64 < length off.volume → HasWords (seen off.volume n)
 
 -- word p is read, or block b, and answered so
 abbrev pub word_read : ℕ → PageReply → List Seen

@@ -1,9 +1,13 @@
 // What a table lists. None of these functions does anything.
-ghost use Rattle.std.specs.Prelude.{◌≡◌, ◌*◌, ◌/◌, ◌%◌, ◌<◌, ℕ, List, length};
+ghost use Rattle.std.specs.Prelude.{◌≡◌, ◌*◌, ◌/◌, ◌%◌, ◌<◌, ℕ, All, List, length};
 ghost use Rattle.block_sights.specs.Sights.{Sight};
+ghost use Rattle.script_text.specs.Script.{Input};
 ghost use Rattle.machine_host.specs.Machine.{Machine};
+ghost use Rattle.outcomes.specs.Finds.{IsReady};
 ghost use Rattle.outcomes.specs.Pages.PageReply.{Poison, Shows};
 ghost use Rattle.outcomes.specs.Seen.{may_show};
+ghost use Rattle.outcomes.specs.Stops.{IsProgram};
+ghost use Rattle.sights.specs.Places.{Stop, cut_places};
 ghost use Rattle.value_tables.specs.Left.{block_left, line_left};
 ghost use Rattle.value_tables.specs.Listed.{IsSized, IsSound, block_read, lists_bytes, lists_sight, reply_of, word_read};
 ghost use Rattle.value_tables.specs.Values.{block_values, may_be_bad, word_values};
@@ -18,6 +22,12 @@ pub fn a_value_is_listed_where_it_may_be_shown()
         → may_be_bad (line_left off (p / 8)) ≡ may_show (word_read p (Poison (64 * (p / 8)))) off }
     ensures blocks { (off : Machine) (b : ℕ) (sight : Sight) → b < off.geometry.blocks → IsSized sight
         → lists_sight sight (block_values (block_left off b)) ≡ may_show (block_read b (reply_of b sight)) off }
+{}
+
+/// So it is at each place of a cut in a program that begins in such a state.
+pub fn each_place_is_sound()
+    ensures { (n : ℕ) (h : Machine) (inputs : List Input) → IsReady h → IsSound h → IsProgram inputs
+        → All (λ (stop : Stop). IsSound stop.state) (cut_places n h inputs) }
 {}
 
 /// Some programs, and their tables.

@@ -7,7 +7,7 @@ ghost use Rattle.machine_host.specs.Machine.{Machine};
 ghost use Rattle.machine_host.specs.Commands.{refusal};
 ghost use Rattle.outcomes.specs.Stops.{IsProgram, is_of_program};
 ghost use Rattle.asked_reads.specs.Program.{IsBounded, inputs_of_lines};
-ghost use Rattle.sights.specs.Following.{AreDone, Follows, IsWithin};
+ghost use Rattle.sights.specs.Following.{AreDone, Follows};
 ghost use Rattle.sights.specs.Places.{cut_places};
 ghost use Rattle.value_tables.specs.Looking.{IsOf};
 ghost use Rattle.value_tables.specs.Tables.{table_text};
@@ -38,7 +38,6 @@ pub fn table_of(
     requires bounded { All IsBounded program.now }
     requires told { length done.now ≡ length program.now }
     requires looks { IsOf sight.old geometry reads.now }
-    requires within { IsWithin sight.old geometry }
     ensures { (h : Machine) → Follows sight.old geometry h → AreDone h program.now done.now
         → IfOk result (λ text. text.items ≡ table_text reads.now (cut_places 1 h (inputs_of_lines program.now))) }
 {
@@ -69,11 +68,9 @@ fn step(
     requires program { IsTrue (is_of_program (action_of command.now)) }
     requires bounded { InBounds (action_of command.now) }
     requires looks { IsOf sight.old geometry reads.now }
-    requires within { IsWithin sight.old geometry }
     ensures prints { (h : Machine) → Follows sight.old geometry h → is_none (refusal h (action_of command.now)) ≡ done
         → OnOk result (Prints reads.now geometry line (action_of command.now) h table.old table.new sight.new) }
     ensures looks { OnOk result (IsOf sight.new geometry reads.now) }
-    ensures within { OnOk result (IsWithin sight.new geometry) }
 {
     let rows = rows_before(alloc, geometry, reads, sight)?;
     table.print(alloc, CutPlace::Before(line), rows)?;

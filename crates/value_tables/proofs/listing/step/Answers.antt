@@ -1,8 +1,8 @@
 use Rattle.std.proofs.Common.{sym, ◌∙◌}
 use Rattle.script_text.specs.Action.{action_of}
-use Rattle.sights.proofs.StepLemmas.{within_after}
 use Rattle.value_tables.specs.Sides.{texts}
 use Rattle.value_tables.proofs.PlaceLemmas.{at_rest, done_printed, of_after, refused_printed}
+use Rattle.value_tables.proofs.WithinLemmas.{is_within}
 use Rattle.value_tables.proofs.listing.step.Goals as goal
 
 pub returns-then-not-done-clause-prints : goal.returns-then-not-done-clause-prints
@@ -17,7 +17,7 @@ returns-clause-prints c = λ h follows is.
     let before = texts c.in_ok-rows.rows.items in
     let rows = texts c.in_ok-rows-2.rows.items in
     let after = c.in_ok-after.after in
-    done_printed c.args.reads.now c.args.geometry c.args.sight.now h follows c.args.line (action_of c.args.command.now) (is ∙ c.if-not-done.false) c.requires.within after
+    done_printed c.args.reads.now c.args.geometry c.args.sight.now h follows c.args.line (action_of c.args.command.now) (is ∙ c.if-not-done.false) (is_within c.args.sight.now c.args.geometry c.args.reads.now c.requires.looks) after
     c.in_ok-after.ensures.lines c.in_ok-after.ensures.blocks rows c.in_ok-rows-2.ensures
     c.args.table.now c.print.new.self c.print-2.new.self before
     (record { text = c.in_ok-print.ensures.text; last = c.in_ok-print.ensures.last })
@@ -27,9 +27,4 @@ returns-clause-prints c = λ h follows is.
 pub returns-clause-looks : goal.returns-clause-looks
 returns-clause-looks c =
     of_after c.args.geometry c.args.geometry (action_of c.args.command.now) c.args.reads.now c.args.sight.now c.in_ok-after.after c.requires.looks
-    c.in_ok-after.ensures.lines c.in_ok-after.ensures.blocks
-
-pub returns-clause-within : goal.returns-clause-within
-returns-clause-within c =
-    within_after c.args.geometry c.args.geometry (action_of c.args.command.now) c.args.sight.now c.in_ok-after.after c.requires.within
     c.in_ok-after.ensures.lines c.in_ok-after.ensures.blocks

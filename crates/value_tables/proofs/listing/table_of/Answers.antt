@@ -9,7 +9,7 @@ use Rattle.value_tables.proofs.listing.table_of.Goals as goal
 
 pub loop-i-init : goal.loop-i-init
 loop-i-init c =
-    goes_first c.args.program.now c.args.done.now c.args.reads.now c.args.geometry c.args.sight.now c.new-table.result c.requires.looks c.requires.within
+    goes_first c.args.program.now c.args.done.now c.args.reads.now c.args.geometry c.args.sight.now c.new-table.result c.requires.looks
     c.new-table.ensures.text (ap (map (λ row. row.items)) c.new-table.ensures.last)
 
 pub step-requires-clause-program : goal.step-requires-clause-program
@@ -25,7 +25,7 @@ loop-i-preserved c =
           let after = w.in_ok-step.ensures in
           goes_at c.args.program.now c.args.done.now c.args.reads.now c.args.geometry c.args.sight.now (i + 1) w.step.new.sight c.match-line.sight w.step.new.table c.match-line.table w.sight-is w.table-is
           (goes_on c.args.program.now c.args.done.now c.args.reads.now c.args.geometry c.args.sight.now i c.loop-i.sight c.loop-i.table c.loop-i.invariant line is_done
-          c.loop-i-test.true c.requires.told c.index-program-i.is refl w.in-Some.command w.in-Some.is w.step.new.sight w.step.new.table after.looks after.within after.prints)
+          c.loop-i-test.true c.requires.told c.index-program-i.is refl w.in-Some.command w.in-Some.is w.step.new.sight w.step.new.table after.looks after.prints)
       | in_default w ↦
           goes_at c.args.program.now c.args.done.now c.args.reads.now c.args.geometry c.args.sight.now (i + 1) c.loop-i.sight c.match-line.sight c.loop-i.table c.match-line.table w.sight-is w.table-is
           (goes_past c.args.program.now c.args.done.now c.args.reads.now c.args.geometry c.args.sight.now i c.loop-i.sight c.loop-i.table c.loop-i.invariant line is_done
