@@ -1,5 +1,5 @@
 -- What is listed of a block is what a look of it alone may show.
-use Rattle.std.proofs.Common.{◌≡◌, ℕ, ◌+◌, ◌-◌, ◌*◌, ◌%◌, ◌<◌, ◌≤◌, ◌==◌, ◌&&◌, ◌||◌, nat_le, nat_lt, not, Bool, true, false, cond, Option, Some, None, List, [], ◌∷◌, ◌++◌, length, get_or, is_none, refl, sym, ap, ◌∙◌, arith}
+use Rattle.std.proofs.Common.{◌≡◌, ℕ, ◌+◌, ◌-◌, ◌*◌, ◌%◌, ◌<◌, ◌==◌, ◌&&◌, ◌||◌, nat_lt, not, Bool, true, false, cond, Option, Some, None, List, [], ◌∷◌, length, get_or, refl, sym, ap, ◌∙◌, arith}
 use Rattle.std.specs.Prelude.{slice_index}
 use Rattle.std.specs.List.{list_all, list_any, range_with_len}
 use Rattle.std.specs.Str.{bytes_eq}
@@ -9,11 +9,10 @@ use Rattle.std.proofs.lemmas.Grind.{same_number_lists}
 use Rattle.std.proofs.lemmas.Slice.Eq.{bytes_eq-Decides}
 use Rattle.word_tables.specs.declared.geometry.Geometry.{Geometry}
 use Rattle.nvm_model.specs.Blocks.{first_there, nth}
-use Rattle.nvm_model.specs.Cell.{Cell}
 use Rattle.nvm_model.specs.Numbered.{is_among}
 use Rattle.nvm_model.specs.Page.{Page}
 use Rattle.nvm_model.specs.Storage.{Block}
-use Rattle.block_sights.specs.Sights.{Sight, obstacle_seen, sight}
+use Rattle.block_sights.specs.Sights.{Sight, sight}
 use Rattle.block_sights.specs.Sights.Sight.{Whole, Scar, BadLine}
 use Rattle.block_sights.proofs.SeenLemmas.{seen_size}
 use Rattle.reply_text.specs.declared.reply.Why.TheVariants.{Range}
@@ -23,8 +22,8 @@ use Rattle.machine_host.specs.Machine.{Machine}
 use Rattle.machine_host.specs.Meaning.{BlocksLeft, VolumeLeft, most_refusal}
 use Rattle.machine_host.specs.Meaning.BlocksLeft.{Same, Either, Mixed}
 use Rattle.machine_host.specs.Meaning.VolumeLeft.{Kept, PartStored, PartSynced, AllOrNone, PageByPage}
-use Rattle.outcomes.specs.Blocks.{BlockRead, BlockReply, all_numbers_read, block_fits, is_bad_line, is_block_reply, is_block_reply_by, is_read_of_blocks, is_scar}
-use Rattle.outcomes.specs.Left.{blocks_may_pass, files_may_pass, volume_may_pass, volume_passes}
+use Rattle.outcomes.specs.Blocks.{BlockRead, BlockReply, all_numbers_read, block_fits, is_block_reply, is_block_reply_by, is_read_of_blocks}
+use Rattle.outcomes.specs.Left.{blocks_may_pass, volume_may_pass, volume_passes}
 use Rattle.outcomes.specs.Pages.{line_fits}
 use Rattle.outcomes.specs.Seen.{files_may_show, may_show}
 use Rattle.asked_reads.specs.Fitting.{sight_allows, sight_fits}
@@ -54,9 +53,10 @@ module _ (b : ℕ) (bytes block : List ℕ) (size : length bytes ≡ 512) (sized
       ap (λ i. slice_index bytes i == slice_index block ((512 * b + k) % 512)) place ∙ ap (λ i. get_or bytes k 0 == get_or block i 0) byte
 
   all_bytes : list_all has_at (range_with_len (512 * b) 512) ≡ bytes_eq bytes block
-  all_bytes = same_from_decides {P = bytes ≡ block} (list_all has_at (range_with_len (512 * b) 512)) (bytes_eq bytes block)
-      (λ all. same_number_lists bytes block (size ∙ sym sized) (λ k lt. same_at all k (bounded k lt)),
-       λ same. range_all has_at (512 * b) 512 (λ k lt. byte_is k lt ∙ eq-eqb (get_or bytes k 0) (get_or block k 0) (ap (λ l. get_or l k 0) same)))
+  all_bytes = same_from_decides {P = bytes ≡ block} (list_all has_at (range_with_len (512 * b) 512)) (bytes_eq bytes block) (
+    λ all. same_number_lists bytes block (size ∙ sym sized) (λ k lt. same_at all k (bounded k lt)),
+    λ same. range_all has_at (512 * b) 512 (λ k lt. byte_is k lt ∙ eq-eqb (get_or bytes k 0) (get_or block k 0) (ap (λ l. get_or l k 0) same)),
+  )
       (bytes_eq-Decides bytes block)
     where
       bounded : (k : ℕ) → k < length bytes → k < 512

@@ -1,5 +1,5 @@
 -- A program is followed, line by line, and its table printed.
-use Rattle.std.proofs.Common.{◌≡◌, ◌+◌, ◌<◌, ◌≤◌, ℕ, suc, Bool, Option, Some, None, List, [], ◌∷◌, ◌++◌, length, drop, drop-cons, get_or, false, refl, sym, ap, subst, ◌∙◌, arith}
+use Rattle.std.proofs.Common.{◌≡◌, ◌+◌, ◌<◌, ◌≤◌, ℕ, suc, Bool, Option, Some, None, List, [], ◌∷◌, ◌++◌, length, drop, drop-cons, get_or, false, sym, ap, subst, ◌∙◌, arith}
 use Rattle.std.specs.Option.{is_none}
 use Rattle.std.proofs.lemmas.List.{append-nil, drop_all}
 use Rattle.word_tables.specs.declared.geometry.Geometry.{Geometry}
@@ -37,9 +37,13 @@ pub goes_first : (program : List (Option Command)) (done : List Bool) (look : Li
     → table.text.items ≡ [] → texts table.last.items ≡ [] → Goes program done look geo began 0 began table
 goes_first program done look geo began table looks text last = record {
   looks = looks;
-  comes = λ h follows told. (h, follows, told,
-      ap (λ t. t ++ table_from (texts table.last.items) look (cut_places 1 h (inputs_of_lines program))) text
-      ∙ ap (λ l. table_from l look (cut_places 1 h (inputs_of_lines program))) last);
+  comes = λ h follows told. (
+    h,
+    follows,
+    told,
+    ap (λ t. t ++ table_from (texts table.last.items) look (cut_places 1 h (inputs_of_lines program))) text
+        ∙ ap (λ l. table_from l look (cut_places 1 h (inputs_of_lines program))) last,
+  );
 }
 
 pub goes_at : (program : List (Option Command)) (done : List Bool) (look : List Read) (geo : Geometry) (began : Sight) (i : ℕ) (now now2 : Sight) (table table2 : Table)
@@ -81,7 +85,7 @@ module _ (program : List (Option Command)) (done : List Bool) (look : List Read)
         → Goes program done look geo began (i + 1) after next
     goes_on command some after next looks prints = record {
       looks = looks;
-          comes = λ h follows all.
+      comes = λ h follows all.
           let before = goes.comes h follows all in
           let state = before.0 in
           let of : AreDone state (Some command ∷ drop (i + 1) program) (is_done ∷ drop (i + 1) done) =

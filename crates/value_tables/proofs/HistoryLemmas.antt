@@ -1,15 +1,15 @@
 -- Whatever is done to a line, each of its words keeps a value.
-use Rattle.std.proofs.Common.{◌≡◌, ℕ, zero, suc, ◌+◌, ◌*◌, ◌/◌, ◌<◌, ◌≤◌, ◌==◌, Bool, true, false, cond, Option, Some, None, option_map, List, [], ◌∷◌, ◌++◌, length, map, replicate, slice_get, refl, sym, ap, subst, ◌∙◌, arith}
+use Rattle.std.proofs.Common.{◌≡◌, ℕ, zero, suc, ◌*◌, ◌/◌, ◌<◌, ◌≤◌, ◌==◌, Bool, true, false, cond, Option, Some, None, option_map, List, [], ◌∷◌, ◌++◌, length, map, replicate, refl, sym, ap, subst, ◌∙◌, arith}
 use Rattle.std.specs.Prelude.{slice_index_or}
 use Rattle.std.proofs.lemmas.List.{length-append}
 use Rattle.line_device.specs.History.{latest, newest}
 use Rattle.line_device.specs.Medium.{word_stored}
 use Rattle.line_device.specs.Word.{reaches, word_over}
 use Rattle.word_tables.specs.declared.geometry.Geometry.{Geometry}
-use Rattle.nvm_model.specs.Cell.{Cell, clear_cell, covers, flush_cell, lose_cell, persist_cell, put_cell, touches, weaken_cell, zero_cell}
+use Rattle.nvm_model.specs.Cell.{Cell, clear_cell, covers, flush_cell, lose_cell, put_cell, touches, weaken_cell, zero_cell}
 use Rattle.nvm_model.specs.Cell.Cell.{Bad, Kept}
 use Rattle.nvm_model.specs.Numbered.{is_among, map_from}
-use Rattle.nvm_model.specs.Page.{Page, at_line, cell_of, change_line, discard, fill, persist, put}
+use Rattle.nvm_model.specs.Page.{Page, at_line, cell_of, change_line}
 use Rattle.nvm_model.proofs.MediaLemmas.{cell_of-change}
 use Rattle.pm_volume.specs.Refusals.{physical_offset}
 use Rattle.script_text.specs.Action.{Action}

@@ -1,18 +1,18 @@
 -- What may be left of one line, or of one block, passes a test where what is listed of it does.
-use Rattle.std.proofs.Common.{◌≡◌, ℕ, ◌+◌, ◌*◌, ◌/◌, ◌<◌, ◌==◌, ◌&&◌, ◌||◌, nat_lt, not, Bool, true, false, cond, Option, Some, None, List, [], ◌∷◌, length, map, refl, sym, ap, ◌∙◌, arith}
+use Rattle.std.proofs.Common.{◌≡◌, ℕ, ◌+◌, ◌*◌, ◌/◌, ◌<◌, ◌==◌, ◌&&◌, ◌||◌, nat_lt, not, Bool, true, false, cond, Option, Some, None, List, [], ◌∷◌, length, refl, ap, ◌∙◌, arith}
 use Rattle.std.specs.List.{list_any}
 use Rattle.std.proofs.lemmas.Bool.{eq-eqb, ltb-true}
 use Rattle.word_tables.specs.declared.geometry.Geometry.{Geometry}
 use Rattle.nvm_model.specs.Blocks.{nth}
-use Rattle.nvm_model.specs.Cell.{Cell, flush_cell, persist_cell, touches}
+use Rattle.nvm_model.specs.Cell.{Cell, flush_cell, persist_cell}
 use Rattle.nvm_model.specs.Page.{Page, cell_of, fill, persist, put}
 use Rattle.nvm_model.specs.Storage.{Block}
 use Rattle.pm_volume.specs.Refusals.{physical_offset}
-use Rattle.block_sights.specs.Sights.{Sight, sight}
+use Rattle.block_sights.specs.Sights.{sight}
 use Rattle.script_text.specs.Action.{Action}
 use Rattle.script_text.specs.Action.Action.{VStore, VSync, VPSync, VDiscard, VDiscardIf, ClearVolume}
 use Rattle.machine_host.specs.Commands.{meaning}
-use Rattle.machine_host.specs.Meaning.{BlocksLeft, VolumeLeft}
+use Rattle.machine_host.specs.Meaning.{BlocksLeft}
 use Rattle.machine_host.specs.Meaning.BlocksLeft.{Same, Either, Mixed}
 use Rattle.machine_host.specs.OnVolume.{part_synced_at, persist_at}
 use Rattle.durable.specs.Durable.{HaveLines}

@@ -1,14 +1,11 @@
 -- What is listed of a word or of a block is what a look of it alone may show.
-use Rattle.std.proofs.Common.{◌≡◌, ℕ, zero, suc, ◌+◌, ◌-◌, ◌*◌, ◌/◌, ◌%◌, ◌<◌, ◌≤◌, ◌==◌, ◌&&◌, ◌||◌, nat_le, nat_lt, not, Bool, true, false, cond, Option, Some, None, List, [], ◌∷◌, ◌++◌, length, replicate, slice_get, refl, sym, ap, subst, ◌∙◌, arith}
-use Rattle.std.specs.Prelude.{slice_index, slice_index_or}
-use Rattle.std.specs.List.{list_all, list_any, range_with_len}
-use Rattle.std.specs.Str.{bytes_eq}
-use Rattle.std.proofs.lemmas.Bool.{eq-eqb, le-ltb, le-leb, lt-ltb}
+use Rattle.std.proofs.Common.{◌≡◌, ℕ, ◌+◌, ◌-◌, ◌*◌, ◌/◌, ◌%◌, ◌<◌, ◌==◌, ◌&&◌, nat_lt, Bool, true, false, cond, Option, Some, None, List, [], ◌∷◌, ◌++◌, length, refl, sym, ap, subst, ◌∙◌, arith}
+use Rattle.std.specs.List.{list_any, range_with_len}
+use Rattle.std.proofs.lemmas.Bool.{eq-eqb, le-ltb, lt-ltb}
 use Rattle.word_tables.specs.declared.geometry.Geometry.{Geometry}
-use Rattle.nvm_model.specs.Blocks.{first_there, nth}
+use Rattle.nvm_model.specs.Blocks.{first_there}
 use Rattle.nvm_model.specs.Cell.{Cell, touches}
-use Rattle.nvm_model.specs.Cell.Cell.{Bad, Kept}
-use Rattle.nvm_model.specs.Page.{Page, cell_of, is_bad_cell}
+use Rattle.nvm_model.specs.Page.{Page, is_bad_cell}
 use Rattle.nvm_model.specs.Storage.{Block}
 use Rattle.reply_text.specs.declared.reply.Why.TheVariants.{Range}
 use Rattle.script_text.specs.Action.{Action}
@@ -19,12 +16,12 @@ use Rattle.machine_host.specs.Meaning.BlocksLeft.{Same, Either, Mixed}
 use Rattle.machine_host.specs.Meaning.VolumeLeft.{Kept as Unchanged, PartStored, PartSynced, AllOrNone, PageByPage}
 use Rattle.durable.specs.Durable.{HaveLines}
 use Rattle.outcomes.specs.Blocks.{block_fits}
-use Rattle.outcomes.specs.Left.{blocks_may_pass, blocks_pass, files_may_pass, volume_may_pass, volume_passes}
-use Rattle.outcomes.specs.Pages.{PageRead, PageReply, all_lines_read, is_given, is_reply, is_reply_by, line_fits}
+use Rattle.outcomes.specs.Left.{blocks_may_pass, blocks_pass, volume_may_pass}
+use Rattle.outcomes.specs.Pages.{PageReply, all_lines_read, is_given, is_reply, is_reply_by, line_fits}
 use Rattle.outcomes.specs.Pages.PageReply.{Shows, Poison}
-use Rattle.outcomes.specs.Seen.{blocks_may_show, files_may_show, may_show, volume_may_show}
+use Rattle.outcomes.specs.Seen.{files_may_show, may_show}
 use Rattle.asked_reads.specs.Fitting.{cell_fits}
-use Rattle.sights.specs.Seeing.{or_zeros, seen}
+use Rattle.sights.specs.Seeing.{seen}
 use Rattle.sights.proofs.MayShowLemmas.{files_show_none}
 use Rattle.sights.proofs.PassLemmas.{EachUnit}
 use Rattle.value_tables.specs.Left.{line_left, lines_left, of_lines}

@@ -1,9 +1,8 @@
 -- The places of one command are printed.
-use Rattle.std.proofs.Common.{◌≡◌, ◌⊎◌, inl, inr, ℕ, Bool, true, false, IsTrue, Option, Some, None, List, [], ◌∷◌, ◌++◌, map, refl, sym, ap, subst, ◌∙◌, append_assoc}
+use Rattle.std.proofs.Common.{◌≡◌, inl, inr, ℕ, true, false, IsTrue, Option, Some, None, List, [], ◌∷◌, ◌++◌, map, refl, sym, ap, subst, ◌∙◌, append_assoc}
 use Rattle.std.specs.Option.{is_none}
 use Rattle.std.proofs.lemmas.List.{append-nil}
 use Rattle.word_tables.specs.declared.geometry.Geometry.{Geometry}
-use Rattle.nvm_base.specs.Stock.{Stock}
 use Rattle.nvm_model.specs.Cell.{Cell}
 use Rattle.block_sights.specs.Sights.{Sight as Shown}
 use Rattle.reply_text.specs.Answer.{Answer}
@@ -18,16 +17,16 @@ use Rattle.sights.specs.declared.block_seen.BlockSeen.{BlockSeen}
 use Rattle.sights.specs.declared.place.CutPlace.{CutPlace}
 use Rattle.sights.specs.declared.place.CutPlace.TheVariants.{Before, Inside}
 use Rattle.sights.specs.declared.sight.Sight.{Sight}
-use Rattle.sights.specs.Following.{Follows, IsWithin, command_stops}
+use Rattle.sights.specs.Following.{Follows, IsWithin}
 use Rattle.sights.specs.Places.{Stop}
 use Rattle.sights.specs.Units.{block_numbers, block_once_done, line_numbers, line_once_done}
 use Rattle.sights.specs.Ways.{blocks_way, lines_way}
 use Rattle.sights.proofs.SizeLemmas.{geometry_stays}
 use Rattle.sights.proofs.StepLemmas.{blocks_in, lines_of, ready_after, sees_after}
-use Rattle.sights.proofs.WorkLemmas.{ChangesNone, IsWork, works_or_none}
+use Rattle.sights.proofs.WorkLemmas.{ChangesNone, works_or_none}
 use Rattle.value_tables.specs.declared.table.Table.{Table}
 use Rattle.value_tables.specs.Left.{block_left, line_left}
-use Rattle.value_tables.specs.Looking.{IsOf, blocks_looked_at, lines_looked_at}
+use Rattle.value_tables.specs.Looking.{IsOf}
 use Rattle.value_tables.specs.Rows.{rows_at, rows_text}
 use Rattle.value_tables.specs.Sides.{AreBlocksLeft, AreLeft, texts, where_mixed}
 use Rattle.value_tables.specs.Tables.{changed, part, table_from}
@@ -102,7 +101,7 @@ module _ (look : List Read) (geo : Geometry) (now : Sight) (h : Machine) (follow
         (lines_after : after.lines.items ≡ map (line_once_done geo action) now.lines.items) (blocks_after : after.blocks.items ≡ map (block_once_done geo action) now.blocks.items)
         (rows : List (List ℕ))
         (are : (lines : ℕ → List Cell) (blocks : ℕ → List Shown) → AreLeft lines now.lines.items (where_mixed (lines_way action) after.lines.items)
-            → AreBlocksLeft blocks now.blocks.items (where_mixed (blocks_way action) after.blocks.items) → rows ≡ rows_text lines blocks 1 geo look) where
+        → AreBlocksLeft blocks now.blocks.items (where_mixed (blocks_way action) after.blocks.items) → rows ≡ rows_text lines blocks 1 geo look) where
       allowed_none : (o : Option Answer) → is_none o ≡ true → o ≡ None
       allowed_none None none = refl
       allowed_none (Some why) none = cc none

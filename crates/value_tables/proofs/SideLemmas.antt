@@ -1,10 +1,8 @@
 -- What is looked at is what may be left of it where a cut falls.
-use Rattle.std.proofs.Common.{◌≡◌, ◌⊎◌, inl, inr, ℕ, ◌*◌, ◌/◌, ◌<◌, Option, Some, None, List, [], ◌∷◌, length, map, refl, sym, ap, subst, ◌∙◌}
+use Rattle.std.proofs.Common.{◌≡◌, ℕ, ◌/◌, ◌<◌, Option, Some, None, List, [], ◌∷◌, length, map, refl, sym, ap, ◌∙◌}
 use Rattle.word_tables.specs.declared.geometry.Geometry.{Geometry}
 use Rattle.nvm_model.specs.Blocks.{nth}
 use Rattle.nvm_model.specs.Cell.{Cell}
-use Rattle.nvm_model.specs.Page.{Page}
-use Rattle.nvm_model.specs.Storage.{Block}
 use Rattle.pm_volume.specs.Refusals.{physical_offset}
 use Rattle.block_sights.specs.Sights.{Sight, sight}
 use Rattle.script_text.specs.Action.{Action}

@@ -1,5 +1,5 @@
 -- The states of a program's places are sound where the one that it begins in is.
-use Rattle.std.proofs.Common.{◌≡◌, ◌⊎◌, inl, inr, ℕ, suc, ◌/◌, ◌<◌, IsTrue, Option, Some, None, List, [], ◌∷◌, ◌++◌, length, map, refl, sym, ap, subst, ◌∙◌}
+use Rattle.std.proofs.Common.{◌≡◌, inl, inr, ℕ, suc, ◌/◌, ◌<◌, IsTrue, Option, Some, None, List, [], ◌∷◌, ◌++◌, length, map, refl, sym, ap, subst, ◌∙◌}
 use Rattle.std.specs.Prelude.{All}
 use Rattle.std.proofs.lemmas.List.Elements.{All-cons, All-nil}
 use Rattle.reply_text.specs.Answer.{Answer}
@@ -32,14 +32,16 @@ module _ (h : Machine) (action : Action) (ready : IsReady h) (sound : IsSound h)
   after allowed =
       let to = led_to h ((meaning action).comes h) in
       let still : IsReady (led_to h ((meaning action).comes h)) = ready_after h action ready program allowed in
-      let all = counted (led_to h ((meaning action).comes h)) still in
-      (still, record {
-        counted = all;
-        lines = still.whole.lines;
-        words = λ n lt.
-            let there : n / 64 < length h.volume = subst (λ m. n / 64 < m) (all.pages ∙ ap (λ geo. geo.vpages) (geometry_stays h action) ∙ sym sound.counted.pages) lt in
-            subst HasWords (sym (volume_changed h action n allowed sound.lines there)) (changed_has (volume_change h.geometry action) n (seen h.volume n) (sound.words n there));
-      })
+      let all = counted (led_to h ((meaning action).comes h)) still in (
+        still,
+        record {
+          counted = all;
+          lines = still.whole.lines;
+          words = λ n lt.
+              let there : n / 64 < length h.volume = subst (λ m. n / 64 < m) (all.pages ∙ ap (λ geo. geo.vpages) (geometry_stays h action) ∙ sym sound.counted.pages) lt in
+              subst HasWords (sym (volume_changed h action n allowed sound.lines there)) (changed_has (volume_change h.geometry action) n (seen h.volume n) (sound.words n there));
+        },
+      )
 
   pub next : IsReady (led_to h (fate h action)) × IsSound (led_to h (fate h action))
   next = by_refusal (refusal h action) refl

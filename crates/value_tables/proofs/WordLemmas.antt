@@ -1,11 +1,9 @@
 -- What a read of one word shows of a line.
-use Rattle.std.proofs.Common.{◌≡◌, ◌⊎◌, inl, inr, ℕ, ◌+◌, ◌-◌, ◌*◌, ◌/◌, ◌%◌, ◌<◌, ◌≤◌, ◌==◌, ◌&&◌, ◌||◌, nat_le, nat_lt, not, Bool, true, false, Some, List, [], ◌∷◌, length, get_or, refl, sym, ap, subst, ◌∙◌, arith}
+use Rattle.std.proofs.Common.{◌≡◌, ℕ, ◌+◌, ◌-◌, ◌*◌, ◌/◌, ◌%◌, ◌<◌, ◌≤◌, ◌==◌, ◌&&◌, ◌||◌, nat_le, nat_lt, not, Bool, true, false, Some, List, [], ◌∷◌, length, get_or, refl, sym, ap, subst, ◌∙◌, arith}
 use Rattle.std.specs.Prelude.{slice_index, slice_index_or}
-use Rattle.std.specs.Bool.{Decides}
 use Rattle.std.specs.Int.{byte_at, w64, to_le_bytes}
-use Rattle.std.specs.List.{list_all, list_any, range_with_len}
-use Rattle.std.specs.Str.{bytes_eq}
-use Rattle.std.proofs.lemmas.Bool.{and_parts, eq-eqb, eqb-true, cases_eq, le-ltb, leb-true, ltb-true}
+use Rattle.std.specs.List.{list_any}
+use Rattle.std.proofs.lemmas.Bool.{eq-eqb, eqb-true, le-ltb, leb-true, ltb-true}
 use Rattle.std.proofs.lemmas.Bool.Decides.{same_from_decides}
 use Rattle.std.proofs.lemmas.Grind.{same_number_lists}
 use Rattle.std.proofs.lemmas.Slice.Eq.{bytes_eq-Decides}
@@ -59,10 +57,11 @@ module _ (p : ℕ) (bytes : List ℕ) where
 
   -- it has the value whose bytes are shown
   shown : (v : ℕ) → length bytes ≡ 8 → agrees p v (8 * p) 8 (Shows bytes) ≡ has_bytes bytes v
-  shown v eight = same_from_decides {P = to_le_bytes w64 v ≡ bytes} (agrees p v (8 * p) 8 (Shows bytes)) (has_bytes bytes v)
-      (λ all. same_number_lists (to_le_bytes w64 v) bytes (sym eight) (λ k lt. to_le_bytes-at v k lt
-          ∙ sym (eqb-true (get_or bytes k 0) (byte_at k v) (sym (byte_is v k lt) ∙ range_each (agrees_at p v) (8 * p) 8 all (8 * p + k) (omega arith) (omega (arith, lt))))),
-       λ same. range_all (agrees_at p v) (8 * p) 8 (λ k lt. byte_is v k lt ∙ eq-eqb (get_or bytes k 0) (byte_at k v) (ap (λ l. get_or l k 0) (sym same) ∙ to_le_bytes-at v k lt)))
+  shown v eight = same_from_decides {P = to_le_bytes w64 v ≡ bytes} (agrees p v (8 * p) 8 (Shows bytes)) (has_bytes bytes v) (
+    λ all. same_number_lists (to_le_bytes w64 v) bytes (sym eight) (λ k lt. to_le_bytes-at v k lt
+        ∙ sym (eqb-true (get_or bytes k 0) (byte_at k v) (sym (byte_is v k lt) ∙ range_each (agrees_at p v) (8 * p) 8 all (8 * p + k) (omega arith) (omega (arith, lt))))),
+    λ same. range_all (agrees_at p v) (8 * p) 8 (λ k lt. byte_is v k lt ∙ eq-eqb (get_or bytes k 0) (byte_at k v) (ap (λ l. get_or l k 0) (sym same) ∙ to_le_bytes-at v k lt)),
+  )
       (bytes_eq-Decides (to_le_bytes w64 v) bytes)
 
   and_all : (b : Bool) → (b && true) ≡ b
@@ -95,7 +94,7 @@ module _ (p : ℕ) (bytes : List ℕ) where
   shows_word (Kept weak words) have eight =
       only_one (λ w. list_any (all_agree (read_of p (Shows bytes)) (8 * (p / 8) + w)) (slice_index_or words w [])) 8 (p % 8) (omega arith)
       (λ k lt other. some_value (all_agree (read_of p (Shows bytes)) (8 * (p / 8) + k)) (slice_index_or words k []) (word_has words k (subst (λ m. k < m) (sym have.0) lt) have.1)
-          (λ v. ap (λ b. b && true) (beside (8 * (p / 8) + k) v (λ same. other (omega (arith, same, lt))))))
+      (λ v. ap (λ b. b && true) (beside (8 * (p / 8) + k) v (λ same. other (omega (arith, same, lt))))))
       ∙ any_same (all_agree (read_of p (Shows bytes)) (8 * (p / 8) + p % 8)) (has_bytes bytes) (slice_index_or words (p % 8) [])
       (λ v. and_all (agrees (8 * (p / 8) + p % 8) v (8 * p) 8 (Shows bytes)) ∙ ap (λ q. agrees q v (8 * p) 8 (Shows bytes)) (omega arith) ∙ shown v eight)
 

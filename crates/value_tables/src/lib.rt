@@ -17,8 +17,6 @@ mod table;
 mod tests;
 mod values;
 
-pub use laws::{
-    a_value_is_listed_where_it_may_be_shown, each_place_is_sound, worked_tables,
-};
+pub use laws::{a_value_is_listed_where_it_may_be_shown, each_place_is_sound, worked_tables};
 pub use listing::table_of;
 pub use refusal::read_refusal;

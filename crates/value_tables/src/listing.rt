@@ -44,7 +44,16 @@ pub fn table_of(
     let mut table = Table::new(alloc);
     for (i, line) in program.iter().enumerate() {
         if let Some(command) = line {
-            step(alloc, command, done[i], i as u64 + 1, geometry, reads, sight, &mut table)?;
+            step(
+                alloc,
+                command,
+                done[i],
+                i as u64 + 1,
+                geometry,
+                reads,
+                sight,
+                &mut table,
+            )?;
         }
     }
     let rows = rows_before(alloc, geometry, reads, sight)?;

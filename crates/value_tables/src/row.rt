@@ -12,8 +12,8 @@ use crate::sides::Sides;
 use crate::values::WordValues;
 use nvm_base::{Bytes, WORD, print_number};
 use reply_text::{Reply, Why, print};
-use std::alloc::{AllocError, Global};
 use sights::LineSeen;
+use std::alloc::{AllocError, Global};
 
 /// That of word p, whose line is the one at that place of those looked at.
 pub fn word_row(alloc: Global, k: u64, p: u64, at: u64, sides: &Sides) -> Result<Bytes, AllocError>

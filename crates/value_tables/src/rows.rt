@@ -49,7 +49,15 @@ pub fn rows_of(
         blocks: 0,
     };
     for (i, read) in reads.iter().enumerate() {
-        add_rows(alloc, geometry, i as u64 + 1, *read, sides, &mut passed, &mut rows)?;
+        add_rows(
+            alloc,
+            geometry,
+            i as u64 + 1,
+            *read,
+            sides,
+            &mut passed,
+            &mut rows,
+        )?;
     }
     Ok(rows)
 }
@@ -114,7 +122,15 @@ fn add_touched(
             passed.lines += lines.len;
         }
         Read::Blocks { first, count } => {
-            add_blocks(alloc, k, u64::from(first), count, passed.blocks, sides, rows)?;
+            add_blocks(
+                alloc,
+                k,
+                u64::from(first),
+                count,
+                passed.blocks,
+                sides,
+                rows,
+            )?;
             passed.blocks += count;
         }
     }

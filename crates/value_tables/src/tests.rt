@@ -51,7 +51,10 @@ fn a_block_is_discarded_at_once(rt: HostRuntime) -> Result<(), Fail> {
     let program = [None, Some(Command::BDiscard { block: 3, count: 1 })];
     let reads = [
         Read::Blocks { first: 3, count: 1 },
-        Read::Volume { start: 8192, len: 1 },
+        Read::Volume {
+            start: 8192,
+            len: 1,
+        },
     ];
     let table = table_of(alloc, &program, &[false, true], SMALL, &reads, &mut sight)?;
     let wanted = "before 2\n1 block 3 07*512\n2 refused range\n\

@@ -1,4 +1,4 @@
-use Rattle.std.proofs.Common.{sym, ◌∙◌}
+use Rattle.std.proofs.Common.{◌∙◌}
 use Rattle.script_text.specs.Action.{action_of}
 use Rattle.value_tables.specs.Sides.{texts}
 use Rattle.value_tables.proofs.PlaceLemmas.{at_rest, done_printed, of_after, refused_printed}

@@ -1,8 +1,7 @@
-use Rattle.std.proofs.Common.{false, get_or, length, map, ap, refl, sym, subst, ◌+◌, ◌∙◌}
-use Rattle.script_text.specs.Action.{action_of}
+use Rattle.std.proofs.Common.{false, get_or, map, ap, refl, sym, ◌+◌, ◌∙◌}
 use Rattle.sights.proofs.GoingLemmas.{program_at}
 use Rattle.value_tables.specs.Sides.{texts}
-use Rattle.value_tables.proofs.GoLemmas.{Goes, at_end, goes_at, goes_first, goes_on, goes_past}
+use Rattle.value_tables.proofs.GoLemmas.{at_end, goes_at, goes_first, goes_on, goes_past}
 use Rattle.value_tables.proofs.PlaceLemmas.{at_rest}
 use Rattle.value_tables.proofs.listing.table_of.Goals.{in-Some+in_ok-step, in_default}
 use Rattle.value_tables.proofs.listing.table_of.Goals as goal
