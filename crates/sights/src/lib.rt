@@ -20,7 +20,7 @@ pub use finding::find;
 pub use line_seen::LineSeen;
 pub use lines_fit::{agree, byte_in, is_among, line_fits, touches};
 pub use place::CutPlace;
-pub use replies::may_be_replies;
+pub use replies::{may_be_replies, most_refusal};
 pub use sight::Sight;
 pub use unit::{Unit, all_fit, page_fits};
 pub use way::Way;
