@@ -3,8 +3,10 @@
 
 mod laws;
 mod question;
+mod read;
 mod reads;
 
 pub use laws::worked_fits;
 pub use question::Question;
+pub use read::Read;
 pub use reads::{BlockRead, BlockReply, PageRead, PageReply};

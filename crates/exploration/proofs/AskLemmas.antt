@@ -17,7 +17,8 @@ use Rattle.asked_reads.specs.Reads.{block_read, block_reply as asked_block_reply
 use Rattle.exploration.specs.declared.read.Read.{Read}
 use Rattle.exploration.specs.declared.read.Read.TheVariants.{Blocks, Volume}
 use Rattle.exploration.specs.Exploration.{question_of, with_seen}
-use Rattle.exploration.specs.Reads.{read_action, seen_of}
+use Rattle.exploration.specs.Reads.{seen_of}
+use Rattle.asked_reads.specs.Looking.{read_action}
 use Rattle.exploration.specs.Replies.{block_reply, volume_reply}
 use Rattle.exploration.proofs.LookLemmas.{some_and}
 

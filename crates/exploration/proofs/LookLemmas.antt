@@ -1,5 +1,5 @@
 -- A look that was read up to some line.
-use Rattle.std.proofs.Common.{◌≡◌, ℕ, Bool, true, ◌+◌, ◌<◌, ◌≤◌, List, [], ◌∷◌, ◌++◌, map, Option, Some, None, Ok, Err, length, refl, ap, sym, ◌∙◌, arith}
+use Rattle.std.proofs.Common.{◌≡◌, ℕ, Bool, true, false, ◌+◌, ◌<◌, ◌≤◌, List, [], ◌∷◌, ◌++◌, map, Option, Some, None, Ok, Err, length, refl, ap, sym, ◌∙◌, arith}
 use Rattle.std.specs.Prelude.{IsSomeAnd, option_and_then, if◌then◌else◌}
 use Rattle.script_text.specs.Script.{lines_of}
 use Rattle.reply_text.specs.Answer.{Answer}
@@ -7,7 +7,7 @@ use Rattle.outcomes.specs.Seen.{Seen}
 use Rattle.asked_reads.specs.declared.question.Question.{Question}
 use Rattle.asked_reads.specs.Asking.{IsLook}
 use Rattle.script_text.specs.Action.{Action}
-use Rattle.exploration.specs.Reads.{read_action}
+use Rattle.asked_reads.specs.Looking.{read_action}
 use Rattle.exploration.specs.declared.look.Look.{Look as LookHeld}
 use Rattle.exploration.specs.declared.stop.LineStop.{LineStop}
 use Rattle.exploration.specs.declared.stop.LineStop.TheVariants.{Memory, Untaken}
@@ -28,10 +28,10 @@ pub record LookUpTo (text : List ℕ) (first : ℕ) (held : LookHeld) (n : ℕ) 
   pub goes : look_from first look_start (lines_of text) ≡ look_from n look (lines_of rest)
   pub room : n + length rest ≤ first + length text
 
-pub look_up_to-start : (text : List ℕ) (first : ℕ) (held : LookHeld) → held.reads.items ≡ [] → held.questions.items ≡ [] → LookUpTo text first held first text
-look_up_to-start text first held reads questions = record {
+pub look_up_to-start : (text : List ℕ) (first : ℕ) (held : LookHeld) → held.reads.items ≡ [] → held.table ≡ false → held.questions.items ≡ [] → LookUpTo text first held first text
+look_up_to-start text first held reads table questions = record {
   look = look_start;
-  is = record { reads = rw reads refl; questions = rw questions tt };
+  is = record { reads = rw reads refl; table = table; questions = rw questions tt };
   goes = refl;
   room = omega arith;
 }
@@ -75,10 +75,10 @@ asked-more (l ∷ looks) (r ∷ qs) look q asked is = (asked.0, asked-more looks
 -- one question more
 pub held-asks : (look : Look) (old new : LookHeld) (kind : Option LookLine) (replies : List (Option Answer)) (reads : List Action) (q : Question) (ok : Bool) → IsHeld look old
     → kind ≡ Some (Asks replies) → reads ≡ map read_action old.reads.items → IsSomeAnd (question_of reads replies) (λ asked. IsLook asked q)
-    → new.questions.items ≡ (if ok then old.questions.items ++ q ∷ [] else old.questions.items) → ok ≡ true → new.reads.items ≡ old.reads.items
+    → new.questions.items ≡ (if ok then old.questions.items ++ q ∷ [] else old.questions.items) → ok ≡ true → new.reads.items ≡ old.reads.items → new.table ≡ old.table
     → IsSomeAnd (option_and_then (with_line look) kind) (λ next. IsHeld next new)
-held-asks look old new kind replies reads q ok is asks all finds questions done same =
+held-asks look old new kind replies reads q ok is asks all finds questions done same as_before =
     let asked = some_and (question_of reads replies) (λ asked. IsLook asked q) finds in
     let found : question_of look.reads replies ≡ Some asked.0 = ap (λ rs. question_of rs replies) (sym (all ∙ is.reads)) ∙ asked.1 in
     let grown : new.questions.items ≡ old.questions.items ++ q ∷ [] = questions ∙ ap (λ b. if b then old.questions.items ++ q ∷ [] else old.questions.items) done in
-    rw (asks, found) (record { reads = ap (map read_action) same ∙ is.reads; questions = rw grown (asked-more look.questions old.questions.items asked.0 q is.questions asked.2) })
+    rw (asks, found) (record { reads = ap (map read_action) same ∙ is.reads; table = as_before ∙ is.table; questions = rw grown (asked-more look.questions old.questions.items asked.0 q is.questions asked.2) })

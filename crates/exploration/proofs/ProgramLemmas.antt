@@ -8,7 +8,7 @@ use Rattle.script_text.specs.Action.{Action, action_of}
 use Rattle.script_text.specs.Script.{Input, line_input, lines_of}
 use Rattle.script_text.specs.Script.Input.{Skipped, Malformed, Overlong, Asked}
 use Rattle.questions.specs.Question.{QuestionLine, question_line}
-use Rattle.questions.specs.Question.QuestionLine.{Plain, Look, Lists, Never, Wrong}
+use Rattle.questions.specs.Question.QuestionLine.{Plain, Look, Lists, Tabulates, Never, Wrong}
 use Rattle.outcomes.specs.Stops.{IsProgram, is_of_program}
 use Rattle.exploration.specs.Exploration.{go_on, part_by, parts_from}
 use Rattle.exploration.specs.Lines.{program_input, program_kind, program_line}
@@ -43,6 +43,7 @@ kind-program : (action : Action) (question : QuestionLine) (input : Input) → p
 kind-program action Plain input is = input-program action input is
 kind-program action Look input is = absurd (cc)
 kind-program action Lists input is = absurd (cc)
+kind-program action Tabulates input is = absurd (cc)
 kind-program action (Never replies) input is = absurd (cc)
 kind-program action Wrong input is = absurd (cc)
 

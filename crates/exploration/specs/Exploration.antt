@@ -1,17 +1,20 @@
 -- A script that is to be explored: its program, and the questions behind it.
-use Rattle.std.specs.Prelude.{ℕ, ◌+◌, List, [], ◌∷◌, ◌++◌, length, Option, Some, None, option_map, option_and_then, Result, Ok, Err}
+use Rattle.std.specs.Prelude.{ℕ, Bool, true, false, ◌+◌, List, [], ◌∷◌, ◌++◌, length, Option, Some, None, option_map, option_and_then, Result, Ok, Err}
 use Rattle.script_text.specs.Action.{Action}
 use Rattle.script_text.specs.Script.{lines_of}
 use Rattle.reply_text.specs.Answer.{Answer}
 use Rattle.outcomes.specs.Seen.{Seen}
 use Rattle.exploration.specs.Reads.{seen_of}
 use Rattle.exploration.specs.Lines.{LookLine, ProgramLine, look_line, program_line}
-use Rattle.exploration.specs.Lines.LookLine.{Asks, Passes, Reads}
+use Rattle.exploration.specs.Lines.LookLine.{Asks, Passes, Reads, Tables}
 use Rattle.exploration.specs.Lines.ProgramLine.{Does, Ends}
 
--- one item for each line of the program, None where it has no command, and of each question the reads that it asks
+-- one item for each line of the program, None where it has no command, the reads of the look, whether a table of what they may find is
+-- asked for, and of each question the reads that it asks
 pub record Exploration : Type 0 where
   pub program : List (Option Action)
+  pub reads : List Action
+  pub table : Bool
   pub questions : List (List Seen)
 
 -- a script: its exploration, or the number of its first line that is not taken
@@ -33,27 +36,30 @@ question_of (read ∷ reads) [] = None
 question_of (read ∷ reads) (None ∷ replies) = question_of reads replies
 question_of (read ∷ reads) (Some answer ∷ replies) = with_seen (seen_of read answer) (question_of reads replies)
 
--- some lines of a look: their reads, and their questions
+-- some lines of a look: their reads, whether they ask for a table, and their questions
 pub record Look : Type 0 where
   pub reads : List Action
+  pub table : Bool
   pub questions : List (List Seen)
 
 abbrev pub look_start : Look
-look_start = record { reads = []; questions = [] }
+look_start = record { reads = []; table = false; questions = [] }
 
--- one read more, None behind a question
-abbrev pub with_read : Action → List Action → List (List Seen) → Option Look
-with_read read reads [] = Some (record { reads = reads ++ read ∷ []; questions = [] })
-with_read read reads (question ∷ questions) = None
+-- one read more, None behind a table or a question
+abbrev pub with_read : Action → List Action → Bool → List (List Seen) → Option Look
+with_read read reads false [] = Some (record { reads = reads ++ read ∷ []; table = false; questions = [] })
+with_read read reads false (question ∷ questions) = None
+with_read read reads true questions = None
 
 -- one question more
 abbrev pub with_question : Look → List Seen → Look
-with_question look question = record { reads = look.reads; questions = look.questions ++ question ∷ [] }
+with_question look question = record look { questions = look.questions ++ question ∷ [] }
 
 -- one line more, None where it is not taken there
 abbrev pub with_line : Look → LookLine → Option Look
 with_line look Passes = Some look
-with_line look (Reads read) = with_read read look.reads look.questions
+with_line look (Reads read) = with_read read look.reads look.table look.questions
+with_line look Tables = Some (record look { table = true })
 with_line look (Asks replies) = option_map (with_question look) (question_of look.reads replies)
 
 -- the rest where there is something to go on from, and else the line of that number
@@ -83,7 +89,7 @@ parts_from items (line ∷ lines) = go_on (length items + 1) (part_by items line
 
 -- the script of that program and look
 abbrev pub script_with : List (Option Action) → Result Look ℕ → Script
-script_with program (Ok look) = Taken (record { program = program; questions = look.questions })
+script_with program (Ok look) = Taken (record { program = program; reads = look.reads; table = look.table; questions = look.questions })
 script_with program (Err n) = StopsAt n
 
 -- the look begins behind its line, which is none of the program

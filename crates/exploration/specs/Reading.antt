@@ -4,6 +4,7 @@ use Rattle.script_text.specs.Action.{action_of}
 use Rattle.outcomes.specs.Seen.{Seen}
 use Rattle.asked_reads.specs.declared.question.Question.{Question}
 use Rattle.asked_reads.specs.Asking.{IsLook}
+use Rattle.asked_reads.specs.Looking.{read_action}
 use Rattle.exploration.specs.declared.exploration.Exploration.{Exploration}
 use Rattle.exploration.specs.declared.exploration.ScriptFault.{ScriptFault}
 use Rattle.exploration.specs.declared.exploration.ScriptFault.TheVariants.{Line, Memory}
@@ -17,9 +18,11 @@ AskOf [] (q ∷ qs) = ⊥
 AskOf (look ∷ looks) [] = ⊥
 AskOf (look ∷ looks) (q ∷ qs) = IsLook look q × AskOf looks qs
 
--- the commands of the program, and the questions, are those of the script
+-- the commands of the program, the reads, whether a table is asked for, and the questions are those of the script
 abbrev pub Holds : Script → Exploration → Type 0
-Holds (Taken e) exploration = (map (option_map action_of) exploration.program.items ≡ e.program) × AskOf e.questions exploration.questions.items
+Holds (Taken e) exploration =
+    (map (option_map action_of) exploration.program.items ≡ e.program) × (map read_action exploration.reads.items ≡ e.reads) × (exploration.table ≡ e.table)
+    × AskOf e.questions exploration.questions.items
 Holds (StopsAt n) exploration = ⊥
 
 -- what came of a script's text

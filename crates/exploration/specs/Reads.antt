@@ -5,8 +5,8 @@ use Rattle.script_text.specs.Action.Action.{BRead, BWrite, BAtomic, BMulti, BDis
 use Rattle.reply_text.specs.Answer.{Answer}
 use Rattle.outcomes.specs.Seen.{Seen}
 use Rattle.outcomes.specs.Seen.Seen.{of_blocks, of_volume}
-use Rattle.exploration.specs.declared.read.Read.{Read}
-use Rattle.exploration.specs.declared.read.Read.TheVariants.{Volume, Blocks}
+use Rattle.asked_reads.specs.declared.read.Read.{Read}
+use Rattle.asked_reads.specs.declared.read.Read.TheVariants.{Volume, Blocks}
 use Rattle.exploration.specs.Replies.{block_reply, volume_reply}
 
 -- the read that a command is, if it is one of the volume or of blocks
@@ -63,11 +63,6 @@ read_of (Restart choice) = None
 read_of Recover = None
 read_of (Attr name) = None
 read_of (Evict lines) = None
-
--- the command that a read is
-abbrev pub read_action : Read → Action
-read_action (Volume start len) = VLoad start len
-read_action (Blocks first count) = BRead first count
 
 -- a read with its answer, None where it never has such an answer
 abbrev pub seen_by : Read → Answer → Option Seen

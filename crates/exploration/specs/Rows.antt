@@ -1,6 +1,6 @@
 -- Worked scripts: what is explored of them, or where they stop.
-use Rattle.std.specs.Prelude.{◌≡◌, ℕ, List, [], ◌∷◌, ◌++◌, Some, None, replicate, codes}
-use Rattle.script_text.specs.Action.Action.{BWrite, VStore, VSync}
+use Rattle.std.specs.Prelude.{◌≡◌, ℕ, true, false, List, [], ◌∷◌, ◌++◌, Some, None, replicate, codes}
+use Rattle.script_text.specs.Action.Action.{BRead, BWrite, VLoad, VStore, VSync}
 use Rattle.reply_text.specs.declared.reply.Why.TheVariants.{Range}
 use Rattle.outcomes.specs.Pages.{PageReply}
 use Rattle.outcomes.specs.Pages.PageReply.{Shows, Poison, Refuses}
@@ -25,14 +25,19 @@ block first count reply = of_blocks (record { first = first; count = count; repl
 
 pub record ScriptRows : Type 0 where
   pub one_question : script_of (text_of (codes "vstore 0 01" ∷ codes "vsync 0 64" ∷ codes "# look" ∷ codes "vload 0 1" ∷ codes "# never data 00" ∷ []))
-      ≡ Taken (record { program = Some (VStore 0 (1 ∷ [])) ∷ Some (VSync 0 64) ∷ []; questions = (page 0 1 (Shows (0 ∷ [])) ∷ []) ∷ [] })
+      ≡ Taken (record { program = Some (VStore 0 (1 ∷ [])) ∷ Some (VSync 0 64) ∷ []; reads = VLoad 0 1 ∷ []; table = false; questions = (page 0 1 (Shows (0 ∷ [])) ∷ []) ∷ [] })
   pub reads_of_both_kinds : script_of (text_of (codes "# a block" ∷ [] ∷ codes "bwrite 3 aa*512" ∷ codes "# look" ∷ codes "bread 3 1" ∷ [] ∷ codes "vload 64 64"
       ∷ codes "# never scarred 3 | poison volume 64 64" ∷ codes "# never _ | refused range" ∷ codes "# never poison block 3 7 | _" ∷ []))
       ≡ Taken (record {
         program = None ∷ None ∷ Some (BWrite 3 (replicate 512 170)) ∷ [];
+        reads = BRead 3 1 ∷ VLoad 64 64 ∷ [];
+        table = false;
         questions = (block 3 1 (Scar 3) ∷ page 64 64 (Poison 64) ∷ []) ∷ (page 64 64 (Refuses Range) ∷ []) ∷ (block 3 1 (BadLine 3 7) ∷ []) ∷ [];
       })
-  pub no_look : script_of (codes "vstore 0 01") ≡ Taken (record { program = Some (VStore 0 (1 ∷ [])) ∷ []; questions = [] })
+  pub no_look : script_of (codes "vstore 0 01") ≡ Taken (record { program = Some (VStore 0 (1 ∷ [])) ∷ []; reads = []; table = false; questions = [] })
+  pub a_table : script_of (text_of (codes "# look" ∷ codes "vload 0 1" ∷ codes "# table" ∷ []))
+      ≡ Taken (record { program = []; reads = VLoad 0 1 ∷ []; table = true; questions = [] })
+  pub read_behind_a_table : script_of (text_of (codes "# look" ∷ codes "# table" ∷ codes "vload 0 1" ∷ [])) ≡ StopsAt 3
   pub read_behind_a_question : script_of (text_of (codes "# look" ∷ codes "vload 0 1" ∷ codes "# never data 00" ∷ codes "vload 0 1" ∷ [])) ≡ StopsAt 4
   pub command_of_power : script_of (text_of (codes "vstore 0 01" ∷ codes "cut" ∷ codes "vsync" ∷ [])) ≡ StopsAt 2
   pub one_reply_to_two_reads : script_of (text_of (codes "# look" ∷ codes "vload 0 1" ∷ codes "bread 0 1" ∷ codes "# never data 00" ∷ [])) ≡ StopsAt 4

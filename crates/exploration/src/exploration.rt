@@ -6,7 +6,7 @@ ghost use Rattle.exploration.specs.Reading.{ReadsScript};
 
 use crate::look::{Look, read_look};
 use crate::program::{Parts, read_program};
-use asked_reads::Question;
+use asked_reads::{Question, Read};
 use script_text::Command;
 use std::alloc::{AllocError, Global};
 
@@ -15,6 +15,10 @@ use std::alloc::{AllocError, Global};
 pub struct Exploration {
     /// One item for each line of the program, None where it has no command.
     pub program: Vec<Option<Command>>,
+    /// The reads of the look.
+    pub reads: Vec<Read>,
+    /// Whether a table of what they may find is asked for.
+    pub table: bool,
     pub questions: Vec<Question>,
 }
 
@@ -46,6 +50,15 @@ pub fn read_script(alloc: Global, script: &[u8]) -> Result<Exploration, ScriptFa
 {
     let Parts { program, look } = read_program(alloc, script)?;
     let first = program.len() as u64 + 2;
-    let Look { questions, .. } = read_look(alloc, look, first)?;
-    Ok(Exploration { program, questions })
+    let Look {
+        reads,
+        table,
+        questions,
+    } = read_look(alloc, look, first)?;
+    Ok(Exploration {
+        program,
+        reads,
+        table,
+        questions,
+    })
 }

@@ -9,7 +9,6 @@ mod look_lines;
 mod program;
 mod program_lines;
 mod question;
-mod read;
 mod replies;
 mod rows;
 mod stop;

@@ -3,21 +3,21 @@ ghost use Rattle.std.specs.Prelude.{◌+◌, ◌<◌, ◌≤◌, ◌^◌, length
 ghost use Rattle.script_text.specs.Script.{lines_of};
 ghost use Rattle.exploration.specs.Exploration.{Look as LookRead, look_from, look_start, with_line, with_read};
 ghost use Rattle.exploration.specs.Lines.{look_line};
-ghost use Rattle.exploration.specs.Reads.{read_action};
+ghost use Rattle.asked_reads.specs.Looking.{read_action};
 ghost use Rattle.exploration.specs.Steps.{IsHeld, ReadsLook, TakesLine};
 
 use crate::exploration::ScriptFault;
 use crate::lines::next_line;
 use crate::look_lines::{LookLine, read_look_line};
 use crate::question::question_of;
-use crate::read::Read;
 use crate::stop::LineStop;
-use asked_reads::Question;
+use asked_reads::{Question, Read};
 use std::alloc::{AllocError, Global};
 
 #[derive(Debug, Drop)]
 pub(crate) struct Look {
-    reads: Vec<Read>,
+    pub(crate) reads: Vec<Read>,
+    pub(crate) table: bool,
     pub(crate) questions: Vec<Question>,
 }
 
@@ -28,6 +28,7 @@ pub(crate) fn read_look(alloc: Global, text: &[u8], first: u64) -> Result<Look, 
 {
     let mut look = Look {
         reads: Vec::new(alloc),
+        table: false,
         questions: Vec::new(alloc),
     };
     let mut number = first;
@@ -51,6 +52,10 @@ impl Look {
         match read_look_line(alloc, line)? {
             LookLine::Passes => Ok(()),
             LookLine::Reads(read) => self.add_read(read),
+            LookLine::Table => {
+                self.table = true;
+                Ok(())
+            }
             LookLine::Asks(replies) => {
                 let question = question_of(alloc, self.reads.as_slice(), replies.as_slice())?;
                 self.questions.push(question).map_err(AllocError::from)?;
@@ -59,11 +64,11 @@ impl Look {
         }
     }
 
-    // All reads stand before the questions.
+    // All reads stand before what is asked of them.
     fn add_read(&mut self, read: Read) -> Result<(), LineStop>
-        ensures { (look : LookRead) → IsHeld look self.old → TakesLine (with_read (read_action read) look.reads look.questions) self.new result }
+        ensures { (look : LookRead) → IsHeld look self.old → TakesLine (with_read (read_action read) look.reads look.table look.questions) self.new result }
     {
-        if !self.questions.is_empty() {
+        if self.table || !self.questions.is_empty() {
             return Err(LineStop::Untaken);
         }
         self.reads.push(read).map_err(AllocError::from)?;

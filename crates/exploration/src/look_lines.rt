@@ -7,8 +7,8 @@ ghost use Rattle.exploration.specs.Lines.{look_input, look_line};
 ghost use Rattle.exploration.specs.Reads.{read_of};
 ghost use Rattle.exploration.specs.Steps.{Finds, look_line_of};
 
-use crate::read::Read;
 use crate::stop::LineStop;
+use asked_reads::Read;
 use questions::{QuestionFault, QuestionKind, Replies, read_question};
 use script_text::{Command, LineFault, parse};
 use std::alloc::Global;
@@ -18,6 +18,8 @@ pub(crate) enum LookLine {
     /// Nothing.
     Passes,
     Reads(Read),
+    /// A table of what the reads may find.
+    Table,
     /// A question, by the replies to all reads.
     Asks(Replies),
 }
@@ -28,6 +30,7 @@ pub(crate) fn read_look_line(alloc: Global, line: &[u8]) -> Result<LookLine, Lin
     match read_question(alloc, line) {
         Ok(QuestionKind::Plain) => read_plain_line(alloc, line),
         Ok(QuestionKind::Never(replies)) => Ok(LookLine::Asks(replies)),
+        Ok(QuestionKind::Table) => Ok(LookLine::Table),
         Ok(QuestionKind::Look | QuestionKind::List) => Err(LineStop::Untaken),
         Err(QuestionFault::Syntax) => Err(LineStop::Untaken),
         Err(QuestionFault::Memory) => Err(LineStop::Memory),
@@ -62,6 +65,55 @@ fn read_of(command: &Command) -> Option<Read>
             first: *block as u32,
             count: *count,
         }),
-        _ => None,
+        Command::BWrite { .. }
+        | Command::BAtomic { .. }
+        | Command::BMulti { .. }
+        | Command::BDiscard { .. }
+        | Command::BDiscardIf { .. }
+        | Command::BExists { .. }
+        | Command::BScar { .. }
+        | Command::VStore { .. }
+        | Command::VSync { .. }
+        | Command::VRanges
+        | Command::VPSync { .. }
+        | Command::VDiscard { .. }
+        | Command::VDiscardIf { .. }
+        | Command::VExists { .. }
+        | Command::Create { .. }
+        | Command::Delete { .. }
+        | Command::Rename { .. }
+        | Command::Resize { .. }
+        | Command::List
+        | Command::FRead { .. }
+        | Command::FWrite { .. }
+        | Command::FAtomic { .. }
+        | Command::FMulti { .. }
+        | Command::FDiscard { .. }
+        | Command::FSync { .. }
+        | Command::Map { .. }
+        | Command::Unmap { .. }
+        | Command::Load { .. }
+        | Command::Store { .. }
+        | Command::Sync { .. }
+        | Command::Flush { .. }
+        | Command::FlushVerify { .. }
+        | Command::DeepFlush { .. }
+        | Command::NextEvent
+        | Command::CheckFile { .. }
+        | Command::PoisonBlock { .. }
+        | Command::PoisonVolume { .. }
+        | Command::PoisonFile { .. }
+        | Command::PoisonMeta { .. }
+        | Command::WeakenFile { .. }
+        | Command::WeakenVolume { .. }
+        | Command::ClearFile { .. }
+        | Command::ClearVolume { .. }
+        | Command::Cut
+        | Command::CutIn { .. }
+        | Command::FailIn { .. }
+        | Command::Restart { .. }
+        | Command::Recover
+        | Command::Attr { .. }
+        | Command::Evict { .. } => None,
     }
 }

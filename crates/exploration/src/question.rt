@@ -4,13 +4,13 @@ ghost use Rattle.questions.specs.Asked.{answer_asked};
 ghost use Rattle.outcomes.specs.Seen.{Seen};
 ghost use Rattle.asked_reads.specs.Asking.{IsLook};
 ghost use Rattle.exploration.specs.Exploration.{question_of};
-ghost use Rattle.exploration.specs.Reads.{read_action, seen_of};
+ghost use Rattle.exploration.specs.Reads.{seen_of};
+ghost use Rattle.asked_reads.specs.Looking.{read_action};
 ghost use Rattle.exploration.specs.Steps.{AddsRead, FindsQuestion};
 
-use crate::read::Read;
 use crate::replies::{block_reply, volume_reply};
 use crate::stop::LineStop;
-use asked_reads::{BlockRead, PageRead, Question};
+use asked_reads::{BlockRead, PageRead, Question, Read};
 use questions::AskedReply;
 use std::alloc::{AllocError, Global};
 

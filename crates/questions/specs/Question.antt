@@ -9,11 +9,12 @@ use Rattle.questions.specs.declared.question.QuestionKind.TheVariants as kind
 use Rattle.questions.specs.Asked.{answer_asked, part_asked}
 use Rattle.questions.specs.Parts.{parts_of}
 
--- a line: no question, the start of the reads, a list of outcomes, replies that may come of the reads, or a question that is none
+-- a line: no question, the start of the reads, a list of outcomes, a table of values, replies that may come of the reads, or a question that is none
 pub data QuestionLine : Type 0 where
   Plain : QuestionLine
   Look : QuestionLine
   Lists : QuestionLine
+  Tabulates : QuestionLine
   Never : List (Option Answer) → QuestionLine
   Wrong : QuestionLine
 
@@ -22,6 +23,7 @@ abbrev pub line_of : QuestionKind → QuestionLine
 line_of kind.Plain = Plain
 line_of kind.Look = Look
 line_of kind.List = Lists
+line_of kind.Table = Tabulates
 line_of (kind.Never replies) = Never (map (option_map answer_asked) replies.items)
 
 -- one reply more before others, where all are there
@@ -46,12 +48,13 @@ alone line [] = line
 alone line (word ∷ words) = Wrong
 
 -- what the words of a comment ask
-abbrev pub comment_question : List (List ℕ) → QuestionLine
+unfoldable pub comment_question : List (List ℕ) → QuestionLine
 comment_question [] = Plain
 comment_question (word ∷ words) =
     if bytes_eq word (codes "look") then alone Look words
     else (if bytes_eq word (codes "list") then alone Lists words
-    else (if bytes_eq word (codes "never") then never_line (parts_asked (parts_of words)) else Plain))
+    else (if bytes_eq word (codes "table") then alone Tabulates words
+    else (if bytes_eq word (codes "never") then never_line (parts_asked (parts_of words)) else Plain)))
 
 -- what the words of a line ask: those of a comment behind a `#` alone
 abbrev pub words_question : List (List ℕ) → QuestionLine

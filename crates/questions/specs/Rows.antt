@@ -3,7 +3,7 @@ use Rattle.std.specs.Prelude.{◌≡◌, [], ◌∷◌, ◌++◌, Some, None, re
 use Rattle.reply_text.specs.Answer.Answer.{Bytes, PoisonBlock, PoisonVolume, PoisonFile, Scarred, Refused}
 use Rattle.reply_text.specs.declared.reply.Why.TheVariants.{Missing, Off}
 use Rattle.questions.specs.Question.{question_line}
-use Rattle.questions.specs.Question.QuestionLine.{Plain, Look, Lists, Never, Wrong}
+use Rattle.questions.specs.Question.QuestionLine.{Plain, Look, Lists, Tabulates, Never, Wrong}
 
 pub record QuestionRows : Type 0 where
   pub bytes_or_any : question_line (codes "# never data 01,00 | _") ≡ Never (Some (Bytes (1 ∷ 0 ∷ [])) ∷ None ∷ [])
@@ -37,6 +37,7 @@ pub record QuestionRows : Type 0 where
   pub longer_word : question_line (codes "# looks") ≡ Plain
   pub look_in_one_word : question_line (codes "#look") ≡ Plain
   pub list : question_line (codes "# list") ≡ Lists
+  pub table : question_line (codes "# table") ≡ Tabulates
   pub list_and_a_number : question_line (codes "# list 3") ≡ Wrong
   pub mark_alone : question_line (codes "#") ≡ Plain
   pub other_comment : question_line (codes "# the record comes first") ≡ Plain

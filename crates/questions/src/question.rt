@@ -14,6 +14,8 @@ pub enum QuestionKind {
     Look,
     /// A list of outcomes.
     List,
+    /// A table of the values that the reads may find.
+    Table,
     /// Whether the reads may be answered so.
     Never(Replies),
 }

@@ -43,6 +43,7 @@ fn read_words(alloc: Global, text: &[u8]) -> Result<QuestionKind, QuestionFault>
     }
 }
 
+#[tactic(auto, unfolding(crate::specs::Question::comment_question))]
 fn read_comment(alloc: Global, words: &[u8]) -> Result<QuestionKind, QuestionFault>
     ensures line { Reads (comment_question (words_of words.now)) result }
     ensures memory { IfErr result (λ e. e ≡ QuestionFault.Memory → BeginsWithNever (words_of words.now)) }
@@ -54,6 +55,8 @@ fn read_comment(alloc: Global, words: &[u8]) -> Result<QuestionKind, QuestionFau
         alone(QuestionKind::Look, rest)
     } else if word == b"list".as_slice() {
         alone(QuestionKind::List, rest)
+    } else if word == b"table".as_slice() {
+        alone(QuestionKind::Table, rest)
     } else if word == b"never".as_slice() {
         Ok(QuestionKind::Never(read_replies(alloc, rest)?))
     } else {

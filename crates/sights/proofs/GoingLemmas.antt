@@ -1,5 +1,5 @@
 -- A program is followed, line by line.
-use Rattle.std.proofs.Common.{◌≡◌, ◌+◌, ◌<◌, ◌≤◌, ◌&&◌, ℕ, zero, suc, Bool, true, false, cond, IsTrue, Option, Some, None, List, [], ◌∷◌, length, drop, drop-cons, get_or, refl, sym, ap, subst, ◌∙◌, arith}
+use Rattle.std.proofs.Common.{◌≡◌, ◌+◌, ◌-◌, ◌<◌, ◌≤◌, ◌&&◌, ℕ, zero, suc, Bool, true, false, cond, IsTrue, Option, Some, None, List, [], ◌∷◌, length, drop, drop-cons, get_or, slice_get, map, refl, sym, ap, subst, ◌∙◌, arith}
 use Rattle.std.specs.Option.{is_none, is_some}
 use Rattle.std.proofs.lemmas.List.{drop_all}
 use Rattle.word_tables.specs.declared.geometry.Geometry.{Geometry}
@@ -13,10 +13,10 @@ use Rattle.asked_reads.specs.declared.question.Question.{Question}
 use Rattle.asked_reads.specs.Asking.{IsLook, may_be_replies}
 use Rattle.asked_reads.specs.Program.{inputs_of_lines}
 use Rattle.sights.specs.declared.place.CutPlace.{CutPlace}
-use Rattle.sights.specs.declared.place.CutPlace.TheVariants.{Before}
+use Rattle.sights.specs.declared.place.CutPlace.TheVariants.{Before, Inside}
 use Rattle.sights.specs.declared.sight.Sight.{Sight}
-use Rattle.sights.specs.Following.{AreDone, Explores, Follows, IsWhole, IsWithin, command_stops}
-use Rattle.sights.specs.Places.{cut_places, first_place}
+use Rattle.sights.specs.Following.{AreDone, Explores, Follows, IsAt, IsFirst, IsIn, IsWhole, IsWithin, command_stops}
+use Rattle.sights.specs.Places.{Stop, cut_places, first_stop}
 use Rattle.sights.specs.Sights.{shows}
 use Rattle.sights.proofs.MayShowLemmas.{shows_now}
 use Rattle.sights.proofs.StopLemmas.{none_before, some_before}
@@ -27,7 +27,7 @@ pub record Goes (program : List (Option Command)) (done : List Bool) (q : Questi
   pub within : IsWithin now geo
   pub comes : (h : Machine) (look : List Seen) → Follows began geo h → AreDone h program done → IsLook look q
       → (to : Machine) × Follows now geo to × AreDone to (drop i program) (drop i done)
-      × (first_place (may_show look) (cut_places 1 h (inputs_of_lines program)) ≡ first_place (may_show look) (cut_places (i + 1) to (inputs_of_lines (drop i program))))
+      × (first_stop (may_show look) (cut_places 1 h (inputs_of_lines program)) ≡ first_stop (may_show look) (cut_places (i + 1) to (inputs_of_lines (drop i program))))
 
 suc_is : (n : ℕ) → suc n ≡ n + 1
 suc_is n = omega arith
@@ -55,6 +55,14 @@ program_at (Some first ∷ program) zero command d lt is all =
 program_at (None ∷ program) (suc i) command d lt is all = program_at program i command d (omega (arith, lt)) is all
 program_at (Some first ∷ program) (suc i) command d lt is all = program_at program i command d (omega (arith, lt)) is all.1
 
+minus_one : (n : ℕ) → (n + 1) - 1 ≡ n
+minus_one n = omega arith
+
+line_there : (program : List (Option Command)) (i : ℕ) (line : Option Command) → i < length program → line ≡ get_or program i line → slice_get program i ≡ Some line
+line_there [] i line lt is = absurd (omega (arith, lt))
+line_there (first ∷ program) zero line lt is = ap Some (sym is)
+line_there (first ∷ program) (suc i) line lt is = line_there program i line (omega (arith, lt)) is
+
 pub goes_first : (program : List (Option Command)) (done : List Bool) (q : Question) (geo : Geometry) (began : Sight) → IsWhole began q → IsWithin began geo → Goes program done q geo began 0 began
 goes_first program done q geo began whole within = record { whole = whole; within = within; comes = λ h look follows told shown. (h, follows, told, refl) }
 
@@ -81,43 +89,55 @@ module _ (program : List (Option Command)) (done : List Bool) (q : Question) (ge
           before.0,
           before.1,
           subst (λ l. AreDone before.0 (l ∷ drop (i + 1) program) (is_done ∷ drop (i + 1) done)) none (told_next before.0 before.2),
-          before.3 ∙ ap (λ lines. first_place (may_show look) (cut_places (i + 1) before.0 (inputs_of_lines lines))) (lines_next ∙ ap (λ l. l ∷ drop (i + 1) program) none)
-              ∙ ap (λ n. first_place (may_show look) (cut_places n before.0 (inputs_of_lines (drop (i + 1) program)))) (suc_is (i + 1)),
+          before.3 ∙ ap (λ lines. first_stop (may_show look) (cut_places (i + 1) before.0 (inputs_of_lines lines))) (lines_next ∙ ap (λ l. l ∷ drop (i + 1) program) none)
+              ∙ ap (λ n. first_stop (may_show look) (cut_places n before.0 (inputs_of_lines (drop (i + 1) program)))) (suc_is (i + 1)),
         );
   }
 
   module _ (command : Command) (some : line ≡ Some command) where
     -- of its stops, and of those behind it
-    parted : (look : List Seen) (h : Machine) → first_place (may_show look) (cut_places (i + 1) h (inputs_of_lines (drop i program)))
-        ≡ first_place (may_show look) (cut_places (i + 1) h (inputs_of_lines (Some command ∷ drop (i + 1) program)))
-    parted look h = ap (λ lines. first_place (may_show look) (cut_places (i + 1) h (inputs_of_lines lines))) (lines_next ∙ ap (λ l. l ∷ drop (i + 1) program) some)
+    parted : (look : List Seen) (h : Machine) → first_stop (may_show look) (cut_places (i + 1) h (inputs_of_lines (drop i program)))
+        ≡ first_stop (may_show look) (cut_places (i + 1) h (inputs_of_lines (Some command ∷ drop (i + 1) program)))
+    parted look h = ap (λ lines. first_stop (may_show look) (cut_places (i + 1) h (inputs_of_lines lines))) (lines_next ∙ ap (λ l. l ∷ drop (i + 1) program) some)
 
     told_of : (to : Machine) → AreDone to (drop i program) (drop i done) → AreDone to (Some command ∷ drop (i + 1) program) (is_done ∷ drop (i + 1) done)
     told_of to all = subst (λ l. AreDone to (l ∷ drop (i + 1) program) (is_done ∷ drop (i + 1) done)) some (told_next to all)
 
     -- the place that was found in it is the first
+    lines_at : slice_get program ((i + 1) - 1) ≡ Some (Some command)
+    lines_at = ap (slice_get program) (minus_one i) ∙ line_there program i line lt is ∙ ap Some some
+
+    at_place : (after : Sight) (place : CutPlace) (state : Machine) → IsIn (i + 1) (action_of command) after geo place state → IsAt program after geo place state
+    at_place after (Before n) state is_in = is_in
+    at_place after (Inside n) state is_in = (command, subst (λ m. slice_get program (m - 1) ≡ Some (Some command)) (sym is_in.0) lines_at, is_in.1)
+
     of_found : (after : Sight) (found : Option CutPlace) → is_some found ≡ true → (h : Machine) (look : List Seen) → Follows began geo h → AreDone h program done → IsLook look q
-        → ((to : Machine) → Follows now geo to → is_none (refusal to (action_of command)) ≡ is_done → Explores look after geo (command_stops (i + 1) to (action_of command)) (led_to to (fate to (action_of command))) found)
-        → found ≡ first_place (may_show look) (cut_places 1 h (inputs_of_lines program))
+        → ((to : Machine) → Follows now geo to → is_none (refusal to (action_of command)) ≡ is_done
+        → Explores (i + 1) (action_of command) look after geo to found)
+        → IsFirst program look after geo (cut_places 1 h (inputs_of_lines program)) found
     of_found after None has h look follows all shown explores = cc has
     of_found after (Some place) has h look follows all shown explores =
         let before = goes.comes h look follows all shown in
         let state = before.0 in
-        sym (before.3 ∙ parted look state
-        ∙ some_before (may_show look) (command_stops (i + 1) state (action_of command))
-        (cut_places (suc (i + 1)) (led_to state (fate state (action_of command))) (inputs_of_lines (drop (i + 1) program))) place
-        (explores state before.1 (told_of state before.2).0))
+        let explored = explores state before.1 (told_of state before.2).0 in (
+          explored.0,
+          before.3 ∙ parted look state
+              ∙ some_before (may_show look) (command_stops (i + 1) state (action_of command))
+              (cut_places (suc (i + 1)) (led_to state (fate state (action_of command))) (inputs_of_lines (drop (i + 1) program))) explored.0 explored.1,
+          explored.2,
+          at_place after place explored.0.state explored.3,
+        )
 
     pub found_first : (after : Sight) (found : Option CutPlace) → is_some found ≡ true
         → ((h : Machine) (look : List Seen) → Follows now geo h → IsLook look q → is_none (refusal h (action_of command)) ≡ is_done
-        → Explores look after geo (command_stops (i + 1) h (action_of command)) (led_to h (fate h (action_of command))) found)
-        → (h : Machine) (look : List Seen) → Follows began geo h → AreDone h program done → IsLook look q → found ≡ first_place (may_show look) (cut_places 1 h (inputs_of_lines program))
+        → Explores (i + 1) (action_of command) look after geo h found)
+        → (h : Machine) (look : List Seen) → Follows began geo h → AreDone h program done → IsLook look q → IsFirst program look after geo (cut_places 1 h (inputs_of_lines program)) found
     found_first after found has explores h look follows all shown = of_found after found has h look follows all shown (λ to at is_as. explores to look at shown is_as)
 
     -- a command after which nothing is found
     pub goes_on : (after : Sight) (found : Option CutPlace) → is_some found ≡ false → IsWhole after q → IsWithin after geo
         → ((h : Machine) (look : List Seen) → Follows now geo h → IsLook look q → is_none (refusal h (action_of command)) ≡ is_done
-        → Explores look after geo (command_stops (i + 1) h (action_of command)) (led_to h (fate h (action_of command))) found)
+        → Explores (i + 1) (action_of command) look after geo h found)
         → Goes program done q geo began (i + 1) after
     goes_on after found has whole within explores = record {
       whole = whole;
@@ -127,13 +147,13 @@ module _ (program : List (Option Command)) (done : List Bool) (q : Question) (ge
           let state = before.0 in
           let after_it = led_to state (fate state (action_of command)) in
           let of = told_of state before.2 in
-          let explored = subst (Explores look after geo (command_stops (i + 1) state (action_of command)) after_it) (none_is found has) (explores state look before.1 shown of.0) in (
+          let explored = subst (Explores (i + 1) (action_of command) look after geo state) (none_is found has) (explores state look before.1 shown of.0) in (
             after_it,
             explored.1,
             of.1,
             before.3 ∙ parted look state
                 ∙ none_before (may_show look) (command_stops (i + 1) state (action_of command)) (cut_places (suc (i + 1)) after_it (inputs_of_lines (drop (i + 1) program))) explored.0
-                ∙ ap (λ n. first_place (may_show look) (cut_places n after_it (inputs_of_lines (drop (i + 1) program)))) (suc_is (i + 1)),
+                ∙ ap (λ n. first_stop (may_show look) (cut_places n after_it (inputs_of_lines (drop (i + 1) program)))) (suc_is (i + 1)),
           );
     }
 
@@ -141,7 +161,7 @@ module _ (program : List (Option Command)) (done : List Bool) (q : Question) (ge
   -- behind the last line
   pub at_end : (told : Bool) → shows q now ≡ told → length program ≤ i → i ≤ length program → may_be_replies geo q ≡ true
       → (h : Machine) (look : List Seen) → Follows began geo h → AreDone h program done → IsLook look q
-      → cond told (Some (Before (length program + 1))) None ≡ first_place (may_show look) (cut_places 1 h (inputs_of_lines program))
+      → IsFirst program look now geo (cut_places 1 h (inputs_of_lines program)) (cond told (Some (Before (length program + 1))) None)
   at_end told told_is ends last replies h look follows all shown =
       let before = goes.comes h look follows all shown in
       let state = before.0 in
@@ -149,5 +169,12 @@ module _ (program : List (Option Command)) (done : List Bool) (q : Question) (ge
       let seen_at : may_show look state ≡ told =
       shows_now state look q now shown before.1.sees goes.whole before.1.ready.settled
       ∙ ap (λ r. r && shows q now) (ap (λ sizes. may_be_replies sizes q) before.1.sizes ∙ replies) ∙ told_is in
-      sym (before.3 ∙ ap (λ lines. first_place (may_show look) (cut_places (i + 1) state (inputs_of_lines lines))) (drop_all program i ends)
-      ∙ ap (λ b. cond b (Some (Before (i + 1))) None) seen_at ∙ ap (λ n. cond told (Some (Before (n + 1))) None) at)
+      of_told told state before.1
+      (before.3 ∙ ap (λ lines. first_stop (may_show look) (cut_places (i + 1) state (inputs_of_lines lines))) (drop_all program i ends)
+      ∙ ap (λ b. cond b (Some (record { place = Before (i + 1); state = state })) None) seen_at ∙ ap (λ n. cond told (Some (record { place = Before (n + 1); state = state })) None) at)
+    where
+      of_told : (b : Bool) (state : Machine) → Follows now geo state
+          → first_stop (may_show look) (cut_places 1 h (inputs_of_lines program)) ≡ cond b (Some (record { place = Before (length program + 1); state = state })) None
+          → IsFirst program look now geo (cut_places 1 h (inputs_of_lines program)) (cond b (Some (Before (length program + 1))) None)
+      of_told true state follows_it first = (record { place = Before (length program + 1); state = state }, first, refl, follows_it)
+      of_told false state follows_it first = first

@@ -32,8 +32,8 @@ use Rattle.sights.specs.declared.place.CutPlace.TheVariants.{Before, Inside}
 use Rattle.sights.specs.declared.sight.Sight.{Sight}
 use Rattle.sights.specs.Changing.{line_changed, volume_change}
 use Rattle.sights.specs.ChangingBlocks.{block_changed}
-use Rattle.sights.specs.Following.{Explores, Follows, IsWhole, IsWithin, Passes, Sees, command_stops}
-use Rattle.sights.specs.Places.{first_place}
+use Rattle.sights.specs.Following.{Explores, Follows, IsCut, IsIn, IsWhole, IsWithin, Passes, Sees, command_stops}
+use Rattle.sights.specs.Places.{Stop, first_stop}
 use Rattle.sights.specs.Seeing.{seen}
 use Rattle.sights.specs.Sights.{shows, shows_inside}
 use Rattle.sights.specs.Units.{AreAmong, AreBlocks, AreLines, AreWithin, block_may_fit, block_numbers, block_once_done, line_may_fit, line_numbers, line_once_done}
@@ -163,20 +163,20 @@ module _ (look : List Seen) (q : Question) (now : Sight) (h : Machine) (is : IsL
   shown : (b : Bool) → shows q now ≡ b → may_show look h ≡ b
   shown b told = shows_now h look q now is sees whole ready.settled ∙ ap (λ r. r && shows q now) replies ∙ told
 
-  pub found_before : shows q now ≡ true → first_place (may_show look) (command_stops line h action) ≡ Some (Before line)
+  pub found_before : shows q now ≡ true → first_stop (may_show look) (command_stops line h action) ≡ Some (record { place = Before line; state = h })
   found_before told =
-      ap (λ b. cond b (Some (Before line)) (first_place (may_show look) (map (λ m. record { place = Inside line; state = m }) (inside h action (fate h action))))) (shown true told)
+      ap (λ b. cond b (Some (record { place = Before line; state = h })) (first_stop (may_show look) (map (λ m. record { place = Inside line; state = m }) (inside h action (fate h action))))) (shown true told)
 
   -- not before the command
   later : shows q now ≡ false
-      → first_place (may_show look) (command_stops line h action) ≡ first_place (may_show look) (map (λ m. record { place = Inside line; state = m }) (inside h action (fate h action)))
+      → first_stop (may_show look) (command_stops line h action) ≡ first_stop (may_show look) (map (λ m. record { place = Inside line; state = m }) (inside h action (fate h action)))
   later told =
-      ap (λ b. cond b (Some (Before line)) (first_place (may_show look) (map (λ m. record { place = Inside line; state = m }) (inside h action (fate h action))))) (shown false told)
+      ap (λ b. cond b (Some (record { place = Before line; state = h })) (first_stop (may_show look) (map (λ m. record { place = Inside line; state = m }) (inside h action (fate h action))))) (shown false told)
 
   -- inside a command that is refused there is no place
-  pub none_refused : (why : Answer) → shows q now ≡ false → refusal h action ≡ Some why → first_place (may_show look) (command_stops line h action) ≡ None
+  pub none_refused : (why : Answer) → shows q now ≡ false → refusal h action ≡ Some why → first_stop (may_show look) (command_stops line h action) ≡ None
   none_refused why told is_refused =
-      later told ∙ ap (λ o. first_place (may_show look) (map (λ m. record { place = Inside line; state = m }) (inside h action (unless_refused h o ((meaning action).comes h))))) is_refused
+      later told ∙ ap (λ o. first_stop (may_show look) (map (λ m. record { place = Inside line; state = m }) (inside h action (unless_refused h o ((meaning action).comes h))))) is_refused
 
   module _ (allowed : refusal h action ≡ None) (within : IsWithin now h.geometry) where
     cut_shown : (b : Bool) → shows_inside h.geometry action q now ≡ b → may_show look (while_interrupted h action) ≡ b
@@ -184,10 +184,10 @@ module _ (look : List Seen) (q : Question) (now : Sight) (h : Machine) (is : IsL
         shows_within h look q now is sees whole action allowed ready.whole (lines_of h now ready within) (blocks_in h now ready within)
         ∙ ap (λ r. r && shows_inside h.geometry action q now) replies ∙ told
 
-    by_fate : (b : Bool) → may_show look (while_interrupted h action) ≡ b → (to : Fate) → first_place (may_show look) (map (λ m. record { place = Inside line; state = m }) (inside h action to)) ≡ None
-        ⊎ (first_place (may_show look) (map (λ m. record { place = Inside line; state = m }) (inside h action to)) ≡ cond b (Some (Inside line)) None)
+    by_fate : (b : Bool) → may_show look (while_interrupted h action) ≡ b → (to : Fate) → first_stop (may_show look) (map (λ m. record { place = Inside line; state = m }) (inside h action to)) ≡ None
+        ⊎ (first_stop (may_show look) (map (λ m. record { place = Inside line; state = m }) (inside h action to)) ≡ cond b (Some (record { place = Inside line; state = while_interrupted h action })) None)
     by_fate b told (Gives answer to) = inl refl
-    by_fate b told (Works answer to) = inr (ap (λ t. cond t (Some (Inside line)) None) told)
+    by_fate b told (Works answer to) = inr (ap (λ t. cond t (Some (record { place = Inside line; state = while_interrupted h action })) None) told)
     by_fate b told (Orders order to) = inl refl
     by_fate b told (Cuts to) = inl refl
     by_fate b told (Restarts choice) = inl refl
@@ -196,7 +196,7 @@ module _ (look : List Seen) (q : Question) (now : Sight) (h : Machine) (is : IsL
     fate_is : fate h action ≡ (meaning action).comes h
     fate_is = ap (λ o. unless_refused h o ((meaning action).comes h)) allowed
 
-    pub none_inside : shows q now ≡ false → shows_inside h.geometry action q now ≡ false → first_place (may_show look) (command_stops line h action) ≡ None
+    pub none_inside : shows q now ≡ false → shows_inside h.geometry action q now ≡ false → first_stop (may_show look) (command_stops line h action) ≡ None
     none_inside told inside_told =
         later told ∙ elim (by_fate false (cut_shown false inside_told) (fate h action)) [ inl none ↦ none | inr none ↦ none ]
 
@@ -207,29 +207,39 @@ module _ (look : List Seen) (q : Question) (now : Sight) (h : Machine) (is : IsL
         && passes_inside (blocks_way action) (block_may_fit q) (λ s. block_may_fit q (block_once_done h.geometry action s)) (λ (s : BlockSeen). s.number) now.blocks.items) none.lines
         ∙ ap (λ way. list_all (line_may_fit q) now.lines.items && passes_inside way (block_may_fit q) (λ s. block_may_fit q (block_once_done h.geometry action s)) (λ (s : BlockSeen). s.number) now.blocks.items) none.blocks
 
-    pub found_inside : shows q now ≡ false → shows_inside h.geometry action q now ≡ true → first_place (may_show look) (command_stops line h action) ≡ Some (Inside line)
+    pub found_inside : shows q now ≡ false → shows_inside h.geometry action q now ≡ true → first_stop (may_show look) (command_stops line h action) ≡ Some (record { place = Inside line; state = while_interrupted h action })
     found_inside told inside_told = later told ∙ by_kind (works_or_none h action)
       where
-        by_kind : IsWork h action ⊎ ChangesNone action → first_place (may_show look) (map (λ m. record { place = Inside line; state = m }) (inside h action (fate h action))) ≡ Some (Inside line)
+        by_kind : IsWork h action ⊎ ChangesNone action → first_stop (may_show look) (map (λ m. record { place = Inside line; state = m }) (inside h action (fate h action))) ≡ Some (record { place = Inside line; state = while_interrupted h action })
         by_kind (inl work) =
-            ap (λ to. first_place (may_show look) (map (λ m. record { place = Inside line; state = m }) (inside h action to))) (fate_is ∙ work.is)
-            ∙ ap (λ t. cond t (Some (Inside line)) None) (cut_shown true inside_told)
+            ap (λ to. first_stop (may_show look) (map (λ m. record { place = Inside line; state = m }) (inside h action to))) (fate_is ∙ work.is)
+            ∙ ap (λ t. cond t (Some (record { place = Inside line; state = while_interrupted h action })) None) (cut_shown true inside_told)
         by_kind (inr none) = absurd (both_ways (shows q now) told (sym (same_inside none) ∙ inside_told))
 
--- what comes of one command, where the look was not shown before it
+-- what comes of one command, where the look was shown before it
+pub before_explored : (look : List Seen) (q : Question) (now : Sight) (geo : Geometry) (h : Machine) (line : ℕ) (action : Action) → IsLook look q → IsWhole now q → may_be_replies geo q ≡ true
+    → shows q now ≡ true → Follows now geo h → Explores line action look now geo h (Some (Before line))
+before_explored look q now geo h line action is whole replies told follows = (
+  record { place = Before line; state = h },
+  found_before look q now h is follows.sees whole follows.ready (ap (λ sizes. may_be_replies sizes q) follows.sizes ∙ replies) line action told,
+  refl,
+  follows,
+)
+
+-- and where it was not
 module _ (look : List Seen) (q : Question) (now after : Sight) (geo : Geometry) (h : Machine) (line : ℕ) (action : Action)
     (is : IsLook look q) (whole : IsWhole now q) (replies : may_be_replies geo q ≡ true) (told : shows q now ≡ false) (follows : Follows now geo h) where
   at_state : may_be_replies h.geometry q ≡ true
   at_state = ap (λ sizes. may_be_replies sizes q) follows.sizes ∙ replies
 
-  of_refused : (o : Option Answer) → refusal h action ≡ o → is_none o ≡ false → Explores look now geo (command_stops line h action) (led_to h (fate h action)) None
+  of_refused : (o : Option Answer) → refusal h action ≡ o → is_none o ≡ false → Explores line action look now geo h None
   of_refused None is_refused refused = cc refused
   of_refused (Some why) is_refused refused = (
     none_refused look q now h is follows.sees whole follows.ready at_state line action why told is_refused,
     subst (Follows now geo) (sym (ap (λ o. led_to h (unless_refused h o ((meaning action).comes h))) is_refused)) follows,
   )
 
-  pub refused_explored : is_none (refusal h action) ≡ false → Explores look now geo (command_stops line h action) (led_to h (fate h action)) None
+  pub refused_explored : is_none (refusal h action) ≡ false → Explores line action look now geo h None
   refused_explored refused = of_refused (refusal h action) refl refused
 
   allowed_none : (o : Option Answer) → is_none o ≡ true → o ≡ None
@@ -243,7 +253,11 @@ module _ (look : List Seen) (q : Question) (now after : Sight) (geo : Geometry) 
     lines_in : IsWithin now h.geometry
     lines_in = subst (IsWithin now) (sym follows.sizes) within
 
-    by_found : (found : Option CutPlace) → Passes h.geometry action line q now after found → Explores look after geo (command_stops line h action) (led_to h (fate h action)) found
+    cut_state : Machine
+    cut_state = while_interrupted h action
+
+    by_found : (found : Option CutPlace) → Passes h.geometry action line q now after found → Explores line action look after geo h found
+    unfolding cut_state
     by_found None passes = (
       none_inside look q now h is follows.sees whole follows.ready at_state line action allowed lines_in told passes.0,
       subst (Follows after geo) (sym (ap (led_to h) (fate_of h action allowed))) (record {
@@ -252,10 +266,15 @@ module _ (look : List Seen) (q : Question) (now after : Sight) (geo : Geometry) 
         sees = sees_after h action now after allowed follows.ready follows.sees lines_in passes.1 passes.2;
       }),
     )
-    by_found (Some place) passes =
-        found_inside look q now h is follows.sees whole follows.ready at_state line action allowed lines_in told passes.0 ∙ ap Some (sym passes.1)
+    by_found (Some place) passes = (
+      record { place = Inside line; state = cut_state },
+      found_inside look q now h is follows.sees whole follows.ready at_state line action allowed lines_in told passes.0,
+      sym passes.1,
+      subst (λ p. IsIn line action after geo p cut_state) (sym passes.1)
+          (refl, record { before = h; follows = subst (λ s. Follows s geo h) (sym passes.2) follows; done = allowed; is = refl }),
+    )
 
-    pub done_explored : (found : Option CutPlace) → Passes geo action line q now after found → Explores look after geo (command_stops line h action) (led_to h (fate h action)) found
+    pub done_explored : (found : Option CutPlace) → Passes geo action line q now after found → Explores line action look after geo h found
     done_explored found passes = by_found found (subst (λ sizes. Passes sizes action line q now after found) (sym follows.sizes) passes)
 
 -- what is looked at stays whole, and within the sizes

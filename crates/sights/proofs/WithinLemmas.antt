@@ -26,7 +26,7 @@ use Rattle.sights.specs.declared.line_seen.LineSeen.{LineSeen}
 use Rattle.sights.specs.declared.block_seen.BlockSeen.{BlockSeen}
 use Rattle.sights.specs.declared.place.CutPlace.TheVariants.{Before, Inside}
 use Rattle.sights.specs.Following.{command_stops}
-use Rattle.sights.specs.Places.{cut_places, first_place}
+use Rattle.sights.specs.Places.{cut_places, first_stop}
 use Rattle.sights.specs.Units.{AreAmong, AreWithin, block_numbers, line_numbers}
 use Rattle.sights.proofs.MayShowLemmas.{shows_parts}
 use Rattle.sights.proofs.SizeLemmas.{geometry_stays}
@@ -116,25 +116,25 @@ module _ (look : List Seen) (q : Question) (is : IsLook look q) (base : Machine)
       shows_parts base off look q is same found (blocks_pass off) refl refl ∙ ap (λ b. b && (found && blocks_pass off)) none
 
   none_in : (n : ℕ) (h : Machine) (action : Action) → h.geometry ≡ base.geometry → (to : Fate)
-      → first_place (may_show look) (map (λ m. record { place = Inside n; state = m }) (inside h action to)) ≡ None
+      → first_stop (may_show look) (map (λ m. record { place = Inside n; state = m }) (inside h action to)) ≡ None
   none_in n h action same (Gives answer to) = refl
-  none_in n h action same (Works answer to) = ap (λ b. cond b (Some (Inside n)) None) (unshown (while_interrupted h action) same)
+  none_in n h action same (Works answer to) = ap (λ b. cond b (Some (record { place = Inside n; state = while_interrupted h action })) None) (unshown (while_interrupted h action) same)
   none_in n h action same (Orders order to) = refl
   none_in n h action same (Cuts to) = refl
   none_in n h action same (Restarts choice) = refl
   none_in n h action same Recovers = refl
 
-  none_of_command : (n : ℕ) (h : Machine) (action : Action) → h.geometry ≡ base.geometry → first_place (may_show look) (command_stops n h action) ≡ None
+  none_of_command : (n : ℕ) (h : Machine) (action : Action) → h.geometry ≡ base.geometry → first_stop (may_show look) (command_stops n h action) ≡ None
   none_of_command n h action same =
-      ap (λ b. cond b (Some (Before n)) (first_place (may_show look) (map (λ m. record { place = Inside n; state = m }) (inside h action (fate h action))))) (unshown h same)
+      ap (λ b. cond b (Some (record { place = Before n; state = h })) (first_stop (may_show look) (map (λ m. record { place = Inside n; state = m }) (inside h action (fate h action))))) (unshown h same)
       ∙ none_in n h action same (fate h action)
 
   sizes_led : (h : Machine) (action : Action) (o : Option Answer) → (led_to h (unless_refused h o ((meaning action).comes h))).geometry ≡ h.geometry
   sizes_led h action None = geometry_stays h action
   sizes_led h action (Some why) = refl
 
-  pub found_nowhere : (n : ℕ) (h : Machine) (inputs : List Input) → h.geometry ≡ base.geometry → None ≡ first_place (may_show look) (cut_places n h inputs)
-  found_nowhere n h [] same = sym (ap (λ b. cond b (Some (Before n)) None) (unshown h same))
+  pub found_nowhere : (n : ℕ) (h : Machine) (inputs : List Input) → h.geometry ≡ base.geometry → None ≡ first_stop (may_show look) (cut_places n h inputs)
+  found_nowhere n h [] same = sym (ap (λ b. cond b (Some (record { place = Before n; state = h })) None) (unshown h same))
   found_nowhere n h (Skipped ∷ inputs) same = found_nowhere (suc n) h inputs same
   found_nowhere n h (Malformed ∷ inputs) same = found_nowhere (suc n) h inputs same
   found_nowhere n h (Overlong ∷ inputs) same = found_nowhere (suc n) h inputs same

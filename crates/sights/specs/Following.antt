@@ -1,12 +1,12 @@
 -- What is looked at, where the machine is in this state, and what following it through a program finds.
-use Rattle.std.specs.Prelude.{◌≡◌, ℕ, Bool, true, false, List, [], ◌∷◌, map, Option, Some, None, is_none}
+use Rattle.std.specs.Prelude.{◌≡◌, ◌-◌, ℕ, Bool, true, false, List, [], ◌∷◌, map, Option, Some, None, is_none, slice_get}
 use Rattle.word_tables.specs.declared.geometry.Geometry.{Geometry}
 use Rattle.nvm_model.specs.Blocks.{nth}
 use Rattle.block_sights.specs.Sights.{sight}
 use Rattle.script_text.specs.declared.command.Command.{Command}
 use Rattle.script_text.specs.Action.{Action, action_of}
 use Rattle.machine_host.specs.Machine.{Machine}
-use Rattle.machine_host.specs.Commands.{fate, refusal}
+use Rattle.machine_host.specs.Commands.{fate, refusal, while_interrupted}
 use Rattle.outcomes.specs.Blocks.{all_numbers_read}
 use Rattle.outcomes.specs.Finds.{IsReady}
 use Rattle.outcomes.specs.Pages.{all_lines_read}
@@ -17,7 +17,7 @@ use Rattle.asked_reads.specs.Asking.{blocks_of, volume_asked}
 use Rattle.sights.specs.declared.sight.Sight.{Sight}
 use Rattle.sights.specs.declared.place.CutPlace.{CutPlace}
 use Rattle.sights.specs.declared.place.CutPlace.TheVariants.{Before, Inside}
-use Rattle.sights.specs.Places.{Stop, first_place}
+use Rattle.sights.specs.Places.{Stop, first_stop}
 use Rattle.sights.specs.Seeing.{seen}
 use Rattle.sights.specs.Sights.{shows_inside}
 use Rattle.sights.specs.Units.{AreAmong, AreBlocks, AreLines, AreWithin, block_numbers, block_once_done, line_numbers, line_once_done}
@@ -55,10 +55,34 @@ AreDone h (Some command ∷ lines) (is ∷ done) =
 abbrev pub command_stops : ℕ → Machine → Action → List Stop
 command_stops n h action = record { place = Before n; state = h } ∷ map (λ m. record { place = Inside n; state = m }) (inside h action (fate h action))
 
--- None of these places shows it, and what is looked at is that of the next state; or the first that does was found.
-abbrev pub Explores : List Seen → Sight → Geometry → List Stop → Machine → Option CutPlace → Type 0
-Explores look now geo stops next None = (first_place (may_show look) stops ≡ None) × Follows now geo next
-Explores look now geo stops next (Some place) = first_place (may_show look) stops ≡ Some place
+-- what is looked at is that of the state in which a command is cut that is done
+pub record IsCut (action : Action) (now : Sight) (geo : Geometry) (cut : Machine) : Type 0 where
+  pub before : Machine
+  pub follows : Follows now geo before
+  pub done : refusal before action ≡ None
+  pub is : cut ≡ while_interrupted before action
+
+-- the same of a place of a program: of the state there, or of that in which the command on its line is cut
+abbrev pub IsAt : List (Option Command) → Sight → Geometry → CutPlace → Machine → Type 0
+IsAt lines now geo (Before n) state = Follows now geo state
+IsAt lines now geo (Inside n) state = (command : Command) × (slice_get lines (n - 1) ≡ Some (Some command)) × IsCut (action_of command) now geo state
+
+-- and of a place of one command, on the line of that number
+abbrev pub IsIn : ℕ → Action → Sight → Geometry → CutPlace → Machine → Type 0
+IsIn line action now geo (Before n) state = Follows now geo state
+IsIn line action now geo (Inside n) state = (n ≡ line) × IsCut action now geo state
+
+-- None of these places shows it; or that place is the first that does, and what is looked at is that of the place.
+abbrev pub IsFirst : List (Option Command) → List Seen → Sight → Geometry → List Stop → Option CutPlace → Type 0
+IsFirst lines look now geo stops None = first_stop (may_show look) stops ≡ None
+IsFirst lines look now geo stops (Some place) =
+    (stop : Stop) × (first_stop (may_show look) stops ≡ Some stop) × (stop.place ≡ place) × IsAt lines now geo place stop.state
+
+-- The same of the places of one command. Where none shows it, what is looked at is that of the next state.
+abbrev pub Explores : ℕ → Action → List Seen → Sight → Geometry → Machine → Option CutPlace → Type 0
+Explores line action look now geo h None = (first_stop (may_show look) (command_stops line h action) ≡ None) × Follows now geo (led_to h (fate h action))
+Explores line action look now geo h (Some place) =
+    (stop : Stop) × (first_stop (may_show look) (command_stops line h action) ≡ Some stop) × (stop.place ≡ place) × IsIn line action now geo place stop.state
 
 -- No cut inside a command that is done shows what is asked, and what is looked at is as after it; or one does.
 abbrev pub Passes : Geometry → Action → ℕ → Question → Sight → Sight → Option CutPlace → Type 0

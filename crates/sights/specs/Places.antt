@@ -1,5 +1,5 @@
 -- Where in a program a cut falls, and the first place at which a look may show what is asked.
-use Rattle.std.specs.Prelude.{ℕ, suc, Bool, List, [], ◌∷◌, ◌++◌, map, Option, Some, None, if◌then◌else◌}
+use Rattle.std.specs.Prelude.{ℕ, suc, Bool, List, [], ◌∷◌, ◌++◌, map, Option, Some, None, option_map, if◌then◌else◌}
 use Rattle.script_text.specs.Script.{Input}
 use Rattle.script_text.specs.Script.Input.{Skipped, Malformed, Overlong, Asked}
 use Rattle.machine_host.specs.Machine.{Machine}
@@ -25,11 +25,14 @@ cut_places n h (Asked action ∷ inputs) =
     record { place = Before n; state = h } ∷ map (λ m. record { place = Inside n; state = m }) (inside h action (fate h action))
     ++ cut_places (suc n) (led_to h (fate h action)) inputs
 
--- the first that passes
-abbrev pub first_place : (Machine → Bool) → List Stop → Option CutPlace
-first_place test [] = None
-first_place test (stop ∷ stops) = if test stop.state then Some stop.place else first_place test stops
+-- the first whose state passes
+abbrev pub first_stop : (Machine → Bool) → List Stop → Option Stop
+first_stop test [] = None
+first_stop test (stop ∷ stops) = if test stop.state then Some stop else first_stop test stops
 
--- where a program's look may show this, the first place of a cut after which it may
+-- the first place of a cut in a program after which its look may show this, with the state that is there
+abbrev pub found_stop : Machine → List Input → List Seen → Option Stop
+found_stop h program look = first_stop (may_show look) (cut_places 1 (armed h) program)
+
 abbrev pub found_at : Machine → List Input → List Seen → Option CutPlace
-found_at h program look = first_place (may_show look) (cut_places 1 (armed h) program)
+found_at h program look = option_map (λ stop. stop.place) (found_stop h program look)

@@ -2,12 +2,12 @@
 ghost use Rattle.std.specs.Prelude.{◌≡◌, true, All, IfOk, List, length};
 ghost use Rattle.word_tables.specs.Bounds.{IsValid};
 ghost use Rattle.machine_host.specs.Machine.{Machine};
-ghost use Rattle.outcomes.specs.Seen.{Seen, may_show};
+ghost use Rattle.outcomes.specs.Seen.{Seen};
 ghost use Rattle.outcomes.specs.Stops.{IsProgram};
 ghost use Rattle.asked_reads.specs.Asking.{IsLook, may_be_replies};
 ghost use Rattle.asked_reads.specs.Program.{IsBounded, inputs_of_lines};
-ghost use Rattle.sights.specs.Following.{AreDone, Follows, IsWhole, IsWithin};
-ghost use Rattle.sights.specs.Places.{cut_places, first_place};
+ghost use Rattle.sights.specs.Following.{AreDone, Follows, IsFirst, IsWhole, IsWithin};
+ghost use Rattle.sights.specs.Places.{cut_places};
 
 use crate::place::CutPlace;
 use crate::sight::Sight;
@@ -18,7 +18,8 @@ use std::alloc::AllocError;
 use word_tables::Geometry;
 
 /// The first place of a cut in the program after which the question's look may show what it asks for, None where no cut leaves it. A
-/// line of the program without a command is None; `done` tells which commands the machine does not refuse.
+/// line of the program without a command is None; `done` tells which commands the machine does not refuse. What is looked at is then
+/// that of the place, before what is interrupted there.
 pub fn find(
     program: &[Option<Command>],
     done: &[bool],
@@ -34,7 +35,7 @@ pub fn find(
     requires within { IsWithin sight.old geometry }
     requires replies { may_be_replies geometry question.now ≡ true }
     ensures { (h : Machine) (look : List Seen) → Follows sight.old geometry h → AreDone h program.now done.now → IsLook look question.now
-        → IfOk result (λ found. found ≡ first_place (may_show look) (cut_places 1 h (inputs_of_lines program.now))) }
+        → IfOk result (IsFirst program.now look sight.new geometry (cut_places 1 h (inputs_of_lines program.now))) }
 {
     for (i, line) in program.iter().enumerate() {
         if let Some(command) = line {

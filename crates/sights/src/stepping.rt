@@ -4,11 +4,11 @@ ghost use Rattle.script_text.specs.Action.{action_of};
 ghost use Rattle.script_text.specs.Parsing.{InBounds};
 ghost use Rattle.word_tables.specs.Bounds.{IsValid};
 ghost use Rattle.machine_host.specs.Machine.{Machine};
-ghost use Rattle.machine_host.specs.Commands.{fate, refusal};
+ghost use Rattle.machine_host.specs.Commands.{refusal};
 ghost use Rattle.outcomes.specs.Seen.{Seen};
-ghost use Rattle.outcomes.specs.Stops.{is_of_program, led_to};
+ghost use Rattle.outcomes.specs.Stops.{is_of_program};
 ghost use Rattle.asked_reads.specs.Asking.{IsLook, may_be_replies};
-ghost use Rattle.sights.specs.Following.{Explores, Follows, IsWhole, IsWithin, Passes, command_stops};
+ghost use Rattle.sights.specs.Following.{Explores, Follows, IsWhole, IsWithin, Passes};
 
 use crate::place::CutPlace;
 use crate::sight::Sight;
@@ -35,7 +35,7 @@ pub fn step(
     requires replies { may_be_replies geometry question.now ≡ true }
     ensures explores { (h : Machine) (look : List Seen) → Follows sight.old geometry h → IsLook look question.now
         → is_none (refusal h (action_of command.now)) ≡ done
-        → IfOk result (Explores look sight.new geometry (command_stops line h (action_of command.now)) (led_to h (fate h (action_of command.now)))) }
+        → IfOk result (Explores line (action_of command.now) look sight.new geometry h) }
     ensures whole { OnOk result (IsWhole sight.new question.now) }
     ensures within { OnOk result (IsWithin sight.new geometry) }
 {

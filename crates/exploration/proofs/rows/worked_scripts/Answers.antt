@@ -3,15 +3,17 @@ use Rattle.std.proofs.Common.{refl}
 use Rattle.nvm_base.specs.Numbers.{number_of}
 use Rattle.nvm_base.specs.Data.{runs_of, data_of, data_within}
 use Rattle.script_text.specs.Script.{lines_of, words_of, command_action, line_input}
-use Rattle.questions.specs.Question.{question_line}
+use Rattle.questions.specs.Question.{comment_question, question_line}
 use Rattle.exploration.proofs.rows.worked_scripts.Goals as goal
 
 pub returns : goal.returns
-unfolding number_of runs_of data_of data_within lines_of words_of command_action line_input question_line
+unfolding number_of runs_of data_of data_within lines_of words_of command_action line_input question_line comment_question
 returns c = record {
   one_question = refl;
   reads_of_both_kinds = refl;
   no_look = refl;
+  a_table = refl;
+  read_behind_a_table = refl;
   read_behind_a_question = refl;
   command_of_power = refl;
   one_reply_to_two_reads = refl;

@@ -3,11 +3,11 @@ use Rattle.std.proofs.Common.{refl}
 use Rattle.nvm_base.specs.Numbers.{number_of}
 use Rattle.nvm_base.specs.Data.{runs_of, data_within}
 use Rattle.script_text.specs.Script.{words_of}
-use Rattle.questions.specs.Question.{question_line}
+use Rattle.questions.specs.Question.{comment_question, question_line}
 use Rattle.questions.proofs.rows.worked_question_lines.Goals as goal
 
 pub returns : goal.returns
-unfolding number_of runs_of data_within words_of question_line
+unfolding number_of runs_of data_within words_of question_line comment_question
 returns c = record {
   bytes_or_any = refl;
   line_of_a_block = refl;
@@ -40,6 +40,7 @@ returns c = record {
   longer_word = refl;
   look_in_one_word = refl;
   list = refl;
+  table = refl;
   list_and_a_number = refl;
   mark_alone = refl;
   other_comment = refl;
