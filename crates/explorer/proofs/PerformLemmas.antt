@@ -141,4 +141,4 @@ pub performed : (program : List (Option Command)) (first host : HostState) (begu
     → (h : Machine) → Stands first begun h → IsReady h → AreDone h program done
 performed program first host begun d i done performs past h stands ready =
     let before = performs.comes h stands ready in
-    subst (AreDone h program) (append-nil done) (before.3 [] (subst (λ xs. AreDone before.0 xs []) (sym (drop_all program i past)) tt))
+    subst (AreDone h program) (append-nil done) (before.3 [] (subst (λ xs. AreDone before.0 xs []) (sym (drop_all i program past)) tt))

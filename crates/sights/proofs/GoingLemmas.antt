@@ -1,5 +1,5 @@
 -- A program is followed, line by line.
-use Rattle.std.proofs.Common.{◌≡◌, ◌+◌, ◌-◌, ◌<◌, ◌≤◌, ◌&&◌, ℕ, zero, suc, Bool, true, false, cond, IsTrue, Option, Some, None, List, [], ◌∷◌, length, drop, drop-cons, get_or, slice_get, map, refl, sym, ap, subst, ◌∙◌, arith}
+use Rattle.std.proofs.Common.{◌≡◌, ◌+◌, ◌-◌, ◌<◌, ◌≤◌, ◌&&◌, ℕ, zero, suc, Bool, true, false, cond, IsTrue, Option, Some, None, List, [], ◌∷◌, length, drop, drop-cons, get_or, slice_get, refl, sym, ap, subst, ◌∙◌, arith}
 use Rattle.std.specs.Option.{is_none, is_some}
 use Rattle.std.proofs.lemmas.List.{drop_all}
 use Rattle.word_tables.specs.declared.geometry.Geometry.{Geometry}
@@ -16,7 +16,7 @@ use Rattle.sights.specs.declared.place.CutPlace.{CutPlace}
 use Rattle.sights.specs.declared.place.CutPlace.TheVariants.{Before, Inside}
 use Rattle.sights.specs.declared.sight.Sight.{Sight}
 use Rattle.sights.specs.Following.{AreDone, Explores, Follows, IsAt, IsFirst, IsIn, IsWhole, IsWithin, command_stops}
-use Rattle.sights.specs.Places.{Stop, cut_places, first_stop}
+use Rattle.sights.specs.Places.{cut_places, first_stop}
 use Rattle.sights.specs.Sights.{shows}
 use Rattle.sights.proofs.MayShowLemmas.{shows_now}
 use Rattle.sights.proofs.StopLemmas.{none_before, some_before}
@@ -54,6 +54,20 @@ program_at (Some first ∷ program) zero command d lt is all =
     subst (λ c. IsTrue (is_of_program (action_of c))) same all.0
 program_at (None ∷ program) (suc i) command d lt is all = program_at program i command d (omega (arith, lt)) is all
 program_at (Some first ∷ program) (suc i) command d lt is all = program_at program i command d (omega (arith, lt)) is all.1
+
+-- an item that is there is the same by any default
+pub any_default : {A : Type 0} (xs : List A) (i : ℕ) (d : A) → i < length xs → get_or xs i d ≡ get_or xs i (get_or xs i d)
+any_default [] i d lt = absurd (omega (arith, lt))
+any_default (x ∷ xs) zero d lt = refl
+any_default (x ∷ xs) (suc i) d lt = items_agree xs i d (get_or xs i d) (omega (arith, lt))
+  where
+    items_agree : {A : Type 0} (ys : List A) (k : ℕ) (d e : A) → k < length ys → get_or ys k d ≡ get_or ys k e
+    items_agree [] k d e lt = absurd (omega (arith, lt))
+    items_agree (y ∷ ys) zero d e lt = refl
+    items_agree (y ∷ ys) (suc k) d e lt = items_agree ys k d e (omega (arith, lt))
+
+pub below : (program : List (Option Command)) (done : List Bool) (i : ℕ) → length done ≡ length program → i < length program → i < length done
+below program done i same lt = omega (arith, lt, same)
 
 minus_one : (n : ℕ) → (n + 1) - 1 ≡ n
 minus_one n = omega arith
@@ -170,7 +184,7 @@ module _ (program : List (Option Command)) (done : List Bool) (q : Question) (ge
       shows_now state look q now shown before.1.sees goes.whole before.1.ready.settled
       ∙ ap (λ r. r && shows q now) (ap (λ sizes. may_be_replies sizes q) before.1.sizes ∙ replies) ∙ told_is in
       of_told told state before.1
-      (before.3 ∙ ap (λ lines. first_stop (may_show look) (cut_places (i + 1) state (inputs_of_lines lines))) (drop_all program i ends)
+      (before.3 ∙ ap (λ lines. first_stop (may_show look) (cut_places (i + 1) state (inputs_of_lines lines))) (drop_all i program ends)
       ∙ ap (λ b. cond b (Some (record { place = Before (i + 1); state = state })) None) seen_at ∙ ap (λ n. cond told (Some (record { place = Before (n + 1); state = state })) None) at)
     where
       of_told : (b : Bool) (state : Machine) → Follows now geo state

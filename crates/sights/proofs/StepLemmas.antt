@@ -32,8 +32,8 @@ use Rattle.sights.specs.declared.place.CutPlace.TheVariants.{Before, Inside}
 use Rattle.sights.specs.declared.sight.Sight.{Sight}
 use Rattle.sights.specs.Changing.{line_changed, volume_change}
 use Rattle.sights.specs.ChangingBlocks.{block_changed}
-use Rattle.sights.specs.Following.{Explores, Follows, IsCut, IsIn, IsWhole, IsWithin, Passes, Sees, command_stops}
-use Rattle.sights.specs.Places.{Stop, first_stop}
+use Rattle.sights.specs.Following.{Explores, Follows, IsIn, IsWhole, IsWithin, Passes, Sees, command_stops}
+use Rattle.sights.specs.Places.{first_stop}
 use Rattle.sights.specs.Seeing.{seen}
 use Rattle.sights.specs.Sights.{shows, shows_inside}
 use Rattle.sights.specs.Units.{AreAmong, AreBlocks, AreLines, AreWithin, block_may_fit, block_numbers, block_once_done, line_may_fit, line_numbers, line_once_done}

@@ -1,5 +1,5 @@
 // One command of a program, on what is looked at.
-ghost use Rattle.std.specs.Prelude.{◌≡◌, IfOk, IsTrue, List, OnOk, is_none};
+ghost use Rattle.std.specs.Prelude.{◌≡◌, true, IfOk, IsTrue, List, OnOk, is_none};
 ghost use Rattle.script_text.specs.Action.{action_of};
 ghost use Rattle.script_text.specs.Parsing.{InBounds};
 ghost use Rattle.word_tables.specs.Bounds.{IsValid};
