@@ -4,3 +4,4 @@ pub mod BlockLookLemmas
 pub mod LookLemmas
 pub mod CauseLemmas
 pub mod UntoldLemmas
+pub mod FoundLemmas

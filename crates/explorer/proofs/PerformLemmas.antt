@@ -20,10 +20,10 @@ use Rattle.machine_host.specs.OnPower.{in_calls}
 use Rattle.machine_host.specs.Settling.{GoesOn}
 use Rattle.machine_host.specs.Stands.{Comes, HostState, Stands}
 use Rattle.outcomes.specs.Finds.{IsReady, armed}
-use Rattle.outcomes.specs.Stops.{is_of_program, led_to}
+use Rattle.outcomes.specs.Stops.{IsProgram, is_of_program, led_to}
+use Rattle.asked_reads.specs.Program.{input_of, inputs_of_lines}
 use Rattle.sights.specs.Following.{AreDone}
 use Rattle.sights.proofs.GoingLemmas.{at_line}
-use Rattle.sights.proofs.SizeLemmas.{geometry_stays}
 use Rattle.sights.proofs.StepLemmas.{ready_after}
 use Rattle.explorer.specs.declared.came.Came.TheVariants as came_as
 use Rattle.explorer.specs.Coming.{came_of}
@@ -101,7 +101,6 @@ pub record Performs (program : List (Option Command)) (first : HostState) (begun
   pub comes : (h : Machine) → Stands first begun h → IsReady h
       → (to : Machine) × Stands host d to × IsReady to × ((rest : List Bool) → AreDone to (drop i program) rest → AreDone h program (done ++ rest))
 
-
 pub performs_first : (program : List (Option Command)) (first : HostState) (begun : Device) → GoesOn first begun → NoneFell begun.panel begun.panel → Performs program first begun 0 [] first begun
 performs_first program first begun known counts = record { known = known; counts = counts; size = refl; comes = λ h stands ready. (h, stands, ready, λ rest told. told) }
 
@@ -142,3 +141,11 @@ pub performed : (program : List (Option Command)) (first host : HostState) (begu
 performed program first host begun d i done performs past h stands ready =
     let before = performs.comes h stands ready in
     subst (AreDone h program) (append-nil done) (before.3 [] (subst (λ xs. AreDone before.0 xs []) (sym (drop_all i program past)) tt))
+
+-- a line of a program, by itself
+pub line_at : (program : List (Option Command)) (i : ℕ) (line d : Option Command) → i < length program → line ≡ get_or program i d → IsProgram (inputs_of_lines program) → IsProgram (input_of line ∷ [])
+line_at [] i line d lt is all = absurd (omega (arith, lt))
+line_at (None ∷ program) zero line d lt is all = subst (λ l. IsProgram (input_of l ∷ [])) (sym is) tt
+line_at (Some first ∷ program) zero line d lt is all = subst (λ l. IsProgram (input_of l ∷ [])) (sym is) (all.0, tt)
+line_at (None ∷ program) (suc i) line d lt is all = line_at program i line d (omega (arith, lt)) is all
+line_at (Some first ∷ program) (suc i) line d lt is all = line_at program i line d (omega (arith, lt)) is all.1

@@ -17,7 +17,6 @@ ghost use Rattle.explorer.specs.declared.came.Came.TheVariants.{Stopped};
 ghost use Rattle.explorer.specs.Stopping.{DeviceStopped, NoneFell, TellsNoBlock};
 ghost use Rattle.sights.specs.Units.{AreBlocks, block_numbers};
 
-use sights::BlockSeen;
 use crate::fault::ExploreFault;
 use asked_reads::{BlockRead, BlockReply};
 use block_sights::{HeldBlock, Unreadable};
@@ -26,6 +25,7 @@ use machine_host::{Host, Outcome};
 use nvm_base::BLOCK;
 use reply_text::Reply;
 use script_text::Command;
+use sights::BlockSeen;
 use std::alloc::{AllocError, Global};
 
 /// All blocks that these reads look at, read by read.

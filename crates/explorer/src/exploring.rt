@@ -11,16 +11,13 @@ ghost use Rattle.sights.specs.Places.{found_at};
 ghost use Rattle.explorer.specs.Starting.{Begins};
 ghost use Rattle.explorer.specs.Stopping.{DeviceStopped, NoneFell};
 
-use crate::blocks_look::look_blocks;
 use crate::fault::ExploreFault;
-use crate::performing::{arm, perform};
-use crate::volume_look::look_lines;
+use crate::watching::{Watched, watch};
 use asked_reads::Question;
 use line_device::LineDevice;
 use machine_host::Host;
-use nvm_base::MOST;
 use script_text::Command;
-use sights::{CutPlace, Sight, find, may_be_replies};
+use sights::{CutPlace, find, may_be_replies};
 use std::alloc::Global;
 
 /// The first place of a cut in the program after which the question's look may show what it asks for, None where no cut leaves it. A
@@ -44,13 +41,7 @@ pub fn explore<D: LineDevice>(
     if !may_be_replies(question, host.geometry()) {
         return Ok(None);
     }
-    let mut work = vec![in alloc; 0u8; MOST as usize]?;
-    let mut sight = Sight {
-        lines: look_lines(alloc, host, device, &question.volume, &mut work)?,
-        blocks: look_blocks(alloc, host, device, &question.blocks, &mut work)?,
-    };
-    // From now on the power may go at any call.
-    arm(host, device, &mut work)?;
-    let done = perform(alloc, host, device, program, &mut work)?;
-    Ok(find(program, &done, host.geometry(), question, &mut sight)?)
+    let geometry = host.geometry();
+    let Watched { mut sight, done } = watch(alloc, host, device, program, question)?;
+    Ok(find(program, &done, geometry, question, &mut sight)?)
 }

@@ -8,6 +8,7 @@ mod exploring;
 mod fault;
 mod performing;
 mod volume_look;
+mod watching;
 
 pub use exploring::explore;
 pub use fault::ExploreFault;

@@ -12,7 +12,6 @@ ghost use Rattle.explorer.specs.Stopping.{DeviceStopped, NoneFell};
 ghost use Rattle.sights.specs.Units.{AreLines, line_numbers};
 
 use crate::fault::ExploreFault;
-use sights::LineSeen;
 use asked_reads::{PageRead, PageReply};
 use line_device::LineDevice;
 use line_histories::HeldLine;
@@ -20,6 +19,7 @@ use machine_host::{Host, Outcome};
 use nvm_base::{LINE, LineNo, PAGE, Span, lines_of};
 use reply_text::Reply;
 use script_text::Command;
+use sights::LineSeen;
 use std::alloc::{AllocError, Global};
 
 /// All lines that these reads look at, read by read.

@@ -1,6 +1,6 @@
 -- A program is followed, line by line.
 use Rattle.std.proofs.Common.{◌≡◌, ◌+◌, ◌-◌, ◌<◌, ◌≤◌, ◌&&◌, ℕ, zero, suc, Bool, true, false, cond, IsTrue, Option, Some, None, List, [], ◌∷◌, length, drop, drop-cons, get_or, slice_get, refl, sym, ap, subst, ◌∙◌, arith}
-use Rattle.std.specs.Option.{is_none, is_some}
+use Rattle.std.specs.Option.{IfSome, is_none, is_some}
 use Rattle.std.proofs.lemmas.List.{drop_all}
 use Rattle.word_tables.specs.declared.geometry.Geometry.{Geometry}
 use Rattle.script_text.specs.declared.command.Command.{Command}
@@ -15,7 +15,7 @@ use Rattle.asked_reads.specs.Program.{inputs_of_lines}
 use Rattle.sights.specs.declared.place.CutPlace.{CutPlace}
 use Rattle.sights.specs.declared.place.CutPlace.TheVariants.{Before, Inside}
 use Rattle.sights.specs.declared.sight.Sight.{Sight}
-use Rattle.sights.specs.Following.{AreDone, Explores, Follows, IsAt, IsFirst, IsIn, IsWhole, IsWithin, command_stops}
+use Rattle.sights.specs.Following.{AreDone, Explores, Follows, IsAt, IsFirst, IsIn, IsWhole, IsWithin, ShowsAt, ShowsIn, command_stops}
 use Rattle.sights.specs.Places.{cut_places, first_stop}
 use Rattle.sights.specs.Sights.{shows}
 use Rattle.sights.proofs.MayShowLemmas.{shows_now}
@@ -124,6 +124,17 @@ module _ (program : List (Option Command)) (done : List Bool) (q : Question) (ge
     at_place : (after : Sight) (place : CutPlace) (state : Machine) → IsIn (i + 1) (action_of command) after geo place state → IsAt program after geo place state
     at_place after (Before n) state is_in = is_in
     at_place after (Inside n) state is_in = (command, subst (λ m. slice_get program (m - 1) ≡ Some (Some command)) (sym is_in.0) lines_at, is_in.1)
+
+    -- where it is shown
+    pub shown_there : (after : Sight) (found : Option CutPlace) → IfSome found (ShowsIn (i + 1) (action_of command) q after geo) → IfSome found (ShowsAt program q after geo)
+    shown_there after None shown = tt
+    shown_there after (Some (Before n)) shown = shown
+    shown_there after (Some (Inside n)) shown = (
+      command,
+      let at : n ≡ i + 1 = shown.0 in omega (arith, at),
+      subst (λ m. slice_get program (m - 1) ≡ Some (Some command)) (sym shown.0) lines_at,
+      shown.1,
+    )
 
     of_found : (after : Sight) (found : Option CutPlace) → is_some found ≡ true → (h : Machine) (look : List Seen) → Follows began geo h → AreDone h program done → IsLook look q
         → ((to : Machine) → Follows now geo to → is_none (refusal to (action_of command)) ≡ is_done

@@ -1,7 +1,7 @@
 -- One command: the places of a cut in it, and the state that it leads to.
 use Rattle.std.proofs.Common.{◌≡◌, ◌⊎◌, inl, inr, ℕ, ◌/◌, ◌<◌, ◌&&◌, Bool, true, false, cond, Option, Some, None, Result, Ok, Err, List, [], ◌∷◌, length, map, IsTrue, refl, sym, ap, subst, ◌∙◌, arith}
 use Rattle.std.specs.List.{list_all}
-use Rattle.std.specs.Option.{is_none}
+use Rattle.std.specs.Option.{IfSome, is_none}
 use Rattle.std.specs.Result.{IfOk, OnOk}
 use Rattle.std.proofs.lemmas.Bool.{both_ways}
 use Rattle.word_tables.specs.declared.geometry.Geometry.{Geometry}
@@ -32,7 +32,7 @@ use Rattle.sights.specs.declared.place.CutPlace.TheVariants.{Before, Inside}
 use Rattle.sights.specs.declared.sight.Sight.{Sight}
 use Rattle.sights.specs.Changing.{line_changed, volume_change}
 use Rattle.sights.specs.ChangingBlocks.{block_changed}
-use Rattle.sights.specs.Following.{Explores, Follows, IsIn, IsWhole, IsWithin, Passes, Sees, command_stops}
+use Rattle.sights.specs.Following.{Explores, Follows, IsIn, IsWhole, IsWithin, Passes, Sees, ShowsIn, command_stops}
 use Rattle.sights.specs.Places.{first_stop}
 use Rattle.sights.specs.Seeing.{seen}
 use Rattle.sights.specs.Sights.{shows, shows_inside}
@@ -287,6 +287,13 @@ pub passes_within : (geo : Geometry) (action : Action) (line : ℕ) (q : Questio
     → IsWithin now geo → IsWithin after geo
 passes_within geo action line q now after None passes within = within_after geo geo action now after within passes.1 passes.2
 passes_within geo action line q now after (Some place) passes within = subst (λ s. IsWithin s geo) (sym passes.2) within
+
+-- what was found inside is shown there
+pub passes_shown : (geo : Geometry) (action : Action) (line : ℕ) (q : Question) (now after : Sight) (found : Option CutPlace) → Passes geo action line q now after found
+    → IfSome found (ShowsIn line action q after geo)
+passes_shown geo action line q now after None passes = tt
+passes_shown geo action line q now after (Some place) passes =
+    subst (ShowsIn line action q after geo) (sym passes.1) (refl, ap (λ s. shows_inside geo action q s) passes.2 ∙ passes.0)
 
 pub on_any : {A E : Type 0} {P : A → Type 0} {B : Type 0} (result : Result A E) → ((found : A) → P found → B) → IfOk result P → OnOk result B
 on_any (Ok found) to is = to found is

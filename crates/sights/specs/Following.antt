@@ -1,5 +1,5 @@
 -- What is looked at, where the machine is in this state, and what following it through a program finds.
-use Rattle.std.specs.Prelude.{◌≡◌, ◌-◌, ℕ, Bool, true, false, List, [], ◌∷◌, map, Option, Some, None, is_none, slice_get}
+use Rattle.std.specs.Prelude.{◌≡◌, ◌≤◌, ◌-◌, ℕ, Bool, true, false, List, [], ◌∷◌, map, Option, Some, None, is_none, slice_get}
 use Rattle.word_tables.specs.declared.geometry.Geometry.{Geometry}
 use Rattle.nvm_model.specs.Blocks.{nth}
 use Rattle.block_sights.specs.Sights.{sight}
@@ -19,7 +19,7 @@ use Rattle.sights.specs.declared.place.CutPlace.{CutPlace}
 use Rattle.sights.specs.declared.place.CutPlace.TheVariants.{Before, Inside}
 use Rattle.sights.specs.Places.{Stop, first_stop}
 use Rattle.sights.specs.Seeing.{seen}
-use Rattle.sights.specs.Sights.{shows_inside}
+use Rattle.sights.specs.Sights.{shows, shows_inside}
 use Rattle.sights.specs.Units.{AreAmong, AreBlocks, AreLines, AreWithin, block_numbers, block_once_done, line_numbers, line_once_done}
 
 -- it looks at all lines and blocks of which a question asks, read by read
@@ -83,6 +83,17 @@ abbrev pub Explores : ℕ → Action → List Seen → Sight → Geometry → Ma
 Explores line action look now geo h None = (first_stop (may_show look) (command_stops line h action) ≡ None) × Follows now geo (led_to h (fate h action))
 Explores line action look now geo h (Some place) =
     (stop : Stop) × (first_stop (may_show look) (command_stops line h action) ≡ Some stop) × (stop.place ≡ place) × IsIn line action now geo place stop.state
+
+-- what is asked may be shown at that place of a program
+abbrev pub ShowsAt : List (Option Command) → Question → Sight → Geometry → CutPlace → Type 0
+ShowsAt lines q now geo (Before n) = shows q now ≡ true
+ShowsAt lines q now geo (Inside n) =
+    (command : Command) × (1 ≤ n) × (slice_get lines (n - 1) ≡ Some (Some command)) × (shows_inside geo (action_of command) q now ≡ true)
+
+-- and at that place of one command, on the line of that number
+abbrev pub ShowsIn : ℕ → Action → Question → Sight → Geometry → CutPlace → Type 0
+ShowsIn line action q now geo (Before n) = shows q now ≡ true
+ShowsIn line action q now geo (Inside n) = (n ≡ line) × (shows_inside geo action q now ≡ true)
 
 -- No cut inside a command that is done shows what is asked, and what is looked at is as after it; or one does.
 abbrev pub Passes : Geometry → Action → ℕ → Question → Sight → Sight → Option CutPlace → Type 0

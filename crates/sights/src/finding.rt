@@ -1,12 +1,12 @@
 // Where in a program a cut first leaves what a question asks for.
-ghost use Rattle.std.specs.Prelude.{◌≡◌, true, All, IfOk, List, length};
+ghost use Rattle.std.specs.Prelude.{◌≡◌, true, All, IfOk, IfSome, List, OnOk, length};
 ghost use Rattle.word_tables.specs.Bounds.{IsValid};
 ghost use Rattle.machine_host.specs.Machine.{Machine};
 ghost use Rattle.outcomes.specs.Seen.{Seen};
 ghost use Rattle.outcomes.specs.Stops.{IsProgram};
 ghost use Rattle.asked_reads.specs.Asking.{IsLook, may_be_replies};
 ghost use Rattle.asked_reads.specs.Program.{IsBounded, inputs_of_lines};
-ghost use Rattle.sights.specs.Following.{AreDone, Follows, IsFirst, IsWhole, IsWithin};
+ghost use Rattle.sights.specs.Following.{AreDone, Follows, IsFirst, IsWhole, IsWithin, ShowsAt};
 ghost use Rattle.sights.specs.Places.{cut_places};
 
 use crate::place::CutPlace;
@@ -34,8 +34,11 @@ pub fn find(
     requires whole { IsWhole sight.old question.now }
     requires within { IsWithin sight.old geometry }
     requires replies { may_be_replies geometry question.now ≡ true }
-    ensures { (h : Machine) (look : List Seen) → Follows sight.old geometry h → AreDone h program.now done.now → IsLook look question.now
+    ensures first { (h : Machine) (look : List Seen) → Follows sight.old geometry h → AreDone h program.now done.now → IsLook look question.now
         → IfOk result (IsFirst program.now look sight.new geometry (cut_places 1 h (inputs_of_lines program.now))) }
+    ensures shown { IfOk result (λ found. IfSome found (ShowsAt program.now question.now sight.new geometry)) }
+    ensures whole { OnOk result (IsWhole sight.new question.now) }
+    ensures within { OnOk result (IsWithin sight.new geometry) }
 {
     for (i, line) in program.iter().enumerate() {
         if let Some(command) = line {

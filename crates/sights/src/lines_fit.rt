@@ -57,7 +57,8 @@ fn word_fits(reads: &[PageRead], n: u64, w: u64, line: &HeldLine) -> bool
             .any(|stored| stored.word == w && agree(reads, p, stored.value))
 }
 
-fn agree(reads: &[PageRead], p: u64, value: u64) -> bool
+/// Whether all reads agree on this value of word p.
+pub fn agree(reads: &[PageRead], p: u64, value: u64) -> bool
     requires { p < 2 ^ 36 }
     ensures { result ≡ all_agree (pages_asked reads.now) p value }
 {

@@ -1,5 +1,5 @@
 // One command of a program, on what is looked at.
-ghost use Rattle.std.specs.Prelude.{◌≡◌, true, IfOk, IsTrue, List, OnOk, is_none};
+ghost use Rattle.std.specs.Prelude.{◌≡◌, true, IfOk, IfSome, IsTrue, List, OnOk, is_none};
 ghost use Rattle.script_text.specs.Action.{action_of};
 ghost use Rattle.script_text.specs.Parsing.{InBounds};
 ghost use Rattle.word_tables.specs.Bounds.{IsValid};
@@ -8,7 +8,7 @@ ghost use Rattle.machine_host.specs.Commands.{refusal};
 ghost use Rattle.outcomes.specs.Seen.{Seen};
 ghost use Rattle.outcomes.specs.Stops.{is_of_program};
 ghost use Rattle.asked_reads.specs.Asking.{IsLook, may_be_replies};
-ghost use Rattle.sights.specs.Following.{Explores, Follows, IsWhole, IsWithin, Passes};
+ghost use Rattle.sights.specs.Following.{Explores, Follows, IsWhole, IsWithin, Passes, ShowsIn};
 
 use crate::place::CutPlace;
 use crate::sight::Sight;
@@ -36,6 +36,7 @@ pub fn step(
     ensures explores { (h : Machine) (look : List Seen) → Follows sight.old geometry h → IsLook look question.now
         → is_none (refusal h (action_of command.now)) ≡ done
         → IfOk result (Explores line (action_of command.now) look sight.new geometry h) }
+    ensures shown { IfOk result (λ found. IfSome found (ShowsIn line (action_of command.now) question.now sight.new geometry)) }
     ensures whole { OnOk result (IsWhole sight.new question.now) }
     ensures within { OnOk result (IsWithin sight.new geometry) }
 {

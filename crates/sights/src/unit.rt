@@ -162,7 +162,8 @@ fn pages_fit<U: Unit>(
     Ok(true)
 }
 
-fn page_fits<U: Unit>(units: &[U], question: &Question, page: u64) -> bool
+/// Whether all units of a page may be as the question asks.
+pub fn page_fits<U: Unit>(units: &[U], question: &Question, page: u64) -> bool
     ensures { result ≡ list_all (λ unit. not (U.page_of unit == page) || U.may_fit question.now unit) units.now }
 {
     units

@@ -5,7 +5,7 @@ use Rattle.machine_host.specs.Stands.{Stands}
 use Rattle.explorer.specs.declared.came.Came.TheVariants.{Done}
 use Rattle.explorer.proofs.CauseLemmas.{unarmed, went_on}
 use Rattle.explorer.proofs.ComesLemmas.{came_to, was_done}
-use Rattle.explorer.proofs.stepping.arm.Goals as goal
+use Rattle.explorer.proofs.performing.arm.Goals as goal
 
 pub returns-in-Done-clause-arms : goal.returns-in-Done-clause-arms
 returns-in-Done-clause-arms g c = λ h stands ready.

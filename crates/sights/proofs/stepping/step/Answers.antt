@@ -1,6 +1,6 @@
 use Rattle.std.proofs.Common.{sym, ◌∙◌}
 use Rattle.script_text.specs.Action.{action_of}
-use Rattle.sights.proofs.StepLemmas.{before_explored, done_explored, on_any, on_found, passes_whole, passes_within, refused_explored}
+use Rattle.sights.proofs.StepLemmas.{before_explored, done_explored, on_any, on_found, passes_shown, passes_whole, passes_within, refused_explored}
 use Rattle.sights.proofs.stepping.step.Goals as goal
 
 pub returns-then-shows-clause-explores : goal.returns-then-shows-clause-explores
@@ -24,3 +24,6 @@ returns-clause-whole c = on_any c.pass.result (λ found passes. passes_whole c.a
 pub returns-clause-within : goal.returns-clause-within
 returns-clause-within c = on_any c.pass.result (λ found passes. passes_within c.args.geometry (action_of c.args.command.now) c.args.line c.args.question.now
     c.args.sight.now c.pass.new.sight found passes c.requires.within) c.pass.ensures
+
+pub returns-clause-shown : goal.returns-clause-shown
+returns-clause-shown c = on_found c.pass.result (λ found. passes_shown c.args.geometry (action_of c.args.command.now) c.args.line c.args.question.now c.args.sight.now c.pass.new.sight found) c.pass.ensures

@@ -1,0 +1,10 @@
+pub mod ListLemmas
+pub mod LeavingLemmas
+pub mod WordLemmas
+pub mod LineToldLemmas
+pub mod MoreLemmas
+pub mod ValueLemmas
+pub mod BlockToldLemmas
+pub mod SeenLemmas
+pub mod AskedLemmas
+pub mod KeepLemmas

@@ -1,0 +1,158 @@
+-- What is told of lines: what fits it fits the question too, and what is kept fits it.
+use Rattle.std.proofs.Common.{◌≡◌, ℕ, ◌+◌, ◌*◌, ◌<◌, ◌==◌, ◌&&◌, Bool, true, false, List, [], ◌++◌, map, Option, slice_index, slice_index_or, refl, sym, ap, ◌∙◌, arith}
+use Rattle.std.specs.Int.{byte_at}
+use Rattle.std.specs.List.{list_all, list_any}
+use Rattle.std.proofs.lemmas.Bool.{and_from, and_parts, eqb-false, eqb-true}
+use Rattle.std.proofs.lemmas.List.Folds.{list_all-append, list_all-map}
+use Rattle.nvm_model.specs.Cell.{Cell}
+use Rattle.nvm_model.specs.Cell.Cell.{Bad, Kept}
+use Rattle.nvm_model.specs.Numbered.{list_from}
+use Rattle.outcomes.specs.Pages.{PageRead, agrees, all_agree, all_allow_bad, all_allow_good, allows_bad, allows_good, line_fits, words_fit}
+use Rattle.outcomes.specs.Pages.PageReply.{Shows}
+use Rattle.asked_reads.specs.Fitting.{cell_fits}
+use Rattle.sights.specs.declared.line_seen.LineSeen.{LineSeen}
+use Rattle.sights.specs.Seeing.{or_zeros}
+use Rattle.sights.proofs.ShowLemmas.{fits_seen}
+use Rattle.witnesses.specs.Lines.{first_agreed, left_of}
+use Rattle.witnesses.specs.Telling.{bytes_of_words, line_reply}
+use Rattle.witnesses.proofs.ListLemmas.{IsAmong, all_from, all_of, any_in, any_more, found, range_all, range_each}
+use Rattle.witnesses.proofs.WordLemmas.{agrees_told, all_agree_same, bad_told, bytes_told, item_from, not_bad, not_good, other_agrees, other_bad, other_good}
+
+-- a line, told as what reads may find of this cell
+abbrev pub told_as : List PageRead → (LineSeen → Cell) → LineSeen → PageRead
+told_as reads cell s = record { start = 64 * s.number; len = 64; reply = line_reply s.number (left_of reads s.number (cell s)) }
+
+module _ (reads : List PageRead) (lines : List LineSeen) (cell : LineSeen → Cell) (fits : (s : LineSeen) → IsAmong s lines → cell_fits reads s.number (cell s) ≡ true)
+    (alike : (s t : LineSeen) → IsAmong s lines → IsAmong t lines → s.number ≡ t.number → cell s ≡ cell t) where
+  -- all that is told
+  abbrev pub tale : List PageRead
+  tale = map (told_as reads cell) lines
+
+  -- the words that are kept of a line that is not bad
+  kept_words : ℕ → List (List ℕ) → List ℕ
+  kept_words n words = list_from (λ w. first_agreed reads (8 * n + w) (slice_index_or words w [])) 0 8
+
+  kept_word : (n : ℕ) (words : List (List ℕ)) (w : ℕ) → w < 8 → slice_index (kept_words n words) w ≡ first_agreed reads (8 * n + w) (slice_index_or words w [])
+  unfolding kept_words
+  kept_word n words w word =
+      item_from (λ w. first_agreed reads (8 * n + w) (slice_index_or words w [])) 0 8 w word ∙ ap (λ w. first_agreed reads (8 * n + w) (slice_index_or words w [])) (omega arith)
+
+  -- of each told read by which line it is of
+  each_told : (test : PageRead → Bool) (s : LineSeen) → IsAmong s lines
+      → ((t : LineSeen) → IsAmong t lines → (t.number ≡ s.number → ⊥) → test (told_as reads cell t) ≡ true)
+      → ((t : LineSeen) → t.number ≡ s.number → cell t ≡ cell s → test (told_as reads cell t) ≡ true) → list_all test tale ≡ true
+  each_told test s is others same =
+      list_all-map test (told_as reads cell) lines
+      ∙ all_from (λ t. test (told_as reads cell t)) lines (λ t among. by_number t among (t.number == s.number) refl)
+    where
+      by_number : (t : LineSeen) → IsAmong t lines → (b : Bool) → (t.number == s.number) ≡ b → test (told_as reads cell t) ≡ true
+      by_number t among true at = let number = eqb-true t.number s.number at in same t number (alike t s among is number)
+      by_number t among false at = others t among (eqb-false t.number s.number at)
+
+  -- what is kept of a line fits all that is told
+  module _ (s : LineSeen) (is : IsAmong s lines) where
+    module _ (weak : Bool) (words : List (List ℕ)) (good : cell s ≡ Kept weak words) where
+      reply_is : (t : LineSeen) → t.number ≡ s.number → cell t ≡ cell s
+          → line_reply t.number (left_of reads t.number (cell t)) ≡ Shows (bytes_of_words (kept_words s.number words))
+      unfolding kept_words
+      reply_is t number same = ap (λ n. line_reply n (left_of reads n (cell t))) number ∙ ap (λ c. line_reply s.number (left_of reads s.number c)) (same ∙ good)
+
+      good_parts : (all_allow_good reads s.number ≡ true) × (words_fit reads s.number words ≡ true)
+      good_parts = and_parts (all_allow_good reads s.number) (words_fit reads s.number words) (sym (ap (cell_fits reads s.number) good) ∙ fits s is)
+
+      word_found : (w : ℕ) → w < 8 → list_any (all_agree reads (8 * s.number + w)) (slice_index_or words w []) ≡ true
+      word_found w word = range_each (λ w. list_any (all_agree reads (8 * s.number + w)) (slice_index_or words w [])) 0 8 good_parts.1 w (omega arith) (omega (arith, word))
+
+      tale_good : all_allow_good tale s.number ≡ true
+      tale_good =
+          each_told (λ (r : PageRead). allows_good s.number r.reply) s is
+          (λ t among other. other_good t.number s.number other (left_of reads t.number (cell t)))
+          (λ t number same. ap (allows_good s.number) (reply_is t number same))
+
+      tale_agrees : (w v : ℕ) → w < 8 → v ≡ first_agreed reads (8 * s.number + w) (slice_index_or words w []) → all_agree tale (8 * s.number + w) v ≡ true
+      tale_agrees w v word value =
+          each_told (λ (r : PageRead). agrees (8 * s.number + w) v r.start r.len r.reply) s is
+          (λ t among other. other_agrees t.number s.number other (left_of reads t.number (cell t)) w v word)
+          (λ t number same.
+          ap (λ n. agrees (8 * s.number + w) v (64 * n) 64 (line_reply t.number (left_of reads t.number (cell t)))) number
+          ∙ ap (agrees (8 * s.number + w) v (64 * s.number) 64) (reply_is t number same)
+          ∙ agrees_told s.number (kept_words s.number words) w word v (λ k byte. ap (byte_at k) (kept_word s.number words w word ∙ sym value)))
+
+      good_fits : cell_fits tale s.number (Kept weak words) ≡ true
+      good_fits =
+          and_from (all_allow_good tale s.number) (words_fit tale s.number words) tale_good
+          (range_all (λ w. list_any (all_agree tale (8 * s.number + w)) (slice_index_or words w [])) 0 8
+          (λ w from word.
+          let one = found (all_agree reads (8 * s.number + w)) (slice_index_or words w []) (word_found w (omega (arith, word))) in
+          any_in (all_agree tale (8 * s.number + w)) (first_agreed reads (8 * s.number + w) (slice_index_or words w [])) (slice_index_or words w []) one.0
+          (tale_agrees w (first_agreed reads (8 * s.number + w) (slice_index_or words w [])) (omega (arith, word)) refl)))
+
+    pub kept_fits : cell_fits tale s.number (cell s) ≡ true
+    kept_fits = by_cell (cell s) refl
+      where
+        by_cell : (c : Cell) → cell s ≡ c → cell_fits tale s.number c ≡ true
+        by_cell Bad bad =
+            each_told (λ (r : PageRead). allows_bad s.number r.start r.len r.reply) s is
+            (λ t among other. other_bad t.number s.number other (left_of reads t.number (cell t)))
+            (λ t number same.
+            ap (λ n. allows_bad s.number (64 * n) 64 (line_reply n (left_of reads n (cell t)))) number
+            ∙ ap (λ c. allows_bad s.number (64 * s.number) 64 (line_reply s.number (left_of reads s.number c))) (same ∙ bad)
+            ∙ bad_told s.number)
+        by_cell (Kept weak words) good = good_fits weak words good
+
+    -- what is told of the line itself
+    own_told : (test : PageRead → Bool) → list_all test tale ≡ true → test (told_as reads cell s) ≡ true
+    own_told test all = all_of (λ t. test (told_as reads cell t)) s lines (sym (list_all-map test (told_as reads cell) lines) ∙ all) is
+
+    both : (test : PageRead → Bool) → list_all test reads ≡ true → list_all test tale ≡ true → list_all test (reads ++ tale) ≡ true
+    both test asked told = list_all-append test reads tale ∙ and_from (list_all test reads) (list_all test tale) asked told
+
+    module _ (bad : cell s ≡ Bad) where
+      -- a line that is told to be bad
+      bad_asked : all_allow_bad reads s.number ≡ true
+      bad_asked = sym (ap (cell_fits reads s.number) bad) ∙ fits s is
+
+      as_bad : (c : Cell) → cell_fits tale s.number c ≡ true → cell_fits (reads ++ tale) s.number c ≡ true
+      as_bad Bad told = both (λ (r : PageRead). allows_bad s.number r.start r.len r.reply) bad_asked told
+      as_bad (Kept weak words) told =
+          let good = (and_parts (all_allow_good tale s.number) (words_fit tale s.number words) told).0 in
+          absurd (not_good s.number (sym (ap (λ c. allows_good s.number (line_reply s.number (left_of reads s.number c))) bad) ∙ own_told (λ (r : PageRead). allows_good s.number r.reply) good))
+
+    module _ (weak : Bool) (words : List (List ℕ)) (good : cell s ≡ Kept weak words) where
+      -- a value that is told has the bytes of the one that is kept, on which all reads agree
+      word_asked : (w : ℕ) → w < 8 → (v : ℕ) → all_agree tale (8 * s.number + w) v ≡ true → all_agree (reads ++ tale) (8 * s.number + w) v ≡ true
+      word_asked w word v told =
+          let p = 8 * s.number + w in
+          let kept = first_agreed reads p (slice_index_or words w []) in
+          let agreed = (found (all_agree reads p) (slice_index_or words w []) (word_found weak words good w word)).1 in
+          let own : agrees p v (64 * s.number) 64 (Shows (bytes_of_words (kept_words s.number words))) ≡ true =
+          sym (ap (agrees p v (64 * s.number) 64) (reply_is weak words good s refl refl)) ∙ own_told (λ (r : PageRead). agrees p v r.start r.len r.reply) told in
+          both (λ (r : PageRead). agrees p v r.start r.len r.reply)
+          (all_agree_same v kept (λ k byte. ap (byte_at k) (sym (kept_word s.number words w word)) ∙ bytes_told s.number (kept_words s.number words) w word v own k byte) reads p agreed)
+          told
+
+      as_good : (c : Cell) → cell_fits tale s.number c ≡ true → cell_fits (reads ++ tale) s.number c ≡ true
+      as_good Bad told =
+          absurd (not_bad s.number (bytes_of_words (kept_words s.number words))
+          (sym (ap (allows_bad s.number (64 * s.number) 64) (reply_is weak words good s refl refl)) ∙ own_told (λ (r : PageRead). allows_bad s.number r.start r.len r.reply) told))
+      as_good (Kept mark histories) told =
+          let parts = and_parts (all_allow_good tale s.number) (words_fit tale s.number histories) told in
+          and_from (all_allow_good (reads ++ tale) s.number) (words_fit (reads ++ tale) s.number histories)
+          (both (λ (r : PageRead). allows_good s.number r.reply) (good_parts weak words good).0 parts.0)
+          (range_all (λ w. list_any (all_agree (reads ++ tale) (8 * s.number + w)) (slice_index_or histories w [])) 0 8
+          (λ w from word.
+          any_more (all_agree tale (8 * s.number + w)) (all_agree (reads ++ tale) (8 * s.number + w)) (slice_index_or histories w [])
+          (word_asked w (omega (arith, word)))
+          (range_each (λ w. list_any (all_agree tale (8 * s.number + w)) (slice_index_or histories w [])) 0 8 parts.1 w from word)))
+
+    as_told : (c : Cell) → cell_fits tale s.number c ≡ true → cell_fits (reads ++ tale) s.number c ≡ true
+    as_told c told = by_kept (cell s) refl
+      where
+        by_kept : (k : Cell) → cell s ≡ k → cell_fits (reads ++ tale) s.number c ≡ true
+        by_kept Bad bad = as_bad bad c told
+        by_kept (Kept weak words) good = as_good weak words good c told
+
+    -- what fits all that is told fits the question and all that is told
+    pub told_fits : (o : Option Cell) → line_fits tale s.number o ≡ true → line_fits (reads ++ tale) s.number o ≡ true
+    told_fits o told =
+        fits_seen (reads ++ tale) s.number o ∙ as_told (or_zeros o) (sym (fits_seen tale s.number o) ∙ told)

@@ -1,0 +1,82 @@
+-- Tests over lists, and their items.
+use Rattle.std.proofs.Common.{◌≡◌, ◌⊎◌, inl, inr, ℕ, zero, suc, ◌+◌, ◌<◌, ◌≤◌, Bool, true, false, cond, ◌&&◌, ◌||◌, List, [], ◌∷◌, ◌++◌, map, Option, Some, None, find, unwrap_or, length, take, get_or, refl, sym, ap, ◌∙◌, arith}
+use Rattle.std.specs.List.{list_all, list_any, range_with_len}
+use Rattle.std.proofs.lemmas.Bool.{and_from, and_parts, cases_lt, or_left, or_right}
+use Rattle.std.proofs.lemmas.List.Folds.{list_all-append}
+use Rattle.std.proofs.lemmas.List.{map-append, take_more}
+use Rattle.line_device.specs.History.{IsIn}
+
+-- x is one of them
+abbrev pub IsAmong : {A : Type 0} → A → List A → Type 0
+IsAmong x [] = ⊥
+IsAmong x (y ∷ ys) = (x ≡ y) ⊎ IsAmong x ys
+
+-- what all pass each of them passes, and back
+pub all_of : {A : Type 0} (f : A → Bool) (x : A) (xs : List A) → list_all f xs ≡ true → IsAmong x xs → f x ≡ true
+all_of f x [] all is = absurd is
+all_of f x (y ∷ ys) all (inl same) = ap f same ∙ (and_parts (f y) (list_all f ys) all).0
+all_of f x (y ∷ ys) all (inr later) = all_of f x ys (and_parts (f y) (list_all f ys) all).1 later
+
+pub all_from : {A : Type 0} (f : A → Bool) (xs : List A) → ((x : A) → IsAmong x xs → f x ≡ true) → list_all f xs ≡ true
+all_from f [] each = refl
+all_from f (x ∷ xs) each = and_from (f x) (list_all f xs) (each x (inl refl)) (all_from f xs (λ y is. each y (inr is)))
+
+-- each of them is among those that they become
+pub among_map : {A B : Type 0} (f : A → B) (x : A) (xs : List A) → IsAmong x xs → IsAmong (f x) (map f xs)
+among_map f x [] is = absurd is
+among_map f x (y ∷ ys) (inl same) = inl (ap f same)
+among_map f x (y ∷ ys) (inr later) = inr (among_map f x ys later)
+
+-- one more of them made something
+pub pushed : {A B : Type 0} (f : A → B) (xs : List A) (i : ℕ) (x : A) (y : B) (old new : List B) → i < length xs → x ≡ get_or xs i x → old ≡ map f (take i xs) → new ≡ old ++ y ∷ [] → y ≡ f x
+    → new ≡ map f (take (i + 1) xs)
+pushed f xs i x y old new lt is was pushes made =
+    pushes ∙ ap (λ ys. ys ++ y ∷ []) was ∙ ap (λ z. map f (take i xs) ++ z ∷ []) (made ∙ ap f is) ∙ sym (map-append f (take i xs) (get_or xs i x ∷ [])) ∙ sym (ap (map f) (take_more xs i x lt))
+
+-- all twice over
+pub all_twice : {A : Type 0} (f : A → Bool) (xs : List A) → list_all f xs ≡ true → list_all f (xs ++ xs) ≡ true
+all_twice f xs all = list_all-append f xs xs ∙ and_from (list_all f xs) (list_all f xs) all all
+
+-- numbers of a range, both ways
+pub range_all : (f : ℕ → Bool) (start count : ℕ) → ((k : ℕ) → start ≤ k → k < start + count → f k ≡ true) → list_all f (range_with_len start count) ≡ true
+range_all f start zero each = refl
+range_all f start (suc count) each =
+    and_from (f start) (list_all f (range_with_len (start + 1) count)) (each start (omega arith) (omega arith))
+    (range_all f (start + 1) count (λ k from to. each k (omega (arith, from)) (omega (arith, to))))
+
+pub range_each : (f : ℕ → Bool) (start count : ℕ) → list_all f (range_with_len start count) ≡ true → (k : ℕ) → start ≤ k → k < start + count → f k ≡ true
+range_each f start zero all k from to = absurd (omega (arith, from, to))
+range_each f start (suc count) all k from to =
+    let parts = and_parts (f start) (list_all f (range_with_len (start + 1) count)) all in
+    elim (cases_lt start k) as (λ _. f k ≡ true) [
+      | inl later ↦ range_each f (start + 1) count parts.1 k (omega (arith, later)) (omega (arith, to))
+      | inr here ↦ let same : start ≡ k = omega (arith, from, here) in sym (ap f same) ∙ parts.0
+    ]
+
+-- the first that passes is one of them, and passes
+pub found : (f : ℕ → Bool) (xs : List ℕ) → list_any f xs ≡ true → IsIn (unwrap_or (find f xs) 0) xs × (f (unwrap_or (find f xs) 0) ≡ true)
+found f [] any = absurd (wrong any)
+  where
+    wrong : false ≡ true → ⊥
+    wrong e = cc
+found f (x ∷ xs) any = by_first (found f xs) (f x) refl any
+  where
+    by_first : (list_any f xs ≡ true → IsIn (unwrap_or (find f xs) 0) xs × (f (unwrap_or (find f xs) 0) ≡ true)) → (b : Bool) → f x ≡ b → (b || list_any f xs) ≡ true
+        → IsIn (unwrap_or (cond b (Some x) (find f xs)) 0) (x ∷ xs) × (f (unwrap_or (cond b (Some x) (find f xs)) 0) ≡ true)
+    by_first later true is some = (inl refl, is)
+    by_first later false is some = let one = later some in (inr one.0, one.1)
+
+-- some that passes
+pub any_in : (f : ℕ → Bool) (v : ℕ) (xs : List ℕ) → IsIn v xs → f v ≡ true → list_any f xs ≡ true
+any_in f v [] is passes = absurd is
+any_in f v (x ∷ xs) (inl same) passes = or_left (f x) (list_any f xs) (sym (ap f same) ∙ passes)
+any_in f v (x ∷ xs) (inr later) passes = or_right (f x) (list_any f xs) (any_in f v xs later passes)
+
+-- where some passes the one test, and what passes it passes the other one
+pub any_more : (f g : ℕ → Bool) (xs : List ℕ) → ((x : ℕ) → f x ≡ true → g x ≡ true) → list_any f xs ≡ true → list_any g xs ≡ true
+any_more f g [] each any = any
+any_more f g (x ∷ xs) each any = by_first (any_more f g xs each) (f x) refl any
+  where
+    by_first : (list_any f xs ≡ true → list_any g xs ≡ true) → (b : Bool) → f x ≡ b → (b || list_any f xs) ≡ true → (g x || list_any g xs) ≡ true
+    by_first later true is some = or_left (g x) (list_any g xs) (each x is)
+    by_first later false is some = or_right (g x) (list_any g xs) (later some)

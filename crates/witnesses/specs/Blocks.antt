@@ -1,0 +1,46 @@
+-- What is kept of blocks.
+use Rattle.std.specs.Prelude.{◌==◌, ℕ, Bool, true, false, not, List, map, Option, option_and_then}
+use Rattle.std.specs.Str.{bytes_eq}
+use Rattle.word_tables.specs.declared.geometry.Geometry.{Geometry}
+use Rattle.block_sights.specs.Sights.{Sight}
+use Rattle.block_sights.specs.Sights.Sight.{Whole, Scar, BadLine}
+use Rattle.script_text.specs.Action.{Action}
+use Rattle.asked_reads.specs.declared.question.Question.{Question}
+use Rattle.sights.specs.declared.block_seen.BlockSeen.{BlockSeen}
+use Rattle.sights.specs.Units.{block_may_fit, block_once_done}
+use Rattle.sights.specs.Ways.{blocks_way}
+use Rattle.witnesses.specs.declared.block_kept.BlockKept.{BlockKept}
+use Rattle.witnesses.specs.Leaving.{made_by, unit_left}
+
+-- reads see the same of two blocks
+abbrev pub same_sight : Sight → Sight → Bool
+same_sight (Whole bytes) (Whole others) = bytes_eq bytes others
+same_sight (Whole bytes) Scar = false
+same_sight (Whole bytes) (BadLine line) = false
+same_sight Scar (Whole others) = false
+same_sight Scar Scar = true
+same_sight Scar (BadLine line) = false
+same_sight (BadLine line) (Whole others) = false
+same_sight (BadLine line) Scar = false
+same_sight (BadLine line) (BadLine other) = line == other
+
+-- a block as the command makes it, if there is one
+abbrev pub block_made : Geometry → Option Action → BlockSeen → BlockSeen
+block_made geo inside seen = made_by (block_once_done geo) inside seen
+
+-- a block as it is left
+abbrev pub block_left : Geometry → Option Action → Question → List BlockSeen → BlockSeen → BlockSeen
+block_left geo inside q units seen =
+    unit_left (option_and_then blocks_way inside) (block_may_fit q) (block_made geo inside) (λ (s : BlockSeen). s.number) units seen
+
+-- what is kept of a block that is left so
+abbrev pub kept_block : BlockSeen → BlockSeen → BlockSeen → BlockKept
+kept_block now made left = record { number = now.number; block = left.block; free = not (same_sight now.block made.block); reach = now.reach }
+
+-- and of each
+abbrev pub block_kept : Geometry → Option Action → Question → List BlockSeen → BlockSeen → BlockKept
+block_kept geo inside q units seen = kept_block seen (block_made geo inside seen) (block_left geo inside q units seen)
+
+-- the numbers of those that are kept
+abbrev pub numbers_of_blocks : List BlockKept → List ℕ
+numbers_of_blocks units = map (λ k. k.number) units

@@ -1,0 +1,5 @@
+pub mod Leaving
+pub mod Lines
+pub mod Blocks
+pub mod Telling
+pub mod Places

@@ -1,0 +1,42 @@
+// Which units a cut inside a command leaves as they are, and what the command makes of the others.
+ghost use Rattle.std.specs.Prelude.{◌≡◌, IfOk, option_map};
+ghost use Rattle.std.specs.Option.{option_copied};
+ghost use Rattle.word_tables.specs.Bounds.{IsValid};
+ghost use Rattle.script_text.specs.Action.{action_of};
+ghost use Rattle.asked_reads.specs.Program.{IsBounded};
+ghost use Rattle.witnesses.specs.Leaving.{made_by, stays};
+
+use asked_reads::Question;
+use script_text::Command;
+use sights::{Unit, Way, all_fit, page_fits};
+use std::alloc::AllocError;
+use word_tables::Geometry;
+
+/// Whether the unit is left as it is: where it fits the question so, or where all do that are changed together with it.
+pub fn stays<U: Unit>(units: &[U], question: &Question, way: Option<Way>, unit: &U) -> bool
+    ensures { result ≡ stays way (U.may_fit question.now) U.page_of units.now unit.now }
+{
+    match way {
+        None => true,
+        Some(Way::Each) => unit.fits(question),
+        Some(Way::Together) => all_fit(units, question),
+        Some(Way::ByPage) => page_fits(units, question, unit.page()),
+    }
+}
+
+/// The unit once the command is done, or the same where there is none.
+pub fn make<U: Unit>(
+    unit: &U,
+    geometry: Geometry,
+    inside: Option<&Command>,
+) -> Result<U, AllocError>
+    requires valid { IsValid geometry }
+    requires bounded { IsBounded (option_copied inside) }
+    ensures { IfOk result (λ made. made ≡ made_by (U.once_done geometry) (option_map action_of (option_copied inside.entry)) unit.now) }
+{
+    let mut made = unit.duplicate()?;
+    if let Some(command) = inside {
+        made.change(geometry, command)?;
+    }
+    Ok(made)
+}
