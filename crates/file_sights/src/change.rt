@@ -8,14 +8,14 @@ pub(crate) enum LinesChange<'a> {
     /// Bytes are put at an offset.
     Puts { at: u64, bytes: &'a [u8] },
     /// The lines that the spans touch are made durable.
-    Persists { spans: Vec<Span> },
+    Persists(Vec<Span>),
     /// The pages that the ranges touch are written anew, durably, with these bytes over the old ones.
     Rewrites { ranges: Vec<Span>, bytes: &'a [u8] },
     /// So many pages from one on become holes.
     Zeroes { page: u64, count: u64 },
-    Loses { line: u64 },
-    Weakens { line: u64 },
-    Clears { line: u64 },
+    Loses(u64),
+    Weakens(u64),
+    Clears(u64),
 }
 
 /// What becomes of files and of mappings.
@@ -23,10 +23,10 @@ pub(crate) enum LinesChange<'a> {
 pub(crate) enum FilesChange<'a> {
     Nothing,
     Makes { name: Name, pages: u32 },
-    Removes { name: Name },
+    Removes(Name),
     Renames { name: Name, to: Name },
     Resizes { name: Name, pages: u32 },
-    Changes { name: Name, lines: LinesChange<'a> },
-    Maps { stretch: Stretch },
-    Unmaps { handle: u64 },
+    Changes(Name, LinesChange<'a>),
+    Maps(Stretch),
+    Unmaps(u64),
 }

@@ -32,7 +32,7 @@ pub(crate) fn change_of<'a>(
             name: *name,
             pages: *pages as u32,
         },
-        Command::Delete { name } => FilesChange::Removes { name: *name },
+        Command::Delete { name } => FilesChange::Removes(*name),
         Command::Rename { name, to } => FilesChange::Renames {
             name: *name,
             to: *to,
@@ -45,13 +45,11 @@ pub(crate) fn change_of<'a>(
             name,
             offset,
             bytes,
-        } => FilesChange::Changes {
-            name: *name,
-            lines: LinesChange::Puts {
-                at: *offset,
-                bytes: bytes.as_slice(),
-            },
-        },
+        } => {
+            let at = *offset;
+            let bytes = bytes.as_slice();
+            FilesChange::Changes(*name, LinesChange::Puts { at, bytes })
+        }
         Command::FAtomic {
             name,
             offset,
@@ -61,53 +59,38 @@ pub(crate) fn change_of<'a>(
                 start: *offset,
                 len: bytes.len(),
             };
-            FilesChange::Changes {
-                name: *name,
-                lines: LinesChange::Rewrites {
-                    ranges: Vec::from_slice(alloc, &[range])?,
-                    bytes: bytes.as_slice(),
-                },
-            }
+            let ranges = Vec::from_slice(alloc, &[range])?;
+            let bytes = bytes.as_slice();
+            FilesChange::Changes(*name, LinesChange::Rewrites { ranges, bytes })
         }
         Command::FMulti {
             name,
             ranges,
             bytes,
-        } => FilesChange::Changes {
-            name: *name,
-            lines: LinesChange::Rewrites {
-                ranges: Vec::from_slice(alloc, ranges.as_slice())?,
-                bytes: bytes.as_slice(),
-            },
-        },
-        Command::FDiscard { name, page, count } => FilesChange::Changes {
-            name: *name,
-            lines: LinesChange::Zeroes {
-                page: *page,
-                count: *count,
-            },
-        },
+        } => {
+            let ranges = Vec::from_slice(alloc, ranges.as_slice())?;
+            let bytes = bytes.as_slice();
+            FilesChange::Changes(*name, LinesChange::Rewrites { ranges, bytes })
+        }
+        Command::FDiscard { name, page, count } => {
+            let (page, count) = (*page, *count);
+            FilesChange::Changes(*name, LinesChange::Zeroes { page, count })
+        }
         Command::FSync { name } => {
             let all = Span {
                 start: 0,
                 len: FILE,
             };
-            FilesChange::Changes {
-                name: *name,
-                lines: LinesChange::Persists {
-                    spans: Vec::from_slice(alloc, &[all])?,
-                },
-            }
+            let spans = Vec::from_slice(alloc, &[all])?;
+            FilesChange::Changes(*name, LinesChange::Persists(spans))
         }
-        Command::Map { name, span, kind } => FilesChange::Maps {
-            stretch: Stretch {
-                name: *name,
-                start: span.start as u32,
-                len: span.len as u32,
-                kind: *kind,
-            },
-        },
-        Command::Unmap { handle } => FilesChange::Unmaps { handle: *handle },
+        Command::Map { name, span, kind } => FilesChange::Maps(Stretch {
+            name: *name,
+            start: span.start as u32,
+            len: span.len as u32,
+            kind: *kind,
+        }),
+        Command::Unmap { handle } => FilesChange::Unmaps(*handle),
         Command::Store {
             handle,
             offset,
@@ -129,24 +112,15 @@ pub(crate) fn change_of<'a>(
         | Command::DeepFlush { handle, spans } => {
             persisted(alloc, maps, *handle, spans.as_slice())?
         }
-        Command::PoisonFile { name, offset } => FilesChange::Changes {
-            name: *name,
-            lines: LinesChange::Loses {
-                line: *offset / LINE,
-            },
-        },
-        Command::WeakenFile { name, offset } => FilesChange::Changes {
-            name: *name,
-            lines: LinesChange::Weakens {
-                line: *offset / LINE,
-            },
-        },
-        Command::ClearFile { name, offset } => FilesChange::Changes {
-            name: *name,
-            lines: LinesChange::Clears {
-                line: *offset / LINE,
-            },
-        },
+        Command::PoisonFile { name, offset } => {
+            FilesChange::Changes(*name, LinesChange::Loses(*offset / LINE))
+        }
+        Command::WeakenFile { name, offset } => {
+            FilesChange::Changes(*name, LinesChange::Weakens(*offset / LINE))
+        }
+        Command::ClearFile { name, offset } => {
+            FilesChange::Changes(*name, LinesChange::Clears(*offset / LINE))
+        }
         Command::BRead { .. }
         | Command::BWrite { .. }
         | Command::BAtomic { .. }
@@ -190,13 +164,10 @@ fn stored<'a>(maps: &MapsSeen, handle: u64, offset: u64, bytes: &'a [u8]) -> Fil
 {
     match maps.shown(handle) {
         None => FilesChange::Nothing,
-        Some(stretch) => FilesChange::Changes {
-            name: stretch.name,
-            lines: LinesChange::Puts {
-                at: u64::from(stretch.start) + offset,
-                bytes,
-            },
-        },
+        Some(stretch) => {
+            let at = u64::from(stretch.start) + offset;
+            FilesChange::Changes(stretch.name, LinesChange::Puts { at, bytes })
+        }
     }
 }
 
@@ -212,12 +183,10 @@ fn persisted<'a>(
 {
     match maps.shown(handle) {
         None => Ok(FilesChange::Nothing),
-        Some(stretch) => Ok(FilesChange::Changes {
-            name: stretch.name,
-            lines: LinesChange::Persists {
-                spans: moved(alloc, u64::from(stretch.start), spans)?,
-            },
-        }),
+        Some(stretch) => {
+            let spans = moved(alloc, u64::from(stretch.start), spans)?;
+            Ok(FilesChange::Changes(stretch.name, LinesChange::Persists(spans)))
+        }
     }
 }
 

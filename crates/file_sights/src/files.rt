@@ -68,7 +68,8 @@ impl FilesSeen {
         self.make(&change)
     }
 
-    pub(crate) fn duplicate(&self) -> Result<Self, AllocError>
+    /// The same once more.
+    pub fn duplicate(&self) -> Result<Self, AllocError>
         ensures { IfOk result (λ files. files ≡ self.now) }
     {
         Ok(FilesSeen {
@@ -88,14 +89,14 @@ impl FilesSeen {
                 let file = FileSeen::holes(self.alloc, *name, *pages, &self.numbers)?;
                 put(&mut self.files, file)?;
             }
-            FilesChange::Removes { name } => remove(&mut self.files, name),
+            FilesChange::Removes(name) => remove(&mut self.files, name),
             FilesChange::Renames { name, to } => rename(&mut self.files, self.alloc, name, *to)?,
             FilesChange::Resizes { name, pages } => resize(&mut self.files, name, *pages),
-            FilesChange::Changes { name, lines } => {
+            FilesChange::Changes(name, lines) => {
                 change_lines(&mut self.files, self.alloc, name, lines)?;
             }
-            FilesChange::Maps { stretch } => self.maps.map(*stretch)?,
-            FilesChange::Unmaps { handle } => self.maps.unmap(*handle),
+            FilesChange::Maps(stretch) => self.maps.map(*stretch)?,
+            FilesChange::Unmaps(handle) => self.maps.unmap(*handle),
         }
         Ok(())
     }

@@ -51,21 +51,21 @@ impl FilesSeen {
     {
         match change {
             FilesChange::Makes { .. }
-            | FilesChange::Removes { .. }
+            | FilesChange::Removes(_)
             | FilesChange::Renames { .. }
             | FilesChange::Resizes { .. } => self.fits_either(reads, change),
-            FilesChange::Changes { name, lines } => match lines {
-                LinesChange::Puts { .. } | LinesChange::Persists { .. } => {
+            FilesChange::Changes(name, lines) => match lines {
+                LinesChange::Puts { .. } | LinesChange::Persists(_) => {
                     self.fits_by_line(reads, name, lines)
                 }
                 LinesChange::Rewrites { .. }
                 | LinesChange::Zeroes { .. }
-                | LinesChange::Clears { .. } => self.fits_either(reads, change),
-                LinesChange::Loses { .. } | LinesChange::Weakens { .. } => {
+                | LinesChange::Clears(_) => self.fits_either(reads, change),
+                LinesChange::Loses(_) | LinesChange::Weakens(_) => {
                     Ok(all_fit(&self.files, reads))
                 }
             },
-            FilesChange::Nothing | FilesChange::Maps { .. } | FilesChange::Unmaps { .. } => {
+            FilesChange::Nothing | FilesChange::Maps(_) | FilesChange::Unmaps(_) => {
                 Ok(all_fit(&self.files, reads))
             }
         }

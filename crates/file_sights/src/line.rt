@@ -79,7 +79,7 @@ impl FileLine {
         let n = u64::from(self.number);
         match change {
             LinesChange::Puts { at, bytes } => self.line.put(n, *at, bytes)?,
-            LinesChange::Persists { spans } => {
+            LinesChange::Persists(spans) => {
                 if touches_any(spans, n) {
                     self.line.flush();
                 }
@@ -94,17 +94,17 @@ impl FileLine {
                     self.line.reset();
                 }
             }
-            LinesChange::Loses { line } => {
+            LinesChange::Loses(line) => {
                 if n == *line {
                     self.line.lose();
                 }
             }
-            LinesChange::Weakens { line } => {
+            LinesChange::Weakens(line) => {
                 if n == *line {
                     self.line.weaken();
                 }
             }
-            LinesChange::Clears { line } => {
+            LinesChange::Clears(line) => {
                 if n == *line {
                     self.line.clear();
                 }
