@@ -1,20 +1,19 @@
 -- What a command that is done makes of files and mappings, and what a cut inside it leaves of files.
-use Rattle.std.proofs.Common.{◌≡◌, if◌then◌else◌, ℕ, ◌+◌, ◌/◌, ◌<◌, ◌≤◌, ◌^◌, ◌==◌, ◌||◌, ◌++◌, nat_le, nat_lt, Bool, true, false, cond, not, Option, Some, None, option_and_then, option_map, List, [], ◌∷◌, length, map, refl, sym, ap, subst, ◌∙◌, arith}
+use Rattle.std.proofs.Common.{◌≡◌, if◌then◌else◌, ℕ, ◌+◌, ◌/◌, ◌<◌, ◌≤◌, ◌^◌, ◌==◌, ◌||◌, ◌++◌, nat_lt, Bool, true, false, cond, not, Option, Some, None, option_and_then, option_map, List, [], ◌∷◌, length, map, refl, sym, ap, subst, ◌∙◌, arith}
 use Rattle.std.proofs.lemmas.List.{map-append}
 use Rattle.nvm_base.specs.declared.files.Kind.{Kind}
 use Rattle.nvm_base.specs.declared.units.Span.{Span}
 use Rattle.nvm_model.specs.Blocks.{first_there}
 use Rattle.nvm_model.specs.Cell.{Cell}
 use Rattle.nvm_model.specs.Listing.{file_name, file_of, has_file}
-use Rattle.nvm_model.specs.Mappings.{change_copy, has_handle, is_full, is_shared, mapping_of, new_mapping, without_mapping}
-use Rattle.nvm_model.specs.Page.{Page, cell_of}
+use Rattle.nvm_model.specs.Mappings.{change_copy, has_handle, is_shared, mapping_of, new_mapping, without_mapping}
+use Rattle.nvm_model.specs.Page.{cell_of}
 use Rattle.nvm_model.specs.Storage.{File, Mapping}
 use Rattle.mappings.specs.declared.info.MapInfo.{MapInfo}
 use Rattle.mappings.specs.Object.{MappingsState, info_of}
-use Rattle.scrub.specs.Refusals.{ScrubRefusal, cell_refusal, file_clear_refusal, file_refusal, line_refusal}
+use Rattle.scrub.specs.Refusals.{cell_refusal, file_clear_refusal, file_refusal, line_refusal}
 use Rattle.scrub.specs.Refusals.ScrubRefusal.{Range}
 use Rattle.reply_text.specs.declared.reply.Why.TheVariants as because
-use Rattle.reply_text.specs.Answer.{Answer}
 use Rattle.reply_text.specs.Answer.Answer.{Done, Handle, Refused}
 use Rattle.script_text.specs.Action.{Action}
 use Rattle.script_text.specs.Action.Action.{BRead, BWrite, BAtomic, BMulti, BDiscard, BDiscardIf, BExists, BScar, VLoad, VStore, VSync, VRanges, VPSync, VDiscard, VDiscardIf, VExists, Create, Delete, Rename, Resize, ListFiles, FRead, FWrite, FAtomic, FMulti, FDiscard, FSync, Map, Unmap, Load, Store, Sync, Flush, FlushVerify, DeepFlush, NextEvent, CheckFile, PoisonBlock, PoisonVolume, PoisonFile, PoisonMeta, WeakenFile, WeakenVolume, ClearFile, ClearVolume, Cut, CutIn, FailIn, Restart, Recover, Attr, Evict}
@@ -38,7 +37,7 @@ use Rattle.file_sights.specs.Commands.{files_change, persisted_at, stored_at, th
 use Rattle.file_sights.specs.Maps.{if_shared, shown, uncopied}
 use Rattle.file_sights.specs.State.{mappings_after}
 use Rattle.file_sights.proofs.HeldLemmas.{MayChange}
-use Rattle.file_sights.proofs.PageChangeLemmas.{IsThere, MarksThere}
+use Rattle.file_sights.proofs.PageChangeLemmas.{IsThere}
 
 -- mappings without their copies
 found_uncopied : (handle : ℕ) (ms : List Mapping) → mapping_of handle (map uncopied ms) ≡ option_map uncopied (mapping_of handle ms)

@@ -1,5 +1,5 @@
 -- Files that are held as reads see them are so after a change.
-use Rattle.std.proofs.Common.{◌≡◌, ℕ, ◌/◌, ◌<◌, ◌≤◌, nat_lt, Bool, true, false, cond, Option, Some, None, option_map, List, [], ◌∷◌, length, map, replicate, refl, sym, ap, ◌∙◌, arith}
+use Rattle.std.proofs.Common.{◌≡◌, ℕ, ◌/◌, ◌≤◌, nat_lt, Bool, true, false, cond, Some, List, [], ◌∷◌, length, map, replicate, refl, sym, ap, ◌∙◌, arith}
 use Rattle.std.proofs.lemmas.List.{length-replicate}
 use Rattle.nvm_model.specs.Cell.{Cell, zero_cell}
 use Rattle.nvm_model.specs.Files.{new_file, on_pages, with_name as with_new_name, with_pages as with_new_pages}
@@ -7,7 +7,7 @@ use Rattle.nvm_model.specs.Listing.{AreAlike, file_name, file_of, has_file, rise
 use Rattle.nvm_model.specs.Page.{Page}
 use Rattle.nvm_model.specs.Page.Page.{Absent}
 use Rattle.nvm_model.specs.Storage.{File}
-use Rattle.nvm_model.proofs.AlikeLemmas.{alike-put, alike-then}
+use Rattle.nvm_model.proofs.AlikeLemmas.{alike-put}
 use Rattle.nvm_model.proofs.AlikeChangeLemmas.{alike-rename, alike-without}
 use Rattle.nvm_model.proofs.RiseLemmas.{rises-put}
 use Rattle.durable.specs.Durable.{AllHaveLines, HaveLines}

@@ -1,15 +1,14 @@
 -- Whether reads of files may be answered so, as files are, and where a cut falls inside a command.
-use Rattle.std.proofs.Common.{◌≡◌, inl, inr, ℕ, ◌/◌, ◌<◌, ◌≤◌, ◌&&◌, ◌||◌, nat_lt, Bool, true, false, cond, Option, Some, None, List, [], ◌∷◌, length, map, refl, sym, ap, ◌∙◌, arith}
+use Rattle.std.proofs.Common.{◌≡◌, inl, inr, ℕ, ◌/◌, ◌≤◌, ◌&&◌, ◌||◌, nat_lt, Bool, true, false, cond, Some, None, List, [], ◌∷◌, length, map, refl, sym, ap, ◌∙◌, arith}
 use Rattle.std.specs.List.{list_all}
 use Rattle.std.specs.Str.{bytes_eq}
-use Rattle.nvm_base.specs.declared.units.Span.{Span}
 use Rattle.nvm_model.specs.Cell.{Cell}
 use Rattle.nvm_model.specs.Listing.{AreAlike, file_name, rises}
-use Rattle.nvm_model.specs.Page.{Page, cell_of, fill, put}
+use Rattle.nvm_model.specs.Page.{Page, cell_of, fill}
 use Rattle.nvm_model.specs.Storage.{File}
 use Rattle.nvm_model.proofs.PageLemmas.{length-fill}
 use Rattle.script_text.specs.Action.{Action}
-use Rattle.machine_host.specs.Commands.{meaning, refusal}
+use Rattle.machine_host.specs.Commands.{refusal}
 use Rattle.machine_host.specs.Machine.{Machine}
 use Rattle.machine_host.specs.OnPages.{pages_named}
 use Rattle.durable.specs.Durable.{AllHaveLines, HaveLines, IsComplete}
@@ -17,7 +16,6 @@ use Rattle.durable.proofs.FileThereLemmas.{lines-named}
 use Rattle.outcomes.specs.Files.{FileRead, all_but, each_file, file_fits, files_fit, is_file_reply, reads_of}
 use Rattle.outcomes.specs.Left.{files_may_pass, files_pass, stored_file, synced_file}
 use Rattle.outcomes.specs.Pages.{PageRead, all_lines_read, line_fits}
-use Rattle.outcomes.specs.Stops.{led_to}
 use Rattle.asked_reads.specs.Fitting.{cell_fits}
 use Rattle.sights.specs.Seeing.{seen}
 use Rattle.sights.proofs.PassLemmas.{one_of_two}
@@ -28,10 +26,10 @@ use Rattle.file_sights.specs.Changes.{FilesChange, LinesChange, files_changed, l
 use Rattle.file_sights.specs.Changes.FilesChange.{Nothing, Makes, Removes, Renames, Resizes, Changes, Maps, Unmaps}
 use Rattle.file_sights.specs.Changes.LinesChange.{Puts, Persists, Rewrites, Zeroes, Loses, Weakens, Clears}
 use Rattle.file_sights.specs.Commands.{files_change}
-use Rattle.file_sights.specs.Fitting.{either_fits, fit_by_line, fit_either, fit_inside, fit_now, now_fits, reads_pass}
+use Rattle.file_sights.specs.Fitting.{either_fits, fit_either, fit_inside, fit_now, now_fits, reads_pass}
 use Rattle.file_sights.specs.Maps.{uncopied}
 use Rattle.file_sights.specs.Sees.{AreLines, SeesFile, SeesFiles, are_held}
-use Rattle.file_sights.specs.State.{FileState, FilesState, after, files_after, line_of_after, name_seen}
+use Rattle.file_sights.specs.State.{FileState, FilesState, files_after, line_of_after, name_seen}
 use Rattle.file_sights.proofs.AllLemmas.{IsOneOf, all_alike}
 use Rattle.file_sights.proofs.CommandLemmas.{command_follows}
 use Rattle.file_sights.proofs.HeldLemmas.{MayChange, SeesWhole, all_whole, files_follow, line_follows}

@@ -10,7 +10,7 @@ use Rattle.script_text.specs.Action.Action.{BRead, BWrite, BAtomic, BMulti, BDis
 use Rattle.machine_host.specs.declared.look.Look.{Look}
 use Rattle.machine_host.specs.declared.look.Look.TheVariants.{Once, Again}
 use Rattle.machine_host.specs.Commands.{meaning}
-use Rattle.machine_host.specs.Meaning.{FilesLeft, Meaning}
+use Rattle.machine_host.specs.Meaning.{Meaning}
 use Rattle.machine_host.specs.Meaning.FilesLeft.{Unchanged}
 use Rattle.machine_host.specs.OnFlushes.{all_moved, flush_file, flush_through, nothing_done}
 use Rattle.machine_host.specs.OnMappings.{load_through, read_copy, store_through, write_copy}

@@ -1,5 +1,5 @@
 -- What becomes of pages, line by line as reads see them.
-use Rattle.std.proofs.Common.{◌≡◌, ◌⊎◌, inl, inr, ℕ, zero, suc, ◌+◌, ◌-◌, ◌*◌, ◌/◌, ◌%◌, ◌^◌, ◌<◌, ◌≤◌, ◌&&◌, nat_lt, min, Bool, true, false, cond, Option, Some, None, option_map, List, [], ◌∷◌, ◌++◌, length, take, replicate, slice_get, slice_index_or, refl, sym, ap, ◌∙◌, arith}
+use Rattle.std.proofs.Common.{◌≡◌, ◌⊎◌, inl, inr, ℕ, zero, suc, ◌+◌, ◌-◌, ◌*◌, ◌/◌, ◌%◌, ◌^◌, ◌<◌, ◌≤◌, nat_lt, Bool, true, false, cond, Option, Some, None, option_map, List, [], ◌∷◌, ◌++◌, length, take, replicate, slice_get, slice_index_or, refl, sym, ap, ◌∙◌, arith}
 use Rattle.std.specs.Int.{byte_at}
 use Rattle.std.proofs.lemmas.List.{length-append, length-replicate, length-take}
 use native.Mathlib.Nat.{zero-div}
@@ -8,9 +8,9 @@ use Rattle.line_device.specs.History.{newest}
 use Rattle.line_device.specs.Word.{word_at}
 use Rattle.nvm_model.specs.Cell.{Cell, cell_byte, clear_cell, flush_cell, lose_cell, weaken_cell, zero_cell}
 use Rattle.nvm_model.specs.Cell.Cell.{Kept}
-use Rattle.nvm_model.specs.Numbered.{is_among, list_from}
-use Rattle.nvm_model.specs.Page.{Page, byte_in, cell_of, change_line, discard, fill, put}
-use Rattle.nvm_model.specs.Page.Page.{Absent, Present}
+use Rattle.nvm_model.specs.Numbered.{list_from}
+use Rattle.nvm_model.specs.Page.{Page, byte_in, cell_of, change_line}
+use Rattle.nvm_model.specs.Page.Page.{Absent}
 use Rattle.nvm_model.specs.Touched.{persist_spans, persist_touched, touches_any}
 use Rattle.nvm_model.proofs.NumberedLemmas.{length-map_from, list_from-same}
 use Rattle.nvm_model.proofs.PageLemmas.{length-discard, length-put_fill}

@@ -1,10 +1,9 @@
 -- Whether reads of files may be answered so, by the lines that are held of them.
-use Rattle.std.proofs.Common.{◌≡◌, ◌⊎◌, inl, inr, ℕ, zero, suc, ◌+◌, ◌-◌, ◌*◌, ◌/◌, ◌==◌, ◌<◌, ◌≤◌, ◌&&◌, ◌||◌, Bool, true, false, cond, not, Option, Some, None, List, [], ◌∷◌, ◌++◌, length, nat_lt, refl, sym, ap, subst, ◌∙◌, arith}
+use Rattle.std.proofs.Common.{◌≡◌, inl, inr, ℕ, ◌+◌, ◌-◌, ◌*◌, ◌/◌, ◌==◌, ◌≤◌, ◌&&◌, ◌||◌, Bool, true, false, cond, not, Option, Some, None, List, [], ◌∷◌, length, nat_lt, refl, sym, ap, subst, ◌∙◌, arith}
 use Rattle.std.specs.List.{list_all, list_any, range_with_len}
 use Rattle.std.specs.Str.{bytes_eq}
 use Rattle.std.proofs.lemmas.Bool.{and_from, and_parts, eqb-true}
 use Rattle.std.proofs.lemmas.Slice.Eq.{bytes_eq-Decides}
-use Rattle.nvm_base.specs.Units.{units_of}
 use Rattle.nvm_model.specs.Blocks.{first_there}
 use Rattle.nvm_model.specs.Cell.{touches}
 use Rattle.nvm_model.specs.Listing.{AreAlike, file_name, file_of, has_file}
@@ -15,7 +14,6 @@ use Rattle.nvm_model.proofs.FileLemmas.{file_of-none}
 use Rattle.page_lines.proofs.LoopLemmas.{touches-within, within-touches}
 use Rattle.reply_text.specs.declared.reply.Why.{Why}
 use Rattle.reply_text.specs.declared.reply.Why.TheVariants as because
-use Rattle.machine_host.specs.Meaning.{most_refusal}
 use Rattle.machine_host.specs.OnPages.{pages_named}
 use Rattle.outcomes.specs.Files.{FileRead, is_file_reply, is_reply_of, reads_of}
 use Rattle.outcomes.specs.Pages.{PageRead, PageReply, all_lines_read, is_refused_for, is_reply, is_reply_by, lines_read}

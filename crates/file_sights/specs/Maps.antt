@@ -1,5 +1,5 @@
 -- Mappings as they are held: as the machine has them, but for their copies.
-use Rattle.std.specs.Prelude.{◌^◌, ℕ, List, [], map, nat_lt, Option, Some, None, option_and_then, option_map, if◌then◌else◌}
+use Rattle.std.specs.Prelude.{◌^◌, ℕ, List, [], nat_lt, Option, Some, None, option_and_then, option_map, if◌then◌else◌}
 use Rattle.nvm_model.specs.Mappings.{is_shared, mapping_of}
 use Rattle.nvm_model.specs.Storage.{Mapping}
 use Rattle.mappings.specs.declared.info.MapInfo.{MapInfo}

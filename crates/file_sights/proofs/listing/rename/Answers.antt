@@ -1,4 +1,4 @@
-use Rattle.std.proofs.Common.{None, option_map, sym, ap, ◌∙◌}
+use Rattle.std.proofs.Common.{option_map, sym, ap, ◌∙◌}
 use Rattle.std.specs.Option.{option_copied}
 use Rattle.nvm_model.specs.Listing.{file_of, put_some, without_file}
 use Rattle.file_sights.specs.State.{name_seen, with_name}

@@ -1,4 +1,4 @@
-use Rattle.std.proofs.Common.{None, ◌≡◌, drop, map, length, sym, ap, ◌∙◌}
+use Rattle.std.proofs.Common.{map, sym, ap, ◌∙◌}
 use Rattle.std.proofs.lemmas.List.{drop_all}
 use Rattle.nvm_model.specs.Mappings.{mapping_of}
 use Rattle.file_sights.specs.Maps.{mapping_held}

@@ -1,4 +1,4 @@
-use Rattle.std.proofs.Common.{◌≡◌, ℕ, ◌+◌, ◌*◌, ◌%◌, ◌<◌, ◌≤◌, get_or, length, List, sym, ap, ◌∙◌, arith}
+use Rattle.std.proofs.Common.{◌≡◌, ℕ, ◌+◌, ◌*◌, ◌%◌, ◌<◌, sym, ap, ◌∙◌, arith}
 use Rattle.nvm_model.specs.Cell.{cell_byte}
 use Rattle.nvm_model.specs.Numbered.{list_from}
 use Rattle.nvm_model.proofs.NumberedLemmas.{list_from-is}

@@ -1,4 +1,4 @@
-use Rattle.std.proofs.Common.{◌≡◌, ℕ, ◌+◌, ◌*◌, ◌%◌, ◌<◌, get_or, length}
+use Rattle.std.proofs.Common.{◌≡◌, ℕ, ◌+◌, ◌*◌, ◌<◌, get_or, length}
 use Rattle.nvm_model.specs.Cell.{cell_byte}
 use Rattle.file_actions.specs.Rewriting.{byte_laid}
 use Rattle.file_sights.proofs.rewriting.new_bytes.Given as goal

@@ -1,4 +1,4 @@
-use Rattle.std.proofs.Common.{◌≡◌, Result, Ok, Err, IfOk, sym, ap, ◌∙◌}
+use Rattle.std.proofs.Common.{Result, Ok, Err, IfOk, ap, ◌∙◌}
 use Rattle.mappings.specs.Object.{MappingsState}
 use Rattle.script_text.specs.Action.{action_of}
 use Rattle.file_sights.specs.Asking.{file_reads_asked}
