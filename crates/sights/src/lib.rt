@@ -18,9 +18,11 @@ mod way;
 pub use block_seen::BlockSeen;
 pub use finding::find;
 pub use line_seen::LineSeen;
-pub use lines_fit::{agree, byte_in, is_among, line_fits, touches};
+pub use lines_fit::{
+    agree, agrees, allows_bad, allows_good, byte_in, is_among, line_fits, touches,
+};
 pub use place::CutPlace;
-pub use replies::{may_be_replies, most_refusal};
+pub use replies::{is_reply_of_bytes, may_be_replies, most_refusal};
 pub use sight::Sight;
 pub use unit::{Unit, all_fit, page_fits};
 pub use way::Way;

@@ -65,7 +65,8 @@ pub fn agree(reads: &[PageRead], p: u64, value: u64) -> bool
     reads.iter().all(|read| agrees(read, p, value))
 }
 
-fn allows_bad(read: &PageRead, n: u64) -> bool
+/// Whether line n may be bad where the read is answered so.
+pub fn allows_bad(read: &PageRead, n: u64) -> bool
     requires { n < 2 ^ 32 }
     ensures { result ≡ allows_bad n read.now.start read.now.len (page_reply read.now.reply) }
 {
@@ -76,7 +77,8 @@ fn allows_bad(read: &PageRead, n: u64) -> bool
     }
 }
 
-fn allows_good(read: &PageRead, n: u64) -> bool
+/// Whether it may be good.
+pub fn allows_good(read: &PageRead, n: u64) -> bool
     ensures { result ≡ allows_good n (page_reply read.now.reply) }
 {
     match &read.reply {
@@ -85,8 +87,8 @@ fn allows_good(read: &PageRead, n: u64) -> bool
     }
 }
 
-// Whether word p may have this value.
-fn agrees(read: &PageRead, p: u64, value: u64) -> bool
+/// Whether word p may have this value.
+pub fn agrees(read: &PageRead, p: u64, value: u64) -> bool
     requires { p < 2 ^ 36 }
     ensures { result ≡ agrees p value read.now.start read.now.len (page_reply read.now.reply) }
 {

@@ -42,7 +42,8 @@ fn are_replies_of_blocks(reads: &[BlockRead], blocks: u64) -> bool
     reads.iter().all(|read| is_reply_of_blocks(read, blocks))
 }
 
-fn is_reply_of_bytes(read: &PageRead, size: u64) -> bool
+/// Whether a read may have its reply on some storage of so many bytes.
+pub fn is_reply_of_bytes(read: &PageRead, size: u64) -> bool
     ensures { result ≡ is_reply size (page_read read.now) }
 {
     match most_refusal(MOST_BYTES, size, read.start, read.len) {

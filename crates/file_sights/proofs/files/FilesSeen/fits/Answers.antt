@@ -1,0 +1,12 @@
+use Rattle.std.proofs.Common.{sym, ap, ◌∙◌}
+use Rattle.file_sights.specs.Asking.{file_reads_asked}
+use Rattle.file_sights.specs.Fitting.{now_fits, reads_pass}
+use Rattle.file_sights.specs.State.{FilesState}
+use Rattle.file_sights.proofs.InsideLemmas.{now_same}
+use Rattle.file_sights.proofs.files.FilesSeen.fits.Goals as goal
+
+pub returns : goal.returns
+returns c = λ h sees held.
+    let reads = file_reads_asked c.args.reads.now in
+    c.all_fit.ensures ∙ ap (reads_pass (now_fits reads) reads) (c.deref.ensures.value ∙ ap (λ (f : FilesState). f.files) c.self.view_is)
+    ∙ sym (now_same reads c.args.self.now.numbers c.args.self.now.files h.files sees.files held)

@@ -1,0 +1,14 @@
+use Rattle.std.proofs.Common.{◌≡◌, true, take}
+use Rattle.std.specs.List.{list_all}
+use Rattle.nvm_model.specs.Listing.{file_of}
+use Rattle.asked_reads.specs.Reads.{page_read}
+use Rattle.file_sights.specs.declared.read.FileRead.{FileRead as Asked}
+use Rattle.file_sights.specs.Asking.{file_reads_asked}
+use Rattle.file_sights.specs.Changes.{lines_of}
+use Rattle.file_sights.specs.Fitting.{either_fits, read_passes}
+use Rattle.file_sights.specs.State.{name_seen}
+use Rattle.file_sights.proofs.files.FilesSeen.fits_by_line.Given as goal
+
+abbrev pub invariant-loop-read : goal.invariant-loop-read
+invariant-loop-read l =
+    list_all (λ (r : Asked). read_passes (either_fits (file_reads_asked l.reads) l.name (lines_of l.lines) r.name) (page_read r.pages) (file_of name_seen r.name l.self.files)) (take l.read-index l.reads) ≡ true

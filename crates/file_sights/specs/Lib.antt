@@ -1,0 +1,7 @@
+pub mod Changes
+pub mod Maps
+pub mod State
+pub mod Commands
+pub mod Asking
+pub mod Fitting
+pub mod Sees
