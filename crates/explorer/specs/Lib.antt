@@ -3,3 +3,4 @@ pub mod Starting
 pub mod Stopping
 pub mod Performing
 pub mod Finding
+pub mod Tabulating

@@ -7,10 +7,13 @@ mod came;
 mod exploring;
 mod fault;
 mod found;
+mod looking;
 mod performing;
+mod tabulating;
 mod volume_look;
 mod watching;
 
 pub use exploring::explore;
 pub use fault::ExploreFault;
 pub use found::Found;
+pub use tabulating::tabulate;

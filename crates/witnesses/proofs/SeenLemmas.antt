@@ -32,11 +32,11 @@ file_reads-append (of_volume r ∷ look) more = file_reads-append look more
 file_reads-append (of_blocks r ∷ look) more = file_reads-append look more
 file_reads-append (of_file r ∷ look) more = ap (λ rs. r ∷ rs) (file_reads-append look more)
 
-all_lines_read-append : (reads more : List PageRead) → all_lines_read (reads ++ more) ≡ all_lines_read reads ++ all_lines_read more
+pub all_lines_read-append : (reads more : List PageRead) → all_lines_read (reads ++ more) ≡ all_lines_read reads ++ all_lines_read more
 all_lines_read-append [] more = refl
 all_lines_read-append (r ∷ reads) more = ap (λ ns. lines_read r.start r.len r.reply ++ ns) (all_lines_read-append reads more) ∙ sym (append_assoc (lines_read r.start r.len r.reply) (all_lines_read reads) (all_lines_read more))
 
-all_numbers_read-append : (reads more : List BlockRead) → all_numbers_read (reads ++ more) ≡ all_numbers_read reads ++ all_numbers_read more
+pub all_numbers_read-append : (reads more : List BlockRead) → all_numbers_read (reads ++ more) ≡ all_numbers_read reads ++ all_numbers_read more
 all_numbers_read-append [] more = refl
 all_numbers_read-append (r ∷ reads) more = ap (λ ns. numbers_read r.first r.count r.reply ++ ns) (all_numbers_read-append reads more) ∙ sym (append_assoc (numbers_read r.first r.count r.reply) (all_numbers_read reads) (all_numbers_read more))
 
