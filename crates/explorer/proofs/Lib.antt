@@ -5,3 +5,4 @@ pub mod LookLemmas
 pub mod CauseLemmas
 pub mod UntoldLemmas
 pub mod FoundLemmas
+pub mod LookingLemmas

@@ -47,7 +47,8 @@ use Rattle.asked_reads.specs.Reads.{page_read, page_reply, pages_asked}
 use Rattle.explorer.specs.declared.came.Came.TheVariants.{Done, Stopped}
 use Rattle.sights.specs.declared.line_seen.LineSeen.{LineSeen}
 use Rattle.explorer.specs.Coming.{came_of}
-use Rattle.sights.specs.Seeing.{is_weak_cell, or_zeros, seen}
+use Rattle.nvm_model.specs.Events.{is_weak_cell}
+use Rattle.sights.specs.Seeing.{or_zeros, seen}
 use Rattle.explorer.specs.Starting.{AreDurable, AreOfBytes, Begins}
 use Rattle.sights.specs.Units.{AreLines, line_numbers}
 use Rattle.explorer.proofs.ComesLemmas.{came_to, was_done, was_refused}

@@ -1,4 +1,5 @@
 pub mod Seeing
+pub mod BlockTelling
 pub mod Changing
 pub mod ChangingBlocks
 pub mod Ways

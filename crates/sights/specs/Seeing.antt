@@ -1,7 +1,6 @@
 -- Storage as reads see it: what is absent reads as zeros.
-use Rattle.std.specs.Prelude.{ℕ, Bool, false, Option, Some, None, List}
+use Rattle.std.specs.Prelude.{ℕ, Option, Some, None, List}
 use Rattle.nvm_model.specs.Cell.{Cell, zero_cell}
-use Rattle.nvm_model.specs.Cell.Cell.{Bad, Kept}
 use Rattle.nvm_model.specs.Page.{Page, cell_of}
 
 abbrev pub or_zeros : Option Cell → Cell
@@ -11,8 +10,3 @@ or_zeros (Some cell) = cell
 -- line n of pages
 abbrev pub seen : List Page → ℕ → Cell
 seen pages n = or_zeros (cell_of pages n)
-
--- whether it goes bad when it is next made durable
-abbrev pub is_weak_cell : Cell → Bool
-is_weak_cell Bad = false
-is_weak_cell (Kept weak words) = weak

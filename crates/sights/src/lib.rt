@@ -4,6 +4,7 @@
 
 mod addresses;
 mod block_seen;
+mod block_told;
 mod blocks_fit;
 mod finding;
 mod line_seen;
@@ -16,6 +17,7 @@ mod unit;
 mod way;
 
 pub use block_seen::BlockSeen;
+pub use block_told::{print_sight, same_block};
 pub use finding::find;
 pub use line_seen::LineSeen;
 pub use lines_fit::{

@@ -31,7 +31,8 @@ use Rattle.sights.proofs.MayShowLemmas.{files_show_none}
 use Rattle.sights.proofs.PassLemmas.{EachUnit}
 use Rattle.value_tables.specs.Left.{block_left, blocks_left, of_blocks}
 use Rattle.value_tables.specs.Listed.{IsSized, block_read, lists_sight, reply_of}
-use Rattle.value_tables.specs.Values.{block_values, same_sight}
+use Rattle.value_tables.specs.Values.{block_values}
+use Rattle.sights.specs.BlockTelling.{same_sight}
 use Rattle.value_tables.proofs.LeftLemmas.{block_passes}
 use Rattle.value_tables.proofs.OnceLemmas.{any_of, any_sight}
 use Rattle.value_tables.proofs.RangeLemmas.{range_all, range_each}

@@ -15,7 +15,7 @@ use Rattle.outcomes.specs.Pages.{PageReply}
 use Rattle.outcomes.specs.Seen.{Seen}
 use Rattle.outcomes.specs.Seen.Seen.{of_blocks, of_volume}
 use Rattle.sights.specs.Seeing.{seen}
-use Rattle.value_tables.specs.Values.{same_sight}
+use Rattle.sights.specs.BlockTelling.{same_sight}
 
 -- a line is bad, or has eight words, each with a value
 abbrev pub HaveOne : List (List ℕ) → Type 0

@@ -7,6 +7,7 @@ use Rattle.nvm_base.specs.Units.{units_of}
 use Rattle.word_tables.specs.declared.geometry.Geometry.{Geometry}
 use Rattle.nvm_model.specs.Cell.{Cell}
 use Rattle.block_sights.specs.Sights.{Sight}
+use Rattle.sights.specs.BlockTelling.{sight_text}
 use Rattle.block_sights.specs.Sights.Sight.{Whole, Scar, BadLine}
 use Rattle.reply_text.specs.declared.reply.Why.{Why}
 use Rattle.reply_text.specs.Answer.{answer_line}
@@ -46,11 +47,6 @@ words_text (v ∷ values) = 32 ∷ data_text (to_le_bytes w64 v) ++ words_text v
 -- what may be read of a word of these lines, and of a block that may be seen so
 abbrev pub word_text : ℕ → List Cell → List ℕ
 word_text w cells = (if may_be_bad cells then codes " poison" else []) ++ words_text (word_values w cells)
-
-abbrev pub sight_text : Sight → List ℕ
-sight_text (Whole bytes) = 32 ∷ data_text bytes
-sight_text Scar = codes " scarred"
-sight_text (BadLine line) = codes " poison " ++ decimal line
 
 abbrev pub sights_text : List Sight → List ℕ
 sights_text [] = []

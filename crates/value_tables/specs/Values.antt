@@ -6,6 +6,7 @@ use Rattle.nvm_model.specs.Cell.{Cell}
 use Rattle.nvm_model.specs.Cell.Cell.{Bad, Kept}
 use Rattle.nvm_model.specs.Page.{is_bad_cell}
 use Rattle.block_sights.specs.Sights.{Sight}
+use Rattle.sights.specs.BlockTelling.{same_sight}
 use Rattle.block_sights.specs.Sights.Sight.{Whole, Scar, BadLine}
 
 -- one more, unless it is there; and more, one after the other
@@ -32,18 +33,6 @@ word_values w cells = values_with w [] cells
 -- one of the lines is bad
 abbrev pub may_be_bad : List Cell → Bool
 may_be_bad cells = list_any (λ cell. is_bad_cell (Some cell)) cells
-
--- reads see the same of both
-abbrev pub same_sight : Sight → Sight → Bool
-same_sight (Whole bytes) (Whole others) = bytes_eq bytes others
-same_sight (Whole bytes) Scar = false
-same_sight (Whole bytes) (BadLine line) = false
-same_sight Scar (Whole bytes) = false
-same_sight Scar Scar = true
-same_sight Scar (BadLine line) = false
-same_sight (BadLine line) (Whole bytes) = false
-same_sight (BadLine line) Scar = false
-same_sight (BadLine line) (BadLine other) = line == other
 
 abbrev pub block_values : List Sight → List Sight
 block_values sights = with_all same_sight [] sights

@@ -2,7 +2,6 @@
 #![tactic(auto)]
 
 mod after;
-mod blocks;
 mod keeping;
 mod laws;
 mod listing;

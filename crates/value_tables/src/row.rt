@@ -7,12 +7,11 @@ ghost use Rattle.value_tables.specs.Values.{block_values, may_be_bad, values_wit
 ghost use Rattle.value_tables.specs.Rows.{row_text, sights_text, word_text};
 ghost use Rattle.value_tables.specs.declared.shown.Shown.TheVariants.{Refuses};
 
-use crate::blocks::{is_same, print_block};
 use crate::sides::Sides;
 use crate::values::WordValues;
 use nvm_base::{Bytes, WORD, print_number};
 use reply_text::{Reply, Why, print};
-use sights::LineSeen;
+use sights::{LineSeen, print_sight, same_block};
 use std::alloc::{AllocError, Global};
 
 /// That of word p, whose line is the one at that place of those looked at.
@@ -82,9 +81,9 @@ fn print_sides(sides: &Sides, at: u64, row: &mut Bytes) -> Result<(), AllocError
     ensures { OnOk result (row.new.items ≡ row.old.items ++ sights_text (block_values (block_at sides.now.blocks.now at ++ block_at sides.now.new_blocks.now at))) }
 {
     let old = &sides.blocks[at as usize].block;
-    print_block(old, row)?;
+    print_sight(old, row)?;
     match sides.new_blocks.get(at as usize) {
-        Some(new) if !is_same(&new.block, old) => print_block(&new.block, row),
+        Some(new) if !same_block(&new.block, old) => print_sight(&new.block, row),
         Some(_) | None => Ok(()),
     }
 }

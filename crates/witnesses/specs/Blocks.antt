@@ -3,6 +3,7 @@ use Rattle.std.specs.Prelude.{◌==◌, ℕ, Bool, true, false, not, List, map, 
 use Rattle.std.specs.Str.{bytes_eq}
 use Rattle.word_tables.specs.declared.geometry.Geometry.{Geometry}
 use Rattle.block_sights.specs.Sights.{Sight}
+use Rattle.sights.specs.BlockTelling.{same_sight}
 use Rattle.block_sights.specs.Sights.Sight.{Whole, Scar, BadLine}
 use Rattle.script_text.specs.Action.{Action}
 use Rattle.outcomes.specs.Blocks.{BlockRead}
@@ -12,18 +13,6 @@ use Rattle.sights.specs.Units.{block_once_done}
 use Rattle.sights.specs.Ways.{blocks_way}
 use Rattle.witnesses.specs.declared.block_kept.BlockKept.{BlockKept}
 use Rattle.witnesses.specs.Leaving.{made_by, unit_left}
-
--- reads see the same of two blocks
-abbrev pub same_sight : Sight → Sight → Bool
-same_sight (Whole bytes) (Whole others) = bytes_eq bytes others
-same_sight (Whole bytes) Scar = false
-same_sight (Whole bytes) (BadLine line) = false
-same_sight Scar (Whole others) = false
-same_sight Scar Scar = true
-same_sight Scar (BadLine line) = false
-same_sight (BadLine line) (Whole others) = false
-same_sight (BadLine line) Scar = false
-same_sight (BadLine line) (BadLine other) = line == other
 
 -- a block as the command makes it, if there is one
 abbrev pub block_made : Geometry → Option Action → BlockSeen → BlockSeen

@@ -5,6 +5,7 @@ use Rattle.std.specs.List.{list_any, range_with_len}
 use Rattle.nvm_base.specs.Data.{data_text}
 use Rattle.nvm_model.specs.Numbered.{is_among}
 use Rattle.block_sights.specs.Sights.{Sight}
+use Rattle.sights.specs.BlockTelling.{sight_text}
 use Rattle.block_sights.specs.Sights.Sight.{Whole, Scar, BadLine}
 use Rattle.outcomes.specs.Pages.{PageRead, PageReply}
 use Rattle.outcomes.specs.Pages.PageReply.{Shows, Poison, Refuses}
@@ -44,12 +45,6 @@ left_text reads n free (left.Words words) =
 
 abbrev pub line_text : List PageRead → LineKept → List ℕ
 line_text reads kept = left_text reads kept.number kept.free kept.left
-
--- a block: its bytes, or why it can't be read
-abbrev pub sight_text : Sight → List ℕ
-sight_text (Whole bytes) = 32 ∷ data_text bytes
-sight_text Scar = codes " scarred"
-sight_text (BadLine line) = codes " poison " ++ decimal line
 
 unfoldable pub whole_text : ℕ → Sight → List ℕ
 whole_text b sight = codes " | block " ++ (decimal b ++ sight_text sight)

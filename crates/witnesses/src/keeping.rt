@@ -17,12 +17,11 @@ ghost use Rattle.witnesses.specs.Telling.{told};
 use crate::block_kept::BlockKept;
 use crate::kept::Kept;
 use crate::line_kept::LineKept;
-use crate::sameness::same_block;
 use crate::staying::{make, stays};
 use crate::words::{free_words, line_left};
 use asked_reads::Question;
 use script_text::Command;
-use sights::{BlockSeen, LineSeen, Sight, Way};
+use sights::{BlockSeen, LineSeen, Sight, Way, same_block};
 use std::alloc::{AllocError, Global};
 use word_tables::Geometry;
 

@@ -8,7 +8,6 @@ mod kept;
 mod laws;
 mod line_kept;
 mod line_text;
-mod sameness;
 mod staying;
 #[cfg(test)]
 mod tests;
