@@ -8,8 +8,8 @@ import itertools
 BLOCKS, PAGES = 8, 3
 SIZE = 4096 * PAGES
 ZERO = bytes(8)
-# Of a line whether it is bad and whether it is weak, and of each word its last value, and all that a cut may leave.
-CLEAN = (False, False, ((ZERO, frozenset([ZERO])),) * 8)
+# Of a line whether it is bad and whether it is weak, and of each word its last value, and all that a cut may leave, as they came.
+CLEAN = (False, False, ((ZERO, (ZERO,)),) * 8)
 # A block is one of these, or its bytes and which of its lines are bad.
 ABSENT, SCARRED = "absent", "scarred"
 
@@ -39,7 +39,7 @@ class State:
 
 
 def durable(words):
-    return tuple((last, frozenset([last])) for last, _ in words)
+    return tuple((last, (last,)) for last, _ in words)
 
 
 def touched(at, size):
@@ -59,7 +59,7 @@ def put(line, n, at, data):
     for place, (last, values) in zip(range(64 * n, 64 * n + 64, 8), words):
         if at < place + 8 and place < at + len(data):
             last = bytes(data[i - at] if at <= i < at + len(data) else last[i - place] for i in range(place, place + 8))
-        new.append((last, values | {last}))
+        new.append((last, values if last in values else (*values, last)))
     return False, weak, tuple(new)
 
 
@@ -134,7 +134,7 @@ def blocks_changed(state, spans, faults, new, together):
     if told:
         return refused(state, min(told, key=["refused range", "refused length", "refused overlap"].index))
     worlds = [{}, {("block", b): (block,) for b, block in new.items()}] if together else [
-        {("block", b): (block, state.blocks[b]) for b, block in new.items()}]
+        {("block", b): (state.blocks[b], block) for b, block in new.items()}]
     return "ok", state.with_blocks(new), worlds
 
 
@@ -195,9 +195,13 @@ def data_of(text):
     return b"".join(bytes.fromhex(i.split("*")[0]) * int(i.partition("*")[2] or 1) for i in text.split(","))
 
 
-def printed(data):
+def spelled(data):
     runs = [(byte, len(list(run))) for byte, run in itertools.groupby(data)]
-    return "data " + ",".join(f"{byte:02x}" if n == 1 else f"{byte:02x}*{n}" for byte, n in runs)
+    return ",".join(f"{byte:02x}" if n == 1 else f"{byte:02x}*{n}" for byte, n in runs)
+
+
+def printed(data):
+    return "data " + spelled(data)
 
 
 def parts_of(read):
@@ -240,7 +244,7 @@ def outcome(draw, state, world):
         if unit not in kept:
             holds = draw.choice(world.get(unit) or (state.unit(unit),))
             of_words = unit[0] == "line" and not holds[0]
-            kept[unit] = b"".join(draw.choice(sorted(values)) for _, values in holds[2]) if of_words else sight(unit, holds)
+            kept[unit] = b"".join(draw.choice(values) for _, values in holds[2]) if of_words else sight(unit, holds)
         return kept[unit]
 
     return seen
@@ -307,3 +311,57 @@ def first_place(places, wants):
         if any(all(any(fits(unit, holds) for holds in world.get(unit) or (state.unit(unit),)) for unit in wants) for world in worlds):
             return i
     return None
+
+
+def first_agreed(values, place, windows):
+    return next(value for value in values if all(agrees(value, place, *window) for window in windows))
+
+
+def kept_line(unit, holds, others, windows, asked):
+    """What is told of a line that is left so, where it could be as each of the others: what of it that could be otherwise."""
+    first = 64 * unit[1]
+    if holds[0]:
+        return f" | volume {first} poison" if any(not other[0] for other in others) else ""
+    told = ""
+    for w, (_, values) in enumerate(holds[2]):
+        place = first + 8 * w
+        value = first_agreed(values, place, windows)
+        free = any(other[0] or any(v != value for v in other[2][w][1]) for other in others)
+        if free and any(at < place + 8 and place < at + size for at, size in asked):
+            told += f" | volume {place} {spelled(value)}"
+    return told
+
+
+def kept_block(unit, holds, others):
+    seen = sight(unit, holds)
+    if all(sight(unit, other) == seen for other in others):
+        return ""
+    what = spelled(seen) if isinstance(seen, bytes) else seen if seen == SCARRED else f"poison {seen}"
+    return f" | block {unit[1]} {what}"
+
+
+def kept_text(place, reads, replies):
+    """What is told behind the answer of that place: each unit is left as it was where it suits so, and else as the command makes it."""
+    _, state, worlds = place
+    wants = wants_of(reads, replies)
+    parts = [parts_of(read) for read, reply in zip(reads, replies) if reply != "_"]
+    asked = [(first, size) for fault, first, size, units in parts if not fault and units[0][0] == "line"]
+    units = sorted(dict.fromkeys(unit for _, _, _, some in parts for unit in some), key=lambda unit: unit[0] == "block")
+
+    def options(world, unit):
+        return world.get(unit) or (state.unit(unit),)
+
+    def left(world):
+        suiting = {unit: [holds for holds in options(world, unit) if suits(unit, holds, wants.get(unit, []))] for unit in units}
+        return {unit: some[0] for unit, some in suiting.items()} if all(suiting.values()) else None
+
+    chosen = next(filter(lambda some: some is not None, map(left, worlds)))
+    told = ""
+    for unit in units:
+        others = [state.unit(unit), *(holds for world in worlds for holds in options(world, unit))]
+        if unit[0] == "line":
+            windows = [want for want in wants.get(unit, []) if isinstance(want, tuple)]
+            told += kept_line(unit, chosen[unit], others, windows, asked)
+        else:
+            told += kept_block(unit, chosen[unit], others)
+    return told

@@ -12,7 +12,7 @@ import subprocess
 import sys
 import tempfile
 
-from cut_model import BLOCKS, PAGES, State, data_of, first_place, is_command, outcome, places_of, printed, shown, wants_of
+from cut_model import BLOCKS, PAGES, State, data_of, first_place, is_command, kept_text, outcome, places_of, printed, shown, wants_of
 
 BY_IMAGE = 20  # scripts: the first ones are of four commands alone, and they and the next ones begin on a fresh image
 ASKED, CUT = 12, 3  # questions drawn for each, and runs of it that are cut
@@ -226,8 +226,9 @@ def compare(explorer, room, script):
     if not right or len(answers) != len(script.questions):
         sys.exit(f"the status or the number of these answers is wrong: {answers}\n{script.text(script.questions)}")
     for answer, (asked, shown_at) in zip(answers, script.questions.items()):
-        place = first_place(script.places, wants_of(script.reads, asked.split(" | ")))
-        wanted = "never" if place is None else f"may {script.places[place][0]}"
+        replies = asked.split(" | ")
+        place = first_place(script.places, wants_of(script.reads, replies))
+        wanted = "never" if place is None else f"may {script.places[place][0]}{kept_text(script.places[place], script.reads, replies)}"
         if answer != wanted or shown_at is not None and (place is None or place > shown_at):
             found = "" if shown_at is None else f", and shown {script.places[shown_at][0]}"
             sys.exit(f"{answer}, by the model {wanted}{found}, on the image that {script.image.lines} leaves:\n{script.text([asked])}")
@@ -250,7 +251,8 @@ def at_once(explorer, room):
         began = resource.getrusage(resource.RUSAGE_CHILDREN).ru_utime
         answers, right = explored(explorer, room, "img", text)
         took = resource.getrusage(resource.RUSAGE_CHILDREN).ru_utime - began
-        if not right or answers != list(questions.values()) or took > AT_ONCE:
+        places = [answer.split(" |")[0] for answer in answers]
+        if not right or places != list(questions.values()) or took > AT_ONCE:
             sys.exit(f"{answers} after {took:.1f} seconds to\n{text}")
 
 

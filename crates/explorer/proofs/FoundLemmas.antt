@@ -1,14 +1,22 @@
--- The first place of a cut, of the first state that shows what is asked.
-use Rattle.std.proofs.Common.{◌≡◌, Option, Some, None, List, option_map, sym, ap, ◌∙◌}
+-- The first place of a cut that shows what is asked, and what is kept there.
+use Rattle.std.proofs.Common.{◌≡◌, ◌<◌, ◌-◌, ◌++◌, ℕ, zero, suc, true, Option, Some, None, List, [], ◌∷◌, length, slice_get, sym, ap, subst, ◌∙◌, arith}
 use Rattle.word_tables.specs.declared.geometry.Geometry.{Geometry}
 use Rattle.script_text.specs.declared.command.Command.{Command}
+use Rattle.script_text.specs.Action.{action_of}
+use Rattle.machine_host.specs.Machine.{Machine}
 use Rattle.outcomes.specs.Seen.{Seen, may_show}
+use Rattle.asked_reads.specs.declared.question.Question.{Question}
 use Rattle.sights.specs.declared.place.CutPlace.{CutPlace}
+use Rattle.sights.specs.declared.place.CutPlace.TheVariants.{Before, Inside}
 use Rattle.sights.specs.declared.sight.Sight.{Sight}
-use Rattle.sights.specs.Following.{IsFirst}
+use Rattle.sights.specs.Following.{Follows, IsAt, IsFirst, ShowsAt}
 use Rattle.sights.specs.Places.{Stop, first_stop}
+use Rattle.witnesses.specs.Places.{IsReached, shows_at, state_at}
+use Rattle.witnesses.specs.Telling.{told}
+use Rattle.witnesses.specs.declared.kept.Kept.{Kept}
+use Rattle.explorer.specs.Finding.{IsFound, IsOn, action_on, inside_at}
 
-pub place_of_first : (lines : List (Option Command)) (look : List Seen) (now : Sight) (geo : Geometry) (stops : List Stop) (found : Option CutPlace) → IsFirst lines look now geo stops found
-    → found ≡ option_map (λ (s : Stop). s.place) (first_stop (may_show look) stops)
-place_of_first lines look now geo stops None first = sym (ap (λ o. option_map (λ (s : Stop). s.place) o) first)
-place_of_first lines look now geo stops (Some place) first = ap Some (sym first.2) ∙ sym (ap (λ o. option_map (λ (s : Stop). s.place) o) first.1)
+-- where nothing is found
+pub nothing_found : (look : List Seen) (stops : List Stop) → first_stop (may_show look) stops ≡ None → IsFound look (first_stop (may_show look) stops) None
+nothing_found look stops none = subst (λ stop. IsFound look stop None) (sym none) tt
+

@@ -2,3 +2,4 @@ pub mod Coming
 pub mod Starting
 pub mod Stopping
 pub mod Performing
+pub mod Finding

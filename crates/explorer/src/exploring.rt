@@ -1,47 +1,95 @@
 // A program is performed on a device, and what a question looks at is followed through it, with all that a cut may leave.
-ghost use Rattle.std.specs.Prelude.{◌≡◌, All, IfErr, IfOk, List, OnOk};
+ghost use Rattle.std.specs.Prelude.{◌≡◌, true, All, IfErr, IfOk, List, OnOk, length, option_map};
+ghost use Rattle.std.specs.Option.{option_copied};
+ghost use Rattle.script_text.specs.Action.{action_of};
+ghost use Rattle.word_tables.specs.Bounds.{IsValid};
 ghost use Rattle.machine_host.specs.Machine.{Machine};
 ghost use Rattle.machine_host.specs.Settling.{GoesOn};
 ghost use Rattle.machine_host.specs.Stands.{Stands};
-ghost use Rattle.outcomes.specs.Seen.{Seen};
+ghost use Rattle.outcomes.specs.Seen.{Seen, may_show};
 ghost use Rattle.outcomes.specs.Stops.{IsProgram};
-ghost use Rattle.asked_reads.specs.Asking.{IsLook};
+ghost use Rattle.asked_reads.specs.Asking.{IsLook, may_be_replies};
 ghost use Rattle.asked_reads.specs.Program.{IsBounded, inputs_of_lines};
-ghost use Rattle.sights.specs.Places.{found_at};
+ghost use Rattle.sights.specs.Following.{AreDone, Follows, IsWhole, IsWithin};
+ghost use Rattle.sights.specs.Places.{cut_places, first_stop, found_stop};
+ghost use Rattle.explorer.specs.Finding.{IsFound, IsOn, inside_at};
 ghost use Rattle.explorer.specs.Starting.{Begins};
 ghost use Rattle.explorer.specs.Stopping.{DeviceStopped, NoneFell};
 
 use crate::fault::ExploreFault;
+use crate::found::Found;
 use crate::watching::{Watched, watch};
 use asked_reads::Question;
 use line_device::LineDevice;
 use machine_host::Host;
 use script_text::Command;
 use sights::{CutPlace, find, may_be_replies};
-use std::alloc::Global;
+use std::alloc::{AllocError, Global};
+use witnesses::keep;
+use word_tables::Geometry;
 
-/// The first place of a cut in the program after which the question's look may show what it asks for, None where no cut leaves it. A
-/// line of the program without a command is None.
+/// The first place of a cut in the program after which the question's look may show what it asks for, with what may be kept there;
+/// None where no cut leaves it. A line of the program without a command is None.
 pub fn explore<D: LineDevice>(
     alloc: Global,
     host: &mut Host,
     device: &mut D,
     program: &[Option<Command>],
     question: &Question,
-) -> Result<Option<CutPlace>, ExploreFault>
+) -> Result<Option<Found>, ExploreFault>
     requires known { GoesOn host.old (D.state device.old) }
     requires program { IsProgram (inputs_of_lines program.now) }
     requires bounded { All IsBounded program.now }
     ensures found { (h : Machine) (look : List Seen) → Stands host.old (D.state device.old) h → Begins h → IsLook look question.now
-        → IfOk result (λ found. found ≡ found_at h (inputs_of_lines program.now) look) }
+        → IfOk result (IsFound look (found_stop h (inputs_of_lines program.now) look)) }
     ensures counts { OnOk result (NoneFell (D.state device.old).panel (D.state device.new).panel) }
     ensures cause { (h : Machine) → Stands host.old (D.state device.old) h → Begins h
         → IfErr result (λ fault. fault ≡ ExploreFault.Device → DeviceStopped (D.state device.old).panel (D.state device.new).panel) }
 {
-    if !may_be_replies(question, host.geometry()) {
+    let geometry = host.geometry();
+    if !may_be_replies(question, geometry) {
         return Ok(None);
     }
-    let geometry = host.geometry();
-    let Watched { mut sight, done } = watch(alloc, host, device, program, question)?;
-    Ok(find(program, &done, geometry, question, &mut sight)?)
+    let watched = watch(alloc, host, device, program, question)?;
+    Ok(follow(alloc, program, question, geometry, watched)?)
+}
+
+// What is found, in what was looked at.
+fn follow(
+    alloc: Global,
+    program: &[Option<Command>],
+    question: &Question,
+    geometry: Geometry,
+    watched: Watched,
+) -> Result<Option<Found>, AllocError>
+    requires valid { IsValid geometry }
+    requires program { IsProgram (inputs_of_lines program.now) }
+    requires bounded { All IsBounded program.now }
+    requires told { length watched.done.items ≡ length program.now }
+    requires whole { IsWhole watched.sight question.now }
+    requires within { IsWithin watched.sight geometry }
+    requires replies { may_be_replies geometry question.now ≡ true }
+    ensures { (h : Machine) (look : List Seen) → Follows watched.sight geometry h → AreDone h program.now watched.done.items → IsLook look question.now
+        → IfOk result (IsFound look (first_stop (may_show look) (cut_places 1 h (inputs_of_lines program.now)))) }
+{
+    let Watched { mut sight, done } = watched;
+    let Some(place) = find(program, &done, geometry, question, &mut sight)? else {
+        return Ok(None);
+    };
+    let inside = command_at(program, place);
+    let kept = keep(alloc, question, &sight, geometry, inside)?;
+    Ok(Some(Found { place, kept }))
+}
+
+// The command that is interrupted at a place, if any.
+fn command_at(program: &[Option<Command>], place: CutPlace) -> Option<&Command>
+    requires on { IsOn program.now place }
+    requires bounded { All IsBounded program.now }
+    ensures action { option_map action_of (option_copied result) ≡ inside_at program.now place }
+    ensures bounded { IsBounded (option_copied result) }
+{
+    match place {
+        CutPlace::Before(_) => None,
+        CutPlace::Inside(n) => program[n as usize - 1].as_ref(),
+    }
 }

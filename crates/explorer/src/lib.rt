@@ -6,9 +6,11 @@ mod blocks_look;
 mod came;
 mod exploring;
 mod fault;
+mod found;
 mod performing;
 mod volume_look;
 mod watching;
 
 pub use exploring::explore;
 pub use fault::ExploreFault;
+pub use found::Found;

@@ -21,7 +21,7 @@ use Rattle.exploration.specs.declared.exploration.Exploration.{Exploration as Re
 use Rattle.exploration.specs.declared.exploration.ScriptFault.{ScriptFault}
 use Rattle.exploration.specs.declared.exploration.ScriptFault.TheVariants as script
 use Rattle.explorer.specs.Stopping.{NoneFell}
-use Rattle.sights.specs.Places.{found_at}
+use Rattle.sights.specs.Places.{found_stop}
 use Rattle.program_base.specs.Ending.{status}
 use Rattle.program_base.specs.Opening.{FailsToOpen, IsHeld, opened}
 use Rattle.program_base.specs.World.{World}
@@ -93,7 +93,7 @@ module _ (name : List ℕ) (lines : List LineState) (old new : World) (there : I
   }
 
   module _ (text : List ℕ) (e : Exploration) (taken : IsTaken text e old new) (theorems : AreTheorems (opened lines) (map asks_for e.program)) (started : Panel) (fell : NoneFell old.device.panel started) where
-    outcome_taken : (result : Result Bool Stop) → AnswersAll (found_at (opened lines) (map asks_for e.program)) e.questions result old.written new.written old.writes new.writes started new.device.panel → Outcome name result old new
+    outcome_taken : (result : Result Bool Stop) → AnswersAll (found_stop (opened lines) (map asks_for e.program)) e.questions result old.written new.written old.writes new.writes started new.device.panel → Outcome name result old new
     outcome_taken (Ok may) told = record {
       lines = lines;
       there = there;
@@ -102,7 +102,9 @@ module _ (name : List ℕ) (lines : List LineState) (old new : World) (there : I
       exploration = e;
       taken = taken;
       status = ap (λ b. if b then 1 else 0) told.0;
-      wrote = told.1;
+      text = told.1;
+      answered = told.2;
+      wrote = told.3;
       theorems = theorems;
       images = images;
     }
@@ -122,7 +124,7 @@ module _ (name : List ℕ) (lines : List LineState) (old new : World) (there : I
       → IsProgram (inputs_of_lines x.program.items)
       → ((e : Exploration) → script_of text ≡ Taken e → IsProgram (map asks_for e.program) → AreTheorems (opened lines) (map asks_for e.program))
       → ((looks : List (List Seen)) → AskOf looks x.questions.items
-      → AnswersAll (found_at (opened lines) (inputs_of_lines x.program.items)) looks result old.written new.written old.writes new.writes started new.device.panel)
+      → AnswersAll (found_stop (opened lines) (inputs_of_lines x.program.items)) looks result old.written new.written old.writes new.writes started new.device.panel)
       → Outcome name result old new
   outcome_read text x result started fell read ended short is program theorems tells = by_script (script_of text) refl is
     where
@@ -130,7 +132,7 @@ module _ (name : List ℕ) (lines : List LineState) (old new : World) (there : I
       by_script (Taken e) told holds =
           let same : inputs_of_lines x.program.items ≡ map asks_for e.program = same_inputs x.program.items e.program holds.0 in
           outcome_taken text e (record { read = read; ended = ended; short = short; is = told }) (theorems e told (subst IsProgram same program)) started fell result
-          (subst (λ (inputs : List Input). AnswersAll (found_at (opened lines) inputs) e.questions result old.written new.written old.writes new.writes started new.device.panel) same (tells e.questions holds.1))
+          (subst (λ (inputs : List Input). AnswersAll (found_stop (opened lines) inputs) e.questions result old.written new.written old.writes new.writes started new.device.panel) same (tells e.questions holds.1))
       by_script (StopsAt n) told holds = absurd holds
 
 -- words of which there is one name it

@@ -1,5 +1,5 @@
 -- The first place of a cut is there exactly where the test tells that something may be found.
-use Rattle.std.proofs.Common.{◌≡◌, ◌||◌, ℕ, suc, Bool, true, false, List, [], ◌∷◌, ◌++◌, map, Some, is_some, refl, sym, ap, ◌∙◌, if◌then◌else◌}
+use Rattle.std.proofs.Common.{◌≡◌, ◌||◌, ℕ, suc, Bool, true, false, List, [], ◌∷◌, ◌++◌, map, Option, Some, None, is_some, refl, sym, ap, ◌∙◌, if◌then◌else◌}
 use Rattle.std.specs.List.{list_any}
 use Rattle.std.proofs.lemmas.Bool.{true≢false}
 use Rattle.script_text.specs.Script.{Input}
@@ -10,40 +10,62 @@ use Rattle.outcomes.specs.Finds.{Finds, armed, may_find}
 use Rattle.outcomes.specs.Seen.{Seen, may_show}
 use Rattle.outcomes.specs.Stops.{inside, led_to, stops}
 use Rattle.sights.specs.declared.place.CutPlace.TheVariants.{Inside}
-use Rattle.sights.specs.Places.{Stop, cut_places, first_place, found_at}
+use Rattle.sights.specs.Places.{Stop, cut_places, first_stop, found_stop}
+use Rattle.explorer.specs.Finding.{IsFound}
+use Rattle.explorer.specs.declared.found.Found.{Found}
+use Rattle.witnesses.specs.Telling.{told}
 use Rattle.nvmexplore.specs.Calls.{AreTheorems}
 
 module _ (test : Machine → Bool) where
-  first_more : (stop : Stop) (stops : List Stop) (states : List Machine) → is_some (first_place test stops) ≡ list_any test states
-      → is_some (first_place test (stop ∷ stops)) ≡ (test stop.state || list_any test states)
+  first_more : (stop : Stop) (stops : List Stop) (states : List Machine) → is_some (first_stop test stops) ≡ list_any test states
+      → is_some (first_stop test (stop ∷ stops)) ≡ (test stop.state || list_any test states)
   first_more stop stops states rest = by_test (test stop.state)
     where
-      by_test : (b : Bool) → is_some (if b then Some stop.place else first_place test stops) ≡ (b || list_any test states)
+      by_test : (b : Bool) → is_some (if b then Some stop else first_stop test stops) ≡ (b || list_any test states)
       by_test true = refl
       by_test false = rest
 
-  inside_more : (n : ℕ) (within : List Machine) (stops : List Stop) (states : List Machine) → is_some (first_place test stops) ≡ list_any test states
-      → is_some (first_place test (map (λ m. record { place = Inside n; state = m }) within ++ stops)) ≡ list_any test (within ++ states)
+  inside_more : (n : ℕ) (within : List Machine) (stops : List Stop) (states : List Machine) → is_some (first_stop test stops) ≡ list_any test states
+      → is_some (first_stop test (map (λ m. record { place = Inside n; state = m }) within ++ stops)) ≡ list_any test (within ++ states)
   inside_more n [] stops states rest = rest
   inside_more n (m ∷ within) stops states rest = first_more (record { place = Inside n; state = m }) _ (within ++ states) (inside_more n within stops states rest)
 
-  place_may : (n : ℕ) (h : Machine) (inputs : List Input) → is_some (first_place test (cut_places n h inputs)) ≡ list_any test (stops h inputs)
-  place_may n h [] = first_more _ [] [] refl
-  place_may n h (Skipped ∷ inputs) = place_may (suc n) h inputs
-  place_may n h (Malformed ∷ inputs) = place_may (suc n) h inputs
-  place_may n h (Overlong ∷ inputs) = place_may (suc n) h inputs
-  place_may n h (Asked action ∷ inputs) =
+  stop_may : (n : ℕ) (h : Machine) (inputs : List Input) → is_some (first_stop test (cut_places n h inputs)) ≡ list_any test (stops h inputs)
+  stop_may n h [] = first_more _ [] [] refl
+  stop_may n h (Skipped ∷ inputs) = stop_may (suc n) h inputs
+  stop_may n h (Malformed ∷ inputs) = stop_may (suc n) h inputs
+  stop_may n h (Overlong ∷ inputs) = stop_may (suc n) h inputs
+  stop_may n h (Asked action ∷ inputs) =
       let to = led_to h (fate h action) in
-      let rest = place_may (suc n) to inputs in
+      let rest = stop_may (suc n) to inputs in
       first_more _ _ (inside h action (fate h action) ++ stops to inputs) (inside_more n (inside h action (fate h action)) (cut_places (suc n) to inputs) (stops to inputs) rest)
 
-found_may : (h : Machine) (program : List Input) (look : List Seen) → is_some (found_at h program look) ≡ may_find h program look
-found_may h program look = place_may (may_show look) 1 (armed h) program
+found_may : (h : Machine) (program : List Input) (look : List Seen) → is_some (found_stop h program look) ≡ may_find h program look
+found_may h program look = stop_may (may_show look) 1 (armed h) program
+
+-- what the first stop shows may be found
+found_first : (test : Machine → Bool) (xs : List Stop) (stop : Stop) → first_stop test xs ≡ Some stop → (more : Machine → Bool) → more stop.state ≡ true → is_some (first_stop more xs) ≡ true
+found_first test [] stop is more shown = cc is
+found_first test (x ∷ xs) stop is more shown = by_test (test x.state) refl is
+  where
+    by_more : (b : Bool) → (b ≡ false → is_some (first_stop more xs) ≡ true) → is_some (if b then Some x else first_stop more xs) ≡ true
+    by_more true rest = refl
+    by_more false rest = rest refl
+
+    by_test : (b : Bool) → test x.state ≡ b → (if b then Some x else first_stop test xs) ≡ Some stop → is_some (first_stop more (x ∷ xs)) ≡ true
+    by_test true told at = let same : stop ≡ x = cc at in ap (λ b. is_some (if b then Some x else first_stop more xs)) (subst (λ s. more s.state ≡ true) same shown)
+    by_test false told at = by_more (more x.state) (λ none. found_first test xs stop at more shown)
+
+kept_found : (h : Machine) (program : List Input) (look : List Seen) (stop : Option Stop) (found : Found) → found_stop h program look ≡ stop → IsFound look stop (Some found)
+    → may_find h program (look ++ told found.kept) ≡ true
+kept_found h program look None found at is = absurd is
+kept_found h program look (Some stop) found at is =
+    sym (found_may h program (look ++ told found.kept)) ∙ found_first (may_show look) (cut_places 1 (armed h) program) stop at (may_show (look ++ told found.kept)) is.1
 
 -- so each answer is a theorem about the machine's runs
 pub are_theorems : (h : Machine) (program : List Input) → ((look : List Seen) → (may_find h program look ≡ true → Finds h program look) × (Finds h program look → may_find h program look ≡ true))
     → AreTheorems h program
 are_theorems h program tells = record {
   never = λ look none finds. true≢false (sym ((tells look).1 finds) ∙ sym (found_may h program look) ∙ ap is_some none);
-  may = λ look place some. (tells look).0 (sym (found_may h program look) ∙ ap is_some some);
+  may = λ look found is. (tells (look ++ told found.kept)).0 (kept_found h program look (found_stop h program look) found refl is);
 }

@@ -1,5 +1,5 @@
 -- What a call does, and how it ends early.
-use Rattle.std.specs.Prelude.{◌≡◌, ◌⊎◌, ◌<◌, ◌≤◌, ℕ, Bool, List, length, map, Option, Some, None, IfSome, Result, Ok, Err, MatchResult, if◌then◌else◌, ⊤}
+use Rattle.std.specs.Prelude.{◌≡◌, ◌⊎◌, ◌<◌, ◌≤◌, ◌++◌, ℕ, Bool, List, [], ◌∷◌, length, map, Option, Some, None, IfSome, Result, Ok, Err, MatchResult, if◌then◌else◌, ⊤}
 use Rattle.std.specs.List.{AllByRecursion}
 use Rattle.std.specs.Io.KnownBytes.{Appends, Consumes, IsAtEnd}
 use Rattle.nvm_base.specs.Counts.{Rose}
@@ -11,27 +11,59 @@ use Rattle.line_device.specs.Panel.{Panel}
 use Rattle.line_device.specs.declared.line.LineState.{LineState}
 use Rattle.machine_host.specs.Machine.{Machine}
 use Rattle.recovery.specs.Findings.{first_finding}
+use Rattle.script_text.specs.Action.{Action}
 use Rattle.script_text.specs.Script.{Input}
-use Rattle.outcomes.specs.Finds.{Finds}
+use Rattle.outcomes.specs.Finds.{Finds, armed}
 use Rattle.outcomes.specs.Seen.{Seen}
 use Rattle.asked_reads.specs.Program.{asks_for}
+use Rattle.asked_reads.specs.declared.read.Read.{Read}
 use Rattle.exploration.specs.Exploration.{Exploration, script_of}
 use Rattle.exploration.specs.Exploration.Script.{StopsAt, Taken}
-use Rattle.sights.specs.Places.{found_at}
-use Rattle.sights.specs.declared.place.CutPlace.{CutPlace}
+use Rattle.exploration.specs.Reads.{read_of}
+use Rattle.sights.specs.Places.{Stop, cut_places, found_stop}
+use Rattle.explorer.specs.Finding.{IsFound}
+use Rattle.explorer.specs.declared.found.Found.{Found}
+use Rattle.value_tables.specs.Tables.{table_text}
+use Rattle.witnesses.specs.Telling.{told}
 use Rattle.program_base.specs.Opening.{CountsOpening, DeviceFailed, FailsToOpen, IsHeld, opened, snapshot}
 use Rattle.program_base.specs.World.{World}
 use Rattle.program_base.specs.Writing.{WritesFront, WritesLine}
 use Rattle.program_base.specs.declared.ending.Ending.{Ending}
 use Rattle.program_base.specs.declared.ending.Ending.TheVariants as endings
 use Rattle.nvmexplore.specs.Stops.{stop_status, stop_text}
-use Rattle.nvmexplore.specs.Telling.{answers_status, answers_text, is_any_found}
-use Rattle.nvmexplore.specs.declared.stop.Stop.{Stop}
+use Rattle.nvmexplore.specs.Telling.{answer_line, answers_status, is_any_found}
+use Rattle.nvmexplore.specs.declared.stop.Stop.{Stop as Stopped}
 use Rattle.nvmexplore.specs.declared.stop.Stop.TheVariants as stops
 
+-- the reads that these commands are
+abbrev pub and_read : Option Read → List Read → List Read
+and_read None reads = reads
+and_read (Some read) reads = read ∷ reads
+
+abbrev pub reads_of : List Action → List Read
+reads_of [] = []
+reads_of (action ∷ actions) = and_read (read_of action) (reads_of actions)
+
+-- the table that is asked for, if one is, from that state on
+abbrev pub asked_table : Machine → Exploration → List ℕ
+asked_table h e = if e.table then table_text (reads_of e.reads) (cut_places 1 (armed h) (map asks_for e.program)) else []
+
 -- of each question the first place of a cut after which its look may be as asked, from that state on
-abbrev pub found : Machine → Exploration → List (Option CutPlace)
-found h e = map (found_at h (map asks_for e.program)) e.questions
+abbrev pub found : Machine → Exploration → List (Option Stop)
+found h e = map (found_stop h (map asks_for e.program)) e.questions
+
+-- All these questions were answered with this text, a line each: where that tells that the look may be found, with what may be kept there.
+abbrev pub AreAnswered : (List Seen → Option Stop) → List (List Seen) → List ℕ → Type 0
+AreAnswered tell [] text = text ≡ []
+AreAnswered tell (look ∷ looks) text =
+    (found : Option Found) × (rest : List ℕ) × IsFound look (tell look) found × (text ≡ answer_line look found ++ rest) × AreAnswered tell looks rest
+
+-- the first ones of them were
+pub record FirstAnswered (tell : List Seen → Option Stop) (looks : List (List Seen)) (text : List ℕ) : Type 0 where
+  pub first : List (List Seen)
+  pub later : List (List Seen)
+  pub joined : first ++ later ≡ looks
+  pub answered : AreAnswered tell first text
 
 -- lines of an image, with which nothing is wrong
 pub record AreMountable (lines : List LineState) : Type 0 where
@@ -62,7 +94,7 @@ ReadsAll (Err ending) left_old left_new count_old count_new =
     (taken : List ℕ) × Consumes left_old left_new taken × IsUnread ending left_old count_old count_new
 
 -- why some questions were not answered, once they were read
-abbrev pub IsUnanswered : Stop → ℕ → ℕ → Panel → Panel → Type 0
+abbrev pub IsUnanswered : Stopped → ℕ → ℕ → Panel → Panel → Type 0
 IsUnanswered (stops.Early endings.Write) count_old count_new old new = Rose count_old count_new
 IsUnanswered (stops.Early endings.Memory) count_old count_new old new = Unit {0}
 IsUnanswered (stops.Early endings.Device) count_old count_new old new = DeviceFailed old new
@@ -75,16 +107,24 @@ IsUnanswered (stops.Early (endings.Meta line)) count_old count_new old new = ⊥
 IsUnanswered (stops.Script n) count_old count_new old new = ⊥
 IsUnanswered stops.Usage count_old count_new old new = ⊥
 
--- All questions were answered, each as this tells of its look; or the first ones, and then came that.
-abbrev pub AnswersAll : (List Seen → Option CutPlace) → List (List Seen) → Result Bool Stop → Option (List ℕ) → Option (List ℕ) → ℕ → ℕ → Panel → Panel → Type 0
-AnswersAll tell looks result old new count_old count_new device_old device_new = MatchResult result
-    (λ may. (may ≡ is_any_found (map tell looks)) × Appends old new (answers_text (map tell looks)))
-    (λ stop. IsUnanswered stop count_old count_new device_old device_new × WritesFront (answers_text (map tell looks)) old new)
+-- A table was written, or it was in part, and then came that.
+abbrev pub TellsTable : List ℕ → Result (Unit {0}) Stopped → Option (List ℕ) → Option (List ℕ) → ℕ → ℕ → Panel → Panel → Type 0
+TellsTable table result old new count_old count_new device_old device_new = MatchResult result
+    (λ _. Appends old new table)
+    (λ stop. IsUnanswered stop count_old count_new device_old device_new × WritesFront table old new)
 
--- Each answer is a theorem: where it is never, no run of the machine from that state finds what was asked, and else some run does.
+-- Behind a table all questions were answered, each as this tells of its look; or all of that was written up to some place, with answers of
+-- the first questions, and then came that.
+abbrev pub AnswersAll : List ℕ → (List Seen → Option Stop) → List (List Seen) → Result Bool Stopped → Option (List ℕ) → Option (List ℕ) → ℕ → ℕ → Panel → Panel → Type 0
+AnswersAll table tell looks result old new count_old count_new device_old device_new = MatchResult result
+    (λ may. (may ≡ is_any_found (map tell looks)) × (text : List ℕ) × AreAnswered tell looks text × Appends old new (table ++ text))
+    (λ stop. IsUnanswered stop count_old count_new device_old device_new × (text : List ℕ) × FirstAnswered tell looks text × WritesFront (table ++ text) old new)
+
+-- Each answer is a theorem: where it is never, no run of the machine from that state finds what was asked, and else some run does, which
+-- keeps then what is told.
 pub record AreTheorems (h : Machine) (program : List Input) : Type 0 where
-  pub never : (look : List Seen) → found_at h program look ≡ None → Finds h program look → ⊥
-  pub may : (look : List Seen) (place : CutPlace) → found_at h program look ≡ Some place → Finds h program look
+  pub never : (look : List Seen) → found_stop h program look ≡ None → Finds h program look → ⊥
+  pub may : (look : List Seen) (found : Found) → IsFound look (found_stop h program look) (Some found) → Finds h program (look ++ told found.kept)
 
 -- The script was read to its end, and is taken.
 pub record IsTaken (script : List ℕ) (e : Exploration) (old new : World) : Type 0 where
@@ -98,7 +138,7 @@ pub record LeavesImages (old new : World) : Type 0 where
   pub held : KeepsHeld (λ _. ⊤) old.held new.held
   pub counts : CountsOpening old.images new.images
 
--- All questions of the script were answered, from the state that is read in the image.
+-- The table, if one is asked for, was written, and all questions of the script were answered, from the state that is read in the image.
 pub record Answers (name : List ℕ) (ended : ℕ) (old new : World) : Type 0 where
   pub lines : List LineState
   pub there : IsHeld name old.held lines
@@ -107,12 +147,14 @@ pub record Answers (name : List ℕ) (ended : ℕ) (old new : World) : Type 0 wh
   pub exploration : Exploration
   pub taken : IsTaken script exploration old new
   pub status : ended ≡ answers_status (found (opened lines) exploration)
-  pub wrote : Appends old.written new.written (answers_text (found (opened lines) exploration))
+  pub text : List ℕ
+  pub answered : AreAnswered (found_stop (opened lines) (map asks_for exploration.program)) exploration.questions text
+  pub wrote : Appends old.written new.written (asked_table (opened lines) exploration ++ text)
   pub theorems : AreTheorems (opened lines) (map asks_for exploration.program)
   pub images : LeavesImages old new
 
 -- why not all of them were, once the image was mounted
-abbrev pub IsCaused : Stop → List ℕ → World → World → Type 0
+abbrev pub IsCaused : Stopped → List ℕ → World → World → Type 0
 IsCaused (stops.Script n) script old new = IsAtEnd new.left × (script_of script ≡ StopsAt n)
 IsCaused (stops.Early endings.Read) script old new = Rose old.reads new.reads
 IsCaused (stops.Early endings.Script) script old new = IfSome old.left (λ left. most ≤ length left)
@@ -127,7 +169,7 @@ IsCaused stops.Usage script old new = ⊥
 
 -- The image was mounted, but not all questions were answered: of the answers that were due the first ones were written, and nothing
 -- where the script was not read to its end, or not taken.
-pub record Halts (name : List ℕ) (stop : Stop) (old new : World) : Type 0 where
+pub record Halts (name : List ℕ) (stop : Stopped) (old new : World) : Type 0 where
   pub lines : List LineState
   pub there : IsHeld name old.held lines
   pub right : first_finding (medium_of lines) ≡ None
@@ -135,20 +177,21 @@ pub record Halts (name : List ℕ) (stop : Stop) (old new : World) : Type 0 wher
   pub read : Consumes old.left new.left script
   pub cause : IsCaused stop script old new
   pub wrote : (new.written ≡ old.written)
-      ⊎ ((e : Exploration) × IsTaken script e old new × WritesFront (answers_text (found (opened lines) e)) old.written new.written)
+      ⊎ ((e : Exploration) × IsTaken script e old new × (text : List ℕ)
+      × FirstAnswered (found_stop (opened lines) (map asks_for e.program)) e.questions text × WritesFront (asked_table (opened lines) e ++ text) old.written new.written)
   pub images : LeavesImages old new
 
 -- the image was not opened, or not all was answered
-abbrev pub Fails : List ℕ → Stop → World → World → Type 0
+abbrev pub Fails : List ℕ → Stopped → World → World → Type 0
 Fails name stop old new = ((ending : Ending) × (stop ≡ stops.Early ending) × FailsToOpen name ending old new) ⊎ Halts name stop old new
 
 -- what came of it, or what came in its way
-abbrev pub Outcome : List ℕ → Result Bool Stop → World → World → Type 0
+abbrev pub Outcome : List ℕ → Result Bool Stopped → World → World → Type 0
 Outcome name result old new = MatchResult result (λ may. Answers name (if may then 1 else 0) old new) (λ stop. Fails name stop old new)
 
 -- A call ended early with this status: it came to no answer or not to all, and then the status's line was written.
 pub record EndsEarly (name : List ℕ) (ended : ℕ) (old new : World) : Type 0 where
-  pub stop : Stop
+  pub stop : Stopped
   pub is : ended ≡ stop_status stop
   pub between : World
   pub fails : Fails name stop old between

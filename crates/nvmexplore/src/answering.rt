@@ -1,10 +1,10 @@
 // All questions of a script, one line each.
-ghost use Rattle.std.specs.Prelude.{List, All};
+ghost use Rattle.std.specs.Prelude.{List, [], All};
 ghost use Rattle.outcomes.specs.Seen.{Seen};
 ghost use Rattle.outcomes.specs.Stops.{IsProgram};
 ghost use Rattle.asked_reads.specs.Program.{IsBounded, inputs_of_lines};
 ghost use Rattle.exploration.specs.Reading.{AskOf};
-ghost use Rattle.sights.specs.Places.{found_at};
+ghost use Rattle.sights.specs.Places.{found_stop};
 ghost use Rattle.program_base.specs.Opening.{opened};
 ghost use Rattle.nvmexplore.specs.Calls.{AnswersAll, AreMountable};
 
@@ -30,13 +30,13 @@ pub fn answer_all<D: LineDevice, K: Sink>(
     requires program { IsProgram (inputs_of_lines exploration.now.program.items) }
     requires bounded { All IsBounded exploration.now.program.items }
     ensures { (looks : List (List Seen)) → AskOf looks exploration.now.questions.items
-        → AnswersAll (found_at (opened image.now.lines.items) (inputs_of_lines exploration.now.program.items)) looks result
+        → AnswersAll [] (found_stop (opened image.now.lines.items) (inputs_of_lines exploration.now.program.items)) looks result
         (K.written answers.old) (K.written answers.new) (K.count answers.old) (K.count answers.new) (D.state device.old).panel (D.state device.new).panel }
 {
     let mut may = false;
     for question in exploration.questions.iter() {
         let found = find(alloc, image, &exploration.program, question, device)?;
-        tell(answer_line(alloc, found), answers)?;
+        tell(answer_line(alloc, question, &found), answers)?;
         may = may || found.is_some();
     }
     Ok(may)

@@ -4,7 +4,8 @@ ghost use Rattle.outcomes.specs.Seen.{Seen};
 ghost use Rattle.outcomes.specs.Stops.{IsProgram};
 ghost use Rattle.asked_reads.specs.Asking.{IsLook};
 ghost use Rattle.asked_reads.specs.Program.{IsBounded, inputs_of_lines};
-ghost use Rattle.sights.specs.Places.{found_at};
+ghost use Rattle.sights.specs.Places.{found_stop};
+ghost use Rattle.explorer.specs.Finding.{IsFound};
 ghost use Rattle.explorer.specs.Stopping.{NoneFell};
 ghost use Rattle.program_base.specs.Opening.{opened};
 ghost use Rattle.nvmexplore.specs.Calls.{AreMountable, IsUnanswered};
@@ -12,27 +13,26 @@ ghost use Rattle.nvmexplore.specs.Calls.{AreMountable, IsUnanswered};
 use crate::laws::images_begin;
 use crate::stop::Stop;
 use asked_reads::Question;
-use explorer::explore;
+use explorer::{Found, explore};
 use image_file::Image;
 use line_device::LineDevice;
 use program_base::start;
 use script_text::Command;
-use sights::CutPlace;
 use std::alloc::Global;
 
-/// The first place of a cut in the program after which the question's look may show what it asks for.
+/// The first place of a cut in the program after which the question's look may show what it asks for, and what is kept then.
 pub fn find<D: LineDevice>(
     alloc: Global,
     image: &Image,
     program: &[Option<Command>],
     question: &Question,
     device: &mut D,
-) -> Result<Option<CutPlace>, Stop>
+) -> Result<Option<Found>, Stop>
     requires image { AreMountable image.now.lines.items }
     requires program { IsProgram (inputs_of_lines program.now) }
     requires bounded { All IsBounded program.now }
     ensures found { (look : List Seen) → IsLook look question.now
-        → IfOk result (λ found. found ≡ found_at (opened image.now.lines.items) (inputs_of_lines program.now) look) }
+        → IfOk result (IsFound look (found_stop (opened image.now.lines.items) (inputs_of_lines program.now) look)) }
     ensures cause { (counted counts : ℕ) → IfErr result (λ stop. IsUnanswered stop counted counts (D.state device.old).panel (D.state device.new).panel) }
     ensures counts { OnOk result (NoneFell (D.state device.old).panel (D.state device.new).panel) }
 {

@@ -6,6 +6,7 @@ mod asking;
 mod laws;
 mod reading;
 mod stop;
+mod tabling;
 mod telling;
 #[cfg(test)]
 mod tests;

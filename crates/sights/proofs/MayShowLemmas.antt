@@ -33,7 +33,7 @@ files_pass_none OldOrNew old to = refl
 files_pass_none (StoredInPart name offset bytes) old to = refl
 files_pass_none (SyncedInPart name spans) old to = refl
 
-files_show_none : (mappings : List Mapping) (o : Option Action) (files : List File) → files_may_pass mappings o [] files ≡ true
+pub files_show_none : (mappings : List Mapping) (o : Option Action) (files : List File) → files_may_pass mappings o [] files ≡ true
 files_show_none mappings None files = refl
 files_show_none mappings (Some action) files = files_pass_none ((meaning action).files_left mappings) files ((meaning action).files mappings files)
 

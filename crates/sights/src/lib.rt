@@ -22,7 +22,7 @@ pub use lines_fit::{
     agree, agrees, allows_bad, allows_good, byte_in, is_among, line_fits, touches,
 };
 pub use place::CutPlace;
-pub use replies::{is_reply_of_bytes, may_be_replies};
+pub use replies::{is_reply_of_bytes, may_be_replies, most_refusal};
 pub use sight::Sight;
 pub use unit::{Unit, all_fit, page_fits};
 pub use way::Way;

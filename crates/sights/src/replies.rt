@@ -81,8 +81,8 @@ fn is_reply_of_blocks(read: &BlockRead, blocks: u64) -> bool
     }
 }
 
-// Why a read of so much of something of this size is refused, where no more than `most` is read at once.
-fn most_refusal(most: u64, size: u64, start: u64, len: u64) -> Option<Why>
+/// Why a read of so much of something of this size is refused, where no more than `most` is read at once.
+pub fn most_refusal(most: u64, size: u64, start: u64, len: u64) -> Option<Why>
     ensures { result ≡ most_refusal most size start len }
 {
     if start > size || len > size - start {

@@ -5,9 +5,10 @@ use Rattle.word_tables.specs.declared.geometry.Geometry.{Geometry}
 use Rattle.block_sights.specs.Sights.{Sight}
 use Rattle.block_sights.specs.Sights.Sight.{Whole, Scar, BadLine}
 use Rattle.script_text.specs.Action.{Action}
-use Rattle.asked_reads.specs.declared.question.Question.{Question}
+use Rattle.outcomes.specs.Blocks.{BlockRead}
+use Rattle.asked_reads.specs.Fitting.{sight_fits}
 use Rattle.sights.specs.declared.block_seen.BlockSeen.{BlockSeen}
-use Rattle.sights.specs.Units.{block_may_fit, block_once_done}
+use Rattle.sights.specs.Units.{block_once_done}
 use Rattle.sights.specs.Ways.{blocks_way}
 use Rattle.witnesses.specs.declared.block_kept.BlockKept.{BlockKept}
 use Rattle.witnesses.specs.Leaving.{made_by, unit_left}
@@ -29,17 +30,17 @@ abbrev pub block_made : Geometry → Option Action → BlockSeen → BlockSeen
 block_made geo inside seen = made_by (block_once_done geo) inside seen
 
 -- a block as it is left
-abbrev pub block_left : Geometry → Option Action → Question → List BlockSeen → BlockSeen → BlockSeen
-block_left geo inside q units seen =
-    unit_left (option_and_then blocks_way inside) (block_may_fit q) (block_made geo inside) (λ (s : BlockSeen). s.number) units seen
+abbrev pub block_left : Geometry → Option Action → List BlockRead → List BlockSeen → BlockSeen → BlockSeen
+block_left geo inside reads units seen =
+    unit_left (option_and_then blocks_way inside) (λ (s : BlockSeen). sight_fits reads s.number s.block) (block_made geo inside) (λ (s : BlockSeen). s.number) units seen
 
 -- what is kept of a block that is left so
 abbrev pub kept_block : BlockSeen → BlockSeen → BlockSeen → BlockKept
 kept_block now made left = record { number = now.number; block = left.block; free = not (same_sight now.block made.block); reach = now.reach }
 
 -- and of each
-abbrev pub block_kept : Geometry → Option Action → Question → List BlockSeen → BlockSeen → BlockKept
-block_kept geo inside q units seen = kept_block seen (block_made geo inside seen) (block_left geo inside q units seen)
+abbrev pub block_kept : Geometry → Option Action → List BlockRead → List BlockSeen → BlockSeen → BlockKept
+block_kept geo inside reads units seen = kept_block seen (block_made geo inside seen) (block_left geo inside reads units seen)
 
 -- the numbers of those that are kept
 abbrev pub numbers_of_blocks : List BlockKept → List ℕ

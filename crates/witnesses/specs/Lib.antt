@@ -3,3 +3,5 @@ pub mod Lines
 pub mod Blocks
 pub mod Telling
 pub mod Places
+pub mod Texts
+pub mod Rows

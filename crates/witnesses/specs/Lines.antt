@@ -7,10 +7,9 @@ use Rattle.nvm_model.specs.Cell.{Cell}
 use Rattle.nvm_model.specs.Cell.Cell.{Bad, Kept}
 use Rattle.script_text.specs.Action.{Action}
 use Rattle.outcomes.specs.Pages.{PageRead, all_agree}
-use Rattle.asked_reads.specs.declared.question.Question.{Question}
-use Rattle.asked_reads.specs.Asking.{volume_asked}
+use Rattle.asked_reads.specs.Fitting.{cell_fits}
 use Rattle.sights.specs.declared.line_seen.LineSeen.{LineSeen}
-use Rattle.sights.specs.Units.{line_may_fit, line_once_done}
+use Rattle.sights.specs.Units.{line_once_done}
 use Rattle.sights.specs.Ways.{lines_way}
 use Rattle.witnesses.specs.declared.line_kept.LineLeft.{LineLeft}
 use Rattle.witnesses.specs.declared.line_kept.LineLeft.TheVariants as left
@@ -52,19 +51,19 @@ abbrev pub line_made : Geometry → Option Action → LineSeen → LineSeen
 line_made geo inside seen = made_by (line_once_done geo) inside seen
 
 -- a line as it is left
-abbrev pub line_left : Geometry → Option Action → Question → List LineSeen → LineSeen → LineSeen
-line_left geo inside q lines seen =
-    unit_left (option_and_then lines_way inside) (line_may_fit q) (line_made geo inside) (λ (s : LineSeen). s.number / 64) lines seen
+abbrev pub line_left : Geometry → Option Action → List PageRead → List LineSeen → LineSeen → LineSeen
+line_left geo inside reads lines seen =
+    unit_left (option_and_then lines_way inside) (λ (s : LineSeen). cell_fits reads s.number s.line) (line_made geo inside) (λ (s : LineSeen). s.number / 64) lines seen
 
 -- what is kept of a line that is left so
-abbrev pub kept_line : Question → LineSeen → LineSeen → LineSeen → LineKept
-kept_line q now made left =
-    let kept = left_of (volume_asked q) now.number left.line in
+abbrev pub kept_line : List PageRead → LineSeen → LineSeen → LineSeen → LineKept
+kept_line reads now made left =
+    let kept = left_of reads now.number left.line in
     record { number = now.number; left = kept; free = free_words now.line made.line kept; reach = now.reach }
 
 -- and of each
-abbrev pub line_kept : Geometry → Option Action → Question → List LineSeen → LineSeen → LineKept
-line_kept geo inside q lines seen = kept_line q seen (line_made geo inside seen) (line_left geo inside q lines seen)
+abbrev pub line_kept : Geometry → Option Action → List PageRead → List LineSeen → LineSeen → LineKept
+line_kept geo inside reads lines seen = kept_line reads seen (line_made geo inside seen) (line_left geo inside reads lines seen)
 
 -- the numbers of those that are kept
 abbrev pub numbers_of_lines : List LineKept → List ℕ

@@ -5,7 +5,7 @@ ghost use Rattle.word_tables.specs.Bounds.{IsValid};
 ghost use Rattle.script_text.specs.Action.{action_of};
 ghost use Rattle.machine_host.specs.Machine.{Machine};
 ghost use Rattle.outcomes.specs.Seen.{Seen, may_show};
-ghost use Rattle.asked_reads.specs.Asking.{IsLook, may_be_replies};
+ghost use Rattle.asked_reads.specs.Asking.{IsLook, blocks_of, may_be_replies, volume_asked};
 ghost use Rattle.asked_reads.specs.Program.{IsBounded};
 ghost use Rattle.sights.specs.Following.{Follows, IsWhole, IsWithin};
 ghost use Rattle.sights.specs.Units.{block_numbers, line_numbers};
@@ -44,8 +44,12 @@ pub fn keep(
     ensures kept { (h : Machine) (look : List Seen) → Follows sight.now geometry h → IsLook look question.now
         → IsReached h (option_map action_of (option_copied inside.entry))
         → IfOk result (λ kept. may_show (look ++ told kept) (state_at h (option_map action_of (option_copied inside.entry))) ≡ true) }
-    ensures lines { IfOk result (λ kept. numbers_of_lines kept.lines.items ≡ line_numbers sight.now.lines.items) }
-    ensures blocks { IfOk result (λ kept. numbers_of_blocks kept.blocks.items ≡ block_numbers sight.now.blocks.items) }
+    ensures lines { IfOk result (λ kept. kept.lines.items
+        ≡ map (line_kept geometry (option_map action_of (option_copied inside.entry)) (volume_asked question.now) sight.now.lines.items) sight.now.lines.items) }
+    ensures blocks { IfOk result (λ kept. kept.blocks.items
+        ≡ map (block_kept geometry (option_map action_of (option_copied inside.entry)) (blocks_of question.now) sight.now.blocks.items) sight.now.blocks.items) }
+    ensures all_lines { IfOk result (λ kept. numbers_of_lines kept.lines.items ≡ line_numbers sight.now.lines.items) }
+    ensures all_blocks { IfOk result (λ kept. numbers_of_blocks kept.blocks.items ≡ block_numbers sight.now.blocks.items) }
 {
     let lines = keep_lines(alloc, question, &sight.lines, geometry, inside)?;
     let blocks = keep_blocks(alloc, question, &sight.blocks, geometry, inside)?;
@@ -62,7 +66,7 @@ fn keep_lines(
     requires valid { IsValid geometry }
     requires bounded { IsBounded (option_copied inside) }
     ensures { IfOk result (λ kept. kept.items
-        ≡ map (line_kept geometry (option_map action_of (option_copied inside.entry)) question.now lines.now) lines.now) }
+        ≡ map (line_kept geometry (option_map action_of (option_copied inside.entry)) (volume_asked question.now) lines.now) lines.now) }
 {
     let way = inside.and_then(Way::of_lines);
     let mut kept = Vec::new(alloc);
@@ -83,7 +87,7 @@ fn keep_line(
     requires valid { IsValid geometry }
     requires bounded { IsBounded (option_copied inside) }
     ensures { IfOk result (λ kept. let made = line_made geometry (option_map action_of (option_copied inside.entry)) seen.now in
-        kept ≡ kept_line question.now seen.now made (if stays then seen.now else made)) }
+        kept ≡ kept_line (volume_asked question.now) seen.now made (if stays then seen.now else made)) }
 {
     let made = make(seen, geometry, inside)?;
     let line = if stays { &seen.line } else { &made.line };
@@ -105,7 +109,7 @@ fn keep_blocks(
     requires valid { IsValid geometry }
     requires bounded { IsBounded (option_copied inside) }
     ensures { IfOk result (λ kept. kept.items
-        ≡ map (block_kept geometry (option_map action_of (option_copied inside.entry)) question.now units.now) units.now) }
+        ≡ map (block_kept geometry (option_map action_of (option_copied inside.entry)) (blocks_of question.now) units.now) units.now) }
 {
     let way = inside.and_then(Way::of_blocks);
     let mut kept = Vec::new(alloc);

@@ -1,7 +1,8 @@
 use Rattle.std.proofs.Common.{◌≡◌, ◌||◌, is_some, sym, ap, ◌∙◌, subst, arith, slice_get, Some}
 use Rattle.std.proofs.lemmas.Result.{err_from_is_err_and}
 use Rattle.asked_reads.specs.Program.{inputs_of_lines}
-use Rattle.sights.specs.Places.{found_at}
+use Rattle.sights.specs.Places.{found_stop}
+use Rattle.explorer.specs.Finding.{IsFound}
 use Rattle.program_base.specs.Opening.{opened}
 use Rattle.nvmexplore.proofs.AnswerLemmas.{answered_none, asked_at, goes_more, goes_through, goes_unfound, goes_untold}
 use Rattle.nvmexplore.proofs.answering.answer_all.Goals.{then-may, else-may}
@@ -25,7 +26,7 @@ returns-in_err-tell g c looks ask =
     (asked_at c.deref-question-items.result.now c.loop-question.question-index c.question-item.result c.loop-question-test.true c.question-item.is) in
     rw (p.1, p.2) (goes_untold _ c.args.exploration.now.questions.items c.loop-question.question-index c.question-item.result c.loop-question.may _ _ _ _ _ _ _ _ (g.D.Lines.state c.find.new.device).panel at
     c.loop-question.invariant c.in_err-tell.field-0.0 c.in_ok-found.found c.answer_line.result c.tell.result
-    (λ look is. subst (λ program. c.in_ok-found.found ≡ found_at (opened c.args.image.now.lines.items) (inputs_of_lines program) look) c.deref.ensures.value (c.in_ok-found.ensures.found look is))
+    (λ look is. subst (λ program. IsFound look (found_stop (opened c.args.image.now.lines.items) (inputs_of_lines program) look) c.in_ok-found.found) c.deref.ensures.value (c.in_ok-found.ensures.found look is))
     c.answer_line.ensures c.tell.ensures.bytes c.in_err-tell.ensures.cause looks ask)
 
 pub loop-question-preserved : goal.loop-question-preserved
@@ -38,7 +39,7 @@ loop-question-preserved g c =
     ] in
     goes_more _ c.args.exploration.now.questions.items c.loop-question.question-index c.question-item.result c.loop-question.may _ _ _ _ _ _ _ _ (g.D.Lines.state c.find.new.device).panel at
     c.loop-question.invariant c.in_ok-found.found c.if-may.may c.answer_line.result c.tell.result c.in_ok-tell.field-0
-    (λ look is. subst (λ program. c.in_ok-found.found ≡ found_at (opened c.args.image.now.lines.items) (inputs_of_lines program) look) c.deref.ensures.value (c.in_ok-found.ensures.found look is))
+    (λ look is. subst (λ program. IsFound look (found_stop (opened c.args.image.now.lines.items) (inputs_of_lines program) look) c.in_ok-found.found) c.deref.ensures.value (c.in_ok-found.ensures.found look is))
     c.in_ok-found.ensures.counts c.answer_line.ensures c.tell.ensures.bytes c.in_ok-tell.was c.tell.ensures.later says
 
 pub returns : goal.returns

@@ -1,0 +1,15 @@
+pub mod OnceLemmas
+pub mod RangeLemmas
+pub mod HistoryLemmas
+pub mod WordLemmas
+pub mod LeftLemmas
+pub mod ListedLemmas
+pub mod BlockLemmas
+pub mod RowLemmas
+pub mod ChangedLemmas
+pub mod LookLemmas
+pub mod SideLemmas
+pub mod PlaceLemmas
+pub mod GoLemmas
+pub mod SoundLemmas
+pub mod WithinLemmas

@@ -1,0 +1,47 @@
+-- The reads of a look, one after the other.
+use Rattle.std.proofs.Common.{◌≡◌, ℕ, suc, ◌+◌, ◌<◌, List, ◌∷◌, ◌++◌, drop, drop-cons, get_or, length, map, sym, ap, ◌∙◌, append_assoc, arith}
+use Rattle.word_tables.specs.declared.geometry.Geometry.{Geometry}
+use Rattle.nvm_model.specs.Cell.{Cell}
+use Rattle.block_sights.specs.Sights.{Sight}
+use Rattle.asked_reads.specs.declared.read.Read.{Read}
+use Rattle.asked_reads.specs.declared.read.Read.TheVariants.{Volume}
+use Rattle.value_tables.specs.Looking.{blocks_looked_at, blocks_touched, lines_looked_at, lines_touched, none_refused}
+use Rattle.value_tables.specs.Rows.{read_refusal, row_text, rows_of_read, rows_text}
+use Rattle.value_tables.specs.Sides.{HasRun}
+use Rattle.value_tables.proofs.RowLemmas.{run_rest}
+
+abbrev pub suc_is : (n : ℕ) → suc n ≡ n + 1
+suc_is n = omega arith
+
+abbrev pub read_at : List Read → ℕ → Read
+read_at reads i = get_or reads i (Volume 0 0)
+
+module _ (geo : Geometry) (reads : List Read) (i : ℕ) (lt : i < length reads) where
+  abbrev pub next : drop i reads ≡ read_at reads i ∷ drop (i + 1) reads
+  next = drop-cons reads i (Volume 0 0) lt ∙ ap (λ n. read_at reads i ∷ drop n reads) (suc_is i)
+
+  module _ (numbers : List ℕ) (at : ℕ) where
+    abbrev pub lines_next : drop at numbers ≡ lines_looked_at geo (drop i reads) → HasRun numbers at (none_refused (read_refusal geo (read_at reads i)) (lines_touched (read_at reads i)))
+    lines_next is = record { others = lines_looked_at geo (drop (i + 1) reads); is = is ∙ ap (lines_looked_at geo) next }
+
+    pub lines_after : (after : ℕ) → drop at numbers ≡ lines_looked_at geo (drop i reads) → after ≡ at + length (none_refused (read_refusal geo (read_at reads i)) (lines_touched (read_at reads i)))
+        → drop after numbers ≡ lines_looked_at geo (drop (i + 1) reads)
+    lines_after after is more =
+        ap (λ n. drop n numbers) more ∙ run_rest numbers at (none_refused (read_refusal geo (read_at reads i)) (lines_touched (read_at reads i))) (lines_next is)
+
+    abbrev pub blocks_next : drop at numbers ≡ blocks_looked_at geo (drop i reads) → HasRun numbers at (none_refused (read_refusal geo (read_at reads i)) (blocks_touched (read_at reads i)))
+    blocks_next is = record { others = blocks_looked_at geo (drop (i + 1) reads); is = is ∙ ap (blocks_looked_at geo) next }
+
+    pub blocks_after : (after : ℕ) → drop at numbers ≡ blocks_looked_at geo (drop i reads) → after ≡ at + length (none_refused (read_refusal geo (read_at reads i)) (blocks_touched (read_at reads i)))
+        → drop after numbers ≡ blocks_looked_at geo (drop (i + 1) reads)
+    blocks_after after is more =
+        ap (λ n. drop n numbers) more ∙ run_rest numbers at (none_refused (read_refusal geo (read_at reads i)) (blocks_touched (read_at reads i))) (blocks_next is)
+
+  pub rows_after : (lines : ℕ → List Cell) (blocks : ℕ → List Sight) (old new whole : List (List ℕ)) → old ++ rows_text lines blocks (i + 1) geo (drop i reads) ≡ whole
+      → new ≡ old ++ map (row_text lines blocks (i + 1)) (rows_of_read geo (read_at reads i)) → new ++ rows_text lines blocks (i + 1 + 1) geo (drop (i + 1) reads) ≡ whole
+  rows_after lines blocks old new whole is more =
+      ap (λ l. l ++ rows_text lines blocks (i + 1 + 1) geo (drop (i + 1) reads)) more
+      ∙ append_assoc old (map (row_text lines blocks (i + 1)) (rows_of_read geo (read_at reads i))) (rows_text lines blocks (i + 1 + 1) geo (drop (i + 1) reads))
+      ∙ ap (λ n. old ++ (map (row_text lines blocks (i + 1)) (rows_of_read geo (read_at reads i)) ++ rows_text lines blocks n geo (drop (i + 1) reads))) (sym (suc_is (i + 1)))
+      ∙ ap (λ r. old ++ rows_text lines blocks (i + 1) geo r) (sym next)
+      ∙ is

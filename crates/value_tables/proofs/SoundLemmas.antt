@@ -1,0 +1,75 @@
+-- The states of a program's places are sound where the one that it begins in is.
+use Rattle.std.proofs.Common.{◌≡◌, inl, inr, ℕ, suc, ◌/◌, ◌<◌, IsTrue, Option, Some, None, List, [], ◌∷◌, ◌++◌, length, map, refl, sym, ap, subst, ◌∙◌}
+use Rattle.std.specs.Prelude.{All}
+use Rattle.std.proofs.lemmas.List.Elements.{All-cons, All-nil}
+use Rattle.reply_text.specs.Answer.{Answer}
+use Rattle.script_text.specs.Action.{Action}
+use Rattle.script_text.specs.Script.{Input}
+use Rattle.script_text.specs.Script.Input.{Skipped, Malformed, Overlong, Asked}
+use Rattle.machine_host.specs.Machine.{Machine, Fate}
+use Rattle.machine_host.specs.Machine.Fate.{Gives, Works, Orders, Cuts, Restarts, Recovers}
+use Rattle.machine_host.specs.Commands.{fate, meaning, refusal, unless_refused, while_interrupted}
+use Rattle.durable.specs.Durable.{IsCounted}
+use Rattle.outcomes.specs.Finds.{IsReady}
+use Rattle.outcomes.specs.Stops.{IsProgram, inside, is_of_program, led_to}
+use Rattle.sights.specs.declared.place.CutPlace.{CutPlace}
+use Rattle.sights.specs.declared.place.CutPlace.TheVariants.{Before, Inside}
+use Rattle.sights.specs.Changing.{volume_change}
+use Rattle.sights.specs.Places.{Stop, cut_places}
+use Rattle.sights.specs.Seeing.{seen}
+use Rattle.sights.proofs.SizeLemmas.{geometry_stays}
+use Rattle.sights.proofs.StepLemmas.{ready_after}
+use Rattle.sights.proofs.VolumeChangeLemmas.{volume_changed}
+use Rattle.value_tables.specs.Listed.{HasWords, IsSound}
+use Rattle.value_tables.proofs.HistoryLemmas.{changed_has}
+
+counted : (h : Machine) → IsReady h → IsCounted h
+counted h ready = elim ready.whole.counted as (λ _. IsCounted h) [ inl is ↦ is | inr nothing ↦ absurd (nothing.mode ready.mode) ]
+
+module _ (h : Machine) (action : Action) (ready : IsReady h) (sound : IsSound h) (program : IsTrue (is_of_program action)) where
+  -- a state, and what a command leads to
+  after : refusal h action ≡ None → IsReady (led_to h ((meaning action).comes h)) × IsSound (led_to h ((meaning action).comes h))
+  after allowed =
+      let to = led_to h ((meaning action).comes h) in
+      let still : IsReady (led_to h ((meaning action).comes h)) = ready_after h action ready program allowed in
+      let all = counted (led_to h ((meaning action).comes h)) still in (
+        still,
+        record {
+          counted = all;
+          lines = still.whole.lines;
+          words = λ n lt.
+              let there : n / 64 < length h.volume = subst (λ m. n / 64 < m) (all.pages ∙ ap (λ geo. geo.vpages) (geometry_stays h action) ∙ sym sound.counted.pages) lt in
+              subst HasWords (sym (volume_changed h action n allowed sound.lines there)) (changed_has (volume_change h.geometry action) n (seen h.volume n) (sound.words n there));
+        },
+      )
+
+  pub next : IsReady (led_to h (fate h action)) × IsSound (led_to h (fate h action))
+  next = by_refusal (refusal h action) refl
+    where
+      by_refusal : (o : Option Answer) → refusal h action ≡ o → IsReady (led_to h (unless_refused h o ((meaning action).comes h))) × IsSound (led_to h (unless_refused h o ((meaning action).comes h)))
+      by_refusal None is = after is
+      by_refusal (Some why) is = (ready, sound)
+
+  within : (place : CutPlace) (to : Fate) (rest : List Stop) → All (λ (stop : Stop). IsSound stop.state) rest
+      → All (λ (stop : Stop). IsSound stop.state) (map (λ m. record { place = place; state = m }) (inside h action to) ++ rest)
+  within place (Gives answer to) rest all = all
+  within place (Works answer to) rest all =
+      All-cons (λ (stop : Stop). IsSound stop.state) (record { place = place; state = while_interrupted h action }) rest
+      (record { counted = record { blocks = sound.counted.blocks; pages = sound.counted.pages }; lines = sound.lines; words = sound.words }) all
+  within place (Orders order to) rest all = all
+  within place (Cuts to) rest all = all
+  within place (Restarts choice) rest all = all
+  within place Recovers rest all = all
+
+pub places_sound : (inputs : List Input) (n : ℕ) (h : Machine) → IsReady h → IsSound h → IsProgram inputs → All (λ (stop : Stop). IsSound stop.state) (cut_places n h inputs)
+places_sound [] n h ready sound program =
+    All-cons (λ (stop : Stop). IsSound stop.state) (record { place = Before n; state = h }) [] sound (All-nil (λ (stop : Stop). IsSound stop.state))
+places_sound (Skipped ∷ inputs) n h ready sound program = places_sound inputs (suc n) h ready sound program
+places_sound (Malformed ∷ inputs) n h ready sound program = places_sound inputs (suc n) h ready sound program
+places_sound (Overlong ∷ inputs) n h ready sound program = places_sound inputs (suc n) h ready sound program
+places_sound (Asked action ∷ inputs) n h ready sound program =
+    let step = next h action ready sound program.0 in
+    All-cons (λ (stop : Stop). IsSound stop.state) (record { place = Before n; state = h })
+    (map (λ m. record { place = Inside n; state = m }) (inside h action (fate h action)) ++ cut_places (suc n) (led_to h (fate h action)) inputs) sound
+    (within h action ready sound program.0 (Inside n) (fate h action) (cut_places (suc n) (led_to h (fate h action)) inputs)
+    (places_sound inputs (suc n) (led_to h (fate h action)) step.0 step.1 program.1))

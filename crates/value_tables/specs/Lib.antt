@@ -1,0 +1,9 @@
+pub mod Left
+pub mod Values
+pub mod Rows
+pub mod Sides
+pub mod Looking
+pub mod Tables
+pub mod Walking
+pub mod Listed
+pub mod Worked

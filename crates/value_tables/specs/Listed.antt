@@ -1,0 +1,62 @@
+-- Looks of one word or one block, and the states of which a table lists what they may show.
+use Rattle.std.specs.Prelude.{◌≡◌, ◌*◌, ◌/◌, ◌<◌, ◌≤◌, ℕ, Bool, List, [], ◌∷◌, length}
+use Rattle.std.specs.Int.{w64, to_le_bytes}
+use Rattle.std.specs.List.{list_any}
+use Rattle.std.specs.Str.{bytes_eq}
+use Rattle.nvm_model.specs.Cell.{Cell}
+use Rattle.nvm_model.specs.Cell.Cell.{Bad, Kept}
+use Rattle.block_sights.specs.Sights.{Sight}
+use Rattle.block_sights.specs.Sights.Sight.{Whole, Scar, BadLine}
+use Rattle.machine_host.specs.Machine.{Machine}
+use Rattle.durable.specs.Durable.{HaveLines, IsCounted}
+use Rattle.outcomes.specs.Blocks.{BlockReply}
+use Rattle.outcomes.specs.Blocks.BlockReply.{Shows as ShowsBlocks, Scar as Scarred, BadLine as Poisoned}
+use Rattle.outcomes.specs.Pages.{PageReply}
+use Rattle.outcomes.specs.Seen.{Seen}
+use Rattle.outcomes.specs.Seen.Seen.{of_blocks, of_volume}
+use Rattle.sights.specs.Seeing.{seen}
+use Rattle.value_tables.specs.Values.{same_sight}
+
+-- a line is bad, or has eight words, each with a value
+abbrev pub HaveOne : List (List ℕ) → Type 0
+HaveOne [] = Unit {0}
+HaveOne (history ∷ words) = (1 ≤ length history) × HaveOne words
+
+abbrev pub HasWords : Cell → Type 0
+HasWords Bad = Unit {0}
+HasWords (Kept weak words) = (length words ≡ 8) × HaveOne words
+
+-- all blocks and pages are there, and so are their lines as reads see them
+pub record IsSound (off : Machine) : Type 0 where
+  pub counted : IsCounted off
+  pub lines : HaveLines off.volume
+  pub words : (n : ℕ) → n / 64 < length off.volume → HasWords (seen off.volume n)
+
+-- word p is read, or block b, and answered so
+abbrev pub word_read : ℕ → PageReply → List Seen
+word_read p reply = of_volume (record { start = 8 * p; len = 8; reply = reply }) ∷ []
+
+abbrev pub block_read : ℕ → BlockReply → List Seen
+block_read b reply = of_blocks (record { first = b; count = 1; reply = reply }) ∷ []
+
+-- how it is answered where the block is seen so
+abbrev pub reply_of : ℕ → Sight → BlockReply
+reply_of b (Whole bytes) = ShowsBlocks bytes
+reply_of b Scar = Scarred b
+reply_of b (BadLine line) = Poisoned b line
+
+-- what is seen of a block that can be read are 512 bytes
+abbrev pub IsSized : Sight → Type 0
+IsSized (Whole bytes) = length bytes ≡ 512
+IsSized Scar = Unit {0}
+IsSized (BadLine line) = Unit {0}
+
+-- one of the values has these bytes, and one of the sights is seen so
+abbrev pub has_bytes : List ℕ → ℕ → Bool
+has_bytes bytes v = bytes_eq (to_le_bytes w64 v) bytes
+
+abbrev pub lists_bytes : List ℕ → List ℕ → Bool
+lists_bytes bytes values = list_any (has_bytes bytes) values
+
+abbrev pub lists_sight : Sight → List Sight → Bool
+lists_sight sight sights = list_any (same_sight sight) sights

@@ -1,0 +1,39 @@
+-- The lines and blocks that a look's reads touch.
+use Rattle.std.specs.Prelude.{◌≡◌, ◌++◌, ℕ, List, [], ◌∷◌, Option, Some, None}
+use Rattle.std.specs.List.{range_with_len}
+use Rattle.nvm_base.specs.Units.{units_of}
+use Rattle.word_tables.specs.declared.geometry.Geometry.{Geometry}
+use Rattle.reply_text.specs.declared.reply.Why.{Why}
+use Rattle.sights.specs.declared.sight.Sight.{Sight}
+use Rattle.sights.specs.Units.{block_numbers, line_numbers}
+use Rattle.asked_reads.specs.declared.read.Read.{Read}
+use Rattle.asked_reads.specs.declared.read.Read.TheVariants as reads
+use Rattle.value_tables.specs.Rows.{read_refusal}
+
+-- none, where a read is refused
+abbrev pub none_refused : Option Why → List ℕ → List ℕ
+none_refused None numbers = numbers
+none_refused (Some why) numbers = []
+
+-- the lines that a read touches, and the blocks
+abbrev pub lines_touched : Read → List ℕ
+lines_touched (reads.Volume start len) = let lines = units_of 64 (record { start = start; len = len }) in range_with_len lines.start lines.len
+lines_touched (reads.Blocks first count) = []
+
+abbrev pub blocks_touched : Read → List ℕ
+blocks_touched (reads.Volume start len) = []
+blocks_touched (reads.Blocks first count) = range_with_len first count
+
+-- those of a look, read by read
+abbrev pub lines_looked_at : Geometry → List Read → List ℕ
+lines_looked_at geo [] = []
+lines_looked_at geo (read ∷ look) = none_refused (read_refusal geo read) (lines_touched read) ++ lines_looked_at geo look
+
+abbrev pub blocks_looked_at : Geometry → List Read → List ℕ
+blocks_looked_at geo [] = []
+blocks_looked_at geo (read ∷ look) = none_refused (read_refusal geo read) (blocks_touched read) ++ blocks_looked_at geo look
+
+-- it is of these lines and blocks, and of no other
+pub record IsOf (sight : Sight) (geo : Geometry) (look : List Read) : Type 0 where
+  pub lines : line_numbers sight.lines.items ≡ lines_looked_at geo look
+  pub blocks : block_numbers sight.blocks.items ≡ blocks_looked_at geo look

@@ -1,0 +1,72 @@
+-- The rows of a table: one for each word and each block that a read touches, or one for a read that is refused.
+use Rattle.std.specs.Prelude.{◌*◌, ◌/◌, ◌%◌, ◌++◌, ℕ, suc, List, [], ◌∷◌, map, codes, decimal, Option, Some, None, if◌then◌else◌}
+use Rattle.std.specs.List.{range_with_len}
+use Rattle.std.specs.Int.{w64, to_le_bytes}
+use Rattle.nvm_base.specs.Data.{data_text}
+use Rattle.nvm_base.specs.Units.{units_of}
+use Rattle.word_tables.specs.declared.geometry.Geometry.{Geometry}
+use Rattle.nvm_model.specs.Cell.{Cell}
+use Rattle.block_sights.specs.Sights.{Sight}
+use Rattle.block_sights.specs.Sights.Sight.{Whole, Scar, BadLine}
+use Rattle.reply_text.specs.declared.reply.Why.{Why}
+use Rattle.reply_text.specs.Answer.{answer_line}
+use Rattle.reply_text.specs.Answer.Answer.{Refused}
+use Rattle.machine_host.specs.Meaning.{most_refusal}
+use Rattle.machine_host.specs.Machine.{Machine}
+use Rattle.asked_reads.specs.declared.read.Read.{Read}
+use Rattle.asked_reads.specs.declared.read.Read.TheVariants as reads
+use Rattle.value_tables.specs.declared.shown.Shown.{Shown}
+use Rattle.value_tables.specs.declared.shown.Shown.TheVariants.{Word, Block, Refuses}
+use Rattle.value_tables.specs.Left.{block_left, line_left}
+use Rattle.value_tables.specs.Values.{block_values, may_be_bad, word_values}
+
+-- why a read is refused, whatever is stored
+abbrev pub read_refusal : Geometry → Read → Option Why
+read_refusal geo (reads.Volume start len) = most_refusal 65536 (4096 * geo.vpages) start len
+read_refusal geo (reads.Blocks first count) = most_refusal 128 geo.blocks first count
+
+-- the words or the blocks that it touches
+abbrev pub touched : Read → List Shown
+touched (reads.Volume start len) = let words = units_of 8 (record { start = start; len = len }) in map Word (range_with_len words.start words.len)
+touched (reads.Blocks first count) = map Block (range_with_len first count)
+
+-- what its rows show
+abbrev pub unless_refused : Option Why → List Shown → List Shown
+unless_refused None shown = shown
+unless_refused (Some why) shown = Refuses why ∷ []
+
+abbrev pub rows_of_read : Geometry → Read → List Shown
+rows_of_read geo read = unless_refused (read_refusal geo read) (touched read)
+
+-- values of words behind one another, each as its bytes, the lowest first
+abbrev pub words_text : List ℕ → List ℕ
+words_text [] = []
+words_text (v ∷ values) = 32 ∷ data_text (to_le_bytes w64 v) ++ words_text values
+
+-- what may be read of a word of these lines, and of a block that may be seen so
+abbrev pub word_text : ℕ → List Cell → List ℕ
+word_text w cells = (if may_be_bad cells then codes " poison" else []) ++ words_text (word_values w cells)
+
+abbrev pub sight_text : Sight → List ℕ
+sight_text (Whole bytes) = 32 ∷ data_text bytes
+sight_text Scar = codes " scarred"
+sight_text (BadLine line) = codes " poison " ++ decimal line
+
+abbrev pub sights_text : List Sight → List ℕ
+sights_text [] = []
+sights_text (sight ∷ sights) = sight_text sight ++ sights_text sights
+
+-- a row of read k, with its line feed, where lines and blocks may be these
+abbrev pub row_text : (ℕ → List Cell) → (ℕ → List Sight) → ℕ → Shown → List ℕ
+row_text lines blocks k (Word p) = decimal k ++ (codes " volume " ++ (decimal (8 * p) ++ (word_text (p % 8) (lines (p / 8)) ++ 10 ∷ [])))
+row_text lines blocks k (Block b) = decimal k ++ (codes " block " ++ (decimal b ++ (sights_text (block_values (blocks b)) ++ 10 ∷ [])))
+row_text lines blocks k (Refuses why) = decimal k ++ (32 ∷ answer_line (Refused why))
+
+-- the rows of reads, of which the first has number k
+abbrev pub rows_text : (ℕ → List Cell) → (ℕ → List Sight) → ℕ → Geometry → List Read → List (List ℕ)
+rows_text lines blocks k geo [] = []
+rows_text lines blocks k geo (read ∷ reads) = map (row_text lines blocks k) (rows_of_read geo read) ++ rows_text lines blocks (suc k) geo reads
+
+-- those of a look, where the power goes in this state
+abbrev pub rows_at : List Read → Machine → List (List ℕ)
+rows_at look off = rows_text (line_left off) (block_left off) 1 off.geometry look

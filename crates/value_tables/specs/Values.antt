@@ -1,0 +1,49 @@
+-- The values that a word may have once the power is back, and what reads may see of a block, each once.
+use Rattle.std.specs.Prelude.{◌==◌, ◌++◌, ℕ, Bool, true, false, List, [], ◌∷◌, slice_index_or, Some, if◌then◌else◌}
+use Rattle.std.specs.List.{list_any}
+use Rattle.std.specs.Str.{bytes_eq}
+use Rattle.nvm_model.specs.Cell.{Cell}
+use Rattle.nvm_model.specs.Cell.Cell.{Bad, Kept}
+use Rattle.nvm_model.specs.Page.{is_bad_cell}
+use Rattle.block_sights.specs.Sights.{Sight}
+use Rattle.block_sights.specs.Sights.Sight.{Whole, Scar, BadLine}
+
+-- one more, unless it is there; and more, one after the other
+abbrev pub with_one : {A : Type 0} → (A → A → Bool) → List A → A → List A
+with_one same found x = if list_any (same x) found then found else found ++ x ∷ []
+
+abbrev pub with_all : {A : Type 0} → (A → A → Bool) → List A → List A → List A
+with_all same found [] = found
+with_all same found (x ∷ xs) = with_all same (with_one same found x) xs
+
+-- the values of word w of a line, oldest first; a bad line has none
+abbrev pub history_of : ℕ → Cell → List ℕ
+history_of w Bad = []
+history_of w (Kept weak words) = slice_index_or words w []
+
+-- what it may have where the line is one of these, behind what was found; and all of that
+abbrev pub values_with : ℕ → List ℕ → List Cell → List ℕ
+values_with w found [] = found
+values_with w found (cell ∷ cells) = values_with w (with_all (λ a b. a == b) found (history_of w cell)) cells
+
+abbrev pub word_values : ℕ → List Cell → List ℕ
+word_values w cells = values_with w [] cells
+
+-- one of the lines is bad
+abbrev pub may_be_bad : List Cell → Bool
+may_be_bad cells = list_any (λ cell. is_bad_cell (Some cell)) cells
+
+-- reads see the same of both
+abbrev pub same_sight : Sight → Sight → Bool
+same_sight (Whole bytes) (Whole others) = bytes_eq bytes others
+same_sight (Whole bytes) Scar = false
+same_sight (Whole bytes) (BadLine line) = false
+same_sight Scar (Whole bytes) = false
+same_sight Scar Scar = true
+same_sight Scar (BadLine line) = false
+same_sight (BadLine line) (Whole bytes) = false
+same_sight (BadLine line) Scar = false
+same_sight (BadLine line) (BadLine other) = line == other
+
+abbrev pub block_values : List Sight → List Sight
+block_values sights = with_all same_sight [] sights

@@ -1,0 +1,22 @@
+//! The values that the words and blocks of a look may have once the power is back, by the places of a cut at which these change.
+#![tactic(auto)]
+
+mod after;
+mod blocks;
+mod keeping;
+mod laws;
+mod listing;
+mod looks;
+mod refusal;
+mod row;
+mod rows;
+mod shown;
+mod sides;
+mod table;
+#[cfg(test)]
+mod tests;
+mod values;
+
+pub use laws::{a_value_is_listed_where_it_may_be_shown, each_place_is_sound, worked_tables};
+pub use listing::table_of;
+pub use refusal::read_refusal;

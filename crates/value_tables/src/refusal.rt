@@ -1,0 +1,25 @@
+ghost use Rattle.std.specs.Prelude.{◌≡◌};
+ghost use Rattle.word_tables.specs.Bounds.{IsValid};
+ghost use Rattle.value_tables.specs.Rows.{read_refusal};
+
+use asked_reads::Read;
+use nvm_base::{MOST, PAGE};
+use reply_text::Why;
+use sights::most_refusal;
+use word_tables::Geometry;
+
+/// Most blocks that are read at once.
+const MOST_BLOCKS: u64 = 128;
+
+/// Why a read is refused, whatever is stored.
+pub fn read_refusal(geometry: Geometry, read: &Read) -> Option<Why>
+    requires { IsValid geometry }
+    ensures { result ≡ read_refusal geometry read.now }
+{
+    match read {
+        Read::Volume { start, len } => most_refusal(MOST, PAGE * geometry.vpages, *start, *len),
+        Read::Blocks { first, count } => {
+            most_refusal(MOST_BLOCKS, geometry.blocks, u64::from(*first), *count)
+        }
+    }
+}

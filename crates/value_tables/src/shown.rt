@@ -1,0 +1,12 @@
+use reply_text::Why;
+
+/// What a row shows of a read.
+#[derive(Clone, Copy, Debug, PartialEq, Eq)]
+pub enum Shown {
+    /// The word of that number.
+    Word(u64),
+    /// The block of that number.
+    Block(u64),
+    /// Why it is refused, whatever is stored.
+    Refuses(Why),
+}
