@@ -18,7 +18,7 @@ stretch_held s = record { name = s.name; span = record { start = s.start; len = 
 abbrev pub mapping_held : MapSeen → Mapping
 mapping_held m = mapping_under m.handle (stretch_held m.stretch)
 
--- a mapping without its copy, and all of a machine
+-- a mapping without its copy
 abbrev pub uncopied : Mapping → Mapping
 uncopied m = record m { copy = [] }
 

@@ -27,7 +27,7 @@ pub record SeesFile (numbers : List ℕ) (kept : FileState) (file : File) : Type
   pub held : line_numbers kept.lines ≡ numbers
   pub lines : AreLines (seen file.pages) kept.lines
 
--- So are all files, which are in order of name, and the mappings but for their copies.
+-- So are all files, which are in order of name, and the mappings but for their copies. Handles end at 2 ^ 32.
 pub record SeesFiles (held : FilesState) (h : Machine) : Type 0 where
   pub files : AreAlike name_seen file_name (SeesFile held.numbers) held.files h.files
   pub in_order : rises file_name h.files ≡ true

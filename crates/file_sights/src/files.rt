@@ -61,8 +61,9 @@ impl FilesSeen {
     /// What becomes of them once a command is done.
     pub fn change(&mut self, command: &Command) -> Result<(), AllocError>
         requires bounded { InBounds (action_of command.now) }
-        ensures { (h : Machine) → SeesFiles self.old h → IsComplete h → refusal h (action_of command.now) ≡ None
+        ensures follows { (h : Machine) → SeesFiles self.old h → IsComplete h → refusal h (action_of command.now) ≡ None
             → OnOk result (SeesFiles self.new (led_to h ((meaning (action_of command.now)).comes h))) }
+        ensures numbers { OnOk result (self.new.numbers ≡ self.old.numbers) }
     {
         let change = change_of(self.alloc, &self.maps, command)?;
         self.make(&change)
