@@ -1,11 +1,10 @@
 -- What is told of lines and blocks, as a question of its own.
-use Rattle.std.proofs.Common.{◌≡◌, ℕ, ◌+◌, ◌-◌, ◌*◌, ◌/◌, ◌%◌, ◌<◌, ◌≤◌, ◌==◌, ◌&&◌, nat_lt, Bool, true, false, cond, Option, Some, None, List, [], ◌∷◌, ◌++◌, map, length, slice_index, refl, sym, ap, ◌∙◌, arith, eq-eqb}
+use Rattle.std.proofs.Common.{◌≡◌, ℕ, ◌+◌, ◌-◌, ◌*◌, ◌/◌, ◌%◌, ◌<◌, ◌≤◌, ◌==◌, ◌&&◌, nat_lt, true, cond, Option, Some, None, List, [], ◌∷◌, ◌++◌, map, length, slice_index, refl, sym, ap, ◌∙◌, arith, eq-eqb}
 use Rattle.std.specs.Int.{byte_at}
 use Rattle.std.specs.List.{range_with_len}
 use Rattle.std.proofs.lemmas.Bool.{and_from, le-ltb, lt-ltb, ne_eqb}
 use Rattle.std.proofs.lemmas.List.{length-map}
 use Rattle.nvm_model.specs.Cell.{Cell, touches}
-use Rattle.nvm_model.specs.Numbered.{is_among, list_from}
 use Rattle.nvm_model.proofs.NumberedLemmas.{length-list_from}
 use Rattle.block_sights.specs.Sights.{Sight as Seen}
 use Rattle.block_sights.specs.Sights.Sight.{Whole, Scar, BadLine}
@@ -13,8 +12,8 @@ use Rattle.nvm_model.specs.Blocks.{first_there}
 use Rattle.reply_text.specs.declared.reply.Why.{Why}
 use Rattle.reply_text.specs.declared.reply.Why.TheVariants as because
 use Rattle.machine_host.specs.Meaning.{most_refusal}
-use Rattle.outcomes.specs.Blocks.{BlockRead, BlockReply, all_numbers_read, is_block_reply, is_block_reply_by, is_read_of_blocks, numbers_read}
-use Rattle.outcomes.specs.Pages.{PageRead, PageReply, all_lines_read, is_given, is_reply, is_reply_by, lines_read}
+use Rattle.outcomes.specs.Blocks.{all_numbers_read, is_block_reply, is_block_reply_by, is_read_of_blocks, numbers_read}
+use Rattle.outcomes.specs.Pages.{PageRead, all_lines_read, is_given, is_reply, is_reply_by, lines_read}
 use Rattle.asked_reads.specs.declared.question.Question.{Question}
 use Rattle.asked_reads.specs.declared.reads.PageReply.{PageReply as AskedOfPages}
 use Rattle.asked_reads.specs.declared.reads.PageReply.TheVariants as asked_pages
@@ -23,7 +22,7 @@ use Rattle.asked_reads.specs.declared.reads.BlockReply.{BlockReply as AskedOfBlo
 use Rattle.asked_reads.specs.declared.reads.BlockReply.TheVariants as asked_blocks
 use Rattle.asked_reads.specs.declared.reads.BlockRead.{BlockRead as AskedBlocks}
 use Rattle.asked_reads.specs.Asking.{blocks_of, volume_asked}
-use Rattle.asked_reads.specs.Reads.{block_read, block_reply as reply_of_blocks, blocks_asked, page_read, page_reply, pages_asked}
+use Rattle.asked_reads.specs.Reads.{block_reply as reply_of_blocks, blocks_asked, page_reply, pages_asked}
 use Rattle.sights.specs.declared.line_seen.LineSeen.{LineSeen}
 use Rattle.sights.specs.declared.block_seen.BlockSeen.{BlockSeen}
 use Rattle.sights.specs.declared.sight.Sight.{Sight}
@@ -34,7 +33,6 @@ use Rattle.witnesses.specs.Lines.{left_of}
 use Rattle.witnesses.specs.Telling.{block_reply, bytes_of_words, line_reply}
 use Rattle.witnesses.proofs.BlockToldLemmas.{among_own, told_as as block_told_as}
 use Rattle.witnesses.proofs.LineToldLemmas.{told_as as line_told_as}
-use Rattle.witnesses.proofs.ListLemmas.{IsAmong, all_from}
 
 -- a told read, as a question asks for it
 asked_of_line : ℕ → LineLeft → AskedOfPages

@@ -1,5 +1,5 @@
 -- What is kept is left by a cut that leaves what the question asks.
-use Rattle.std.proofs.Common.{◌≡◌, ℕ, ◌*◌, ◌/◌, ◌<◌, ◌&&◌, Bool, true, false, cond, Option, Some, None, inl, inr, List, [], ◌∷◌, ◌++◌, map, length, refl, sym, ap, subst, ◌∙◌}
+use Rattle.std.proofs.Common.{◌≡◌, ℕ, ◌*◌, ◌/◌, true, cond, Option, List, [], ◌∷◌, ◌++◌, map, length, refl, sym, ap, subst, ◌∙◌}
 use Rattle.std.specs.List.{list_all}
 use Rattle.std.specs.Option.{option_and_then}
 use Rattle.std.proofs.lemmas.Bool.{and_from, and_parts}
@@ -10,33 +10,23 @@ use Rattle.nvm_model.specs.Cell.{Cell}
 use Rattle.nvm_model.specs.Storage.{Block}
 use Rattle.block_sights.specs.Sights.{Sight as Look, sight}
 use Rattle.block_sights.specs.Sights.Sight.{Whole}
-use Rattle.block_sights.proofs.SeenLemmas.{seen_size}
 use Rattle.script_text.specs.Action.{Action}
 use Rattle.machine_host.specs.Machine.{Machine}
-use Rattle.machine_host.specs.Commands.{meaning, refusal}
-use Rattle.durable.specs.Durable.{HaveEightLines}
 use Rattle.outcomes.specs.Blocks.{BlockRead, all_numbers_read, block_fits, is_block_reply}
 use Rattle.outcomes.specs.Pages.{PageRead, all_lines_read, is_reply, line_fits}
 use Rattle.outcomes.specs.Seen.{Seen, may_show}
 use Rattle.outcomes.specs.Seen.Seen.{of_blocks, of_volume}
-use Rattle.outcomes.specs.Stops.{led_to}
 use Rattle.asked_reads.specs.declared.question.Question.{Question}
 use Rattle.asked_reads.specs.Asking.{IsLook, blocks_of, may_be_replies, volume_asked}
 use Rattle.asked_reads.specs.Fitting.{cell_fits, sight_fits}
 use Rattle.sights.specs.declared.line_seen.LineSeen.{LineSeen}
 use Rattle.sights.specs.declared.block_seen.BlockSeen.{BlockSeen}
 use Rattle.sights.specs.declared.sight.Sight.{Sight}
-use Rattle.sights.specs.Changing.{line_changed, volume_change}
-use Rattle.sights.specs.ChangingBlocks.{block_changed}
 use Rattle.sights.specs.Following.{Follows, IsWhole, IsWithin}
 use Rattle.sights.specs.Seeing.{seen}
-use Rattle.sights.specs.Sights.{shows, shows_inside}
-use Rattle.sights.specs.Units.{AreAmong, AreBlocks, AreLines, AreWithin, block_may_fit, block_numbers, line_may_fit, line_numbers}
-use Rattle.sights.specs.Ways.{blocks_way, lines_way, passes_inside}
-use Rattle.sights.proofs.BlockChangeLemmas.{blocks_changed}
-use Rattle.sights.proofs.InsideLemmas.{AreThere}
-use Rattle.sights.proofs.MayShowLemmas.{shows_now, shows_within}
-use Rattle.sights.proofs.StepLemmas.{blocks_in, lines_of}
+use Rattle.sights.specs.Units.{block_may_fit, block_numbers, line_may_fit, line_numbers}
+use Rattle.sights.specs.Ways.{blocks_way, lines_way}
+use Rattle.sights.proofs.StepLemmas.{blocks_in}
 use Rattle.witnesses.specs.declared.block_kept.BlockKept.{BlockKept}
 use Rattle.witnesses.specs.declared.kept.Kept.{Kept}
 use Rattle.witnesses.specs.declared.line_kept.LineKept.{LineKept}
@@ -51,100 +41,7 @@ use Rattle.witnesses.proofs.LeavingLemmas.{left_fits, left_passes, stays_same}
 use Rattle.witnesses.proofs.LineToldLemmas.{told_as as line_told_as, kept_fits as line_kept_fits, told_fits as line_told_fits}
 use Rattle.witnesses.proofs.ListLemmas.{IsAmong, all_from}
 use Rattle.witnesses.proofs.SeenLemmas.{blocks_in as blocks_read_in, both_shown, files_in, look_of, volume_in}
-
--- a cut there leaves lines and blocks so, and the other way round
-both_parts : (geo : Geometry) (inside : Option Action) (q : Question) (now : Sight) → shows_at geo inside q now ≡ true
-    → (passes_inside (option_and_then lines_way inside) (line_may_fit q) (λ s. line_may_fit q (line_made geo inside s)) (λ (s : LineSeen). s.number / 64) now.lines.items ≡ true)
-    × (passes_inside (option_and_then blocks_way inside) (block_may_fit q) (λ s. block_may_fit q (block_made geo inside s)) (λ (s : BlockSeen). s.number) now.blocks.items ≡ true)
-both_parts geo None q now shown = and_parts (list_all (line_may_fit q) now.lines.items) (list_all (block_may_fit q) now.blocks.items) shown
-both_parts geo (Some action) q now shown =
-    and_parts (passes_inside (lines_way action) (line_may_fit q) (λ s. line_may_fit q (line_made geo (Some action) s)) (λ (s : LineSeen). s.number / 64) now.lines.items)
-    (passes_inside (blocks_way action) (block_may_fit q) (λ s. block_may_fit q (block_made geo (Some action) s)) (λ (s : BlockSeen). s.number) now.blocks.items) shown
-
-from_parts : (geo : Geometry) (inside : Option Action) (q : Question) (now : Sight)
-    → passes_inside (option_and_then lines_way inside) (line_may_fit q) (λ s. line_may_fit q (line_made geo inside s)) (λ (s : LineSeen). s.number / 64) now.lines.items ≡ true
-    → passes_inside (option_and_then blocks_way inside) (block_may_fit q) (λ s. block_may_fit q (block_made geo inside s)) (λ (s : BlockSeen). s.number) now.blocks.items ≡ true
-    → shows_at geo inside q now ≡ true
-from_parts geo None q now lines blocks = and_from (list_all (line_may_fit q) now.lines.items) (list_all (block_may_fit q) now.blocks.items) lines blocks
-from_parts geo (Some action) q now lines blocks =
-    and_from (passes_inside (lines_way action) (line_may_fit q) (λ s. line_may_fit q (line_made geo (Some action) s)) (λ (s : LineSeen). s.number / 64) now.lines.items)
-    (passes_inside (blocks_way action) (block_may_fit q) (λ s. block_may_fit q (block_made geo (Some action) s)) (λ (s : BlockSeen). s.number) now.blocks.items) lines blocks
-
--- what is left of a line, or of a block, has its number
-line_number : (geo : Geometry) (inside : Option Action) (b : Bool) (s : LineSeen) → (cond b s (line_made geo inside s)).number ≡ s.number
-line_number geo inside true s = refl
-line_number geo None false s = refl
-line_number geo (Some action) false s = refl
-
-block_number : (geo : Geometry) (inside : Option Action) (b : Bool) (s : BlockSeen) → (cond b s (block_made geo inside s)).number ≡ s.number
-block_number geo inside true s = refl
-block_number geo None false s = refl
-block_number geo (Some action) false s = refl
-
--- two that look at the same are left alike
-line_same : (geo : Geometry) (inside : Option Action) (b : Bool) (s t : LineSeen) → s.number ≡ t.number → s.line ≡ t.line → (cond b s (line_made geo inside s)).line ≡ (cond b t (line_made geo inside t)).line
-line_same geo inside true s t number line = line
-line_same geo None false s t number line = line
-line_same geo (Some action) false s t number line = ap (λ n. line_changed (volume_change geo action) n s.line) number ∙ ap (line_changed (volume_change geo action) t.number) line
-
-block_same : (geo : Geometry) (inside : Option Action) (b : Bool) (s t : BlockSeen) → s.number ≡ t.number → s.block ≡ t.block → (cond b s (block_made geo inside s)).block ≡ (cond b t (block_made geo inside t)).block
-block_same geo inside true s t number block = block
-block_same geo None false s t number block = block
-block_same geo (Some action) false s t number block = ap (λ n. block_changed action n s.block) number ∙ ap (block_changed action t.number) block
-
--- a line among those of a state is its line
-line_of : (f : ℕ → Cell) (lines : List LineSeen) (s : LineSeen) → AreLines f lines → IsAmong s lines → s.line ≡ f s.number
-line_of f [] s are is = absurd is
-line_of f (x ∷ lines) s are (inl same) = subst (λ (y : LineSeen). y.line ≡ f y.number) (sym same) are.0
-line_of f (x ∷ lines) s are (inr later) = line_of f lines s are.1 later
-
-block_of : (f : ℕ → Look) (units : List BlockSeen) (s : BlockSeen) → AreBlocks f units → IsAmong s units → s.block ≡ f s.number
-block_of f [] s are is = absurd is
-block_of f (x ∷ units) s are (inl same) = subst (λ (y : BlockSeen). y.block ≡ f y.number) (sym same) are.0
-block_of f (x ∷ units) s are (inr later) = block_of f units s are.1 later
-
-line_within : (geo : Geometry) (lines : List LineSeen) (s : LineSeen) → AreWithin geo lines → IsAmong s lines → s.number < 64 * geo.vpages
-line_within geo [] s within is = absurd is
-line_within geo (x ∷ lines) s within (inl same) = subst (λ (y : LineSeen). y.number < 64 * geo.vpages) (sym same) within.0
-line_within geo (x ∷ lines) s within (inr later) = line_within geo lines s within.1 later
-
-block_within : (geo : Geometry) (units : List BlockSeen) (s : BlockSeen) → AreAmong geo units → IsAmong s units → s.number < geo.blocks
-block_within geo [] s within is = absurd is
-block_within geo (x ∷ units) s within (inl same) = subst (λ (y : BlockSeen). y.number < geo.blocks) (sym same) within.0
-block_within geo (x ∷ units) s within (inr later) = block_within geo units s within.1 later
-
-there : (blocks : List Block) (units : List BlockSeen) (s : BlockSeen) → AreThere blocks units → IsAmong s units → s.number < length blocks
-there blocks [] s are is = absurd is
-there blocks (x ∷ units) s are (inl same) = subst (λ (y : BlockSeen). y.number < length blocks) (sym same) are.0
-there blocks (x ∷ units) s are (inr later) = there blocks units s are.1 later
-
--- what holds of the number of each unit holds of each number
-from_numbers : {A : Type 0} (number : A → ℕ) (units : List A) (P : ℕ → Type 0) → ((s : A) → IsAmong s units → P (number s)) → (n : ℕ) → IsAmong n (map number units) → P n
-from_numbers number [] P each n is = absurd is
-from_numbers number (s ∷ units) P each n (inl same) = subst P (sym same) (each s (inl refl))
-from_numbers number (s ∷ units) P each n (inr later) = from_numbers number units P (λ t among. each t (inr among)) n later
-
--- a block that can be read has 512 bytes
-sized : (h : Machine) (inside : Option Action) (s : BlockSeen) → s.block ≡ sight (nth h.blocks s.number) → IsReached h inside → HaveEightLines h.blocks → s.number < length h.blocks
-    → (b : Bool) (bytes : List ℕ) → (cond b s (block_made h.geometry inside s)).block ≡ Whole bytes → length bytes ≡ 512
-sized h inside s is reached eight within true bytes whole = seen_size (nth h.blocks s.number) bytes (sym is ∙ whole)
-sized h None s is reached eight within false bytes whole = seen_size (nth h.blocks s.number) bytes (sym is ∙ whole)
-sized h (Some action) s is reached eight within false bytes whole =
-    seen_size (nth (led_to h ((meaning action).comes h)).blocks s.number) bytes
-    (blocks_changed h action s.number reached eight within ∙ ap (block_changed action s.number) (sym is) ∙ whole)
-
--- what a state shows there
-geometry_at : (h : Machine) (inside : Option Action) → (state_at h inside).geometry ≡ h.geometry
-geometry_at h None = refl
-geometry_at h (Some action) = refl
-
-shown_at : (h : Machine) (look : List Seen) (q : Question) (inside : Option Action) (now : Sight) → Follows now h.geometry h → IsLook look q → IsWhole now q → IsWithin now h.geometry
-    → may_be_replies h.geometry q ≡ true → shows_at h.geometry inside q now ≡ true → IsReached h inside → may_show look (state_at h inside) ≡ true
-shown_at h look q None now follows is whole within replies shown reached =
-    shows_now h look q now is follows.sees whole follows.ready.settled ∙ and_from (may_be_replies h.geometry q) (shows q now) replies shown
-shown_at h look q (Some action) now follows is whole within replies shown reached =
-    shows_within h look q now is follows.sees whole action reached follows.ready.whole (lines_of h now follows.ready within) (blocks_in h now follows.ready within)
-    ∙ and_from (may_be_replies h.geometry q) (shows_inside h.geometry action q now) replies shown
+use Rattle.witnesses.proofs.UnitLemmas.{block_number, block_of, block_same, block_within, both_parts, from_numbers, from_parts, geometry_at, line_number, line_of, line_same, line_within, shown_at, sized, there}
 
 module _ (h : Machine) (look : List Seen) (q : Question) (inside : Option Action) (now : Sight) (follows : Follows now h.geometry h) (is : IsLook look q) (whole : IsWhole now q)
     (within : IsWithin now h.geometry) (replies : may_be_replies h.geometry q ≡ true) (shown : shows_at h.geometry inside q now ≡ true) (reached : IsReached h inside) where

@@ -7,5 +7,6 @@ pub mod ValueLemmas
 pub mod BlockToldLemmas
 pub mod SeenLemmas
 pub mod AskedLemmas
+pub mod UnitLemmas
 pub mod KeepLemmas
 pub mod TextLemmas

@@ -1,5 +1,5 @@
 -- Storage that may be left so that it passes one test passes another, where each unit that passes the one passes the other.
-use Rattle.std.proofs.Common.{◌≡◌, ℕ, ◌==◌, ◌/◌, ◌||◌, Bool, true, false, not, inl, inr, List, ◌++◌, length, Option, Some, None, refl, ap, ◌∙◌}
+use Rattle.std.proofs.Common.{◌≡◌, ℕ, ◌==◌, ◌/◌, ◌||◌, Bool, true, not, inl, inr, List, ◌++◌, length, Option, Some, None}
 use Rattle.std.specs.List.{list_all}
 use Rattle.std.proofs.lemmas.Bool.{or_cases, or_left, or_right}
 use Rattle.nvm_model.specs.Blocks.{nth}
@@ -12,7 +12,7 @@ use Rattle.machine_host.specs.Commands.{meaning}
 use Rattle.machine_host.specs.Meaning.{BlocksLeft, VolumeLeft}
 use Rattle.machine_host.specs.Meaning.BlocksLeft.{Same, Either, Mixed}
 use Rattle.machine_host.specs.Meaning.VolumeLeft.{Kept, PartStored, PartSynced, AllOrNone, PageByPage}
-use Rattle.outcomes.specs.Left.{blocks_may_pass, blocks_pass, stored_passes, volume_may_pass, volume_passes}
+use Rattle.outcomes.specs.Left.{blocks_may_pass, blocks_pass, volume_may_pass, volume_passes}
 use Rattle.outcomes.specs.Ways.{all_pass, each_passes, group_passes, groups_pass}
 use Rattle.witnesses.proofs.ListLemmas.{IsAmong, all_from, all_of, all_twice}
 

@@ -1,5 +1,5 @@
 -- Reads of one look behind those of another: what a state may show of both.
-use Rattle.std.proofs.Common.{◌≡◌, ℕ, ◌*◌, ◌&&◌, Bool, true, List, [], ◌∷◌, ◌++◌, map, refl, sym, ap, ◌∙◌, append_assoc, append-nil, Option}
+use Rattle.std.proofs.Common.{◌≡◌, ℕ, ◌*◌, ◌&&◌, true, List, [], ◌∷◌, ◌++◌, map, refl, sym, ap, ◌∙◌, append_assoc, append-nil, Option}
 use Rattle.std.specs.List.{list_all}
 use Rattle.std.proofs.lemmas.Bool.{and_from, and_parts}
 use Rattle.std.proofs.lemmas.List.Folds.{list_all-append}
@@ -7,7 +7,7 @@ use Rattle.nvm_model.specs.Cell.{Cell}
 use Rattle.nvm_model.specs.Storage.{Block}
 use Rattle.machine_host.specs.Machine.{Machine}
 use Rattle.outcomes.specs.Blocks.{BlockRead, all_numbers_read, block_fits, is_block_reply, numbers_read}
-use Rattle.outcomes.specs.Left.{blocks_may_pass, files_may_pass, volume_may_pass}
+use Rattle.outcomes.specs.Left.{blocks_may_pass, volume_may_pass}
 use Rattle.outcomes.specs.Pages.{PageRead, all_lines_read, is_reply, line_fits, lines_read}
 use Rattle.outcomes.specs.Seen.{Seen, block_reads, blocks_may_show, file_reads, files_may_show, may_show, volume_may_show, volume_reads}
 use Rattle.outcomes.specs.Seen.Seen.{of_blocks, of_file, of_volume}

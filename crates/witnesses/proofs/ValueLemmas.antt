@@ -37,13 +37,6 @@ agreed_by reads n w durable value log (Kept weak words) has none is =
     ∙ sym (ap (λ b. unwrap_or (cond b (Some durable) (find (all_agree reads (8 * n + w)) (history_in log w))) 0) none)
     ∙ sym (ap (first_agreed reads (8 * n + w)) has)
 
--- and it is the durable one, where that does
-pub durable_by : (reads : List PageRead) (n w durable : ℕ) (log : List Stored) (cell : Cell) → HasHistory cell w (durable ∷ history_in log w) → all_agree reads (8 * n + w) durable ≡ true
-    → IsAgreed reads n w cell durable
-durable_by reads n w durable log Bad has agrees = tt
-durable_by reads n w durable log (Kept weak words) has agrees =
-    sym (ap (λ b. unwrap_or (cond b (Some durable) (find (all_agree reads (8 * n + w)) (history_in log w))) 0) agrees) ∙ sym (ap (first_agreed reads (8 * n + w)) has)
-
 -- a word has another value where the durable one, or one of the log, is another
 pub other_by : (w durable value : ℕ) (log : List Stored) (cell : Cell) (has : Bool) → HasHistory cell w (durable ∷ history_in log w) → (durable == value) ≡ true
     → has ≡ list_any (λ (stored : Stored). (stored.word == w) && not (stored.value == value)) log → HasOther cell w value has

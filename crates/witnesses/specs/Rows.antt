@@ -1,10 +1,8 @@
 -- Worked witnesses: how a cut leaves what is asked, as it is printed.
-use Rattle.std.specs.Prelude.{◌≡◌, ◌<◌, ◌^◌, ◌++◌, ℕ, true, false, List, [], ◌∷◌, codes, map, replicate, Option, Some, None}
+use Rattle.std.specs.Prelude.{◌≡◌, ◌++◌, ℕ, true, false, List, [], ◌∷◌, codes, map, replicate, Option, Some, None}
 use Rattle.std.proofs.Common.{lit<}
-use Rattle.nvm_base.specs.declared.units.Span.{Span}
 use Rattle.nvm_model.specs.Cell.{Cell}
-use Rattle.nvm_model.specs.Cell.Cell.{Bad, Kept}
-use Rattle.block_sights.specs.Sights.{Sight}
+use Rattle.nvm_model.specs.Cell.Cell.{Kept}
 use Rattle.block_sights.specs.Sights.Sight.{Whole}
 use Rattle.script_text.specs.Action.{Action}
 use Rattle.script_text.specs.Action.Action.{BScar, BWrite, VDiscard, VDiscardIf, VStore, VSync}

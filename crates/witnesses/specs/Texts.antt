@@ -1,5 +1,5 @@
 -- What is kept, as it is printed behind an answer.
-use Rattle.std.specs.Prelude.{◌+◌, ◌*◌, ◌==◌, ◌&&◌, ℕ, Bool, true, false, List, [], ◌∷◌, ◌++◌, codes, decimal, flat_map, slice_index, slice_index_or, if◌then◌else◌}
+use Rattle.std.specs.Prelude.{◌+◌, ◌*◌, ◌==◌, ◌&&◌, ℕ, Bool, false, List, [], ◌∷◌, ◌++◌, codes, decimal, flat_map, slice_index, slice_index_or, if◌then◌else◌}
 use Rattle.std.specs.Int.{to_le_bytes, w64}
 use Rattle.std.specs.List.{list_any, range_with_len}
 use Rattle.nvm_base.specs.Data.{data_text}
@@ -8,8 +8,6 @@ use Rattle.block_sights.specs.Sights.{Sight}
 use Rattle.block_sights.specs.Sights.Sight.{Whole, Scar, BadLine}
 use Rattle.outcomes.specs.Pages.{PageRead, PageReply}
 use Rattle.outcomes.specs.Pages.PageReply.{Shows, Poison, Refuses}
-use Rattle.asked_reads.specs.declared.question.Question.{Question}
-use Rattle.asked_reads.specs.Asking.{volume_asked}
 use Rattle.witnesses.specs.declared.line_kept.LineLeft.{LineLeft}
 use Rattle.witnesses.specs.declared.line_kept.LineLeft.TheVariants as left
 use Rattle.witnesses.specs.declared.line_kept.LineKept.{LineKept}
@@ -82,5 +80,5 @@ lines_text reads lines = texts_once number_of_line (line_text reads) [] lines
 abbrev pub blocks_text : List BlockKept → List ℕ
 blocks_text units = texts_once number_of_block block_text [] units
 
-abbrev pub kept_text : Question → Kept → List ℕ
-kept_text q kept = lines_text (volume_asked q) kept.lines.items ++ blocks_text kept.blocks.items
+abbrev pub kept_text : List PageRead → Kept → List ℕ
+kept_text reads kept = lines_text reads kept.lines.items ++ blocks_text kept.blocks.items

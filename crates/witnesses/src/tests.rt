@@ -1,10 +1,17 @@
-// Where there is memory, words keep a value on which all reads agree.
-use crate::line_kept::LineLeft;
+// Where there is memory, words keep a value on which all reads agree, and what is kept is told.
+use crate::block_kept::BlockKept;
+use crate::keeping::keep;
+use crate::kept::Kept;
+use crate::line_kept::{LineKept, LineLeft};
+use crate::text::kept_text;
 use crate::words::{free_words, line_left};
-use asked_reads::{PageRead, PageReply};
+use asked_reads::{PageRead, PageReply, Question};
+use block_sights::{HeldBlock, Unreadable};
 use line_histories::HeldLine;
 use nvm_base::Bytes;
+use sights::{LineSeen, Sight, may_be_replies};
 use std::test::Fail;
+use word_tables::Geometry;
 
 #[test]
 fn a_word_keeps_the_value_that_is_read(rt: HostRuntime) -> Result<(), Fail> {
@@ -31,5 +38,78 @@ fn a_word_keeps_the_value_that_is_read(rt: HostRuntime) -> Result<(), Fail> {
     );
     line.lose();
     assert_eq!(rt; line_left(&[], 0, &line), LineLeft::Bad);
+    Ok(())
+}
+
+#[test]
+fn what_is_kept_is_told_once(rt: HostRuntime) -> Result<(), Fail> {
+    let alloc = rt.alloc();
+    let mut volume = Vec::new(alloc);
+    volume.push(PageRead {
+        start: 64,
+        len: 1,
+        reply: PageReply::Poison(64),
+    })?;
+    let mut lines = Vec::new(alloc);
+    for _ in 0..2 {
+        lines.push(LineKept {
+            number: 1,
+            left: LineLeft::Words([7, 9, 0, 0, 0, 0, 0, 0]),
+            free: [true; 8],
+        })?;
+    }
+    lines.push(LineKept {
+        number: 2,
+        left: LineLeft::Bad,
+        free: [true; 8],
+    })?;
+    let mut blocks = Vec::new(alloc);
+    blocks.push(BlockKept {
+        number: 3,
+        block: HeldBlock::unreadable(alloc, Unreadable::BadLine(2))?,
+        free: true,
+    })?;
+    let question = Question {
+        volume,
+        blocks: Vec::new(alloc),
+    };
+    let text = kept_text(alloc, &question, &Kept { lines, blocks })?;
+    let told = b" | volume 64 07,00*7 | volume 128 poison | block 3 poison 2";
+    assert_eq!(rt; text.as_slice(), told.as_slice());
+    Ok(())
+}
+
+#[test]
+fn a_cut_keeps_what_is_asked(rt: HostRuntime) -> Result<(), Fail> {
+    let alloc = rt.alloc();
+    let geometry = Geometry {
+        blocks: 8,
+        vpages: 8,
+        fpages: 64,
+    };
+    let mut bytes = Bytes::new(alloc);
+    bytes.push(1)?;
+    let mut volume = Vec::new(alloc);
+    volume.push(PageRead {
+        start: 0,
+        len: 1,
+        reply: PageReply::Shows(bytes),
+    })?;
+    let question = Question {
+        volume,
+        blocks: Vec::new(alloc),
+    };
+    let mut line = HeldLine::zeros(alloc);
+    line.put(0, 0, &[1])?;
+    let mut lines = Vec::new(alloc);
+    lines.push(LineSeen { number: 0, line })?;
+    let sight = Sight {
+        lines,
+        blocks: Vec::new(alloc),
+    };
+    assert!(rt; geometry.valid() && may_be_replies(&question, geometry) && sight.shows(&question));
+    let kept = keep(alloc, &question, &sight, geometry, None)?;
+    let text = kept_text(alloc, &question, &kept)?;
+    assert_eq!(rt; text.as_slice(), b" | volume 0 01,00*7".as_slice());
     Ok(())
 }

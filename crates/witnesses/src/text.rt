@@ -1,5 +1,6 @@
 // What is kept, as it is printed behind an answer.
 ghost use Rattle.std.specs.Prelude.{◌≡◌, ◌++◌, IfOk, OnOk};
+ghost use Rattle.asked_reads.specs.Asking.{volume_asked};
 ghost use Rattle.asked_reads.specs.Reads.{pages_asked};
 ghost use Rattle.witnesses.specs.Texts.{block_text, blocks_text, kept_text, line_text, lines_text, number_of_block, number_of_line, unless_told};
 
@@ -14,7 +15,7 @@ use std::alloc::{AllocError, Global};
 
 /// Each word that the question asks about and could be otherwise, each such bad line and block, once.
 pub fn kept_text(alloc: Global, question: &Question, kept: &Kept) -> Result<Bytes, AllocError>
-    ensures { IfOk result (λ text. text.items ≡ kept_text question.now kept.now) }
+    ensures { IfOk result (λ text. text.items ≡ kept_text (volume_asked question.now) kept.now) }
 {
     let mut out = Bytes::new(alloc);
     print_lines(&question.volume, &kept.lines, &mut out)?;

@@ -1,5 +1,5 @@
 -- One more line is kept.
-use Rattle.std.proofs.Common.{◌≡◌, ◌/◌, Bool, Option, ap, cond, map, option_map, rules, ◌∙◌}
+use Rattle.std.proofs.Common.{◌≡◌, ◌/◌, Bool, Option, ap, cond, option_map, rules, ◌∙◌}
 use Rattle.std.specs.Option.{option_and_then, option_copied}
 use Rattle.script_text.specs.Action.{action_of}
 use Rattle.asked_reads.specs.Asking.{volume_asked}

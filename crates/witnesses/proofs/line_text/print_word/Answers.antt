@@ -1,4 +1,4 @@
-use Rattle.std.proofs.Common.{◌≡◌, [], ◌∷◌, ◌+◌, ◌*◌, ◌++◌, ap, codes, decimal, ◌∙◌}
+use Rattle.std.proofs.Common.{[], ◌∷◌, ◌+◌, ◌*◌, ◌++◌, ap, codes, decimal, ◌∙◌}
 use Rattle.std.specs.Int.{to_le_bytes, w64}
 use Rattle.nvm_base.specs.Data.{data_text}
 use Rattle.witnesses.specs.Texts.{word_text}

@@ -1,6 +1,5 @@
 -- No block before it has its number.
-use Rattle.std.proofs.Common.{◌≡◌, ◌==◌, ◌++◌, Bool, false, cond, [], ap, rules, sym, tests, ◌∙◌}
-use Rattle.std.specs.List.{list_any}
+use Rattle.std.proofs.Common.{◌==◌, ◌++◌, Bool, cond, [], ap, rules, sym, tests, ◌∙◌}
 use Rattle.std.proofs.lemmas.Iterator.{YieldsList-from_slice}
 use Rattle.std.proofs.lemmas.Iterator.Search.{any_from_yields_List}
 use Rattle.witnesses.specs.declared.block_kept.BlockKept.{BlockKept}
