@@ -14,6 +14,7 @@ mod sides;
 mod table;
 #[cfg(test)]
 mod tests;
+mod touched;
 mod values;
 
 pub use laws::{a_value_is_listed_where_it_may_be_shown, each_place_is_sound, worked_tables};

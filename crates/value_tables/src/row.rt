@@ -9,10 +9,13 @@ ghost use Rattle.value_tables.specs.declared.shown.Shown.TheVariants.{Refuses};
 
 use crate::sides::Sides;
 use crate::values::WordValues;
-use nvm_base::{Bytes, WORD, print_number};
+use nvm_base::{Bytes, LINE, WORD, print_number};
 use reply_text::{Reply, Why, print};
 use sights::{LineSeen, print_sight, same_block};
 use std::alloc::{AllocError, Global};
+
+/// Words of a line.
+pub const WORDS: u64 = LINE / WORD;
 
 /// That of word p, whose line is the one at that place of those looked at.
 pub fn word_row(alloc: Global, k: u64, p: u64, at: u64, sides: &Sides) -> Result<Bytes, AllocError>
@@ -20,7 +23,7 @@ pub fn word_row(alloc: Global, k: u64, p: u64, at: u64, sides: &Sides) -> Result
     ensures { IfOk result (λ row. row.items
         ≡ decimal k ++ (codes " volume " ++ (decimal (8 * p) ++ (word_text (p % 8) (line_at sides.now.lines.now at ++ line_at sides.now.new_lines.now at) ++ 10 ∷ [])))) }
 {
-    let w = p % WORD;
+    let w = p % WORDS;
     let mut values = WordValues::none(alloc);
     add_line(sides.lines, at, w, &mut values)?;
     add_line(sides.new_lines, at, w, &mut values)?;

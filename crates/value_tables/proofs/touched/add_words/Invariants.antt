@@ -5,7 +5,7 @@ use Rattle.block_sights.specs.Sights.{Sight}
 use Rattle.value_tables.specs.declared.shown.Shown.TheVariants.{Word}
 use Rattle.value_tables.specs.Rows.{row_text}
 use Rattle.value_tables.specs.Sides.{AreLeft, texts}
-use Rattle.value_tables.proofs.rows.add_words.Given as goal
+use Rattle.value_tables.proofs.touched.add_words.Given as goal
 
 abbrev pub invariant-loop-p : goal.invariant-loop-p
 invariant-loop-p l = record {

@@ -9,7 +9,7 @@ use Rattle.value_tables.specs.Looking.{blocks_touched, lines_touched}
 use Rattle.value_tables.specs.Rows.{read_refusal, row_text, touched}
 use Rattle.value_tables.specs.Sides.{HasRun, texts}
 use Rattle.value_tables.proofs.RowLemmas.{block_count, line_count, run_fits}
-use Rattle.value_tables.proofs.rows.add_touched.Goals as goal
+use Rattle.value_tables.proofs.touched.add_touched.Goals as goal
 
 pub overflow_add-passed : goal.overflow_add-passed
 overflow_add-passed c =

@@ -5,7 +5,7 @@ use Rattle.value_tables.specs.declared.shown.Shown.TheVariants.{Word}
 use Rattle.value_tables.specs.Rows.{row_text}
 use Rattle.value_tables.specs.Sides.{texts}
 use Rattle.value_tables.proofs.RowLemmas.{line_count, row_of_word, rows_more, run_within}
-use Rattle.value_tables.proofs.rows.add_words.Goals as goal
+use Rattle.value_tables.proofs.touched.add_words.Goals as goal
 
 pub overflow_add-at : goal.overflow_add-at
 overflow_add-at c =

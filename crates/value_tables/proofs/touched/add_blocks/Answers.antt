@@ -5,7 +5,7 @@ use Rattle.value_tables.specs.declared.shown.Shown.TheVariants.{Block}
 use Rattle.value_tables.specs.Rows.{row_text}
 use Rattle.value_tables.specs.Sides.{texts}
 use Rattle.value_tables.proofs.RowLemmas.{block_count, row_of_block, rows_more, run_within}
-use Rattle.value_tables.proofs.rows.add_blocks.Goals as goal
+use Rattle.value_tables.proofs.touched.add_blocks.Goals as goal
 
 pub overflow_add-at : goal.overflow_add-at
 overflow_add-at c =

@@ -5,7 +5,7 @@ use Rattle.block_sights.specs.Sights.{Sight}
 use Rattle.value_tables.specs.declared.shown.Shown.TheVariants.{Block}
 use Rattle.value_tables.specs.Rows.{row_text}
 use Rattle.value_tables.specs.Sides.{AreBlocksLeft, texts}
-use Rattle.value_tables.proofs.rows.add_blocks.Given as goal
+use Rattle.value_tables.proofs.touched.add_blocks.Given as goal
 
 abbrev pub invariant-loop-b : goal.invariant-loop-b
 invariant-loop-b l = record {
