@@ -14,8 +14,8 @@ use Rattle.asked_reads.specs.declared.reads.PageRead.{PageRead as AskedPages}
 use Rattle.asked_reads.specs.declared.reads.BlockRead.{BlockRead as AskedBlocks}
 use Rattle.asked_reads.specs.Asking.{IsLook}
 use Rattle.asked_reads.specs.Reads.{block_read, block_reply as asked_block_reply, page_read, page_reply}
-use Rattle.exploration.specs.declared.read.Read.{Read}
-use Rattle.exploration.specs.declared.read.Read.TheVariants.{Blocks, Volume}
+use Rattle.asked_reads.specs.declared.read.Read.{Read}
+use Rattle.asked_reads.specs.declared.read.Read.TheVariants.{Blocks, Volume}
 use Rattle.exploration.specs.Exploration.{question_of, with_seen}
 use Rattle.exploration.specs.Reads.{seen_of}
 use Rattle.asked_reads.specs.Looking.{read_action}

@@ -8,7 +8,6 @@ use Rattle.word_tables.specs.declared.geometry.Geometry.{Geometry}
 use Rattle.nvm_model.specs.Cell.{Cell}
 use Rattle.block_sights.specs.Sights.{Sight}
 use Rattle.sights.specs.BlockTelling.{sight_text}
-use Rattle.block_sights.specs.Sights.Sight.{Whole, Scar, BadLine}
 use Rattle.reply_text.specs.declared.reply.Why.{Why}
 use Rattle.reply_text.specs.Answer.{answer_line}
 use Rattle.reply_text.specs.Answer.Answer.{Refused}

@@ -1,13 +1,11 @@
 -- The values that a word may have once the power is back, and what reads may see of a block, each once.
-use Rattle.std.specs.Prelude.{◌==◌, ◌++◌, ℕ, Bool, true, false, List, [], ◌∷◌, slice_index_or, Some, if◌then◌else◌}
+use Rattle.std.specs.Prelude.{◌==◌, ◌++◌, ℕ, Bool, List, [], ◌∷◌, slice_index_or, Some, if◌then◌else◌}
 use Rattle.std.specs.List.{list_any}
-use Rattle.std.specs.Str.{bytes_eq}
 use Rattle.nvm_model.specs.Cell.{Cell}
 use Rattle.nvm_model.specs.Cell.Cell.{Bad, Kept}
 use Rattle.nvm_model.specs.Page.{is_bad_cell}
 use Rattle.block_sights.specs.Sights.{Sight}
 use Rattle.sights.specs.BlockTelling.{same_sight}
-use Rattle.block_sights.specs.Sights.Sight.{Whole, Scar, BadLine}
 
 -- one more, unless it is there; and more, one after the other
 abbrev pub with_one : {A : Type 0} → (A → A → Bool) → List A → A → List A

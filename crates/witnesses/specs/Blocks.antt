@@ -1,10 +1,7 @@
 -- What is kept of blocks.
-use Rattle.std.specs.Prelude.{◌==◌, ℕ, Bool, true, false, not, List, map, Option, option_and_then}
-use Rattle.std.specs.Str.{bytes_eq}
+use Rattle.std.specs.Prelude.{ℕ, not, List, map, Option, option_and_then}
 use Rattle.word_tables.specs.declared.geometry.Geometry.{Geometry}
-use Rattle.block_sights.specs.Sights.{Sight}
 use Rattle.sights.specs.BlockTelling.{same_sight}
-use Rattle.block_sights.specs.Sights.Sight.{Whole, Scar, BadLine}
 use Rattle.script_text.specs.Action.{Action}
 use Rattle.outcomes.specs.Blocks.{BlockRead}
 use Rattle.asked_reads.specs.Fitting.{sight_fits}

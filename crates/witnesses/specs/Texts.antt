@@ -6,7 +6,6 @@ use Rattle.nvm_base.specs.Data.{data_text}
 use Rattle.nvm_model.specs.Numbered.{is_among}
 use Rattle.block_sights.specs.Sights.{Sight}
 use Rattle.sights.specs.BlockTelling.{sight_text}
-use Rattle.block_sights.specs.Sights.Sight.{Whole, Scar, BadLine}
 use Rattle.outcomes.specs.Pages.{PageRead, PageReply}
 use Rattle.outcomes.specs.Pages.PageReply.{Shows, Poison, Refuses}
 use Rattle.witnesses.specs.declared.line_kept.LineLeft.{LineLeft}
