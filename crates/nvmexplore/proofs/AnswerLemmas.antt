@@ -177,16 +177,18 @@ module _ (tell : List Seen → Option Stop) (questions : List Question) (i : ℕ
   -- what came in the way of its exploration, or of its line
   pub goes_unfound : (stop : Stopped) → ((counted counts : ℕ) → IsUnanswered stop counted counts was is) → (looks : List (List Seen)) → AskOf looks questions
       → AnswersAll [] tell looks (Err stop) old now counted counts began is
-  goes_unfound stop cause looks ask = (unanswered_later stop counted counts began was is goes.device (cause counted counts), first_answers tell looks i may old now (goes.answered looks ask))
+  goes_unfound stop cause looks ask =
+      let first = first_answers tell looks i may old now (goes.answered looks ask) in
+      (unanswered_later stop counted counts began was is goes.device (cause counted counts), first.0, first.1, first.2)
 
   pub goes_untold : {E : Type 0} (fault : WriteFault) (found : Option Found) (line : Result (Stock ℕ) E) (told : Result (Unit {0}) WriteFault) → ((look : List Seen) → IsLook look q → IsFound look (tell look) found)
       → ((look : List Seen) → IsLook look q → IfOk line (λ l. l.items ≡ answer_line look found)) → MatchResult line (λ l. WritesAll l.items told now new) (λ _. (told ≡ Err write.Memory) × (new ≡ now))
       → (fault ≡ write.Failed → Rose between counts) → (looks : List (List Seen)) → AskOf looks questions → AnswersAll [] tell looks (Err (of_write fault)) old new counted counts began is
   goes_untold fault found line told finds spelled wrote rose looks ask =
-      let look = look_of looks questions i q ask at in (
-        unanswered_write fault counted between counts began is goes.later rose,
-        part_answers tell looks i look.0 found may old now new look.1 (finds look.0 look.2) (goes.answered looks ask) (told_front line told (answer_line look.0 found) now new (spelled look.0 look.2) wrote),
-      )
+      let look = look_of looks questions i q ask at in
+      let part = part_answers tell looks i look.0 found may old now new look.1 (finds look.0 look.2) (goes.answered looks ask)
+      (told_front line told (answer_line look.0 found) now new (spelled look.0 look.2) wrote) in
+      (unanswered_write fault counted between counts began is goes.later rose, part.0, part.1, part.2)
 
 -- at the end all are answered
 pub goes_through : (tell : List Seen → Option Stop) (questions : List Question) (i : ℕ) (may : Bool) (old now : Option (List ℕ)) (counted counts : ℕ) (began at : Panel) → length questions ≤ i

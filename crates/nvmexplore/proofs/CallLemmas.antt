@@ -1,7 +1,7 @@
 -- A call once its image is mounted: what came of its script.
-use Rattle.std.proofs.Common.{◌≡◌, ◌<◌, ◌≤◌, ℕ, Bool, List, [], ◌∷◌, length, map, Option, None, Result, Ok, Err, inl, inr, refl, sym, ap, subst, ◌∙◌, if◌then◌else◌, arith}
+use Rattle.std.proofs.Common.{◌≡◌, ◌<◌, ◌≤◌, ℕ, Bool, List, [], ◌∷◌, ◌++◌, length, map, Option, None, Result, Ok, Err, inl, inr, refl, sym, ap, ap₂, subst, ◌∙◌, append_assoc, append-nil, if◌then◌else◌, arith}
 use Rattle.std.specs.Prelude.{IfErr}
-use Rattle.std.specs.Io.KnownBytes.{Consumes, IsAtEnd}
+use Rattle.std.specs.Io.KnownBytes.{Appends, Consumes, IsAtEnd}
 use Rattle.nvm_base.specs.Counts.{Rose}
 use Rattle.host_io.specs.Writing.{WritesAll}
 use Rattle.host_io.specs.declared.sink.WriteFault.{WriteFault}
@@ -11,9 +11,14 @@ use Rattle.line_device.specs.Panel.{Panel}
 use Rattle.line_device.specs.declared.line.LineState.{LineState}
 use Rattle.recovery.specs.Findings.{first_finding}
 use Rattle.script_text.specs.Script.{Input}
+use Rattle.machine_host.specs.Machine.{Machine}
+use Rattle.outcomes.specs.Finds.{armed}
 use Rattle.outcomes.specs.Seen.{Seen}
 use Rattle.outcomes.specs.Stops.{IsProgram}
+use Rattle.asked_reads.specs.Looking.{read_action}
 use Rattle.asked_reads.specs.Program.{asks_for, inputs_of_lines}
+use Rattle.asked_reads.specs.declared.read.Read.{Read as ReadOfLook}
+use Rattle.asked_reads.specs.declared.read.Read.TheVariants as looks
 use Rattle.exploration.specs.Exploration.{Exploration, Script, script_of}
 use Rattle.exploration.specs.Exploration.Script.{StopsAt, Taken}
 use Rattle.exploration.specs.Reading.{AskOf, Holds, ReadsScript}
@@ -21,19 +26,22 @@ use Rattle.exploration.specs.declared.exploration.Exploration.{Exploration as Re
 use Rattle.exploration.specs.declared.exploration.ScriptFault.{ScriptFault}
 use Rattle.exploration.specs.declared.exploration.ScriptFault.TheVariants as script
 use Rattle.explorer.specs.Stopping.{NoneFell}
-use Rattle.sights.specs.Places.{found_stop}
+use Rattle.sights.specs.Places.{Stop as Place, cut_places, found_stop}
 use Rattle.program_base.specs.Ending.{status}
 use Rattle.program_base.specs.Opening.{FailsToOpen, IsHeld, opened}
 use Rattle.program_base.specs.World.{World}
-use Rattle.program_base.specs.Writing.{WritesLine}
+use Rattle.program_base.specs.Writing.{WritesFront, WritesLine}
+use Rattle.program_base.proofs.BytesLemmas.{appends_then}
+use Rattle.value_tables.specs.Tables.{table_text}
 use Rattle.program_base.specs.declared.ending.Ending.{Ending}
 use Rattle.program_base.specs.declared.ending.Ending.TheVariants as endings
-use Rattle.nvmexplore.specs.Calls.{AnswersAll, AreTheorems, Fails, Halts, IsCaused, IsTaken, IsUnanswered, IsUnread, LeavesImages, Outcome, most}
+use Rattle.nvmexplore.specs.Calls.{AnswersAll, AreTheorems, Fails, Halts, IsCaused, IsTaken, IsUnanswered, IsUnread, LeavesImages, Outcome, TellsTable, asked_table, most, reads_of}
 use Rattle.nvmexplore.specs.Stops.{of_script, stop_status}
 use Rattle.nvmexplore.specs.declared.stop.Stop.{Stop}
 use Rattle.nvmexplore.specs.declared.stop.Stop.TheVariants as stops
 use Rattle.nvmexplore.proofs.CauseLemmas.{unanswered_later}
 use Rattle.nvmexplore.proofs.ProgramLemmas.{same_inputs}
+use Rattle.nvmexplore.proofs.ReadingLemmas.{rose-from}
 
 -- what came in the way, as a cause of the call's end
 caused_unread : (ending : Ending) (taken : List ℕ) (old new : World) → IsUnread ending old.left old.reads new.reads → IsCaused (stops.Early ending) taken old new
@@ -64,6 +72,59 @@ caused_unanswered (stops.Early (endings.Meta line)) text old new cause = cause
 caused_unanswered (stops.Script n) text old new cause = absurd cause
 caused_unanswered stops.Usage text old new cause = cause
 
+-- the table of a script that was read is the one that is asked for
+abbrev pub read_table : Machine → Read → List ℕ
+read_table h x = if x.table then table_text x.reads.items (cut_places 1 (armed h) (inputs_of_lines x.program.items)) else []
+
+reads_are : (reads : List ReadOfLook) → reads_of (map read_action reads) ≡ reads
+reads_are [] = refl
+reads_are (looks.Volume start len ∷ reads) = ap (λ rs. looks.Volume start len ∷ rs) (reads_are reads)
+reads_are (looks.Blocks first count ∷ reads) = ap (λ rs. looks.Blocks first count ∷ rs) (reads_are reads)
+
+same_table : (h : Machine) (x : Read) (e : Exploration) → inputs_of_lines x.program.items ≡ map asks_for e.program → map read_action x.reads.items ≡ e.reads → x.table ≡ e.table → read_table h x ≡ asked_table h e
+same_table h x e inputs reads table =
+    ap (λ b. if b then table_text x.reads.items (cut_places 1 (armed h) (inputs_of_lines x.program.items)) else []) table
+    ∙ ap₂ (λ rs ins. if e.table then table_text rs (cut_places 1 (armed h) ins) else []) (sym (reads_are x.reads.items) ∙ ap reads_of reads) inputs
+
+-- why questions were not answered, told by an earlier count of writes
+unanswered_counted : (stop : Stop) (a b c : ℕ) (old new : Panel) → a ≤ b → IsUnanswered stop b c old new → IsUnanswered stop a c old new
+unanswered_counted (stops.Early endings.Write) a b c old new later cause = rose-from a b c later cause
+unanswered_counted (stops.Early endings.Memory) a b c old new later cause = tt
+unanswered_counted (stops.Early endings.Device) a b c old new later cause = cause
+unanswered_counted (stops.Early endings.Read) a b c old new later cause = cause
+unanswered_counted (stops.Early endings.Script) a b c old new later cause = cause
+unanswered_counted (stops.Early endings.Usage) a b c old new later cause = cause
+unanswered_counted (stops.Early (endings.Image offset)) a b c old new later cause = cause
+unanswered_counted (stops.Early (endings.Layout place)) a b c old new later cause = cause
+unanswered_counted (stops.Early (endings.Meta line)) a b c old new later cause = cause
+unanswered_counted (stops.Script n) a b c old new later cause = cause
+unanswered_counted stops.Usage a b c old new later cause = cause
+
+-- answers behind a table
+pub behind_table : (table : List ℕ) (tell : List Seen → Option Place) (looks : List (List Seen)) (result : Result Bool Stop) (old mid new : Option (List ℕ)) (a b c : ℕ) (began at end : Panel)
+    → Appends old mid table → a ≤ b → NoneFell began at → AnswersAll [] tell looks result mid new b c at end → AnswersAll table tell looks result old new a c began end
+behind_table table tell looks (Ok may) old mid new a b c began at end wrote later fell told = (told.0, told.1, told.2, appends_then old mid new table told.1 wrote told.3)
+behind_table table tell looks (Err stop) old mid new a b c began at end wrote later fell told = (
+  unanswered_counted stop a b c began end later (unanswered_later stop b c began at end fell told.0),
+  told.1,
+  told.2,
+  record {
+    part = table ++ told.3.part;
+    front = record { rest = told.3.front.rest; joined = append_assoc table told.3.part told.3.front.rest ∙ ap (λ text. table ++ text) told.3.front.joined };
+    wrote = appends_then old mid new table told.3.part wrote told.3.wrote;
+  },
+)
+
+-- and none, where the table was not written whole
+pub no_table : (table : List ℕ) (tell : List Seen → Option Place) (looks : List (List Seen)) (stop : Stop) (old new : Option (List ℕ)) (a c : ℕ) (began end : Panel)
+    → TellsTable table (Err stop) old new a c began end → AnswersAll table tell looks (Err stop) old new a c began end
+no_table table tell looks stop old new a c began end told = (
+  told.0,
+  [],
+  record { first = []; later = looks; joined = refl; answered = refl },
+  subst (λ text. WritesFront text old new) (sym (append-nil table)) told.1,
+)
+
 module _ (name : List ℕ) (lines : List LineState) (old new : World) (there : IsHeld name old.held lines) (right : first_finding (medium_of lines) ≡ None) (images : LeavesImages old new) where
   -- the script was not read to its end
   pub halts_unread : (ending : Ending) → (taken : List ℕ) × Consumes old.left new.left taken × IsUnread ending old.left old.reads new.reads → new.written ≡ old.written → Halts name (stops.Early ending) old new
@@ -93,7 +154,7 @@ module _ (name : List ℕ) (lines : List LineState) (old new : World) (there : I
   }
 
   module _ (text : List ℕ) (e : Exploration) (taken : IsTaken text e old new) (theorems : AreTheorems (opened lines) (map asks_for e.program)) (started : Panel) (fell : NoneFell old.device.panel started) where
-    outcome_taken : (result : Result Bool Stop) → AnswersAll (found_stop (opened lines) (map asks_for e.program)) e.questions result old.written new.written old.writes new.writes started new.device.panel → Outcome name result old new
+    outcome_taken : (result : Result Bool Stop) → AnswersAll (asked_table (opened lines) e) (found_stop (opened lines) (map asks_for e.program)) e.questions result old.written new.written old.writes new.writes started new.device.panel → Outcome name result old new
     outcome_taken (Ok may) told = record {
       lines = lines;
       there = there;
@@ -115,7 +176,7 @@ module _ (name : List ℕ) (lines : List LineState) (old new : World) (there : I
       script = text;
       read = taken.read;
       cause = caused_unanswered stop text old new (unanswered_later stop old.writes new.writes old.device.panel started new.device.panel fell told.0);
-      wrote = inr (e, taken, told.1);
+      wrote = inr (e, taken, told.1, told.2, told.3);
       images = images;
     })
 
@@ -124,7 +185,7 @@ module _ (name : List ℕ) (lines : List LineState) (old new : World) (there : I
       → IsProgram (inputs_of_lines x.program.items)
       → ((e : Exploration) → script_of text ≡ Taken e → IsProgram (map asks_for e.program) → AreTheorems (opened lines) (map asks_for e.program))
       → ((looks : List (List Seen)) → AskOf looks x.questions.items
-      → AnswersAll (found_stop (opened lines) (inputs_of_lines x.program.items)) looks result old.written new.written old.writes new.writes started new.device.panel)
+      → AnswersAll (read_table (opened lines) x) (found_stop (opened lines) (inputs_of_lines x.program.items)) looks result old.written new.written old.writes new.writes started new.device.panel)
       → Outcome name result old new
   outcome_read text x result started fell read ended short is program theorems tells = by_script (script_of text) refl is
     where
@@ -132,7 +193,8 @@ module _ (name : List ℕ) (lines : List LineState) (old new : World) (there : I
       by_script (Taken e) told holds =
           let same : inputs_of_lines x.program.items ≡ map asks_for e.program = same_inputs x.program.items e.program holds.0 in
           outcome_taken text e (record { read = read; ended = ended; short = short; is = told }) (theorems e told (subst IsProgram same program)) started fell result
-          (subst (λ (inputs : List Input). AnswersAll (found_stop (opened lines) inputs) e.questions result old.written new.written old.writes new.writes started new.device.panel) same (tells e.questions holds.1))
+          (subst (λ table. AnswersAll table (found_stop (opened lines) (map asks_for e.program)) e.questions result old.written new.written old.writes new.writes started new.device.panel) (same_table (opened lines) x e same holds.1 holds.2)
+          (subst (λ (inputs : List Input). AnswersAll (read_table (opened lines) x) (found_stop (opened lines) inputs) e.questions result old.written new.written old.writes new.writes started new.device.panel) same (tells e.questions holds.3)))
       by_script (StopsAt n) told holds = absurd holds
 
 -- words of which there is one name it

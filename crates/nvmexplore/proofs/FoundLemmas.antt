@@ -1,5 +1,5 @@
 -- The first place of a cut is there exactly where the test tells that something may be found.
-use Rattle.std.proofs.Common.{◌≡◌, ◌||◌, ℕ, suc, Bool, true, false, List, [], ◌∷◌, ◌++◌, map, Option, Some, None, is_some, refl, sym, ap, ◌∙◌, if◌then◌else◌}
+use Rattle.std.proofs.Common.{◌≡◌, ◌||◌, ℕ, suc, Bool, true, false, List, [], ◌∷◌, ◌++◌, map, Option, Some, None, is_some, subst, refl, sym, ap, ◌∙◌, if◌then◌else◌}
 use Rattle.std.specs.List.{list_any}
 use Rattle.std.proofs.lemmas.Bool.{true≢false}
 use Rattle.script_text.specs.Script.{Input}
@@ -46,15 +46,16 @@ found_may h program look = stop_may (may_show look) 1 (armed h) program
 -- what the first stop shows may be found
 found_first : (test : Machine → Bool) (xs : List Stop) (stop : Stop) → first_stop test xs ≡ Some stop → (more : Machine → Bool) → more stop.state ≡ true → is_some (first_stop more xs) ≡ true
 found_first test [] stop is more shown = cc is
-found_first test (x ∷ xs) stop is more shown = by_test (test x.state) refl is
+found_first test (x ∷ xs) stop is more shown = by_test (test x.state) is (λ at. found_first test xs stop at more shown)
   where
-    by_more : (b : Bool) → (b ≡ false → is_some (first_stop more xs) ≡ true) → is_some (if b then Some x else first_stop more xs) ≡ true
+    by_more : (b : Bool) → is_some (first_stop more xs) ≡ true → is_some (if b then Some x else first_stop more xs) ≡ true
     by_more true rest = refl
-    by_more false rest = rest refl
+    by_more false rest = rest
 
-    by_test : (b : Bool) → test x.state ≡ b → (if b then Some x else first_stop test xs) ≡ Some stop → is_some (first_stop more (x ∷ xs)) ≡ true
-    by_test true told at = let same : stop ≡ x = cc at in ap (λ b. is_some (if b then Some x else first_stop more xs)) (subst (λ s. more s.state ≡ true) same shown)
-    by_test false told at = by_more (more x.state) (λ none. found_first test xs stop at more shown)
+    by_test : (b : Bool) → (if b then Some x else first_stop test xs) ≡ Some stop → (first_stop test xs ≡ Some stop → is_some (first_stop more xs) ≡ true)
+        → is_some (if more x.state then Some x else first_stop more xs) ≡ true
+    by_test true at later = let same : stop ≡ x = cc at in ap (λ b. is_some (if b then Some x else first_stop more xs)) (subst (λ s. more s.state ≡ true) same shown)
+    by_test false at later = by_more (more x.state) (later at)
 
 kept_found : (h : Machine) (program : List Input) (look : List Seen) (stop : Option Stop) (found : Found) → found_stop h program look ≡ stop → IsFound look stop (Some found)
     → may_find h program (look ++ told found.kept) ≡ true

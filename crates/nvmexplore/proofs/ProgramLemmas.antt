@@ -7,7 +7,7 @@ use Rattle.script_text.specs.Action.{Action, action_of}
 use Rattle.script_text.specs.Script.{Input, inputs, inputs_of, line_input, lines_of}
 use Rattle.script_text.specs.Script.Input.{Skipped, Malformed, Overlong, Asked}
 use Rattle.questions.specs.Question.{QuestionLine, question_line}
-use Rattle.questions.specs.Question.QuestionLine.{Plain, Look, Lists, Never, Wrong}
+use Rattle.questions.specs.Question.QuestionLine.{Plain, Look, Lists, Tabulates, Never, Wrong}
 use Rattle.outcomes.specs.Stops.{is_of_program}
 use Rattle.outcome_runs.specs.Brings.{BringRight}
 use Rattle.asked_reads.specs.Program.{asks_for, inputs_of_lines}
@@ -61,6 +61,7 @@ bring-kind : (item : Option Action) (question : QuestionLine) (input : Input) â†
 bring-kind item Plain input right is = bring-input item input right is
 bring-kind item Look input right is = absurd (cc is)
 bring-kind item Lists input right is = absurd (cc is)
+bring-kind item Tabulates input right is = absurd (cc is)
 bring-kind item (Never replies) input right is = absurd (cc is)
 bring-kind item Wrong input right is = absurd (cc is)
 

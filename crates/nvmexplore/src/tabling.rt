@@ -14,11 +14,11 @@ use crate::stop::Stop;
 use asked_reads::Read;
 use exploration::Exploration;
 use explorer::tabulate;
-use host_io::{Sink, write_all};
+use host_io::Sink;
 use image_file::Image;
 use line_device::LineDevice;
 use nvm_base::Bytes;
-use program_base::start;
+use program_base::{start, tell};
 use script_text::Command;
 use std::alloc::Global;
 
@@ -42,7 +42,7 @@ pub fn show_table<D: LineDevice, K: Sink>(
         return Ok(());
     }
     let table = make_table(alloc, image, &exploration.program, &exploration.reads, device)?;
-    Ok(write_all(answers, table.as_slice())?)
+    Ok(tell(Ok(table), answers)?)
 }
 
 // On a device made anew of the image.

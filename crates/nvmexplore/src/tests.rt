@@ -39,7 +39,7 @@ fn images(alloc: Global, fetch: u64) -> Result<MemImages, AllocError> {
 }
 
 // What is asked, what is answered, and the status.
-static STORIES: [(&str, &str, u8); 9] = [
+static STORIES: [(&str, &str, u8); 10] = [
     // A record is durable before its flag is stored.
     (
         "vstore 64 07*8\nvsync 64 8\nvstore 0 01\nvsync 0 1\n# look\nvload 0 1\nvload 64 8\n# never data 01 | data 00*8\n# never data 00 | _\n",
@@ -49,13 +49,13 @@ static STORIES: [(&str, &str, u8); 9] = [
     // One sync makes both durable, line by line; but the flag may be written back before it.
     (
         "vstore 64 07*8\nvstore 0 01\nvsync 0 72\n# look\nvload 0 1\nvload 64 8\n# never data 01 | data 00*8\n",
-        "may inside 2\n",
+        "may inside 2 | volume 0 01,00*7 | volume 64 00*8\n",
         1,
     ),
     // Each value that a word had since its sync may be kept, and no part of one.
     (
         "vstore 0 0101\nvstore 0 0202\nvstore 0 0303\nvsync 0 1\n# look\nvload 0 2\n# never data 02,02\n# never data 02,03\n",
-        "may inside 2\nnever\n",
+        "may inside 2 | volume 0 02*2,00*6\nnever\n",
         1,
     ),
     // Two blocks are written together, or one by one.
@@ -66,13 +66,13 @@ static STORIES: [(&str, &str, u8); 9] = [
     ),
     (
         "bwrite 0 01*1024\n# look\nbread 0 1\nbread 1 1\n# never data 01*512 | data 00*512\n",
-        "may inside 1\n",
+        "may inside 1 | block 0 01*512 | block 1 00*512\n",
         1,
     ),
     // A worn out line goes bad in the sync, and a lost one at once.
     (
         "vstore 0 01\nvsync 0 1\nweaken volume 0\nvsync 0 1\n# look\nvload 0 1\n# never poison volume 0 64\n",
-        "may inside 4\n",
+        "may inside 4 | volume 0 poison\n",
         1,
     ),
     (
@@ -87,6 +87,12 @@ static STORIES: [(&str, &str, u8); 9] = [
         0,
     ),
     ("vstore 0 01\n# look\nvload 0 1\n", "", 0),
+    // The values of a word come with the places at which they change.
+    (
+        "vstore 0 01\nvsync 0 1\n# look\nvload 0 1\n# table\n# never data 02\n",
+        "before 1\n1 volume 0 00*8\ninside 1\n1 volume 0 00*8 01,00*7\nbefore 3\n1 volume 0 01,00*7\nnever\n",
+        0,
+    ),
 ];
 
 #[test]
@@ -135,7 +141,7 @@ const ASKS: Trial = Trial {
 
 // Each with its status and what is written.
 static TRIALS: [(Trial, u8, &str); 12] = [
-    (ASKS, 1, "never\nmay inside 1\n"),
+    (ASKS, 1, "never\nmay inside 1 | volume 0 01,00*7\n"),
     (Trial { read: 2, ..ASKS }, 4, "error read\n"),
     (Trial { write: 2, ..ASKS }, 5, "never\n"),
     (Trial { fetch: 1, ..ASKS }, 4, "error read\n"),
