@@ -26,7 +26,9 @@ pub(crate) fn read_program_line(alloc: Global, line: &[u8]) -> Result<ProgramLin
     match read_question(alloc, line) {
         Ok(QuestionKind::Plain) => read_command(alloc, line),
         Ok(QuestionKind::Look) => Ok(ProgramLine::Ends),
-        Ok(QuestionKind::List | QuestionKind::Table | QuestionKind::Never(_)) => Err(LineStop::Untaken),
+        Ok(QuestionKind::List | QuestionKind::Table | QuestionKind::Never(_)) => Err(
+            LineStop::Untaken,
+        ),
         Err(QuestionFault::Syntax) => Err(LineStop::Untaken),
         Err(QuestionFault::Memory) => Err(LineStop::Memory),
     }

@@ -19,4 +19,3 @@ use Rattle.explorer.specs.Finding.{IsFound, IsOn, action_on, inside_at}
 -- where nothing is found
 pub nothing_found : (look : List Seen) (stops : List Stop) → first_stop (may_show look) stops ≡ None → IsFound look (first_stop (may_show look) stops) None
 nothing_found look stops none = subst (λ stop. IsFound look stop None) (sym none) tt
-

@@ -41,7 +41,13 @@ pub fn show_table<D: LineDevice, K: Sink>(
     if !exploration.table {
         return Ok(());
     }
-    let table = make_table(alloc, image, &exploration.program, &exploration.reads, device)?;
+    let table = make_table(
+        alloc,
+        image,
+        &exploration.program,
+        &exploration.reads,
+        device,
+    )?;
     Ok(tell(Ok(table), answers)?)
 }
 
