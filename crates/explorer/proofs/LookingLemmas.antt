@@ -1,5 +1,5 @@
 -- A question that looks at all that some reads touch, read by read.
-use Rattle.std.proofs.Common.{◌≡◌, ◌+◌, ◌-◌, ◌*◌, ◌/◌, ◌<◌, ◌≤◌, ◌==◌, ◌&&◌, ℕ, Bool, true, false, Option, Some, None, List, [], ◌∷◌, ◌++◌, map, refl, sym, ap, ap₂, ◌∙◌, append-nil, append_assoc, arith}
+use Rattle.std.proofs.Common.{◌≡◌, ◌+◌, ◌*◌, ◌/◌, ◌≤◌, ◌==◌, ◌&&◌, ℕ, Bool, true, false, Option, Some, None, List, [], ◌∷◌, ◌++◌, map, refl, sym, ap, ap₂, ◌∙◌, append-nil, append_assoc, arith}
 use Rattle.std.specs.List.{list_all}
 use Rattle.std.specs.Option.{is_some}
 use Rattle.std.proofs.lemmas.Bool.{eq-eqb, le-leb, lt-ltb}
@@ -15,7 +15,7 @@ use Rattle.outcomes.specs.Blocks.{all_numbers_read, is_block_reply, is_block_rep
 use Rattle.outcomes.specs.Pages.{all_lines_read, is_reply, is_reply_by}
 use Rattle.outcomes.specs.Pages.PageReply.{Poison}
 use Rattle.outcomes.specs.Blocks.BlockReply.{Scar}
-use Rattle.asked_reads.specs.Asking.{blocks_of, may_be_replies, volume_asked}
+use Rattle.asked_reads.specs.Asking.{blocks_of, volume_asked}
 use Rattle.asked_reads.specs.Reads.{block_read, page_read}
 use Rattle.asked_reads.specs.declared.question.Question.{Question}
 use Rattle.asked_reads.specs.declared.read.Read.{Read}

@@ -1,5 +1,4 @@
 use Rattle.std.proofs.Common.{[], ◌∷◌, ◌++◌, ap₂, refl, subst, sym, ◌∙◌}
-use Rattle.asked_reads.specs.declared.read.Read.TheVariants as reads
 use Rattle.outcomes.specs.Blocks.BlockReply.{Scar}
 use Rattle.explorer.specs.Tabulating.{LooksAt}
 use Rattle.explorer.proofs.LookingLemmas.{looks-blocks, looks-lines, looks-refused, of_none, of_some}
