@@ -3,6 +3,7 @@ use Rattle.std.specs.Prelude.{List, map}
 use Rattle.outcomes.specs.Pages.{PageRead, PageReply}
 use Rattle.outcomes.specs.Pages.PageReply.{Shows, Poison, Refuses}
 use Rattle.outcomes.specs.Blocks.{BlockRead, BlockReply}
+use Rattle.outcomes.specs.Files.{FileRead}
 use Rattle.outcomes.specs.Blocks.BlockReply.{Shows as ShowsBlocks, Scar, BadLine, Refuses as RefusesBlocks}
 use Rattle.asked_reads.specs.declared.reads.PageReply.{PageReply as AskedOfPages}
 use Rattle.asked_reads.specs.declared.reads.PageReply.TheVariants as asked_pages
@@ -10,6 +11,7 @@ use Rattle.asked_reads.specs.declared.reads.PageRead.{PageRead as AskedPages}
 use Rattle.asked_reads.specs.declared.reads.BlockReply.{BlockReply as AskedOfBlocks}
 use Rattle.asked_reads.specs.declared.reads.BlockReply.TheVariants as asked_blocks
 use Rattle.asked_reads.specs.declared.reads.BlockRead.{BlockRead as AskedBlocks}
+use Rattle.asked_reads.specs.declared.reads.FileRead.{FileRead as AskedFile}
 
 abbrev pub page_reply : AskedOfPages → PageReply
 page_reply (asked_pages.Shows bytes) = Shows bytes.items
@@ -28,9 +30,15 @@ block_reply (asked_blocks.Refuses why) = RefusesBlocks why
 abbrev pub block_read : AskedBlocks → BlockRead
 block_read r = record { first = r.first; count = r.count; reply = block_reply r.reply }
 
+abbrev pub file_read : AskedFile → FileRead
+file_read r = record { name = r.name; pages = page_read r.pages }
+
 -- all of them
 abbrev pub pages_asked : List AskedPages → List PageRead
 pages_asked reads = map page_read reads
 
 abbrev pub blocks_asked : List AskedBlocks → List BlockRead
 blocks_asked reads = map block_read reads
+
+abbrev pub file_reads_asked : List AskedFile → List FileRead
+file_reads_asked reads = map file_read reads

@@ -9,4 +9,4 @@ mod reads;
 pub use laws::worked_fits;
 pub use question::Question;
 pub use read::Read;
-pub use reads::{BlockRead, BlockReply, PageRead, PageReply};
+pub use reads::{BlockRead, BlockReply, FileRead, PageRead, PageReply};

@@ -1,8 +1,9 @@
-use crate::reads::{BlockRead, PageRead};
+use crate::reads::{BlockRead, FileRead, PageRead};
 
-/// What is asked of a look: the replies of its reads of the volume and of blocks.
+/// What is asked of a look: the replies of its reads of the volume, of blocks and of files.
 #[derive(Debug, Drop)]
 pub struct Question {
     pub volume: Vec<PageRead>,
     pub blocks: Vec<BlockRead>,
+    pub files: Vec<FileRead>,
 }

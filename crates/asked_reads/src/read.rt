@@ -1,3 +1,5 @@
+use nvm_base::Name;
+
 /// A read of a look.
 #[derive(Clone, Copy, Debug, PartialEq, Eq)]
 pub enum Read {
@@ -5,4 +7,6 @@ pub enum Read {
     Volume { start: u64, len: u64 },
     /// Of so many blocks.
     Blocks { first: u32, count: u64 },
+    /// Of so many bytes of the file of a name.
+    File { name: Name, start: u32, len: u64 },
 }

@@ -1,7 +1,7 @@
-// Reads of pages and of blocks, each with the reply that is asked for.
+// Reads of pages, of blocks and of files, each with the reply that is asked for.
 ghost use Rattle.std.specs.Prelude.{◌<◌, ◌^◌};
 
-use nvm_base::Bytes;
+use nvm_base::{Bytes, Name};
 use reply_text::Why;
 
 /// What a read of pages is asked to answer.
@@ -19,6 +19,14 @@ pub struct PageRead {
     pub start: u64,
     pub len: u64,
     pub reply: PageReply,
+}
+
+/// A read of so many bytes of the file of a name.
+#[derive(Debug, Drop)]
+pub struct FileRead {
+    pub name: Name,
+    pub pages: PageRead,
+    pub ghost reach: { pages.start < 2 ^ 32 },
 }
 
 /// What a read of blocks is asked to answer.

@@ -22,9 +22,9 @@ use Rattle.machine_host.specs.Stands.{Comes, HostState, Stands}
 use Rattle.outcomes.specs.Finds.{IsReady, armed}
 use Rattle.outcomes.specs.Stops.{IsProgram, is_of_program, led_to}
 use Rattle.asked_reads.specs.Program.{input_of, inputs_of_lines}
-use Rattle.sights.specs.Following.{AreDone}
-use Rattle.sights.proofs.GoingLemmas.{at_line}
-use Rattle.sights.proofs.StepLemmas.{ready_after}
+use Rattle.cut_places.specs.Following.{AreDone}
+use Rattle.cut_places.proofs.GoingLemmas.{at_line}
+use Rattle.cut_places.proofs.StepLemmas.{ready_after}
 use Rattle.explorer.specs.declared.came.Came.TheVariants as came_as
 use Rattle.explorer.specs.Coming.{came_of}
 use Rattle.explorer.specs.Performing.{IsDone, LineDone}

@@ -3,9 +3,9 @@ use Rattle.std.specs.Prelude.{◌≡◌, ◌≤◌, ◌<◌, ◌-◌, ◌++◌, 
 use Rattle.script_text.specs.declared.command.Command.{Command}
 use Rattle.script_text.specs.Action.{Action, action_of}
 use Rattle.outcomes.specs.Seen.{Seen, may_show}
-use Rattle.sights.specs.declared.place.CutPlace.{CutPlace}
-use Rattle.sights.specs.declared.place.CutPlace.TheVariants.{Before, Inside}
-use Rattle.sights.specs.Places.{Stop}
+use Rattle.cut_places.specs.declared.place.CutPlace.{CutPlace}
+use Rattle.cut_places.specs.declared.place.CutPlace.TheVariants.{Before, Inside}
+use Rattle.cut_places.specs.Places.{Stop}
 use Rattle.witnesses.specs.Telling.{told}
 use Rattle.explorer.specs.declared.found.Found.{Found}
 

@@ -1,4 +1,4 @@
-use sights::CutPlace;
+use cut_places::CutPlace;
 use witnesses::Kept;
 
 /// Where in a program a cut first leaves what is asked, and what of storage it may keep so.

@@ -8,7 +8,7 @@ ghost use Rattle.machine_host.specs.Stands.{Stands};
 ghost use Rattle.outcomes.specs.Finds.{IsReady, armed};
 ghost use Rattle.outcomes.specs.Stops.{IsProgram, is_of_program};
 ghost use Rattle.asked_reads.specs.Program.{IsBounded, input_of, inputs_of_lines};
-ghost use Rattle.sights.specs.Following.{AreDone};
+ghost use Rattle.cut_places.specs.Following.{AreDone};
 ghost use Rattle.explorer.specs.Performing.{IsDone, LineDone};
 ghost use Rattle.explorer.specs.Stopping.{DeviceStopped, NoneFell};
 

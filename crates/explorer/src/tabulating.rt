@@ -6,7 +6,7 @@ ghost use Rattle.machine_host.specs.Stands.{Stands};
 ghost use Rattle.outcomes.specs.Finds.{armed};
 ghost use Rattle.outcomes.specs.Stops.{IsProgram};
 ghost use Rattle.asked_reads.specs.Program.{IsBounded, inputs_of_lines};
-ghost use Rattle.sights.specs.Places.{cut_places};
+ghost use Rattle.cut_places.specs.Places.{cut_places};
 ghost use Rattle.value_tables.specs.Tables.{table_text};
 ghost use Rattle.explorer.specs.Starting.{Begins};
 ghost use Rattle.explorer.specs.Stopping.{DeviceStopped, NoneFell};

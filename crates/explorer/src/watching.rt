@@ -7,7 +7,7 @@ ghost use Rattle.outcomes.specs.Finds.{armed};
 ghost use Rattle.outcomes.specs.Stops.{IsProgram};
 ghost use Rattle.asked_reads.specs.Asking.{may_be_replies};
 ghost use Rattle.asked_reads.specs.Program.{IsBounded, inputs_of_lines};
-ghost use Rattle.sights.specs.Following.{AreDone, Follows, IsWhole, IsWithin};
+ghost use Rattle.cut_places.specs.Following.{AreDone, Follows, IsWhole, IsWithin};
 ghost use Rattle.explorer.specs.Starting.{Begins};
 ghost use Rattle.explorer.specs.Stopping.{DeviceStopped, NoneFell};
 
@@ -20,7 +20,7 @@ use line_device::LineDevice;
 use machine_host::Host;
 use nvm_base::MOST;
 use script_text::Command;
-use sights::Sight;
+use cut_places::Sight;
 use std::alloc::Global;
 
 /// What a question looks at before a program, and which lines of the program are done.

@@ -5,8 +5,8 @@ use Rattle.std.specs.Str.{bytes_eq}
 use Rattle.outcomes.specs.Files.{reads_of}
 use Rattle.outcomes.specs.Pages.{PageRead}
 use Rattle.asked_reads.specs.Reads.{page_read}
-use Rattle.file_sights.specs.declared.read.FileRead.{FileRead as Asked}
-use Rattle.file_sights.specs.Asking.{file_reads_asked}
+use Rattle.asked_reads.specs.declared.reads.FileRead.{FileRead as Asked}
+use Rattle.asked_reads.specs.Reads.{file_reads_asked}
 
 -- those of other files are passed over
 pub all_of_file : (f : PageRead → Bool) (name : List ℕ) (reads : List Asked)

@@ -2,6 +2,5 @@ pub mod Changes
 pub mod Maps
 pub mod State
 pub mod Commands
-pub mod Asking
 pub mod Fitting
 pub mod Sees

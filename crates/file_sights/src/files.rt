@@ -7,6 +7,7 @@ ghost use Rattle.machine_host.specs.Machine.{Machine};
 ghost use Rattle.durable.specs.Durable.{IsComplete};
 ghost use Rattle.outcomes.specs.Stops.{led_to};
 ghost use Rattle.file_sights.specs.Changes.{change_of};
+ghost use Rattle.file_sights.specs.Commands.{files_change};
 ghost use Rattle.file_sights.specs.Sees.{SeesFiles};
 ghost use Rattle.file_sights.specs.State.{after};
 
@@ -61,6 +62,7 @@ impl FilesSeen {
     /// What becomes of them once a command is done.
     pub fn change(&mut self, command: &Command) -> Result<(), AllocError>
         requires bounded { InBounds (action_of command.now) }
+        ensures is { OnOk result (self.new ≡ after (files_change self.old.mappings.mappings (action_of command.now)) self.old) }
         ensures follows { (h : Machine) → SeesFiles self.old h → IsComplete h → refusal h (action_of command.now) ≡ None
             → OnOk result (SeesFiles self.new (led_to h ((meaning (action_of command.now)).comes h))) }
         ensures numbers { OnOk result (self.new.numbers ≡ self.old.numbers) }

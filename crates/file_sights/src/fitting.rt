@@ -7,17 +7,18 @@ ghost use Rattle.machine_host.specs.Machine.{Machine};
 ghost use Rattle.durable.specs.Durable.{IsComplete};
 ghost use Rattle.outcomes.specs.Files.{each_file, files_fit};
 ghost use Rattle.outcomes.specs.Left.{files_may_pass};
-ghost use Rattle.file_sights.specs.Asking.{file_reads_asked};
+ghost use Rattle.asked_reads.specs.Reads.{file_reads_asked};
 ghost use Rattle.file_sights.specs.Changes.{change_of, lines_of};
-ghost use Rattle.file_sights.specs.Fitting.{fit_by_line, fit_either, fit_inside, now_fits, reads_pass};
+ghost use Rattle.file_sights.specs.Commands.{files_change};
+ghost use Rattle.file_sights.specs.Fitting.{fit_by_line, fit_either, fit_inside, fit_now, now_fits, reads_pass};
 ghost use Rattle.file_sights.specs.Sees.{SeesFiles, are_held};
 
 use crate::change::{FilesChange, LinesChange};
 use crate::choosing::change_of;
 use crate::file::FileSeen;
 use crate::files::FilesSeen;
-use crate::read::FileRead;
 use crate::read_fits::{read_fits, read_fits_either};
+use asked_reads::FileRead;
 use nvm_base::Name;
 use script_text::Command;
 use std::alloc::AllocError;
@@ -25,7 +26,8 @@ use std::alloc::AllocError;
 impl FilesSeen {
     /// Whether a cut that falls now may leave what these reads ask for.
     pub fn fits(&self, reads: &[FileRead]) -> bool
-        ensures { (h : Machine) → SeesFiles self.now h → are_held self.now.numbers (file_reads_asked reads.now) ≡ true
+        ensures fits { result ≡ fit_now (file_reads_asked reads.now) self.now }
+        ensures shown { (h : Machine) → SeesFiles self.now h → are_held self.now.numbers (file_reads_asked reads.now) ≡ true
             → result ≡ files_fit each_file (file_reads_asked reads.now) h.files }
     {
         all_fit(&self.files, reads)
@@ -34,7 +36,8 @@ impl FilesSeen {
     /// Whether one that falls inside the command may.
     pub fn fits_inside(&self, reads: &[FileRead], command: &Command) -> Result<bool, AllocError>
         requires bounded { InBounds (action_of command.now) }
-        ensures { (h : Machine) → SeesFiles self.now h → IsComplete h → are_held self.now.numbers (file_reads_asked reads.now) ≡ true
+        ensures fits { IfOk result (λ may. may ≡ fit_inside (files_change self.now.mappings.mappings (action_of command.now)) (file_reads_asked reads.now) self.now) }
+        ensures shown { (h : Machine) → SeesFiles self.now h → IsComplete h → are_held self.now.numbers (file_reads_asked reads.now) ≡ true
             → refusal h (action_of command.now) ≡ None
             → IfOk result (λ may. may ≡ files_may_pass h.mappings (Some (action_of command.now)) (file_reads_asked reads.now) h.files) }
     {

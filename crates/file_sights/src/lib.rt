@@ -13,7 +13,6 @@ mod lines;
 mod listing;
 mod map;
 mod maps;
-mod read;
 mod read_fits;
 mod rewriting;
 #[cfg(test)]
@@ -21,4 +20,3 @@ mod tests;
 
 pub use file::FileSeen;
 pub use files::FilesSeen;
-pub use read::FileRead;

@@ -3,9 +3,9 @@ ghost use Rattle.std.specs.Prelude.{◌≡◌, ◌<◌, ◌^◌};
 ghost use Rattle.outcomes.specs.Files.{reads_of};
 ghost use Rattle.outcomes.specs.Pages.{all_agree, all_allow_bad, all_allow_good};
 ghost use Rattle.asked_reads.specs.Fitting.{WordFits, WordsFit, cell_fits};
-ghost use Rattle.file_sights.specs.Asking.{file_reads_asked};
+ghost use Rattle.asked_reads.specs.Reads.{file_reads_asked};
 
-use crate::read::FileRead;
+use asked_reads::FileRead;
 use line_histories::HeldLine;
 use nvm_base::Name;
 use sights::{agrees, allows_bad, allows_good};

@@ -1,6 +1,6 @@
 // Programs on files, and what may be read once the power is back.
-use crate::{FileRead, FilesSeen};
-use asked_reads::{PageRead, PageReply};
+use crate::FilesSeen;
+use asked_reads::{FileRead, PageRead, PageReply};
 use nvm_base::{Bytes, Name};
 use reply_text::Why;
 use script_text::parse;
@@ -28,8 +28,12 @@ fn inside(alloc: Global, lines: &[&str], line: &str, reads: &[FileRead]) -> Resu
     }
 }
 
-fn read(name: &str, start: u64, len: u64, reply: PageReply) -> Result<FileRead, Fail> {
-    let pages = PageRead { start, len, reply };
+fn read(name: &str, start: u32, len: u64, reply: PageReply) -> Result<FileRead, Fail> {
+    let pages = PageRead {
+        start: u64::from(start),
+        len,
+        reply,
+    };
     match Name::read(name.as_bytes()) {
         Some(name) => Ok(FileRead { name, pages }),
         None => Err(Fail::from("a name")),
@@ -37,12 +41,12 @@ fn read(name: &str, start: u64, len: u64, reply: PageReply) -> Result<FileRead, 
 }
 
 // Once these lines are performed, so many bytes may be found of this value.
-fn may_show(alloc: Global, lines: &[&str], name: &str, start: u64, byte: u8) -> Result<bool, Fail> {
+fn may_show(alloc: Global, lines: &[&str], name: &str, start: u32, byte: u8) -> Result<bool, Fail> {
     let read = shows(alloc, name, start, byte, 8)?;
     Ok(after(alloc, lines)?.fits(&[read]))
 }
 
-fn shows(alloc: Global, name: &str, start: u64, byte: u8, len: u64) -> Result<FileRead, Fail> {
+fn shows(alloc: Global, name: &str, start: u32, byte: u8, len: u64) -> Result<FileRead, Fail> {
     let mut bytes = Bytes::new(alloc);
     bytes.repeat(byte, len)?;
     read(name, start, len, PageReply::Shows(bytes))

@@ -57,6 +57,7 @@ pub mod FilePageFateLemmas
 pub mod FilePageCallLemmas
 pub mod FilePageLemmas
 mod EitherFileLemmas
+mod WeakMarkLemmas
 mod WeakPageLemmas
 pub mod FileChangeLemmas
 pub mod FileStoreLemmas

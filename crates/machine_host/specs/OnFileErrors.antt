@@ -1,11 +1,11 @@
 -- Media errors of files: lines that go bad or weak, bad lines that are made good again, and those that are told.
-use Rattle.std.specs.Prelude.{◌+◌, ◌*◌, ◌/◌, ◌++◌, ℕ, true, List, [], ◌∷◌, length, min, option_map}
+use Rattle.std.specs.Prelude.{◌+◌, ◌*◌, ◌/◌, ◌++◌, ℕ, Bool, true, false, List, [], ◌∷◌, length, min, Option, Some, None, option_map}
 use Rattle.nvm_base.specs.declared.units.Span.{Span}
 use Rattle.nvm_model.specs.Cell.{Cell, clear_cell, lose_cell, weaken_cell}
-use Rattle.nvm_model.specs.Events.{offsets_of}
+use Rattle.nvm_model.specs.Events.{is_weak_cell, offsets_of}
 use Rattle.nvm_model.specs.Files.{on_pages}
 use Rattle.nvm_model.specs.Listing.{change_file, file_name}
-use Rattle.nvm_model.specs.Page.{change_line}
+use Rattle.nvm_model.specs.Page.{cell_of, change_line}
 use Rattle.nvm_model.specs.Storage.{File}
 use Rattle.nvm_model.specs.Touched.{bad_touched}
 use Rattle.scrub.specs.Refusals.{file_clear_refusal, file_refusal}
@@ -77,3 +77,11 @@ check_file name offset len =
       wants_memory = true;
       room = 72 + 21 * min (len / 64 + 2) 16384;
     }
+
+-- a line is there and weak, and so is one of the file of a name
+abbrev pub is_weak_line : Option Cell → Bool
+is_weak_line None = false
+is_weak_line (Some cell) = is_weak_cell cell
+
+abbrev pub is_weak_there : List ℕ → ℕ → List File → Bool
+is_weak_there name line files = is_weak_line (cell_of (pages_named name files) line)

@@ -23,7 +23,7 @@ use crate::outcome::Outcome;
 use block_device::Blocks;
 use commands::longest_reply;
 use line_device::LineDevice;
-use nvm_base::{Bytes, MOST};
+use nvm_base::{Bytes, MOST, Name};
 use pm_volume::Volume;
 use recovery::MountFault;
 use reply_text::print;
@@ -93,6 +93,7 @@ impl Host {
     ghost use Rattle.recovery.specs.Mounting.{Finds, IsOfLogs, mount_outcome};
     ghost use Rattle.machine_host.specs.Machine.{Machine, bad_of};
     ghost use Rattle.machine_host.specs.Lines.{MetadataStands};
+    ghost use Rattle.machine_host.specs.OnFileErrors.{is_weak_there};
     ghost use Rattle.machine_host.specs.Stands.{Comes, HostServes, IsFlushed, Stands, Steps};
     ghost use Rattle.machine_host.specs.Restarting.{reading};
     ghost use Rattle.machine_host.specs.Costs.{mount_calls, mount_persists};
@@ -178,6 +179,15 @@ impl Host {
         ensures { (h : Machine) → Stands self.now (D.state device.now) h → result ≡ bad_of h }
     {
         self.performer.bad_lines(device)
+    }
+
+    /// Whether a line of the file of that name is weak; none is that is bad, in a hole or past the end. It makes no counted call.
+    pub fn is_weak_in_file<D: LineDevice>(&self, device: &D, name: &Name, line: u32) -> bool
+        requires serves { HostServes self.now (D.state device.now) }
+        requires on { self.now.mode ≡ modes.On }
+        ensures { (h : Machine) → Stands self.now (D.state device.now) h → result ≡ is_weak_there name.now line h.files }
+    {
+        self.performer.is_weak_in_file(device, name, line)
     }
 
     /// Performs a command on the device and appends its reply's line.

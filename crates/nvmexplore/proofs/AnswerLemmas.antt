@@ -14,7 +14,7 @@ use Rattle.asked_reads.specs.declared.question.Question.{Question}
 use Rattle.asked_reads.specs.Asking.{IsLook}
 use Rattle.exploration.specs.Reading.{AskOf}
 use Rattle.explorer.specs.Stopping.{NoneFell}
-use Rattle.sights.specs.Places.{Stop}
+use Rattle.cut_places.specs.Places.{Stop}
 use Rattle.explorer.specs.Finding.{IsFound}
 use Rattle.explorer.specs.declared.found.Found.{Found}
 use Rattle.program_base.specs.Writing.{WritesFront}

@@ -26,7 +26,7 @@ use Rattle.exploration.specs.declared.exploration.Exploration.{Exploration as Re
 use Rattle.exploration.specs.declared.exploration.ScriptFault.{ScriptFault}
 use Rattle.exploration.specs.declared.exploration.ScriptFault.TheVariants as script
 use Rattle.explorer.specs.Stopping.{NoneFell}
-use Rattle.sights.specs.Places.{Stop as Place, cut_places, found_stop}
+use Rattle.cut_places.specs.Places.{Stop as Place, cut_places, found_stop}
 use Rattle.program_base.specs.Ending.{status}
 use Rattle.program_base.specs.Opening.{FailsToOpen, IsHeld, opened}
 use Rattle.program_base.specs.World.{World}

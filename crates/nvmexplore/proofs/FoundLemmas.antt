@@ -9,8 +9,8 @@ use Rattle.machine_host.specs.Commands.{fate}
 use Rattle.outcomes.specs.Finds.{Finds, armed, may_find}
 use Rattle.outcomes.specs.Seen.{Seen, may_show}
 use Rattle.outcomes.specs.Stops.{inside, led_to, stops}
-use Rattle.sights.specs.declared.place.CutPlace.TheVariants.{Inside}
-use Rattle.sights.specs.Places.{Stop, cut_places, first_stop, found_stop}
+use Rattle.cut_places.specs.declared.place.CutPlace.TheVariants.{Inside}
+use Rattle.cut_places.specs.Places.{Stop, cut_places, first_stop, found_stop}
 use Rattle.explorer.specs.Finding.{IsFound}
 use Rattle.explorer.specs.declared.found.Found.{Found}
 use Rattle.witnesses.specs.Telling.{told}

@@ -20,7 +20,7 @@ use Rattle.asked_reads.specs.declared.read.Read.{Read}
 use Rattle.exploration.specs.Exploration.{Exploration, script_of}
 use Rattle.exploration.specs.Exploration.Script.{StopsAt, Taken}
 use Rattle.exploration.specs.Reads.{read_of}
-use Rattle.sights.specs.Places.{Stop, cut_places, found_stop}
+use Rattle.cut_places.specs.Places.{Stop, cut_places, found_stop}
 use Rattle.explorer.specs.Finding.{IsFound}
 use Rattle.explorer.specs.declared.found.Found.{Found}
 use Rattle.value_tables.specs.Tables.{table_text}

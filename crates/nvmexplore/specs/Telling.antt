@@ -2,8 +2,8 @@
 use Rattle.std.specs.Prelude.{ℕ, Bool, List, ◌++◌, Option, Some, None, codes, decimal, is_some, if◌then◌else◌}
 use Rattle.std.specs.List.{list_any}
 use Rattle.outcomes.specs.Seen.{Seen, volume_reads}
-use Rattle.sights.specs.declared.place.CutPlace.{CutPlace}
-use Rattle.sights.specs.declared.place.CutPlace.TheVariants.{Before, Inside}
+use Rattle.cut_places.specs.declared.place.CutPlace.{CutPlace}
+use Rattle.cut_places.specs.declared.place.CutPlace.TheVariants.{Before, Inside}
 use Rattle.explorer.specs.declared.found.Found.{Found}
 use Rattle.program_base.specs.Ending.{line}
 use Rattle.witnesses.specs.Texts.{kept_text}

@@ -4,7 +4,7 @@ ghost use Rattle.outcomes.specs.Seen.{Seen};
 ghost use Rattle.outcomes.specs.Stops.{IsProgram};
 ghost use Rattle.asked_reads.specs.Asking.{IsLook};
 ghost use Rattle.asked_reads.specs.Program.{IsBounded, inputs_of_lines};
-ghost use Rattle.sights.specs.Places.{found_stop};
+ghost use Rattle.cut_places.specs.Places.{found_stop};
 ghost use Rattle.explorer.specs.Finding.{IsFound};
 ghost use Rattle.explorer.specs.Stopping.{NoneFell};
 ghost use Rattle.program_base.specs.Opening.{opened};

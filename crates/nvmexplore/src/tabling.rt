@@ -3,7 +3,7 @@ ghost use Rattle.std.specs.Prelude.{◌≡◌, ◌≤◌, ℕ, All, IfErr, IfOk,
 ghost use Rattle.outcomes.specs.Finds.{armed};
 ghost use Rattle.outcomes.specs.Stops.{IsProgram};
 ghost use Rattle.asked_reads.specs.Program.{IsBounded, inputs_of_lines};
-ghost use Rattle.sights.specs.Places.{cut_places};
+ghost use Rattle.cut_places.specs.Places.{cut_places};
 ghost use Rattle.value_tables.specs.Tables.{table_text};
 ghost use Rattle.explorer.specs.Stopping.{NoneFell};
 ghost use Rattle.program_base.specs.Opening.{opened};

@@ -8,7 +8,7 @@ use asked_reads::Question;
 use explorer::Found;
 use nvm_base::{Bytes, print_number};
 use program_base::plain_line;
-use sights::CutPlace;
+use cut_places::CutPlace;
 use std::alloc::{AllocError, Global};
 use witnesses::kept_text;
 

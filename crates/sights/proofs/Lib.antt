@@ -5,11 +5,5 @@ pub mod BlockChangeLemmas
 pub mod PassLemmas
 pub mod ShowLemmas
 pub mod InsideLemmas
-pub mod MayShowLemmas
 pub mod SizeLemmas
-pub mod StopLemmas
-pub mod StepLemmas
-pub mod WorkLemmas
 pub mod FitLemmas
-pub mod GoingLemmas
-pub mod WithinLemmas

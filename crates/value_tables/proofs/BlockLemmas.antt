@@ -27,7 +27,7 @@ use Rattle.outcomes.specs.Left.{blocks_may_pass, volume_may_pass, volume_passes}
 use Rattle.outcomes.specs.Pages.{line_fits}
 use Rattle.outcomes.specs.Seen.{files_may_show, may_show}
 use Rattle.asked_reads.specs.Fitting.{sight_allows, sight_fits}
-use Rattle.sights.proofs.MayShowLemmas.{files_show_none}
+use Rattle.cut_places.proofs.MayShowLemmas.{files_show_none}
 use Rattle.sights.proofs.PassLemmas.{EachUnit}
 use Rattle.value_tables.specs.Left.{block_left, blocks_left, of_blocks}
 use Rattle.value_tables.specs.Listed.{IsSized, block_read, lists_sight, reply_of}

@@ -10,11 +10,11 @@ use Rattle.machine_host.specs.Commands.{fate, refusal}
 use Rattle.outcomes.specs.Stops.{led_to}
 use Rattle.asked_reads.specs.Program.{inputs_of_lines}
 use Rattle.asked_reads.specs.declared.read.Read.{Read}
-use Rattle.sights.specs.declared.place.CutPlace.TheVariants.{Before}
-use Rattle.sights.specs.declared.sight.Sight.{Sight}
-use Rattle.sights.specs.Following.{AreDone, Follows}
-use Rattle.sights.specs.Places.{cut_places}
-use Rattle.sights.proofs.GoingLemmas.{at_line}
+use Rattle.cut_places.specs.declared.place.CutPlace.TheVariants.{Before}
+use Rattle.cut_places.specs.declared.sight.Sight.{Sight}
+use Rattle.cut_places.specs.Following.{AreDone, Follows}
+use Rattle.cut_places.specs.Places.{cut_places}
+use Rattle.cut_places.proofs.GoingLemmas.{at_line}
 use Rattle.value_tables.specs.declared.table.Table.{Table}
 use Rattle.value_tables.specs.Looking.{IsOf}
 use Rattle.value_tables.specs.Rows.{rows_at}

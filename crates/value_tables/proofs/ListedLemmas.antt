@@ -22,7 +22,7 @@ use Rattle.outcomes.specs.Pages.PageReply.{Shows, Poison}
 use Rattle.outcomes.specs.Seen.{files_may_show, may_show}
 use Rattle.asked_reads.specs.Fitting.{cell_fits}
 use Rattle.sights.specs.Seeing.{seen}
-use Rattle.sights.proofs.MayShowLemmas.{files_show_none}
+use Rattle.cut_places.proofs.MayShowLemmas.{files_show_none}
 use Rattle.sights.proofs.PassLemmas.{EachUnit}
 use Rattle.value_tables.specs.Left.{line_left, lines_left, of_lines}
 use Rattle.value_tables.specs.Listed.{HasWords, IsSound, has_bytes, lists_bytes, word_read}

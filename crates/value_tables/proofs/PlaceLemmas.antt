@@ -14,16 +14,16 @@ use Rattle.outcomes.specs.Stops.{inside, is_of_program, led_to}
 use Rattle.asked_reads.specs.declared.read.Read.{Read}
 use Rattle.sights.specs.declared.line_seen.LineSeen.{LineSeen}
 use Rattle.sights.specs.declared.block_seen.BlockSeen.{BlockSeen}
-use Rattle.sights.specs.declared.place.CutPlace.{CutPlace}
-use Rattle.sights.specs.declared.place.CutPlace.TheVariants.{Before, Inside}
-use Rattle.sights.specs.declared.sight.Sight.{Sight}
-use Rattle.sights.specs.Following.{Follows, IsWithin}
-use Rattle.sights.specs.Places.{Stop}
+use Rattle.cut_places.specs.declared.place.CutPlace.{CutPlace}
+use Rattle.cut_places.specs.declared.place.CutPlace.TheVariants.{Before, Inside}
+use Rattle.cut_places.specs.declared.sight.Sight.{Sight}
+use Rattle.cut_places.specs.Following.{Follows, IsWithin}
+use Rattle.cut_places.specs.Places.{Stop}
 use Rattle.sights.specs.Units.{block_numbers, block_once_done, line_numbers, line_once_done}
 use Rattle.sights.specs.Ways.{blocks_way, lines_way}
 use Rattle.sights.proofs.SizeLemmas.{geometry_stays}
-use Rattle.sights.proofs.StepLemmas.{blocks_in, lines_of, ready_after, sees_after}
-use Rattle.sights.proofs.WorkLemmas.{ChangesNone, works_or_none}
+use Rattle.cut_places.proofs.StepLemmas.{blocks_in, lines_of, ready_after, sees_after}
+use Rattle.cut_places.proofs.WorkLemmas.{ChangesNone, works_or_none}
 use Rattle.value_tables.specs.declared.table.Table.{Table}
 use Rattle.value_tables.specs.Left.{block_left, line_left}
 use Rattle.value_tables.specs.Looking.{IsOf}

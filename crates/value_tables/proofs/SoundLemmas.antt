@@ -12,13 +12,13 @@ use Rattle.machine_host.specs.Commands.{fate, meaning, refusal, unless_refused, 
 use Rattle.durable.specs.Durable.{IsCounted}
 use Rattle.outcomes.specs.Finds.{IsReady}
 use Rattle.outcomes.specs.Stops.{IsProgram, inside, is_of_program, led_to}
-use Rattle.sights.specs.declared.place.CutPlace.{CutPlace}
-use Rattle.sights.specs.declared.place.CutPlace.TheVariants.{Before, Inside}
+use Rattle.cut_places.specs.declared.place.CutPlace.{CutPlace}
+use Rattle.cut_places.specs.declared.place.CutPlace.TheVariants.{Before, Inside}
 use Rattle.sights.specs.Changing.{volume_change}
-use Rattle.sights.specs.Places.{Stop, cut_places}
+use Rattle.cut_places.specs.Places.{Stop, cut_places}
 use Rattle.sights.specs.Seeing.{seen}
 use Rattle.sights.proofs.SizeLemmas.{geometry_stays}
-use Rattle.sights.proofs.StepLemmas.{ready_after}
+use Rattle.cut_places.proofs.StepLemmas.{ready_after}
 use Rattle.sights.proofs.VolumeChangeLemmas.{volume_changed}
 use Rattle.value_tables.specs.Listed.{HasWords, IsSound}
 use Rattle.value_tables.proofs.HistoryLemmas.{changed_has}

@@ -8,8 +8,8 @@ use Rattle.asked_reads.specs.declared.read.Read.{Read}
 use Rattle.asked_reads.specs.declared.read.Read.TheVariants.{Blocks, Volume}
 use Rattle.sights.specs.declared.line_seen.LineSeen.{LineSeen}
 use Rattle.sights.specs.declared.block_seen.BlockSeen.{BlockSeen}
-use Rattle.sights.specs.declared.sight.Sight.{Sight}
-use Rattle.sights.specs.Following.{IsWithin}
+use Rattle.cut_places.specs.declared.sight.Sight.{Sight}
+use Rattle.cut_places.specs.Following.{IsWithin}
 use Rattle.sights.specs.Units.{AreAmong, AreWithin, block_numbers, line_numbers}
 use Rattle.sights.proofs.PassLemmas.{EachUnit}
 use Rattle.value_tables.specs.Looking.{IsOf, blocks_looked_at, blocks_touched, lines_looked_at, lines_touched, none_refused}

@@ -4,7 +4,7 @@ use Rattle.std.specs.List.{range_with_len}
 use Rattle.nvm_base.specs.Units.{units_of}
 use Rattle.word_tables.specs.declared.geometry.Geometry.{Geometry}
 use Rattle.reply_text.specs.declared.reply.Why.{Why}
-use Rattle.sights.specs.declared.sight.Sight.{Sight}
+use Rattle.cut_places.specs.declared.sight.Sight.{Sight}
 use Rattle.sights.specs.Units.{block_numbers, line_numbers}
 use Rattle.asked_reads.specs.declared.read.Read.{Read}
 use Rattle.asked_reads.specs.declared.read.Read.TheVariants as reads

@@ -1,9 +1,9 @@
 -- A table: at each place of a cut the rows that are not as at the place before it.
 use Rattle.std.specs.Prelude.{◌++◌, ℕ, List, [], ◌∷◌, codes, decimal, if◌then◌else◌}
 use Rattle.std.specs.Str.{bytes_eq}
-use Rattle.sights.specs.declared.place.CutPlace.{CutPlace}
-use Rattle.sights.specs.declared.place.CutPlace.TheVariants.{Before, Inside}
-use Rattle.sights.specs.Places.{Stop}
+use Rattle.cut_places.specs.declared.place.CutPlace.{CutPlace}
+use Rattle.cut_places.specs.declared.place.CutPlace.TheVariants.{Before, Inside}
+use Rattle.cut_places.specs.Places.{Stop}
 use Rattle.asked_reads.specs.declared.read.Read.{Read}
 use Rattle.value_tables.specs.Rows.{rows_at}
 

@@ -5,9 +5,9 @@ use Rattle.script_text.specs.Action.{Action}
 use Rattle.machine_host.specs.Machine.{Machine}
 use Rattle.machine_host.specs.Commands.{fate}
 use Rattle.outcomes.specs.Stops.{led_to}
-use Rattle.sights.specs.declared.sight.Sight.{Sight}
-use Rattle.sights.specs.Following.{Follows, command_stops}
-use Rattle.sights.specs.Places.{Stop}
+use Rattle.cut_places.specs.declared.sight.Sight.{Sight}
+use Rattle.cut_places.specs.Following.{Follows, command_stops}
+use Rattle.cut_places.specs.Places.{Stop}
 use Rattle.asked_reads.specs.declared.read.Read.{Read}
 use Rattle.value_tables.specs.declared.table.Table.{Table}
 use Rattle.value_tables.specs.Sides.{texts}

@@ -4,7 +4,7 @@ use Rattle.script_text.specs.Script.{inputs}
 use Rattle.machine_host.specs.Restarting.{fresh}
 use Rattle.machine_host.specs.Rows.{small, text}
 use Rattle.outcomes.specs.Finds.{armed}
-use Rattle.sights.specs.Places.{cut_places}
+use Rattle.cut_places.specs.Places.{cut_places}
 use Rattle.asked_reads.specs.declared.read.Read.{Read}
 use Rattle.asked_reads.specs.declared.read.Read.TheVariants.{Blocks, Volume}
 use Rattle.value_tables.specs.Tables.{table_text}

@@ -7,7 +7,8 @@ ghost use Rattle.sights.specs.Units.{block_once_done, line_once_done};
 
 use crate::keeping::keep;
 use script_text::Command;
-use sights::{Sight, Unit};
+use cut_places::Sight;
+use sights::Unit;
 use std::alloc::{AllocError, Global};
 use word_tables::Geometry;
 

@@ -7,7 +7,7 @@ ghost use Rattle.outcomes.specs.Finds.{IsReady};
 ghost use Rattle.outcomes.specs.Pages.PageReply.{Poison, Shows};
 ghost use Rattle.outcomes.specs.Seen.{may_show};
 ghost use Rattle.outcomes.specs.Stops.{IsProgram};
-ghost use Rattle.sights.specs.Places.{Stop, cut_places};
+ghost use Rattle.cut_places.specs.Places.{Stop, cut_places};
 ghost use Rattle.value_tables.specs.Left.{block_left, line_left};
 ghost use Rattle.value_tables.specs.Listed.{IsSized, IsSound, block_read, lists_bytes, lists_sight, reply_of, word_read};
 ghost use Rattle.value_tables.specs.Values.{block_values, may_be_bad, word_values};

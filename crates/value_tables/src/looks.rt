@@ -14,7 +14,8 @@ use crate::sides::Sides;
 use asked_reads::Read;
 use nvm_base::Bytes;
 use script_text::Command;
-use sights::{BlockSeen, LineSeen, Sight, Way};
+use cut_places::Sight;
+use sights::{BlockSeen, LineSeen, Way};
 use std::alloc::{AllocError, Global};
 use word_tables::Geometry;
 

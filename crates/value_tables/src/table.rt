@@ -4,7 +4,7 @@ ghost use Rattle.value_tables.specs.Sides.{is_row, texts};
 ghost use Rattle.value_tables.specs.Tables.{changed, part, place_line};
 
 use nvm_base::{Bytes, print_number};
-use sights::CutPlace;
+use cut_places::CutPlace;
 use std::alloc::{AllocError, Global};
 
 /// What is printed, and the rows of the last place.

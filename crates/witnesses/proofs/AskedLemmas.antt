@@ -25,7 +25,7 @@ use Rattle.asked_reads.specs.Asking.{blocks_of, volume_asked}
 use Rattle.asked_reads.specs.Reads.{block_reply as reply_of_blocks, blocks_asked, page_reply, pages_asked}
 use Rattle.sights.specs.declared.line_seen.LineSeen.{LineSeen}
 use Rattle.sights.specs.declared.block_seen.BlockSeen.{BlockSeen}
-use Rattle.sights.specs.declared.sight.Sight.{Sight}
+use Rattle.cut_places.specs.declared.sight.Sight.{Sight}
 use Rattle.sights.specs.Units.{block_numbers, line_numbers}
 use Rattle.witnesses.specs.declared.line_kept.LineLeft.{LineLeft}
 use Rattle.witnesses.specs.declared.line_kept.LineLeft.TheVariants as left

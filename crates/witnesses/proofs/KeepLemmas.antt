@@ -21,12 +21,12 @@ use Rattle.asked_reads.specs.Asking.{IsLook, blocks_of, may_be_replies, volume_a
 use Rattle.asked_reads.specs.Fitting.{cell_fits, sight_fits}
 use Rattle.sights.specs.declared.line_seen.LineSeen.{LineSeen}
 use Rattle.sights.specs.declared.block_seen.BlockSeen.{BlockSeen}
-use Rattle.sights.specs.declared.sight.Sight.{Sight}
-use Rattle.sights.specs.Following.{Follows, IsWhole, IsWithin}
+use Rattle.cut_places.specs.declared.sight.Sight.{Sight}
+use Rattle.cut_places.specs.Following.{Follows, IsWhole, IsWithin}
 use Rattle.sights.specs.Seeing.{seen}
 use Rattle.sights.specs.Units.{block_may_fit, block_numbers, line_may_fit, line_numbers}
 use Rattle.sights.specs.Ways.{blocks_way, lines_way}
-use Rattle.sights.proofs.StepLemmas.{blocks_in}
+use Rattle.cut_places.proofs.StepLemmas.{blocks_in}
 use Rattle.witnesses.specs.declared.block_kept.BlockKept.{BlockKept}
 use Rattle.witnesses.specs.declared.kept.Kept.{Kept}
 use Rattle.witnesses.specs.declared.line_kept.LineKept.{LineKept}

@@ -20,17 +20,17 @@ use Rattle.asked_reads.specs.declared.question.Question.{Question}
 use Rattle.asked_reads.specs.Asking.{IsLook, may_be_replies}
 use Rattle.sights.specs.declared.line_seen.LineSeen.{LineSeen}
 use Rattle.sights.specs.declared.block_seen.BlockSeen.{BlockSeen}
-use Rattle.sights.specs.declared.sight.Sight.{Sight}
+use Rattle.cut_places.specs.declared.sight.Sight.{Sight}
 use Rattle.sights.specs.Changing.{line_changed, volume_change}
 use Rattle.sights.specs.ChangingBlocks.{block_changed}
-use Rattle.sights.specs.Following.{Follows, IsWhole, IsWithin}
-use Rattle.sights.specs.Sights.{shows, shows_inside}
+use Rattle.cut_places.specs.Following.{Follows, IsWhole, IsWithin}
+use Rattle.cut_places.specs.Sights.{shows, shows_inside}
 use Rattle.sights.specs.Units.{AreAmong, AreBlocks, AreLines, AreWithin, block_may_fit, line_may_fit}
 use Rattle.sights.specs.Ways.{blocks_way, lines_way, passes_inside}
 use Rattle.sights.proofs.BlockChangeLemmas.{blocks_changed}
 use Rattle.sights.proofs.InsideLemmas.{AreThere}
-use Rattle.sights.proofs.MayShowLemmas.{shows_now, shows_within}
-use Rattle.sights.proofs.StepLemmas.{blocks_in, lines_of}
+use Rattle.cut_places.proofs.MayShowLemmas.{shows_now, shows_within}
+use Rattle.cut_places.proofs.StepLemmas.{blocks_in, lines_of}
 use Rattle.witnesses.specs.Blocks.{block_made}
 use Rattle.witnesses.specs.Lines.{line_made}
 use Rattle.witnesses.specs.Places.{IsReached, shows_at, state_at}

@@ -5,8 +5,8 @@ use Rattle.script_text.specs.Action.{Action}
 use Rattle.machine_host.specs.Machine.{Machine}
 use Rattle.machine_host.specs.Commands.{refusal, while_interrupted}
 use Rattle.asked_reads.specs.declared.question.Question.{Question}
-use Rattle.sights.specs.declared.sight.Sight.{Sight}
-use Rattle.sights.specs.Sights.{shows, shows_inside}
+use Rattle.cut_places.specs.declared.sight.Sight.{Sight}
+use Rattle.cut_places.specs.Sights.{shows, shows_inside}
 
 -- a cut there may leave what a question asks
 abbrev pub shows_at : Geometry → Option Action → Question → Sight → Bool

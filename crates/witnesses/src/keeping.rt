@@ -7,7 +7,7 @@ ghost use Rattle.machine_host.specs.Machine.{Machine};
 ghost use Rattle.outcomes.specs.Seen.{Seen, may_show};
 ghost use Rattle.asked_reads.specs.Asking.{IsLook, blocks_of, may_be_replies, volume_asked};
 ghost use Rattle.asked_reads.specs.Program.{IsBounded};
-ghost use Rattle.sights.specs.Following.{Follows, IsWhole, IsWithin};
+ghost use Rattle.cut_places.specs.Following.{Follows, IsWhole, IsWithin};
 ghost use Rattle.sights.specs.Units.{block_numbers, line_numbers};
 ghost use Rattle.witnesses.specs.Blocks.{block_kept, block_made, kept_block, numbers_of_blocks};
 ghost use Rattle.witnesses.specs.Lines.{kept_line, line_kept, line_made, numbers_of_lines};
@@ -21,7 +21,8 @@ use crate::staying::{make, stays};
 use crate::words::{free_words, line_left};
 use asked_reads::Question;
 use script_text::Command;
-use sights::{BlockSeen, LineSeen, Sight, Way, same_block};
+use cut_places::Sight;
+use sights::{BlockSeen, LineSeen, Way, same_block};
 use std::alloc::{AllocError, Global};
 use word_tables::Geometry;
 

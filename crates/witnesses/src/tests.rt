@@ -9,7 +9,8 @@ use asked_reads::{PageRead, PageReply, Question};
 use block_sights::{HeldBlock, Unreadable};
 use line_histories::HeldLine;
 use nvm_base::Bytes;
-use sights::{LineSeen, Sight, may_be_replies};
+use cut_places::Sight;
+use sights::{LineSeen, may_be_replies};
 use std::test::Fail;
 use word_tables::Geometry;
 

@@ -6,7 +6,9 @@ ghost use Rattle.file_pages.specs.Object.{IsFileAt, PagesServe};
 ghost use Rattle.machine_host.specs.declared.mode.Mode.TheVariants.{On};
 ghost use Rattle.script_text.specs.Action.Action.{PoisonFile, WeakenFile, ClearFile, CheckFile};
 ghost use Rattle.reply_text.specs.Answer.{answer_of};
-ghost use Rattle.machine_host.specs.Stands.{HostServes};
+ghost use Rattle.machine_host.specs.Machine.{Machine};
+ghost use Rattle.machine_host.specs.OnFileErrors.{is_weak_line, is_weak_there};
+ghost use Rattle.machine_host.specs.Stands.{HostServes, Stands};
 ghost use Rattle.machine_host.specs.Responding.{Answered, Responds};
 
 use super::Performer;
@@ -59,6 +61,17 @@ impl Performer {
         self.files.reserve_event(device)?;
         let call = scrub::weaken_file(device, &self.files.pages, inode, offset);
         weakened(call)
+    }
+
+    pub(super) fn is_weak_in_file<D: LineDevice>(&self, device: &D, name: &Name, line: u32) -> bool
+        requires serves { HostServes self.now (D.state device.now) }
+        requires on { self.now.mode ≡ On }
+        ensures { (h : Machine) → Stands self.now (D.state device.now) h → result ≡ is_weak_there name.now line h.files }
+    {
+        match self.files.pages.journal().find(name) {
+            Some(inode) => is_weak_in(device, &self.files.pages, inode, LINE * u64::from(line)),
+            None => false,
+        }
     }
 
     pub(super) fn clear_file<D: LineDevice>(
@@ -115,4 +128,20 @@ fn is_bad_in<D: LineDevice>(device: &D, files: &FilePages, inode: u64, offset: u
     };
     !ends_past(PAGE * files.journal().pages(inode), byte)
         && files.next_bad(device, inode, byte, 0).is_some()
+}
+
+// Whether the line of a byte of a file is there and weak.
+fn is_weak_in<D: LineDevice>(device: &D, files: &FilePages, inode: u64, offset: u64) -> bool
+    requires serves { PagesServe files.now (D.state device.now).medium }
+    requires inode { inode < 64 }
+    ensures { (all : List File) (file : File) → IsFileAt files.now.journal (D.state device.now).medium inode all file
+        → result ≡ is_weak_line (cell_of file.pages (offset / 64)) }
+{
+    if offset >= PAGE * files.journal().pages(inode) {
+        return false;
+    }
+    match files.line_of(inode, offset) {
+        Some(line) => device.is_weak(line),
+        None => false,
+    }
 }

@@ -2,9 +2,9 @@ use Rattle.std.proofs.Common.{refl, sym, ap, subst, ◌∙◌}
 use Rattle.outcomes.specs.Finds.{armed}
 use Rattle.asked_reads.specs.Asking.{may_be_replies}
 use Rattle.asked_reads.specs.Program.{inputs_of_lines}
-use Rattle.sights.specs.Following.{Follows}
-use Rattle.sights.specs.Places.{cut_places}
-use Rattle.sights.proofs.WithinLemmas.{found_nowhere}
+use Rattle.cut_places.specs.Following.{Follows}
+use Rattle.cut_places.specs.Places.{cut_places}
+use Rattle.cut_places.proofs.WithinLemmas.{found_nowhere}
 use Rattle.explorer.proofs.FoundLemmas.{nothing_found}
 use Rattle.explorer.proofs.exploring.explore.Goals as goal
 

@@ -9,7 +9,7 @@ use Rattle.asked_reads.specs.Reads.{blocks_asked, pages_asked}
 use Rattle.explorer.specs.Stopping.{DeviceStopped}
 use Rattle.explorer.proofs.CauseLemmas.{fell_later, handed_on, stopped_later}
 use Rattle.explorer.proofs.PerformLemmas.{ready_armed}
-use Rattle.sights.proofs.WithinLemmas.{blocks_within, lines_within}
+use Rattle.cut_places.proofs.WithinLemmas.{blocks_within, lines_within}
 use Rattle.explorer.proofs.watching.watch.Goals as goal
 
 pub look_lines-requires-clause-replies : goal.look_lines-requires-clause-replies

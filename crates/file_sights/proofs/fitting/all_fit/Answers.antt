@@ -6,8 +6,8 @@ use Rattle.std.proofs.lemmas.List.Folds.{list_all-map}
 use Rattle.nvm_model.specs.Listing.{file_of}
 use Rattle.asked_reads.specs.Reads.{page_read}
 use Rattle.outcomes.specs.Files.{FileRead}
-use Rattle.file_sights.specs.declared.read.FileRead.{FileRead as Asked}
-use Rattle.file_sights.specs.Asking.{file_read, file_reads_asked}
+use Rattle.asked_reads.specs.declared.reads.FileRead.{FileRead as Asked}
+use Rattle.asked_reads.specs.Reads.{file_read, file_reads_asked}
 use Rattle.file_sights.specs.Fitting.{now_fits, read_passes}
 use Rattle.file_sights.specs.State.{name_seen}
 use Rattle.file_sights.proofs.fitting.all_fit.Goals as goal

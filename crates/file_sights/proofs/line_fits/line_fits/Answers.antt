@@ -2,7 +2,7 @@
 use Rattle.std.proofs.Common.{◌≡◌, true, false, ◌∙◌}
 use Rattle.outcomes.specs.Pages.{all_allow_good}
 use Rattle.outcomes.specs.Files.{reads_of}
-use Rattle.file_sights.specs.Asking.{file_reads_asked}
+use Rattle.asked_reads.specs.Reads.{file_reads_asked}
 use Rattle.sights.proofs.FitLemmas.{bad_fits, good_fits, no_good_fits}
 use Rattle.file_sights.proofs.line_fits.line_fits.Goals as goal
 

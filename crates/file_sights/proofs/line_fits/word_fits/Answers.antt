@@ -6,7 +6,7 @@ use Rattle.std.proofs.lemmas.Iterator.Search.{any_from_yields_List}
 use Rattle.line_histories.specs.declared.log.Stored.{Stored}
 use Rattle.outcomes.specs.Pages.{all_agree}
 use Rattle.outcomes.specs.Files.{reads_of}
-use Rattle.file_sights.specs.Asking.{file_reads_asked}
+use Rattle.asked_reads.specs.Reads.{file_reads_asked}
 use Rattle.sights.proofs.FitLemmas.{word_fits_by}
 use Rattle.file_sights.proofs.line_fits.word_fits.Goals as goal
 

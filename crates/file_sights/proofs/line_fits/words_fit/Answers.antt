@@ -7,7 +7,7 @@ use Rattle.nvm_model.specs.Cell.{Cell}
 use Rattle.nvm_model.specs.Cell.Cell.{Bad, Kept}
 use Rattle.outcomes.specs.Pages.{all_agree}
 use Rattle.outcomes.specs.Files.{reads_of}
-use Rattle.file_sights.specs.Asking.{file_reads_asked}
+use Rattle.asked_reads.specs.Reads.{file_reads_asked}
 use Rattle.asked_reads.specs.Fitting.{WordFits, WordsFit}
 use Rattle.file_sights.proofs.line_fits.words_fit.Goals as goal
 

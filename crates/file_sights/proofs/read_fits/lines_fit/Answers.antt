@@ -6,7 +6,7 @@ use Rattle.asked_reads.specs.Fitting.{cell_fits}
 use Rattle.asked_reads.specs.Reads.{page_reply}
 use Rattle.outcomes.specs.Files.{reads_of}
 use Rattle.file_sights.specs.declared.line.FileLine.{FileLine}
-use Rattle.file_sights.specs.Asking.{file_reads_asked}
+use Rattle.asked_reads.specs.Reads.{file_reads_asked}
 use Rattle.file_sights.specs.Fitting.{looks_at}
 use Rattle.file_sights.proofs.read_fits.lines_fit.Goals as goal
 

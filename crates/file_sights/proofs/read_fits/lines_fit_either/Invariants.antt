@@ -1,6 +1,6 @@
 use Rattle.std.proofs.Common.{◌≡◌, true, take}
 use Rattle.asked_reads.specs.Reads.{page_read}
-use Rattle.file_sights.specs.Asking.{file_reads_asked}
+use Rattle.asked_reads.specs.Reads.{file_reads_asked}
 use Rattle.file_sights.specs.Changes.{lines_of}
 use Rattle.file_sights.specs.Fitting.{either_fits, seen_pass}
 use Rattle.file_sights.proofs.read_fits.lines_fit_either.Given as goal

@@ -1,7 +1,7 @@
 use Rattle.std.proofs.Common.{◌≡◌, ◌||◌, is_some, sym, ap, ◌∙◌, subst, arith, slice_get, Some}
 use Rattle.std.proofs.lemmas.Result.{err_from_is_err_and}
 use Rattle.asked_reads.specs.Program.{inputs_of_lines}
-use Rattle.sights.specs.Places.{found_stop}
+use Rattle.cut_places.specs.Places.{found_stop}
 use Rattle.explorer.specs.Finding.{IsFound}
 use Rattle.program_base.specs.Opening.{opened}
 use Rattle.nvmexplore.proofs.AnswerLemmas.{answered_none, asked_at, goes_more, goes_through, goes_unfound, goes_untold}

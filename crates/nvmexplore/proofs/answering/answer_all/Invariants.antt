@@ -1,5 +1,5 @@
 use Rattle.asked_reads.specs.Program.{inputs_of_lines}
-use Rattle.sights.specs.Places.{found_stop}
+use Rattle.cut_places.specs.Places.{found_stop}
 use Rattle.program_base.specs.Opening.{opened}
 use Rattle.nvmexplore.proofs.AnswerLemmas.{Goes}
 use Rattle.nvmexplore.proofs.answering.answer_all.Given as goal

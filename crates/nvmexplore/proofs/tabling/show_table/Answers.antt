@@ -2,7 +2,7 @@ use Rattle.std.proofs.Common.{[], Ok, ap, ap₂, arith, sym, ◌∙◌, if◌the
 use Rattle.std.proofs.lemmas.Result.{err_from_is_err_and}
 use Rattle.outcomes.specs.Finds.{armed}
 use Rattle.asked_reads.specs.Program.{inputs_of_lines}
-use Rattle.sights.specs.Places.{cut_places}
+use Rattle.cut_places.specs.Places.{cut_places}
 use Rattle.value_tables.specs.Tables.{table_text}
 use Rattle.program_base.specs.Opening.{opened}
 use Rattle.program_base.proofs.WritingLemmas.{told_front}

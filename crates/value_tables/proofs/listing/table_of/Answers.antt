@@ -1,5 +1,5 @@
 use Rattle.std.proofs.Common.{false, get_or, map, ap, refl, sym, ◌+◌, ◌∙◌}
-use Rattle.sights.proofs.GoingLemmas.{program_at}
+use Rattle.cut_places.proofs.GoingLemmas.{program_at}
 use Rattle.value_tables.specs.Sides.{texts}
 use Rattle.value_tables.proofs.GoLemmas.{at_end, goes_at, goes_first, goes_on, goes_past}
 use Rattle.value_tables.proofs.PlaceLemmas.{at_rest}

@@ -1,5 +1,5 @@
 use Rattle.std.proofs.Common.{sym, ap, ◌∙◌}
-use Rattle.file_sights.specs.Asking.{file_reads_asked}
+use Rattle.asked_reads.specs.Reads.{file_reads_asked}
 use Rattle.file_sights.specs.Fitting.{now_fits, reads_pass}
 use Rattle.file_sights.specs.State.{FilesState}
 use Rattle.file_sights.proofs.InsideLemmas.{now_same}

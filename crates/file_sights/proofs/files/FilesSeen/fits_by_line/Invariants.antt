@@ -2,8 +2,8 @@ use Rattle.std.proofs.Common.{◌≡◌, true, take}
 use Rattle.std.specs.List.{list_all}
 use Rattle.nvm_model.specs.Listing.{file_of}
 use Rattle.asked_reads.specs.Reads.{page_read}
-use Rattle.file_sights.specs.declared.read.FileRead.{FileRead as Asked}
-use Rattle.file_sights.specs.Asking.{file_reads_asked}
+use Rattle.asked_reads.specs.declared.reads.FileRead.{FileRead as Asked}
+use Rattle.asked_reads.specs.Reads.{file_reads_asked}
 use Rattle.file_sights.specs.Changes.{lines_of}
 use Rattle.file_sights.specs.Fitting.{either_fits, read_passes}
 use Rattle.file_sights.specs.State.{name_seen}

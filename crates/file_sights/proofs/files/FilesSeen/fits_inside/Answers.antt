@@ -1,7 +1,7 @@
 use Rattle.std.proofs.Common.{Result, Ok, Err, IfOk, ap, ◌∙◌}
 use Rattle.mappings.specs.Object.{MappingsState}
 use Rattle.script_text.specs.Action.{action_of}
-use Rattle.file_sights.specs.Asking.{file_reads_asked}
+use Rattle.asked_reads.specs.Reads.{file_reads_asked}
 use Rattle.file_sights.specs.Commands.{files_change}
 use Rattle.file_sights.specs.Fitting.{fit_inside}
 use Rattle.file_sights.specs.State.{FilesState}

@@ -6,8 +6,8 @@ ghost use Rattle.outcomes.specs.Seen.{Seen};
 ghost use Rattle.outcomes.specs.Stops.{IsProgram};
 ghost use Rattle.asked_reads.specs.Asking.{IsLook, may_be_replies};
 ghost use Rattle.asked_reads.specs.Program.{IsBounded, inputs_of_lines};
-ghost use Rattle.sights.specs.Following.{AreDone, Follows, IsFirst, IsWhole, IsWithin, ShowsAt};
-ghost use Rattle.sights.specs.Places.{cut_places};
+ghost use Rattle.cut_places.specs.Following.{AreDone, Follows, IsFirst, IsWhole, IsWithin, ShowsAt};
+ghost use Rattle.cut_places.specs.Places.{cut_places};
 
 use crate::place::CutPlace;
 use crate::sight::Sight;

@@ -13,29 +13,32 @@ use Rattle.outcomes.specs.Pages.{all_lines_read}
 use Rattle.outcomes.specs.Seen.{Seen, may_show}
 use Rattle.outcomes.specs.Stops.{inside, led_to}
 use Rattle.asked_reads.specs.declared.question.Question.{Question}
-use Rattle.asked_reads.specs.Asking.{blocks_of, volume_asked}
-use Rattle.sights.specs.declared.sight.Sight.{Sight}
-use Rattle.sights.specs.declared.place.CutPlace.{CutPlace}
-use Rattle.sights.specs.declared.place.CutPlace.TheVariants.{Before, Inside}
-use Rattle.sights.specs.Places.{Stop, first_stop}
+use Rattle.asked_reads.specs.Asking.{blocks_of, files_asked, volume_asked}
+use Rattle.file_sights.specs.Sees.{SeesFiles, are_held}
+use Rattle.cut_places.specs.declared.sight.Sight.{Sight}
+use Rattle.cut_places.specs.declared.place.CutPlace.{CutPlace}
+use Rattle.cut_places.specs.declared.place.CutPlace.TheVariants.{Before, Inside}
+use Rattle.cut_places.specs.Places.{Stop, first_stop}
 use Rattle.sights.specs.Seeing.{seen}
-use Rattle.sights.specs.Sights.{shows, shows_inside}
+use Rattle.cut_places.specs.Sights.{files_once_done, shows, shows_inside}
 use Rattle.sights.specs.Units.{AreAmong, AreBlocks, AreLines, AreWithin, block_numbers, block_once_done, line_numbers, line_once_done}
 
--- it looks at all lines and blocks of which a question asks, read by read
+-- it looks at all lines and blocks of which a question asks, read by read, and in each file at those lines
 pub record IsWhole (sight : Sight) (q : Question) : Type 0 where
   pub lines : line_numbers sight.lines.items ≡ all_lines_read (volume_asked q)
   pub blocks : block_numbers sight.blocks.items ≡ all_numbers_read (blocks_of q)
+  pub files : are_held sight.files.numbers (files_asked q) ≡ true
 
 -- they are lines of the volume and blocks of a device of these sizes
 pub record IsWithin (sight : Sight) (geo : Geometry) : Type 0 where
   pub lines : AreWithin geo sight.lines.items
   pub blocks : AreAmong geo sight.blocks.items
 
--- the lines and blocks are those of the state
+-- the lines, blocks and files are those of the state
 pub record Sees (now : Sight) (h : Machine) : Type 0 where
   pub lines : AreLines (seen h.volume) now.lines.items
   pub blocks : AreBlocks (λ b. sight (nth h.blocks b)) now.blocks.items
+  pub files : SeesFiles now.files h
 
 -- So is the state, which is of these sizes and in which nothing is interrupted.
 pub record Follows (now : Sight) (geo : Geometry) (h : Machine) : Type 0 where
@@ -99,5 +102,5 @@ ShowsIn line action q now geo (Inside n) = (n ≡ line) × (shows_inside geo act
 abbrev pub Passes : Geometry → Action → ℕ → Question → Sight → Sight → Option CutPlace → Type 0
 Passes geo action line q old new None =
     (shows_inside geo action q old ≡ false) × (new.lines.items ≡ map (line_once_done geo action) old.lines.items)
-    × (new.blocks.items ≡ map (block_once_done geo action) old.blocks.items)
+    × (new.blocks.items ≡ map (block_once_done geo action) old.blocks.items) × (new.files ≡ files_once_done action old.files)
 Passes geo action line q old new (Some place) = (shows_inside geo action q old ≡ true) × (place ≡ Inside line) × (new ≡ old)

@@ -8,7 +8,7 @@ ghost use Rattle.machine_host.specs.Commands.{refusal};
 ghost use Rattle.outcomes.specs.Seen.{Seen};
 ghost use Rattle.outcomes.specs.Stops.{is_of_program};
 ghost use Rattle.asked_reads.specs.Asking.{IsLook, may_be_replies};
-ghost use Rattle.sights.specs.Following.{Explores, Follows, IsWhole, IsWithin, Passes, ShowsIn};
+ghost use Rattle.cut_places.specs.Following.{Explores, Follows, IsWhole, IsWithin, Passes, ShowsIn};
 
 use crate::place::CutPlace;
 use crate::sight::Sight;

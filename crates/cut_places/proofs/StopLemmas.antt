@@ -6,8 +6,8 @@ use Rattle.script_text.specs.Script.Input.{Asked}
 use Rattle.machine_host.specs.Machine.{Machine}
 use Rattle.machine_host.specs.Commands.{fate}
 use Rattle.outcomes.specs.Stops.{led_to}
-use Rattle.sights.specs.Following.{command_stops}
-use Rattle.sights.specs.Places.{Stop, cut_places, first_stop}
+use Rattle.cut_places.specs.Following.{command_stops}
+use Rattle.cut_places.specs.Places.{Stop, cut_places, first_stop}
 
 module _ (test : Machine → Bool) where
   skip : (b : Bool) (stop : Stop) (o p q : Option Stop) → cond b (Some stop) o ≡ None → (o ≡ None → p ≡ q) → cond b (Some stop) p ≡ q

@@ -27,23 +27,23 @@ use Rattle.asked_reads.specs.declared.question.Question.{Question}
 use Rattle.asked_reads.specs.Asking.{IsLook, may_be_replies}
 use Rattle.sights.specs.declared.line_seen.LineSeen.{LineSeen}
 use Rattle.sights.specs.declared.block_seen.BlockSeen.{BlockSeen}
-use Rattle.sights.specs.declared.place.CutPlace.{CutPlace}
-use Rattle.sights.specs.declared.place.CutPlace.TheVariants.{Before, Inside}
-use Rattle.sights.specs.declared.sight.Sight.{Sight}
+use Rattle.cut_places.specs.declared.place.CutPlace.{CutPlace}
+use Rattle.cut_places.specs.declared.place.CutPlace.TheVariants.{Before, Inside}
+use Rattle.cut_places.specs.declared.sight.Sight.{Sight}
 use Rattle.sights.specs.Changing.{line_changed, volume_change}
 use Rattle.sights.specs.ChangingBlocks.{block_changed}
-use Rattle.sights.specs.Following.{Explores, Follows, IsIn, IsWhole, IsWithin, Passes, Sees, ShowsIn, command_stops}
-use Rattle.sights.specs.Places.{first_stop}
+use Rattle.cut_places.specs.Following.{Explores, Follows, IsIn, IsWhole, IsWithin, Passes, Sees, ShowsIn, command_stops}
+use Rattle.cut_places.specs.Places.{first_stop}
 use Rattle.sights.specs.Seeing.{seen}
-use Rattle.sights.specs.Sights.{shows, shows_inside}
+use Rattle.cut_places.specs.Sights.{shows, shows_inside}
 use Rattle.sights.specs.Units.{AreAmong, AreBlocks, AreLines, AreWithin, block_may_fit, block_numbers, block_once_done, line_may_fit, line_numbers, line_once_done}
 use Rattle.sights.specs.Ways.{blocks_way, passes_inside}
 use Rattle.sights.proofs.BlockChangeLemmas.{blocks_changed}
 use Rattle.sights.proofs.InsideLemmas.{AreThere, HaveLine}
-use Rattle.sights.proofs.MayShowLemmas.{shows_now, shows_within}
+use Rattle.cut_places.proofs.MayShowLemmas.{shows_now, shows_within}
 use Rattle.sights.proofs.SizeLemmas.{geometry_stays}
 use Rattle.sights.proofs.VolumeChangeLemmas.{volume_changed}
-use Rattle.sights.proofs.WorkLemmas.{ChangesNone, IsWork, works_or_none}
+use Rattle.cut_places.proofs.WorkLemmas.{ChangesNone, IsWork, works_or_none}
 
 -- the storage of a state that is ready is counted
 counted : (h : Machine) → IsReady h → IsCounted h

@@ -12,14 +12,14 @@ use Rattle.outcomes.specs.Stops.{IsProgram, is_of_program, led_to}
 use Rattle.asked_reads.specs.declared.question.Question.{Question}
 use Rattle.asked_reads.specs.Asking.{IsLook, may_be_replies}
 use Rattle.asked_reads.specs.Program.{inputs_of_lines}
-use Rattle.sights.specs.declared.place.CutPlace.{CutPlace}
-use Rattle.sights.specs.declared.place.CutPlace.TheVariants.{Before, Inside}
-use Rattle.sights.specs.declared.sight.Sight.{Sight}
-use Rattle.sights.specs.Following.{AreDone, Explores, Follows, IsAt, IsFirst, IsIn, IsWhole, IsWithin, ShowsAt, ShowsIn, command_stops}
-use Rattle.sights.specs.Places.{cut_places, first_stop}
-use Rattle.sights.specs.Sights.{shows}
-use Rattle.sights.proofs.MayShowLemmas.{shows_now}
-use Rattle.sights.proofs.StopLemmas.{none_before, some_before}
+use Rattle.cut_places.specs.declared.place.CutPlace.{CutPlace}
+use Rattle.cut_places.specs.declared.place.CutPlace.TheVariants.{Before, Inside}
+use Rattle.cut_places.specs.declared.sight.Sight.{Sight}
+use Rattle.cut_places.specs.Following.{AreDone, Explores, Follows, IsAt, IsFirst, IsIn, IsWhole, IsWithin, ShowsAt, ShowsIn, command_stops}
+use Rattle.cut_places.specs.Places.{cut_places, first_stop}
+use Rattle.cut_places.specs.Sights.{shows}
+use Rattle.cut_places.proofs.MayShowLemmas.{shows_now}
+use Rattle.cut_places.proofs.StopLemmas.{none_before, some_before}
 
 -- The lines before this one show nothing, and what is behind them tells what all do.
 pub record Goes (program : List (Option Command)) (done : List Bool) (q : Question) (geo : Geometry) (began : Sight) (i : ℕ) (now : Sight) : Type 0 where

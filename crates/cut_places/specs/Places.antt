@@ -7,8 +7,8 @@ use Rattle.machine_host.specs.Commands.{fate}
 use Rattle.outcomes.specs.Finds.{armed}
 use Rattle.outcomes.specs.Seen.{Seen, may_show}
 use Rattle.outcomes.specs.Stops.{inside, led_to}
-use Rattle.sights.specs.declared.place.CutPlace.{CutPlace}
-use Rattle.sights.specs.declared.place.CutPlace.TheVariants.{Before, Inside}
+use Rattle.cut_places.specs.declared.place.CutPlace.{CutPlace}
+use Rattle.cut_places.specs.declared.place.CutPlace.TheVariants.{Before, Inside}
 
 -- a place, and the state that is there
 pub record Stop : Type 0 where

@@ -1,7 +1,7 @@
 use Rattle.std.proofs.Common.{◌+◌, false, sym, ◌∙◌}
-use Rattle.sights.proofs.GoingLemmas.{any_default, at_end, below, found_first, goes_at, goes_first, goes_on, goes_past, program_at, shown_there}
-use Rattle.sights.proofs.finding.find.Goals.{in-Some+in_ok-found+else-is_some, in_default}
-use Rattle.sights.proofs.finding.find.Goals as goal
+use Rattle.cut_places.proofs.GoingLemmas.{any_default, at_end, below, found_first, goes_at, goes_first, goes_on, goes_past, program_at, shown_there}
+use Rattle.cut_places.proofs.finding.find.Goals.{in-Some+in_ok-found+else-is_some, in_default}
+use Rattle.cut_places.proofs.finding.find.Goals as goal
 
 pub loop-i-init : goal.loop-i-init
 loop-i-init c = goes_first c.args.program.now c.args.done.now c.args.question.now c.args.geometry c.args.sight.now c.requires.whole c.requires.within

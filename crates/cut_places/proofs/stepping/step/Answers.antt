@@ -1,7 +1,7 @@
 use Rattle.std.proofs.Common.{sym, ◌∙◌}
 use Rattle.script_text.specs.Action.{action_of}
-use Rattle.sights.proofs.StepLemmas.{before_explored, done_explored, on_any, on_found, passes_shown, passes_whole, passes_within, refused_explored}
-use Rattle.sights.proofs.stepping.step.Goals as goal
+use Rattle.cut_places.proofs.StepLemmas.{before_explored, done_explored, on_any, on_found, passes_shown, passes_whole, passes_within, refused_explored}
+use Rattle.cut_places.proofs.stepping.step.Goals as goal
 
 pub returns-then-shows-clause-explores : goal.returns-then-shows-clause-explores
 returns-then-shows-clause-explores c = λ h look follows is told.

@@ -24,13 +24,13 @@ use Rattle.asked_reads.specs.declared.question.Question.{Question}
 use Rattle.asked_reads.specs.Asking.{IsLook, blocks_of, may_be_replies, volume_asked}
 use Rattle.sights.specs.declared.line_seen.LineSeen.{LineSeen}
 use Rattle.sights.specs.declared.block_seen.BlockSeen.{BlockSeen}
-use Rattle.sights.specs.declared.place.CutPlace.TheVariants.{Before, Inside}
-use Rattle.sights.specs.Following.{command_stops}
-use Rattle.sights.specs.Places.{cut_places, first_stop}
+use Rattle.cut_places.specs.declared.place.CutPlace.TheVariants.{Before, Inside}
+use Rattle.cut_places.specs.Following.{command_stops}
+use Rattle.cut_places.specs.Places.{cut_places, first_stop}
 use Rattle.sights.specs.Units.{AreAmong, AreWithin, block_numbers, line_numbers}
-use Rattle.sights.proofs.MayShowLemmas.{shows_parts}
+use Rattle.cut_places.proofs.MayShowLemmas.{shows_parts}
 use Rattle.sights.proofs.SizeLemmas.{geometry_stays}
-use Rattle.sights.proofs.StopLemmas.{none_before}
+use Rattle.cut_places.proofs.StopLemmas.{none_before}
 
 -- all of these are less
 abbrev AreBelow : ℕ → List ℕ → Type 0

@@ -4,23 +4,22 @@ ghost use Rattle.std.specs.List.{list_all};
 ghost use Rattle.script_text.specs.Action.{action_of};
 ghost use Rattle.script_text.specs.Parsing.{InBounds};
 ghost use Rattle.word_tables.specs.Bounds.{IsValid};
-ghost use Rattle.sights.specs.Sights.{shows, shows_inside};
+ghost use Rattle.cut_places.specs.Sights.{files_once_done, shows, shows_inside};
 ghost use Rattle.sights.specs.Units.{block_once_done, line_once_done};
 
-use crate::block_seen::BlockSeen;
-use crate::line_seen::LineSeen;
-use crate::unit::{all_fit, change_all, fit_inside};
-use crate::way::Way;
 use asked_reads::Question;
+use file_sights::FilesSeen;
 use script_text::Command;
+use sights::{BlockSeen, LineSeen, Way, all_fit, change_all, fit_inside};
 use std::alloc::AllocError;
 use word_tables::Geometry;
 
-/// The lines of the volume and the blocks that a question looks at.
+/// The lines of the volume, the blocks, and the files that a question looks at.
 #[derive(Drop)]
 pub struct Sight {
     pub lines: Vec<LineSeen>,
     pub blocks: Vec<BlockSeen>,
+    pub files: FilesSeen,
 }
 
 impl Sight {
@@ -28,7 +27,9 @@ impl Sight {
     pub fn shows(&self, question: &Question) -> bool
         ensures { result ≡ shows question.now self.now }
     {
-        all_fit(&self.lines, question) && all_fit(&self.blocks, question)
+        all_fit(&self.lines, question)
+            && all_fit(&self.blocks, question)
+            && self.files.fits(&question.files)
     }
 
     /// Whether one that falls inside the command may.
@@ -46,7 +47,8 @@ impl Sight {
         let blocks = Way::of_blocks(command);
         Ok(
             fit_inside(&self.lines, question, geometry, command, lines)?
-                && fit_inside(&self.blocks, question, geometry, command, blocks)?,
+                && fit_inside(&self.blocks, question, geometry, command, blocks)?
+                && self.files.fits_inside(&question.files, command)?,
         )
     }
 
@@ -56,8 +58,10 @@ impl Sight {
         requires bounded { InBounds (action_of command.now) }
         ensures lines { OnOk result (self.new.lines.items ≡ map (line_once_done geometry (action_of command.now)) self.old.lines.items) }
         ensures blocks { OnOk result (self.new.blocks.items ≡ map (block_once_done geometry (action_of command.now)) self.old.blocks.items) }
+        ensures files { OnOk result (self.new.files ≡ files_once_done (action_of command.now) self.old.files) }
     {
         change_all(&mut self.lines, geometry, command)?;
-        change_all(&mut self.blocks, geometry, command)
+        change_all(&mut self.blocks, geometry, command)?;
+        self.files.change(command)
     }
 }

@@ -15,12 +15,12 @@ use Rattle.outcomes.specs.Left.{blocks_may_pass, files_may_pass, files_pass, vol
 use Rattle.outcomes.specs.Pages.{PageRead, all_lines_read, is_reply, line_fits}
 use Rattle.outcomes.specs.Seen.{Seen, block_reads, blocks_may_show, file_reads, files_may_show, may_show, volume_may_show, volume_reads}
 use Rattle.asked_reads.specs.declared.question.Question.{Question}
-use Rattle.sights.specs.declared.sight.Sight.{Sight}
+use Rattle.cut_places.specs.declared.sight.Sight.{Sight}
 use Rattle.asked_reads.specs.Asking.{blocks_of, volume_asked}
 use Rattle.asked_reads.specs.Asking.{may_be_replies}
 use Rattle.asked_reads.specs.Asking.{IsLook}
-use Rattle.sights.specs.Following.{IsWhole, Sees}
-use Rattle.sights.specs.Sights.{shows, shows_inside}
+use Rattle.cut_places.specs.Following.{IsWhole, Sees}
+use Rattle.cut_places.specs.Sights.{shows, shows_inside}
 use Rattle.sights.specs.Units.{block_may_fit, line_may_fit}
 use Rattle.sights.proofs.InsideLemmas.{AreThere, HaveLine, blocks_inside, volume_inside}
 use Rattle.sights.proofs.PassLemmas.{all_same}
