@@ -1,6 +1,8 @@
 pub mod Leaving
 pub mod Lines
 pub mod Blocks
+pub mod Asked
+pub mod Files
 pub mod Telling
 pub mod Places
 pub mod Texts
