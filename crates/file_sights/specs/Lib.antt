@@ -4,3 +4,4 @@ pub mod State
 pub mod Commands
 pub mod Fitting
 pub mod Sees
+pub mod Finding
