@@ -5,3 +5,4 @@ pub mod Commands
 pub mod Fitting
 pub mod Sees
 pub mod Finding
+pub mod Mixing
