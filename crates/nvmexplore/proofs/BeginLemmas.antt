@@ -1,5 +1,5 @@
 -- The state that is read in an image is one in which an exploration begins.
-use Rattle.std.proofs.Common.{◌≡◌, ◌+◌, ◌*◌, ◌/◌, ◌%◌, ◌<◌, ℕ, zero, suc, Bool, true, false, List, [], ◌∷◌, Option, Some, None, inl, inr, slice_get, replicate, refl, sym, ap, subst, ◌∙◌, if◌then◌else◌, arith}
+use Rattle.std.proofs.Common.{◌≡◌, ◌+◌, ◌*◌, ◌/◌, ◌%◌, ◌<◌, ℕ, zero, suc, Bool, true, false, List, [], ◌∷◌, map, Option, Some, None, inl, inr, slice_get, replicate, refl, sym, ap, subst, ◌∙◌, if◌then◌else◌, arith}
 use Rattle.std.specs.Prelude.{IsTrue, slice_index}
 use Rattle.std.specs.List.{AllByRecursion}
 use Rattle.std.proofs.lemmas.Bool.{cases_lt}
@@ -20,7 +20,9 @@ use Rattle.nvm_model.specs.Numbered.{list_from}
 use Rattle.nvm_model.specs.Page.{read_pages}
 use Rattle.nvm_model.proofs.PageLemmas.{cell_of-read_pages, read_pages-there}
 use Rattle.pm_volume.specs.Presence.{presence_read}
-use Rattle.file_journal.specs.Reading.{wrong_file_place}
+use Rattle.file_journal.specs.Files.{UnitFile, files_of}
+use Rattle.file_journal.specs.Reading.{tables_read, wrong_file_place}
+use Rattle.file_journal.specs.Standing.{file_read, files_read, line_of_file, pages_there}
 use Rattle.image_file.specs.Devices.{image_of, medium_of, told_values, told_word}
 use Rattle.image_file.specs.Text.{AreFileBytes, IsImageLine, IsOfBytes}
 use Rattle.recovery.specs.Findings.{first_finding, geometry_told}
