@@ -24,7 +24,7 @@ use Rattle.outcomes.specs.Seen.{Seen, may_show}
 use Rattle.outcomes.specs.Stops.{inside, is_of_program, led_to}
 use Rattle.outcomes.proofs.FollowLemmas.{Follows as FollowsFate, Keeps, of_program}
 use Rattle.asked_reads.specs.declared.question.Question.{Question}
-use Rattle.asked_reads.specs.Asking.{IsLook, may_be_replies}
+use Rattle.asked_reads.specs.Asking.{IsLook, files_asked, may_be_replies}
 use Rattle.sights.specs.declared.line_seen.LineSeen.{LineSeen}
 use Rattle.sights.specs.declared.block_seen.BlockSeen.{BlockSeen}
 use Rattle.cut_places.specs.declared.place.CutPlace.{CutPlace}
@@ -35,7 +35,7 @@ use Rattle.sights.specs.ChangingBlocks.{block_changed}
 use Rattle.cut_places.specs.Following.{Explores, Follows, IsIn, IsWhole, IsWithin, Passes, Sees, ShowsIn, command_stops}
 use Rattle.cut_places.specs.Places.{first_stop}
 use Rattle.sights.specs.Seeing.{seen}
-use Rattle.cut_places.specs.Sights.{shows, shows_inside}
+use Rattle.cut_places.specs.Sights.{files_once_done, shows, shows_inside}
 use Rattle.sights.specs.Units.{AreAmong, AreBlocks, AreLines, AreWithin, block_may_fit, block_numbers, block_once_done, line_may_fit, line_numbers, line_once_done}
 use Rattle.sights.specs.Ways.{blocks_way, passes_inside}
 use Rattle.sights.proofs.BlockChangeLemmas.{blocks_changed}
@@ -43,7 +43,13 @@ use Rattle.sights.proofs.InsideLemmas.{AreThere, HaveLine}
 use Rattle.cut_places.proofs.MayShowLemmas.{shows_now, shows_within}
 use Rattle.sights.proofs.SizeLemmas.{geometry_stays}
 use Rattle.sights.proofs.VolumeChangeLemmas.{volume_changed}
-use Rattle.cut_places.proofs.WorkLemmas.{ChangesNone, IsWork, works_or_none}
+use Rattle.cut_places.proofs.WorkLemmas.{ChangesNone, IsWork, unchanged_fits, works_or_none}
+use Rattle.file_sights.specs.Changes.{left_by}
+use Rattle.file_sights.specs.Commands.{files_change}
+use Rattle.file_sights.specs.Fitting.{fit_inside}
+use Rattle.file_sights.specs.Sees.{are_held}
+use Rattle.file_sights.specs.State.{FilesState}
+use Rattle.file_sights.proofs.SeesLemmas.{sees_done}
 
 -- the storage of a state that is ready is counted
 counted : (h : Machine) → IsReady h → IsCounted h
@@ -85,11 +91,12 @@ blocks_after h action (s ∷ units) allowed whole are among = (
 
 pub sees_after : (h : Machine) (action : Action) (now after : Sight) → refusal h action ≡ None → IsReady h → Sees now h → IsWithin now h.geometry
     → after.lines.items ≡ map (line_once_done h.geometry action) now.lines.items → after.blocks.items ≡ map (block_once_done h.geometry action) now.blocks.items
-    → Sees after (led_to h ((meaning action).comes h))
-sees_after h action now after allowed ready sees within lines blocks =
+    → after.files ≡ files_once_done action now.files → Sees after (led_to h ((meaning action).comes h))
+sees_after h action now after allowed ready sees within lines blocks files =
     let to = led_to h ((meaning action).comes h) in record {
       lines = subst (AreLines (seen to.volume)) (sym lines) (lines_after h action now.lines.items allowed ready.whole sees.lines (lines_of h now ready within));
       blocks = subst (AreBlocks (λ b. sight (nth to.blocks b))) (sym blocks) (blocks_after h action now.blocks.items allowed ready.whole sees.blocks (blocks_in h now ready within));
+      files = sees_done now.files h action after.files files sees.files ready.whole allowed;
     }
 
 -- the same lines and blocks are looked at
@@ -110,10 +117,12 @@ blocks_among sizes geo action [] among = tt
 blocks_among sizes geo action (s ∷ units) among = (among.0, blocks_among sizes geo action units among.1)
 
 pub whole_after : (geo : Geometry) (action : Action) (q : Question) (now after : Sight) → IsWhole now q
-    → after.lines.items ≡ map (line_once_done geo action) now.lines.items → after.blocks.items ≡ map (block_once_done geo action) now.blocks.items → IsWhole after q
-whole_after geo action q now after whole lines blocks = record {
+    → after.lines.items ≡ map (line_once_done geo action) now.lines.items → after.blocks.items ≡ map (block_once_done geo action) now.blocks.items
+    → after.files ≡ files_once_done action now.files → IsWhole after q
+whole_after geo action q now after whole lines blocks files = record {
   lines = ap line_numbers lines ∙ line_numbers_stay geo action now.lines.items ∙ whole.lines;
   blocks = ap block_numbers blocks ∙ block_numbers_stay geo action now.blocks.items ∙ whole.blocks;
+  files = ap (λ (s : FilesState). are_held s.numbers (files_asked q)) files ∙ whole.files;
 }
 
 pub within_after : (sizes geo : Geometry) (action : Action) (now after : Sight) → IsWithin now sizes
@@ -201,16 +210,19 @@ module _ (look : List Seen) (q : Question) (now : Sight) (h : Machine) (is : IsL
         later told ∙ elim (by_fate false (cut_shown false inside_told) (fate h action)) [ inl none ↦ none | inr none ↦ none ]
 
     -- what a command changes nothing of shows inside what it shows before
-    same_inside : ChangesNone action → shows_inside h.geometry action q now ≡ shows q now
+    same_inside : ChangesNone h action → shows_inside h.geometry action q now ≡ shows q now
     same_inside none =
+        let files = fit_inside (files_change now.files.mappings.mappings action) (files_asked q) now.files in
         ap (λ way. passes_inside way (line_may_fit q) (λ s. line_may_fit q (line_once_done h.geometry action s)) (λ (s : LineSeen). s.number / 64) now.lines.items
-        && passes_inside (blocks_way action) (block_may_fit q) (λ s. block_may_fit q (block_once_done h.geometry action s)) (λ (s : BlockSeen). s.number) now.blocks.items) none.lines
-        ∙ ap (λ way. list_all (line_may_fit q) now.lines.items && passes_inside way (block_may_fit q) (λ s. block_may_fit q (block_once_done h.geometry action s)) (λ (s : BlockSeen). s.number) now.blocks.items) none.blocks
+        && (passes_inside (blocks_way action) (block_may_fit q) (λ s. block_may_fit q (block_once_done h.geometry action s)) (λ (s : BlockSeen). s.number) now.blocks.items && files)) none.lines
+        ∙ ap (λ way. list_all (line_may_fit q) now.lines.items && (passes_inside way (block_may_fit q) (λ s. block_may_fit q (block_once_done h.geometry action s)) (λ (s : BlockSeen). s.number) now.blocks.items && files)) none.blocks
+        ∙ ap (λ b. list_all (line_may_fit q) now.lines.items && (list_all (block_may_fit q) now.blocks.items && b))
+        (unchanged_fits (files_change now.files.mappings.mappings action) (files_asked q) now.files (ap (λ ms. left_by (files_change ms action)) sees.files.mappings ∙ none.files))
 
     pub found_inside : shows q now ≡ false → shows_inside h.geometry action q now ≡ true → first_stop (may_show look) (command_stops line h action) ≡ Some (record { place = Inside line; state = while_interrupted h action })
     found_inside told inside_told = later told ∙ by_kind (works_or_none h action)
       where
-        by_kind : IsWork h action ⊎ ChangesNone action → first_stop (may_show look) (map (λ m. record { place = Inside line; state = m }) (inside h action (fate h action))) ≡ Some (record { place = Inside line; state = while_interrupted h action })
+        by_kind : IsWork h action ⊎ ChangesNone h action → first_stop (may_show look) (map (λ m. record { place = Inside line; state = m }) (inside h action (fate h action))) ≡ Some (record { place = Inside line; state = while_interrupted h action })
         by_kind (inl work) =
             ap (λ to. first_stop (may_show look) (map (λ m. record { place = Inside line; state = m }) (inside h action to))) (fate_is ∙ work.is)
             ∙ ap (λ t. cond t (Some (record { place = Inside line; state = while_interrupted h action })) None) (cut_shown true inside_told)
@@ -263,7 +275,7 @@ module _ (look : List Seen) (q : Question) (now after : Sight) (geo : Geometry) 
       subst (Follows after geo) (sym (ap (led_to h) (fate_of h action allowed))) (record {
         ready = ready_after h action follows.ready program allowed;
         sizes = geometry_stays h action ∙ follows.sizes;
-        sees = sees_after h action now after allowed follows.ready follows.sees lines_in passes.1 passes.2;
+        sees = sees_after h action now after allowed follows.ready follows.sees lines_in passes.1 passes.2 passes.3;
       }),
     )
     by_found (Some place) passes = (
@@ -280,7 +292,7 @@ module _ (look : List Seen) (q : Question) (now after : Sight) (geo : Geometry) 
 -- what is looked at stays whole, and within the sizes
 pub passes_whole : (geo : Geometry) (action : Action) (line : ℕ) (q : Question) (now after : Sight) (found : Option CutPlace) → Passes geo action line q now after found
     → IsWhole now q → IsWhole after q
-passes_whole geo action line q now after None passes whole = whole_after geo action q now after whole passes.1 passes.2
+passes_whole geo action line q now after None passes whole = whole_after geo action q now after whole passes.1 passes.2 passes.3
 passes_whole geo action line q now after (Some place) passes whole = subst (λ s. IsWhole s q) (sym passes.2) whole
 
 pub passes_within : (geo : Geometry) (action : Action) (line : ℕ) (q : Question) (now after : Sight) (found : Option CutPlace) → Passes geo action line q now after found

@@ -15,13 +15,13 @@ use Rattle.machine_host.specs.Meaning.{most_refusal}
 use Rattle.machine_host.proofs.RefusalLemmas.{read_within}
 use Rattle.outcomes.specs.Blocks.{BlockRead, BlockReply, all_numbers_read, block_fits, is_block_reply, is_block_reply_by, numbers_read}
 use Rattle.outcomes.specs.Blocks.BlockReply.{Shows as ShowsBlocks, Scar, BadLine, Refuses as RefusesBlocks}
-use Rattle.outcomes.specs.Left.{blocks_may_pass, volume_may_pass}
+use Rattle.outcomes.specs.Left.{blocks_may_pass, files_may_pass, volume_may_pass}
 use Rattle.outcomes.specs.Pages.{PageRead, PageReply, all_lines_read, is_reply, is_reply_by, line_fits, lines_read}
 use Rattle.outcomes.specs.Pages.PageReply.{Shows, Poison, Refuses}
 use Rattle.outcomes.specs.Seen.{Seen, may_show}
 use Rattle.outcomes.specs.Stops.{inside, led_to}
 use Rattle.asked_reads.specs.declared.question.Question.{Question}
-use Rattle.asked_reads.specs.Asking.{IsLook, blocks_of, may_be_replies, volume_asked}
+use Rattle.asked_reads.specs.Asking.{IsLook, blocks_of, files_asked, may_be_replies, volume_asked}
 use Rattle.sights.specs.declared.line_seen.LineSeen.{LineSeen}
 use Rattle.sights.specs.declared.block_seen.BlockSeen.{BlockSeen}
 use Rattle.cut_places.specs.declared.place.CutPlace.TheVariants.{Before, Inside}
@@ -109,11 +109,15 @@ module _ (look : List Seen) (q : Question) (is : IsLook look q) (base : Machine)
   blocks_pass : Machine → Bool
   blocks_pass off = blocks_may_pass off.interrupted (block_fits (blocks_of q)) off.blocks (all_numbers_read (blocks_of q))
 
+  files_pass_of : Machine → Bool
+  files_pass_of off = files_may_pass off.mappings off.interrupted (files_asked q) off.files
+
   unshown : (off : Machine) → off.geometry ≡ base.geometry → may_show look off ≡ false
-  unfolding lines_pass blocks_pass
+  unfolding lines_pass blocks_pass files_pass_of
   unshown off same =
       let found = lines_pass off in
-      shows_parts base off look q is same found (blocks_pass off) refl refl ∙ ap (λ b. b && (found && blocks_pass off)) none
+      let held = files_pass_of off in
+      shows_parts base off look q is same found (blocks_pass off) held refl refl refl ∙ ap (λ b. b && (found && (blocks_pass off && held))) none
 
   none_in : (n : ℕ) (h : Machine) (action : Action) → h.geometry ≡ base.geometry → (to : Fate)
       → first_stop (may_show look) (map (λ m. record { place = Inside n; state = m }) (inside h action to)) ≡ None

@@ -4,3 +4,5 @@ pub mod State
 pub mod Commands
 pub mod Fitting
 pub mod Sees
+pub mod Finding
+pub mod Mixing

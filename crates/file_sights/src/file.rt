@@ -1,6 +1,8 @@
 // A file as reads see it.
 ghost use Rattle.std.specs.Prelude.{◌≡◌, ◌++◌, ◌∷◌, [], IfOk, OnOk, map};
+ghost use Rattle.std.specs.Option.{option_copied};
 ghost use Rattle.file_sights.specs.Changes.{lines_of};
+ghost use Rattle.file_sights.specs.Finding.{line_held};
 ghost use Rattle.file_sights.specs.State.{hole_at, lines_after, with_lines, with_name, with_pages};
 
 use crate::change::LinesChange;
@@ -46,6 +48,20 @@ impl FileSeen {
     {
         self.lines.push(FileLine { number, line })?;
         Ok(())
+    }
+
+    pub fn pages(&self) -> u32
+        ensures { result ≡ self.now.pages }
+    {
+        self.pages
+    }
+
+    /// The first of its lines that has that number, if one is held.
+    pub fn line(&self, number: u32) -> Option<&HeldLine>
+        ensures { option_copied result ≡ line_held number self.now.lines }
+    {
+        let found = self.lines.iter().find(|line| line.number == number)?;
+        Some(&found.line)
     }
 
     /// A new file: all holes, of which these lines are held.

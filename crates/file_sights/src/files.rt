@@ -1,5 +1,7 @@
 // The files of a program, and its mappings.
 ghost use Rattle.std.specs.Prelude.{◌≡◌, ◌++◌, ◌∷◌, [], IfOk, None, OnOk};
+ghost use Rattle.std.specs.Option.{option_copied};
+ghost use Rattle.nvm_model.specs.Listing.{file_of};
 ghost use Rattle.script_text.specs.Action.{action_of};
 ghost use Rattle.script_text.specs.Parsing.{InBounds};
 ghost use Rattle.machine_host.specs.Commands.{meaning, refusal};
@@ -9,13 +11,14 @@ ghost use Rattle.outcomes.specs.Stops.{led_to};
 ghost use Rattle.file_sights.specs.Changes.{change_of};
 ghost use Rattle.file_sights.specs.Commands.{files_change};
 ghost use Rattle.file_sights.specs.Sees.{SeesFiles};
-ghost use Rattle.file_sights.specs.State.{after};
+ghost use Rattle.file_sights.specs.State.{after, name_seen};
 
 use crate::change::FilesChange;
 use crate::choosing::change_of;
 use crate::file::FileSeen;
-use crate::listing::{change_lines, copies, put, remove, rename, resize};
+use crate::listing::{change_lines, copies, find, put, remove, rename, resize};
 use crate::maps::MapsSeen;
+use nvm_base::Name;
 use script_text::Command;
 use std::alloc::{AllocError, Global};
 use std::marker::Model;
@@ -57,6 +60,13 @@ impl FilesSeen {
     {
         self.files.push(file)?;
         Ok(())
+    }
+
+    /// The file of that name.
+    pub fn find(&self, name: &Name) -> Option<&FileSeen>
+        ensures { option_copied result ≡ file_of name_seen name.now self.now.files }
+    {
+        find(&self.files, name)
     }
 
     /// What becomes of them once a command is done.

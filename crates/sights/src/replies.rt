@@ -4,12 +4,12 @@ ghost use Rattle.std.specs.List.{list_all};
 ghost use Rattle.word_tables.specs.Bounds.{IsValid};
 ghost use Rattle.machine_host.specs.Meaning.{most_refusal};
 ghost use Rattle.outcomes.specs.Blocks.{is_block_reply};
-ghost use Rattle.outcomes.specs.Pages.{is_reply};
-ghost use Rattle.asked_reads.specs.Asking.{may_be_replies};
-ghost use Rattle.asked_reads.specs.Reads.{block_read, blocks_asked, page_read, pages_asked};
+ghost use Rattle.outcomes.specs.Pages.{is_given, is_reply};
+ghost use Rattle.asked_reads.specs.Asking.{is_given_by_some, may_be_file_reply, may_be_replies};
+ghost use Rattle.asked_reads.specs.Reads.{block_read, blocks_asked, file_reads_asked, page_read, page_reply, pages_asked};
 
 use crate::lines_fit::touches;
-use asked_reads::{BlockRead, BlockReply, PageRead, PageReply, Question};
+use asked_reads::{BlockRead, BlockReply, FileRead, PageRead, PageReply, Question};
 use nvm_base::{BLOCK, LINE, PAGE};
 use reply_text::Why;
 use word_tables::Geometry;
@@ -26,6 +26,7 @@ pub fn may_be_replies(question: &Question, geometry: Geometry) -> bool
 {
     are_replies_of_bytes(&question.volume, PAGE * geometry.vpages)
         && are_replies_of_blocks(&question.blocks, geometry.blocks)
+        && are_replies_of_files(&question.files)
 }
 
 // Whether each is one of storage of so many bytes.
@@ -42,18 +43,41 @@ fn are_replies_of_blocks(reads: &[BlockRead], blocks: u64) -> bool
     reads.iter().all(|read| is_reply_of_blocks(read, blocks))
 }
 
+// Whether each is one of some file.
+fn are_replies_of_files(reads: &[FileRead]) -> bool
+    ensures { result ≡ list_all may_be_file_reply (file_reads_asked reads.now) }
+{
+    reads.iter().all(|read| is_given_by_some(&read.pages))
+}
+
+fn is_given_by_some(read: &PageRead) -> bool
+    ensures { result ≡ is_given_by_some read.now.start read.now.len (page_reply read.now.reply) }
+{
+    match &read.reply {
+        PageReply::Shows(_) | PageReply::Poison(_) => {
+            0 < read.len && read.len <= MOST_BYTES && is_given(read)
+        }
+        PageReply::Refuses(_) => true,
+    }
+}
+
+// Whether a read that is not refused may be answered so.
+fn is_given(read: &PageRead) -> bool
+    ensures { result ≡ is_given read.now.start read.now.len (page_reply read.now.reply) }
+{
+    match &read.reply {
+        PageReply::Shows(bytes) => bytes.len() == read.len,
+        PageReply::Poison(at) => touches(read.start, read.len, *at / LINE) && *at % LINE == 0,
+        PageReply::Refuses(_) => false,
+    }
+}
+
 /// Whether a read may have its reply on some storage of so many bytes.
 pub fn is_reply_of_bytes(read: &PageRead, size: u64) -> bool
     ensures { result ≡ is_reply size (page_read read.now) }
 {
     match most_refusal(MOST_BYTES, size, read.start, read.len) {
-        None => match &read.reply {
-            PageReply::Shows(bytes) => bytes.len() == read.len,
-            PageReply::Poison(at) => {
-                touches(read.start, read.len, *at / LINE) && *at % LINE == 0
-            }
-            PageReply::Refuses(_) => false,
-        },
+        None => is_given(read),
         Some(why) => match &read.reply {
             PageReply::Refuses(other) => *other == why,
             PageReply::Shows(_) | PageReply::Poison(_) => false,

@@ -10,6 +10,13 @@ then_so : {T E P Q : Type 0} (r : Result T E) → OnOk r P → (P → Q) → OnO
 then_so (Ok x) so next = next so
 then_so (Err e) so next = tt
 
+pub returns-clause-is : goal.returns-clause-is
+returns-clause-is c =
+    let held = c.args.self.now in
+    let action = action_of c.args.command.now in
+    then_so c.make.result c.make.ensures
+    (λ is. is ∙ ap (λ change. after change held) (c.in_ok-change.ensures ∙ ap (λ (s : MappingsState). files_change s.mappings action) (ap (λ (f : FilesState). f.mappings) c.self.view_is)))
+
 pub returns-clause-follows : goal.returns-clause-follows
 returns-clause-follows c = λ h sees complete allowed.
     let held = c.args.self.now in

@@ -12,8 +12,16 @@ then_if : {T E : Type 0} {P Q : T → Type 0} (r : Result T E) → IfOk r P → 
 then_if (Ok x) so next = next x so
 then_if (Err e) so next = tt
 
-pub returns : goal.returns
-returns c = λ h sees complete held allowed.
+pub returns-clause-fits : goal.returns-clause-fits
+returns-clause-fits c =
+    let s = c.args.self.now in
+    let action = action_of c.args.command.now in
+    let reads = file_reads_asked c.args.reads.now in
+    then_if c.fits_in_change.result c.fits_in_change.ensures
+    (λ fit is. is ∙ ap (λ change. fit_inside change reads s) (c.in_ok-change.ensures ∙ ap (λ (m : MappingsState). files_change m.mappings action) (ap (λ (f : FilesState). f.mappings) c.self.view_is)))
+
+pub returns-clause-shown : goal.returns-clause-shown
+returns-clause-shown c = λ h sees complete held allowed.
     let s = c.args.self.now in
     let action = action_of c.args.command.now in
     let reads = file_reads_asked c.args.reads.now in
