@@ -1,9 +1,9 @@
 #!/usr/bin/env python3
 """tests/drawn_questions.py PROGRAM EXPLORER [SEED [COUNT]]: 500 scripts with questions, drawn from a seed, against a model and runs.
 
-The model (cut_model.py) tells the first place of a cut after which a look may be as it is asked. What PROGRAM, an nvmhost, shows
-after a cut somewhere in a script is asked too, and EXPLORER must answer that place or one before it. Prints what does not fit, and
-nothing else.
+The model (cut_model.py) tells the first place of a cut after which a look may be as it is asked, and a table (table_model.py). What
+PROGRAM, an nvmhost, shows after a cut somewhere in a script is asked too, and EXPLORER must answer that place or one before it. Prints
+what does not fit, and nothing else.
 """
 import os
 import random
@@ -15,6 +15,7 @@ import tempfile
 from cut_model import BLOCKS, PAGES, State, first_place, is_command, kept_text, outcome, places_of, shown
 from script_draws import ALL, FEW, FIRST, HOMES, LEFT, MIXED, NAMES, OF_FILES
 from script_draws import altered, files_drawn, order, read_drawn, story, story_of_files
+from table_model import table_of
 
 BY_IMAGE = 20  # scripts: the first ones are of four commands alone, and they and the next ones begin on a fresh image
 ASKED, CUT = 12, 3  # questions drawn for each, and runs of it that are cut
@@ -68,9 +69,10 @@ class Script:
         self.places, self.replies, _ = places_of(image.state, ranges, self.program)
         turns = [i for i, (name, _, _) in enumerate(self.places) if len(first) < int(name.split()[1]) <= len(first + told) + 1 and told]
         self.questions = {question(draw, self.places, turns, self.reads): None for _ in range(ASKED)}
+        self.tables = draw.choice(([], [], ["# table"]))
 
     def text(self, questions):
-        return "".join(line + "\n" for line in [*self.program, "# look", *self.reads, *(f"# never {asked}" for asked in questions)])
+        return "".join(line + "\n" for line in [*self.program, "# look", *self.reads, *self.tables, *(f"# never {asked}" for asked in questions)])
 
     def run_cut(self, draw):
         """Before which line a cut comes or is armed, the lines of such a run, and its look's."""
@@ -117,15 +119,20 @@ def run_all(program, room, draw, image, scripts):
             sys.exit("\n".join([f"{why}, on the image that {image.lines} leaves:", *lines, *looks]))
 
 
-def explored(explorer, room, image, text):
-    """The answers to a script's questions, and whether the status is that of these answers."""
+def explored(explorer, room, image, text, rows=0):
+    """So many lines of a table, the answers to a script's questions, and whether the status is that of these answers."""
     done = subprocess.run([explorer, image], cwd=room, input=text, capture_output=True, text=True)
-    answers = done.stdout.splitlines()
-    return answers, done.returncode == int(any(answer != "never" for answer in answers))
+    lines = done.stdout.splitlines()
+    answers = lines[rows:]
+    return lines[:rows], answers, done.returncode == int(any(answer != "never" for answer in answers))
 
 
 def compare(explorer, room, script):
-    answers, right = explored(explorer, room, script.image.name, script.text(script.questions))
+    table = table_of(script.places, script.reads) if script.tables else []
+    rows, answers, right = explored(explorer, room, script.image.name, script.text(script.questions), len(table))
+    for row, wanted in zip(rows, table):
+        if row != wanted:
+            sys.exit(f"{row} in a table, by the model {wanted}, on the image that {script.image.lines} leaves:\n{script.text([])}")
     if not right or len(answers) != len(script.questions):
         sys.exit(f"the status or the number of these answers is wrong: {answers}\n{script.text(script.questions)}")
     for answer, (asked, shown_at) in zip(answers, script.questions.items()):
@@ -152,7 +159,7 @@ def at_once(explorer, room, made, store, load, sync):
     ):
         text = "".join(line + "\n" for line in [*program, "# look", *reads, *(f"# never {asked}" for asked in questions)])
         began = resource.getrusage(resource.RUSAGE_CHILDREN).ru_utime
-        answers, right = explored(explorer, room, made, text)
+        _, answers, right = explored(explorer, room, made, text)
         took = resource.getrusage(resource.RUSAGE_CHILDREN).ru_utime - began
         places = [answer.split(" |")[0] for answer in answers]
         if not right or places != list(questions.values()) or took > AT_ONCE:

@@ -19,6 +19,10 @@ def line_of(files, name, n):
     return files[name].lines.get(n, CLEAN) if name in files else None
 
 
+def ends_before(file, n):
+    return 64 * n >= 4096 * file.pages
+
+
 def told_bad(name, n):
     return f"poison file {name} {64 * n} 64"
 
