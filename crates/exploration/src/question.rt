@@ -8,9 +8,9 @@ ghost use Rattle.exploration.specs.Reads.{seen_of};
 ghost use Rattle.asked_reads.specs.Looking.{read_action};
 ghost use Rattle.exploration.specs.Steps.{AddsRead, FindsQuestion};
 
-use crate::replies::{block_reply, volume_reply};
+use crate::replies::{block_reply, file_reply, volume_reply};
 use crate::stop::LineStop;
-use asked_reads::{BlockRead, PageRead, Question, Read};
+use asked_reads::{BlockRead, FileRead, PageRead, Question, Read};
 use questions::AskedReply;
 use std::alloc::{AllocError, Global};
 
@@ -25,6 +25,7 @@ pub(crate) fn question_of(
     let mut question = Question {
         volume: Vec::new(alloc),
         blocks: Vec::new(alloc),
+        files: Vec::new(alloc),
     };
     let mut left = replies;
     for read in reads {
@@ -71,6 +72,16 @@ fn add(
                 reply,
             };
             question.blocks.push(read).map_err(AllocError::from)?;
+        }
+        Read::File { name, start, len } => {
+            let reply = file_reply(alloc, name, reply)?;
+            let pages = PageRead {
+                start: u64::from(*start),
+                len: *len,
+                reply,
+            };
+            let read = FileRead { name: *name, pages };
+            question.files.push(read).map_err(AllocError::from)?;
         }
     }
     Ok(())

@@ -6,3 +6,4 @@ pub mod Fitting
 pub mod Sees
 pub mod Finding
 pub mod Leaving
+pub mod Mixing

@@ -15,6 +15,7 @@ mod lines;
 mod listing;
 mod map;
 mod maps;
+mod mixing;
 mod read_fits;
 mod rewriting;
 #[cfg(test)]

@@ -1,5 +1,5 @@
 -- The state that is read in an image is one in which an exploration begins.
-use Rattle.std.proofs.Common.{◌≡◌, ◌+◌, ◌*◌, ◌/◌, ◌%◌, ◌<◌, ℕ, zero, suc, Bool, true, false, List, [], ◌∷◌, Option, Some, None, inl, inr, slice_get, replicate, refl, sym, ap, subst, ◌∙◌, if◌then◌else◌, arith}
+use Rattle.std.proofs.Common.{◌≡◌, ◌+◌, ◌*◌, ◌/◌, ◌%◌, ◌<◌, ℕ, zero, suc, Bool, true, false, List, [], ◌∷◌, map, Option, Some, None, inl, inr, slice_get, replicate, refl, sym, ap, subst, ◌∙◌, if◌then◌else◌, arith}
 use Rattle.std.specs.Prelude.{IsTrue, slice_index}
 use Rattle.std.specs.List.{AllByRecursion}
 use Rattle.std.proofs.lemmas.Bool.{cases_lt}
@@ -20,7 +20,9 @@ use Rattle.nvm_model.specs.Numbered.{list_from}
 use Rattle.nvm_model.specs.Page.{read_pages}
 use Rattle.nvm_model.proofs.PageLemmas.{cell_of-read_pages, read_pages-there}
 use Rattle.pm_volume.specs.Presence.{presence_read}
-use Rattle.file_journal.specs.Reading.{wrong_file_place}
+use Rattle.file_journal.specs.Files.{UnitFile, files_of}
+use Rattle.file_journal.specs.Reading.{tables_read, wrong_file_place}
+use Rattle.file_journal.specs.Standing.{file_read, files_read, line_of_file, pages_there}
 use Rattle.image_file.specs.Devices.{image_of, medium_of, told_values, told_word}
 use Rattle.image_file.specs.Text.{AreFileBytes, IsImageLine, IsOfBytes}
 use Rattle.recovery.specs.Findings.{first_finding, geometry_told}
@@ -33,7 +35,7 @@ use Rattle.machine_host.proofs.MountedLemmas.{layout_found}
 use Rattle.machine_host.proofs.ReadingLemmas.{read_whole}
 use Rattle.outcomes.specs.Finds.{IsReady}
 use Rattle.outcome_runs.specs.Kept.{IsKept}
-use Rattle.explorer.specs.Starting.{AreDurable, AreOfBytes, Begins}
+use Rattle.explorer.specs.Starting.{AreDurable, AreOfBytes, Begins, HaveDurable}
 use Rattle.program_base.specs.Begins as base
 use Rattle.program_base.specs.Opening.{Mounts, opened}
 use Rattle.program_base.proofs.OpenLemmas.{flushed_of_image, good_image}
@@ -128,6 +130,15 @@ durable_read place there lines whole bytes n weak words is =
     let cell = cell_of-read_pages place (image_of lines) there n (read_pages-there place (image_of lines) there n (Kept weak words) is) in
     of_cell lines (place n) weak words (is_of_line lines (place n) whole bytes) (same_cell (read_cell (image_of lines) (place n)) (Kept weak words) (sym cell ∙ is))
 
+files_durable : (geo : Geometry) (lines : List LineState) → AllByRecursion IsImageLine lines → AllByRecursion IsOfBytes lines → (on : List UnitFile)
+    → HaveDurable (map (file_read geo (image_of lines)) on)
+files_durable geo lines whole bytes [] = tt
+files_durable geo lines whole bytes (file ∷ on) = (durable_read (line_of_file geo file) (pages_there file) lines whole bytes, files_durable geo lines whole bytes on)
+
+all_durable : (geo : Geometry) (lines : List LineState) → AllByRecursion IsImageLine lines → AllByRecursion IsOfBytes lines → HaveDurable (files_read geo (image_of lines))
+unfolding files_read
+all_durable geo lines whole bytes = files_durable geo lines whole bytes (files_of (tables_read geo (image_of lines).word))
+
 pub begins_opened : Mounted → (lines : List LineState) → first_finding (medium_of lines) ≡ None → AllByRecursion IsImageLine lines → AllByRecursion IsOfBytes lines
     → Begins (opened lines)
 begins_opened mounted lines right whole bytes =
@@ -137,6 +148,10 @@ begins_opened mounted lines right whole bytes =
     record {
       ready = (kept_opened mounted lines right).0;
       durable = subst AreDurable (sym (ap (λ (h : Machine). h.volume) (read_whole geo image (good_image lines right)))) (durable_read (volume_line geo) there lines whole bytes);
+      files = subst HaveDurable (sym (ap (λ (h : Machine). h.files) (read_whole geo image (good_image lines right)))) (all_durable geo lines whole bytes);
+      in_order = (kept_opened mounted lines right).1.listed.in_order;
+      mappings = ap (λ (h : Machine). h.mappings) (read_whole geo image (good_image lines right));
+      handles = ap (λ (h : Machine). h.next_handle) (read_whole geo image (good_image lines right));
     }
 
 -- where nothing is armed, a run begins in just this state

@@ -2,6 +2,7 @@ pub mod Left
 pub mod Values
 pub mod Rows
 pub mod Sides
+pub mod Adding
 pub mod Looking
 pub mod Tables
 pub mod Walking

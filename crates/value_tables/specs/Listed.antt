@@ -1,19 +1,21 @@
--- Looks of one word or one block, and the states of which a table lists what they may show.
+-- Looks of one word, of the volume or a file, or one block, and the states of which a table lists what they may show.
 use Rattle.std.specs.Prelude.{◌≡◌, ◌*◌, ◌/◌, ◌<◌, ◌≤◌, ℕ, Bool, List, [], ◌∷◌, length}
 use Rattle.std.specs.Int.{w64, to_le_bytes}
 use Rattle.std.specs.List.{list_any}
 use Rattle.std.specs.Str.{bytes_eq}
 use Rattle.nvm_model.specs.Cell.{Cell}
 use Rattle.nvm_model.specs.Cell.Cell.{Bad, Kept}
+use Rattle.nvm_model.specs.Page.{Page}
+use Rattle.nvm_model.specs.Storage.{File}
 use Rattle.block_sights.specs.Sights.{Sight}
 use Rattle.block_sights.specs.Sights.Sight.{Whole, Scar, BadLine}
 use Rattle.machine_host.specs.Machine.{Machine}
-use Rattle.durable.specs.Durable.{HaveLines, IsCounted}
+use Rattle.durable.specs.Durable.{AllHaveLines, HaveLines, IsCounted}
 use Rattle.outcomes.specs.Blocks.{BlockReply}
 use Rattle.outcomes.specs.Blocks.BlockReply.{Shows as ShowsBlocks, Scar as Scarred, BadLine as Poisoned}
 use Rattle.outcomes.specs.Pages.{PageReply}
 use Rattle.outcomes.specs.Seen.{Seen}
-use Rattle.outcomes.specs.Seen.Seen.{of_blocks, of_volume}
+use Rattle.outcomes.specs.Seen.Seen.{of_blocks, of_file, of_volume}
 use Rattle.sights.specs.Seeing.{seen}
 use Rattle.sights.specs.BlockTelling.{same_sight}
 
@@ -26,15 +28,28 @@ abbrev pub HasWords : Cell → Type 0
 HasWords Bad = Unit {0}
 HasWords (Kept weak words) = (length words ≡ 8) × HaveOne words
 
--- all blocks and pages are there, and so are their lines as reads see them
+-- so have all lines of these pages, and those of all files
+abbrev pub HaveWords : List Page → Type 0
+HaveWords pages = (n : ℕ) → n / 64 < length pages → HasWords (seen pages n)
+
+abbrev pub AllHaveWords : List File → Type 0
+AllHaveWords [] = Unit {0}
+AllHaveWords (file ∷ files) = HaveWords file.pages × AllHaveWords files
+
+-- all blocks and pages are there, and so are their lines as reads see them, and those of files
 pub record IsSound (off : Machine) : Type 0 where
   pub counted : IsCounted off
   pub lines : HaveLines off.volume
-  pub words : (n : ℕ) → n / 64 < length off.volume → HasWords (seen off.volume n)
+  pub words : HaveWords off.volume
+  pub file_lines : AllHaveLines off.files
+  pub file_words : AllHaveWords off.files
 
--- word p is read, or block b, and answered so
+-- word p is read, of the volume or of a file, or block b, and answered so
 abbrev pub word_read : ℕ → PageReply → List Seen
 word_read p reply = of_volume (record { start = 8 * p; len = 8; reply = reply }) ∷ []
+
+abbrev pub file_word_read : List ℕ → ℕ → PageReply → List Seen
+file_word_read name p reply = of_file (record { name = name; pages = record { start = 8 * p; len = 8; reply = reply } }) ∷ []
 
 abbrev pub block_read : ℕ → BlockReply → List Seen
 block_read b reply = of_blocks (record { first = b; count = 1; reply = reply }) ∷ []

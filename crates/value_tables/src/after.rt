@@ -3,11 +3,12 @@ ghost use Rattle.std.specs.Prelude.{◌≡◌, IfOk, map};
 ghost use Rattle.script_text.specs.Action.{action_of};
 ghost use Rattle.script_text.specs.Parsing.{InBounds};
 ghost use Rattle.word_tables.specs.Bounds.{IsValid};
+ghost use Rattle.cut_places.specs.Sights.{files_once_done};
 ghost use Rattle.sights.specs.Units.{block_once_done, line_once_done};
 
 use crate::keeping::keep;
-use script_text::Command;
 use cut_places::Sight;
+use script_text::Command;
 use sights::Unit;
 use std::alloc::{AllocError, Global};
 use word_tables::Geometry;
@@ -23,10 +24,12 @@ pub fn once_done(
     requires bounded { InBounds (action_of command.now) }
     ensures lines { IfOk result (λ after. after.lines.items ≡ map (line_once_done geometry (action_of command.now)) sight.now.lines.items) }
     ensures blocks { IfOk result (λ after. after.blocks.items ≡ map (block_once_done geometry (action_of command.now)) sight.now.blocks.items) }
+    ensures files { IfOk result (λ after. after.files ≡ files_once_done (action_of command.now) sight.now.files) }
 {
     let mut after = Sight {
         lines: copied(alloc, &sight.lines)?,
         blocks: copied(alloc, &sight.blocks)?,
+        files: sight.files.duplicate()?,
     };
     after.change(geometry, command)?;
     Ok(after)

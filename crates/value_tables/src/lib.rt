@@ -2,6 +2,8 @@
 #![tactic(auto)]
 
 mod after;
+mod file_values;
+mod file_words;
 mod keeping;
 mod laws;
 mod listing;

@@ -17,9 +17,9 @@ use crate::after::once_done;
 use crate::looks::{rows_before, rows_inside};
 use crate::table::Table;
 use asked_reads::Read;
+use cut_places::{CutPlace, Sight};
 use nvm_base::Bytes;
 use script_text::Command;
-use cut_places::{CutPlace, Sight};
 use std::alloc::{AllocError, Global};
 use word_tables::Geometry;
 

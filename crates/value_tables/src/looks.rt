@@ -1,20 +1,23 @@
 // The rows of a look where a cut falls.
-ghost use Rattle.std.specs.Prelude.{◌≡◌, [], ℕ, List, IfOk};
+ghost use Rattle.std.specs.Prelude.{◌≡◌, [], IfOk, None};
+ghost use Rattle.std.specs.Option.{option_copied};
 ghost use Rattle.script_text.specs.Action.{action_of};
 ghost use Rattle.word_tables.specs.Bounds.{IsValid};
-ghost use Rattle.nvm_model.specs.Cell.{Cell};
-ghost use Rattle.block_sights.specs.Sights.{Sight as Seen};
+ghost use Rattle.file_sights.specs.Changes.{left_by};
+ghost use Rattle.file_sights.specs.Commands.{files_change};
 ghost use Rattle.sights.specs.Ways.{blocks_way, lines_way};
+ghost use Rattle.value_tables.specs.Left.{Found};
 ghost use Rattle.value_tables.specs.Looking.{IsOf};
 ghost use Rattle.value_tables.specs.Rows.{rows_text};
-ghost use Rattle.value_tables.specs.Sides.{AreBlocksLeft, AreLeft, texts, where_mixed};
+ghost use Rattle.value_tables.specs.Sides.{AreBlocksLeft, AreFilesLeft, AreLeft, texts, where_files_mixed, where_mixed};
 
 use crate::rows::rows_of;
 use crate::sides::Sides;
 use asked_reads::Read;
+use cut_places::Sight;
+use file_sights::FilesSeen;
 use nvm_base::Bytes;
 use script_text::Command;
-use cut_places::Sight;
 use sights::{BlockSeen, LineSeen, Way};
 use std::alloc::{AllocError, Global};
 use word_tables::Geometry;
@@ -28,14 +31,16 @@ pub fn rows_before(
 ) -> Result<Vec<Bytes>, AllocError>
     requires valid { IsValid geometry }
     requires looks { IsOf sight.now geometry reads.now }
-    ensures { (lines : ℕ → List Cell) (blocks : ℕ → List Seen) → AreLeft lines sight.now.lines.items [] → AreBlocksLeft blocks sight.now.blocks.items []
-        → IfOk result (λ rows. texts rows.items ≡ rows_text lines blocks 1 geometry reads.now) }
+    ensures { (may : Found) → AreLeft may.lines sight.now.lines.items [] → AreBlocksLeft may.blocks sight.now.blocks.items []
+        → AreFilesLeft may.files sight.now.files None → IfOk result (λ rows. texts rows.items ≡ rows_text may 1 geometry reads.now) }
 {
     let sides = Sides {
         lines: &sight.lines,
         new_lines: &[],
         blocks: &sight.blocks,
         new_blocks: &[],
+        files: &sight.files,
+        new_files: None,
     };
     rows_of(alloc, geometry, reads, &sides)
 }
@@ -51,16 +56,19 @@ pub fn rows_inside(
 ) -> Result<Vec<Bytes>, AllocError>
     requires valid { IsValid geometry }
     requires looks { IsOf sight.now geometry reads.now }
-    ensures { (lines : ℕ → List Cell) (blocks : ℕ → List Seen)
-        → AreLeft lines sight.now.lines.items (where_mixed (lines_way (action_of command.now)) after.now.lines.items)
-        → AreBlocksLeft blocks sight.now.blocks.items (where_mixed (blocks_way (action_of command.now)) after.now.blocks.items)
-        → IfOk result (λ rows. texts rows.items ≡ rows_text lines blocks 1 geometry reads.now) }
+    ensures { (may : Found)
+        → AreLeft may.lines sight.now.lines.items (where_mixed (lines_way (action_of command.now)) after.now.lines.items)
+        → AreBlocksLeft may.blocks sight.now.blocks.items (where_mixed (blocks_way (action_of command.now)) after.now.blocks.items)
+        → AreFilesLeft may.files sight.now.files (where_files_mixed (left_by (files_change sight.now.files.mappings.mappings (action_of command.now))) after.now.files)
+        → IfOk result (λ rows. texts rows.items ≡ rows_text may 1 geometry reads.now) }
 {
     let sides = Sides {
         lines: &sight.lines,
         new_lines: mixed_lines(command, &after.lines),
         blocks: &sight.blocks,
         new_blocks: mixed_blocks(command, &after.blocks),
+        files: &sight.files,
+        new_files: mixed_files(command, &sight.files, &after.files),
     };
     rows_of(alloc, geometry, reads, &sides)
 }
@@ -81,4 +89,10 @@ fn mixed_blocks<'a>(command: &Command, new: &'a [BlockSeen]) -> &'a [BlockSeen]
         Some(_) => new,
         None => &[],
     }
+}
+
+fn mixed_files<'a>(command: &Command, now: &FilesSeen, new: &'a FilesSeen) -> Option<&'a FilesSeen>
+    ensures { option_copied result ≡ where_files_mixed (left_by (files_change now.now.mappings.mappings (action_of command.now))) new.now }
+{
+    if now.mixes(command) { Some(new) } else { None }
 }

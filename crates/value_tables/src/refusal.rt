@@ -1,5 +1,6 @@
-ghost use Rattle.std.specs.Prelude.{◌≡◌};
+ghost use Rattle.std.specs.Prelude.{◌≡◌, ◌+◌, ℕ};
 ghost use Rattle.word_tables.specs.Bounds.{IsValid};
+ghost use Rattle.machine_host.specs.Meaning.{most_refusal};
 ghost use Rattle.value_tables.specs.Rows.{read_refusal};
 
 use asked_reads::Read;
@@ -21,5 +22,19 @@ pub fn read_refusal(geometry: Geometry, read: &Read) -> Option<Why>
         Read::Blocks { first, count } => {
             most_refusal(MOST_BLOCKS, geometry.blocks, u64::from(*first), *count)
         }
+        Read::File { len, .. } => length_refusal(*len),
+    }
+}
+
+// A file may have any size.
+fn length_refusal(len: u64) -> Option<Why>
+    ensures { (start : ℕ) → result ≡ most_refusal 65536 (start + len) start len }
+{
+    if len == 0 {
+        Some(Why::Length)
+    } else if len > MOST {
+        Some(Why::Limit)
+    } else {
+        None
     }
 }

@@ -1,7 +1,6 @@
 // One row as text.
-ghost use Rattle.std.specs.Prelude.{◌≡◌, ◌*◌, ◌%◌, ◌<◌, ◌^◌, ◌++◌, ◌||◌, [], ◌∷◌, ℕ, List, IfOk, OnOk, codes, decimal, length};
-ghost use Rattle.nvm_model.specs.Cell.{Cell};
-ghost use Rattle.block_sights.specs.Sights.{Sight};
+ghost use Rattle.std.specs.Prelude.{◌≡◌, ◌*◌, ◌%◌, ◌<◌, ◌^◌, ◌++◌, ◌||◌, [], ◌∷◌, IfOk, OnOk, codes, decimal, length};
+ghost use Rattle.value_tables.specs.Left.{Found};
 ghost use Rattle.value_tables.specs.Sides.{block_at, line_at};
 ghost use Rattle.value_tables.specs.Values.{block_values, may_be_bad, values_with};
 ghost use Rattle.value_tables.specs.Rows.{row_text, sights_text, word_text};
@@ -47,7 +46,7 @@ pub fn block_row(alloc: Global, k: u64, b: u64, at: u64, sides: &Sides) -> Resul
 
 /// That of a read that is refused.
 pub fn refused_row(alloc: Global, k: u64, why: Why) -> Result<Bytes, AllocError>
-    ensures { (lines : ℕ → List Cell) (blocks : ℕ → List Sight) → IfOk result (λ row. row.items ≡ row_text lines blocks k (Refuses why)) }
+    ensures { (may : Found) → IfOk result (λ row. row.items ≡ row_text may k (Refuses why)) }
 {
     let mut row = Bytes::new(alloc);
     print_number(k, &mut row)?;

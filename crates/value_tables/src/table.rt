@@ -3,8 +3,8 @@ ghost use Rattle.std.specs.Prelude.{◌≡◌, ◌++◌, [], IfOk, OnOk, slice_g
 ghost use Rattle.value_tables.specs.Sides.{is_row, texts};
 ghost use Rattle.value_tables.specs.Tables.{changed, part, place_line};
 
-use nvm_base::{Bytes, print_number};
 use cut_places::CutPlace;
+use nvm_base::{Bytes, print_number};
 use std::alloc::{AllocError, Global};
 
 /// What is printed, and the rows of the last place.
