@@ -7,3 +7,4 @@ pub mod Telling
 pub mod Places
 pub mod Texts
 pub mod Rows
+pub mod FileRows

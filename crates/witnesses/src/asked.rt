@@ -13,6 +13,7 @@ use sights::{agree, agrees};
 use std::alloc::AllocError;
 
 /// The reads of the volume, or those of the file of a name.
+#[derive(Drop)]
 pub enum Asked<'a> {
     OfVolume(&'a [PageRead]),
     OfFile(&'a [FileRead], &'a Name),

@@ -38,8 +38,9 @@ pub fn keep_lines(
         (range_with_len (units_of 64 span).start (units_of 64 span).len)) }
 {
     let lines = lines_of(span);
-    for n in lines.start..lines.start + lines.len {
-        kept.push(keep_line(reads, name, n as u32, now, made, left))?;
+    for k in 0..lines.len {
+        let number = (lines.start + k) as u32;
+        kept.push(keep_line(reads, name, number, now, made, left))?;
     }
     Ok(())
 }

@@ -28,6 +28,6 @@ pub use block_kept::BlockKept;
 pub use file_kept::FileLineKept;
 pub use keeping::keep;
 pub use kept::Kept;
-pub use laws::worked_witnesses;
+pub use laws::{worked_file_witnesses, worked_witnesses};
 pub use line_kept::{LineKept, LineLeft};
 pub use text::kept_text;
