@@ -38,7 +38,7 @@ named text [] x found = cc found
 named text (y ∷ files) x found = by_test (bytes_eq y.name text) refl found (named text files x)
   where
     by_test : (b : Bool) → bytes_eq y.name text ≡ b → cond b (Some y) (file_of name_seen text files) ≡ Some x → (file_of name_seen text files ≡ Some x → x.name ≡ text) → x.name ≡ text
-    by_test true is found rest = subst (λ (o : Option FileState). elim o [ None ↦ ⊥ | Some z ↦ z.name ≡ text ]) found ((bytes_eq-Decides y.name text).0 is)
+    by_test true is found rest = sym (ap (λ (o : Option FileState). elim o [ None ↦ [] | Some z ↦ z.name ]) found) ∙ (bytes_eq-Decides y.name text).0 is
     by_test false is found rest = rest found
 
 -- the file of a name where those of one are changed, which keep it
@@ -111,11 +111,11 @@ module _ (reads : List FileRead) (name : List ℕ) (c : LinesChange) (pages : �
       (sym (list_all-map (λ (line : FileLine). not (looks_at r.start r.len r.reply line.number) || now_fits more name pages line) (line_left reads name c pages) lines) ∙ all)
 
   -- lines of these numbers, each told by its number, stay such
-  left_numbers : (lines : List FileLine) → line_numbers (map (line_left reads name c pages) lines) ≡ line_numbers lines
+  pub left_numbers : (lines : List FileLine) → line_numbers (map (line_left reads name c pages) lines) ≡ line_numbers lines
   left_numbers [] = refl
   left_numbers (line ∷ lines) = ap (λ n. n ∷ line_numbers (map (line_left reads name c pages) lines)) (left_number line) ∙ ap (λ ns. line.number ∷ ns) (left_numbers lines)
 
-  left_lines : (f : ℕ → Cell) (lines : List FileLine) → AreLines f lines
+  pub left_lines : (f : ℕ → Cell) (lines : List FileLine) → AreLines f lines
       → AreLines (λ n. (line_left reads name c pages (record { number = n; line = f n })).line) (map (line_left reads name c pages) lines)
   left_lines f [] are = tt
   left_lines f (line ∷ lines) are =

@@ -25,7 +25,12 @@ use Rattle.file_sights.proofs.SeesLemmas.{sees_done}
 abbrev pub HasLines : List ℕ → FileState → Type 0
 HasLines numbers x = (f : ℕ → Cell) × (line_numbers x.lines ≡ numbers) × AreLines f x.lines
 
--- so has each file of these
+-- so has one that is there
+abbrev HaveLines : List ℕ → Option FileState → Type 0
+HaveLines numbers None = Unit {0}
+HaveLines numbers (Some x) = HasLines numbers x
+
+-- and each file of these
 abbrev pub AllHaveLines : List ℕ → List FileState → Type 0
 AllHaveLines numbers files = (name : List ℕ) (x : FileState) → file_of name_seen name files ≡ Some x → HasLines numbers x
 
@@ -46,7 +51,7 @@ module _ (reads : List FileRead) (s : FilesState) (now : AllHaveLines s.numbers 
       by_found : (o : Option FileState) → file_of name_seen text s.files ≡ o → option_map (λ y. if is_named name_seen name y then lines_left reads name c y else y) o ≡ Some x → HasLines s.numbers x
       by_found None none is = cc is
       by_found (Some y) here is =
-          subst (λ (o : Option FileState). elim o [ None ↦ Unit {0} | Some z ↦ HasLines s.numbers z ]) is (by_name y (now text y here) (is_named name_seen name y))
+          subst (HaveLines s.numbers) is (by_name y (now text y here) (is_named name_seen name y))
 
   module _ (change : FilesChange) (made : AllHaveLines s.numbers (after change s).files) where
     either_have : AllHaveLines s.numbers (left_either change reads s).files

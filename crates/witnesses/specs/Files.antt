@@ -1,5 +1,5 @@
 -- What is kept of the lines of files.
-use Rattle.std.specs.Prelude.{◌/◌, ◌×◌, ℕ, List, flat_map, map, nat_lt, replicate, Option, Some, None, option_map, if◌then◌else◌}
+use Rattle.std.specs.Prelude.{◌/◌, ℕ, List, flat_map, map, nat_lt, replicate, Option, Some, None, option_map, if◌then◌else◌}
 use Rattle.nvm_model.specs.Cell.{Cell}
 use Rattle.nvm_model.specs.Listing.{file_of}
 use Rattle.script_text.specs.Action.{Action}
