@@ -1,75 +1,49 @@
-"""What a power cut may leave of a volume and of blocks, for tests/drawn_questions.py: after docs/model.md, not after the definitions.
+"""What a power cut may leave of a volume, of blocks and of files, for tests/drawn_questions.py: after docs/model.md, not after the
+definitions.
 
-Of each word it keeps the values that it had since it was durable, and of each block what it holds. A cut inside a command may leave
-several worlds, each of which tells of some units what they may be then.
+Of each word it keeps the values that it had since it was durable, of each block what it holds, and of files what file_model.py says. A
+cut inside a command may leave several worlds, each of which tells of some units what they may be then, or of all files together.
 """
 import itertools
 
+import file_model
+from line_model import CLEAN, covers, data_of, first_fault, overlaps, printed, put, rested, span_fault, spelled, synced, touched
+
 BLOCKS, PAGES = 8, 3
 SIZE = 4096 * PAGES
-ZERO = bytes(8)
-# Of a line whether it is bad and whether it is weak, and of each word its last value, and all that a cut may leave, as they came.
-CLEAN = (False, False, ((ZERO, (ZERO,)),) * 8)
 # A block is one of these, or its bytes and which of its lines are bad.
 ABSENT, SCARRED = "absent", "scarred"
 
 
 class State:
-    """Which pages are there, their lines, and the blocks. A unit is `line` or `block` and its number."""
+    """Which pages are there, their lines, the blocks, the files and the mappings. A unit is `line` or `block` and its number, or `file`,
+    the name and the number of a line."""
 
-    def __init__(self, there=frozenset(), lines=None, blocks=(ABSENT,) * BLOCKS):
-        self.there, self.lines, self.blocks = there, lines or {}, blocks
+    def __init__(self, there=frozenset(), lines=None, blocks=(ABSENT,) * BLOCKS, files=None, maps=file_model.NO_MAPS):
+        self.there, self.lines, self.blocks, self.files, self.maps = there, lines or {}, blocks, files or {}, maps
 
-    def unit(self, unit):
-        kind, n = unit
-        return self.lines.get(n, CLEAN) if kind == "line" else self.blocks[n]
+    def unit(self, unit, files=None):
+        """What it holds, where the files are these or those of the state; None where there is no such line of a file."""
+        if unit[0] == "file":
+            return file_model.line_of(self.files if files is None else files, *unit[1:])
+        return self.lines.get(unit[1], CLEAN) if unit[0] == "line" else self.blocks[unit[1]]
+
+    def with_(self, **new):
+        return State(**{**vars(self), **new})
 
     def with_lines(self, lines):
-        return State(self.there | {n // 64 for n in lines}, {**self.lines, **lines}, self.blocks)
+        return self.with_(there=self.there | {n // 64 for n in lines}, lines={**self.lines, **lines})
 
     def with_blocks(self, blocks):
-        return State(self.there, self.lines, tuple(blocks.get(b, old) for b, old in enumerate(self.blocks)))
+        return self.with_(blocks=tuple(blocks.get(b, old) for b, old in enumerate(self.blocks)))
 
     def without(self, pages):
-        return State(self.there - pages, {n: line for n, line in self.lines.items() if n // 64 not in pages}, self.blocks)
+        return self.with_(there=self.there - pages, lines={n: line for n, line in self.lines.items() if n // 64 not in pages})
 
     def settled(self):
-        """As the next run finds it: each word has its last value."""
-        return State(self.there, {n: (bad, weak, durable(words)) for n, (bad, weak, words) in self.lines.items()}, self.blocks)
-
-
-def durable(words):
-    return tuple((last, (last,)) for last, _ in words)
-
-
-def touched(at, size):
-    return range(at // 64, (at + size - 1) // 64 + 1)
-
-
-def covers(at, size, n):
-    return at <= 64 * n and 64 * n + 64 <= at + size
-
-
-def put(line, n, at, data):
-    """Line n with data stored at an offset; a bad one is made zeros before."""
-    bad, weak, words = line
-    if bad:
-        weak, words = False, CLEAN[2]
-    new = []
-    for place, (last, values) in zip(range(64 * n, 64 * n + 64, 8), words):
-        if at < place + 8 and place < at + len(data):
-            last = bytes(data[i - at] if at <= i < at + len(data) else last[i - place] for i in range(place, place + 8))
-        new.append((last, values if last in values else (*values, last)))
-    return False, weak, tuple(new)
-
-
-def synced(line):
-    bad, weak, words = line
-    return (True, weak, words) if bad or weak else (False, False, durable(words))
-
-
-def span_fault(first, count, most, limit=1 << 32):
-    return "refused range" if first + count > most else "refused length" if count == 0 else "refused limit" if count > limit else None
+        """As the next run finds it: each word has its last value, and no file is mapped."""
+        lines = {n: rested(line) for n, line in self.lines.items()}
+        return State(self.there, lines, self.blocks, file_model.settled(self.files))
 
 
 def lowest_bad(state, lines):
@@ -129,10 +103,9 @@ def poison_block(state, b, k):
 
 def blocks_changed(state, spans, faults, new, together):
     """Blocks that become others: all or none, or each for itself. Each fault is looked for in all spans before the next."""
-    told = [fault for fault in (span_fault(b, n, BLOCKS) for b, n in spans) if fault] + faults
-    told += ["refused overlap" for i, (a, n) in enumerate(spans) for b, m in spans[:i] if a < b + m and b < a + n]
-    if told:
-        return refused(state, min(told, key=["refused range", "refused length", "refused overlap"].index))
+    fault = first_fault(spans, BLOCKS, faults + overlaps(spans))
+    if fault:
+        return refused(state, fault)
     worlds = [{}, {("block", b): (block,) for b, block in new.items()}] if together else [
         {("block", b): (state.blocks[b], block) for b, block in new.items()}]
     return "ok", state.with_blocks(new), worlds
@@ -147,8 +120,11 @@ def write(state, pairs, together):
 def step(state, ranges, command):
     """What a command does; the reply is None where it isn't looked at. `ranges` are those of the volume, as `vranges` tells them."""
     word, *words = command.split()
+    of_files = file_model.step(state, word, words)
+    if of_files:
+        return of_files
     if word in ("vload", "bread"):
-        reply = shown(command, lambda unit: sight(unit, state.unit(unit)))
+        reply = shown(command, state.files, lambda unit: sight(unit, state.unit(unit)))
         return reply, state, [{}] if reply.startswith("data") else None
     if word == "vstore":
         return vstore(state, int(words[0]), data_of(words[1]))
@@ -191,70 +167,78 @@ def places_of(state, ranges, program):
     return places + [(f"before {len(program) + 1}", state, [{}])], replies, state
 
 
-def data_of(text):
-    return b"".join(bytes.fromhex(i.split("*")[0]) * int(i.partition("*")[2] or 1) for i in text.split(","))
-
-
-def spelled(data):
-    runs = [(byte, len(list(run))) for byte, run in itertools.groupby(data)]
-    return ",".join(f"{byte:02x}" if n == 1 else f"{byte:02x}*{n}" for byte, n in runs)
-
-
-def printed(data):
-    return "data " + spelled(data)
-
-
-def parts_of(read):
-    """Why a read is refused, where it begins, how many bytes it gives, and the units that it looks at."""
-    word, *numbers = read.split()
-    first, count = map(int, numbers)
-    if word == "vload":
-        fault = span_fault(first, count, SIZE, 65536)
-        return fault, first, count, [] if fault else [("line", n) for n in touched(first, count)]
-    fault = span_fault(first, count, BLOCKS, 128)
-    return fault, 512 * first, 512 * count, [] if fault else [("block", first + i) for i in range(count)]
+def parts_of(read, files):
+    """Why a read is refused, where it begins, how many bytes it gives, and the units that it looks at, where the files are these."""
+    word, *words = read.split()
+    if word == "fread" and words[0] not in files:
+        return "refused missing", 0, 0, []
+    first, count = map(int, words[-2:])
+    if word == "bread":
+        fault = span_fault(first, count, BLOCKS, 128)
+        return fault, 512 * first, 512 * count, [] if fault else [("block", first + i) for i in range(count)]
+    fault = span_fault(first, count, SIZE if word == "vload" else 4096 * files[words[0]].pages, 65536)
+    space = ("line",) if word == "vload" else ("file", words[0])
+    return fault, first, count, [] if fault else [(*space, n) for n in touched(first, count)]
 
 
 def sight(unit, holds):
     """What a read sees of a unit, where it has its last values: its bytes, SCARRED, or the number of a bad line."""
-    if unit[0] == "line":
+    if unit[0] != "block":
         bad, _, words = holds
-        return unit[1] if bad else b"".join(last for last, _ in words)
+        return unit[-1] if bad else b"".join(last for last, _ in words)
     if holds in (ABSENT, SCARRED):
         return bytes(512) if holds == ABSENT else SCARRED
     data, bad = holds
     return min(bad) if bad else data
 
 
-def shown(read, seen):
+def told_bad(unit, what):
+    """The reply to a read that meets a unit which is seen so."""
+    if unit[0] == "block":
+        return f"scarred {unit[1]}" if what == SCARRED else f"poison block {unit[1]} {what}"
+    return file_model.told_bad(*unit[1:]) if unit[0] == "file" else f"poison volume {64 * unit[1]} 64"
+
+
+def unit_told(words):
+    """The unit that such a reply names, and what is seen of it; None where no line begins there."""
+    kind, *numbers = words[1:] if words[0] == "poison" else words
+    name, numbers = numbers[:1] if kind == "file" else [], [int(word) for word in numbers[kind == "file":]]
+    if kind in ("block", SCARRED):
+        return ("block", numbers[0]), SCARRED if kind == SCARRED else numbers[1]
+    unit = ("file", *name, numbers[0] // 64) if name else ("line", numbers[0] // 64)
+    return (unit, unit[-1]) if numbers[0] % 64 == 0 else None
+
+
+def shown(read, files, seen):
     """The reply to a read of which each unit is seen so."""
-    fault, first, size, units = parts_of(read)
+    fault, first, size, units = parts_of(read, files)
     found = [(unit, seen(unit)) for unit in units]
-    for (kind, n), what in found:
+    for unit, what in found:
         if not isinstance(what, bytes):
-            return f"poison volume {64 * n} 64" if kind == "line" else f"scarred {n}" if what == SCARRED else f"poison block {n} {what}"
+            return told_bad(unit, what)
     return fault or printed(b"".join(what for _, what in found)[first % 64:first % 64 + size])
 
 
 def outcome(draw, state, world):
-    """Some sight of each unit that this world allows, the same whenever it is asked for."""
-    kept = {}
+    """The files of this world, and some sight of each unit that it allows, the same whenever it is asked for."""
+    files, kept = world.get("files", state.files), {}
 
     def seen(unit):
         if unit not in kept:
-            holds = draw.choice(world.get(unit) or (state.unit(unit),))
-            of_words = unit[0] == "line" and not holds[0]
+            holds = draw.choice(world.get(unit) or (state.unit(unit, files),))
+            of_words = unit[0] != "block" and not holds[0]
             kept[unit] = b"".join(draw.choice(values) for _, values in holds[2]) if of_words else sight(unit, holds)
         return kept[unit]
 
-    return seen
+    return files, seen
 
 
-def wants_of(reads, replies):
-    """What replies want of each unit: to be `good`, bytes from a place on, or what can't be read; None where no device says them."""
+def wants_of(reads, replies, files):
+    """What replies want of each unit, where the files are these: to be `good`, bytes from a place on, or what can't be read; None where
+    no device says them."""
     wants = {}
     for read, reply in zip(reads, replies):
-        fault, first, size, units = parts_of(read)
+        fault, first, size, units = parts_of(read, files)
         kind, *words = reply.split()
         if kind == "_":
             continue
@@ -268,13 +252,12 @@ def wants_of(reads, replies):
             for unit in units:
                 wants.setdefault(unit, []).append((first, data))
         else:
-            numbers = [int(word) for word in words if word.isdigit()]
-            named = ("line", numbers[0] // 64) if read.startswith("vload") else ("block", numbers[0])
-            if named not in units or named[0] == "line" and numbers[0] % 64:
+            named = unit_told([kind, *words])
+            if not named or named[0] not in units:
                 return None
-            for unit in units[:units.index(named)]:
+            for unit in units[:units.index(named[0])]:
                 wants.setdefault(unit, []).append("good")
-            wants.setdefault(named, []).append(named[1] if named[0] == "line" else SCARRED if kind == SCARRED else numbers[1])
+            wants.setdefault(named[0], []).append(named[1])
     return wants
 
 
@@ -294,23 +277,33 @@ def suits(unit, holds, wants):
         return False
     if unit[0] == "block":
         return all(agrees(seen, 512 * unit[1], *window) for window in windows)
-    words = enumerate(holds[2], 8 * unit[1])
+    words = enumerate(holds[2], 8 * unit[-1])
     return all(any(all(agrees(value, 8 * w, *window) for window in windows) for value in values) for w, (_, values) in words)
 
 
-def first_place(places, wants):
-    """The number of the first place where it may be so, None where there is none."""
-    known = {}
+def first_place(places, reads, replies):
+    """The number of the first place where the replies may be found, None where there is none."""
+    wanted, known = {}, {}
+    names = [read.split()[1] for read in reads if read.startswith("fread")]
 
-    def fits(unit, holds):
-        if (unit, id(holds)) not in known:
-            known[unit, id(holds)] = suits(unit, holds, wants[unit])
-        return known[unit, id(holds)]
+    def wants(files):
+        sizes = tuple(files[name].pages if name in files else None for name in names)
+        if sizes not in wanted:
+            wanted[sizes] = wants_of(reads, replies, files)
+        return wanted[sizes]
 
-    for i, (_, state, worlds) in enumerate(places if wants is not None else []):
-        if any(all(any(fits(unit, holds) for holds in world.get(unit) or (state.unit(unit),)) for unit in wants) for world in worlds):
-            return i
-    return None
+    def fits(unit, holds, windows):
+        if (unit, id(holds), id(windows)) not in known:
+            known[unit, id(holds), id(windows)] = suits(unit, holds, windows)
+        return known[unit, id(holds), id(windows)]
+
+    def may_be(state, world):
+        files = world.get("files", state.files)
+        some = wants(files)
+        return some is not None and all(
+            any(fits(unit, holds, some[unit]) for holds in world.get(unit) or (state.unit(unit, files),)) for unit in some)
+
+    return next((i for i, (_, state, worlds) in enumerate(places) if any(may_be(state, world) for world in worlds)), None)
 
 
 def first_agreed(values, place, windows):
@@ -318,17 +311,18 @@ def first_agreed(values, place, windows):
 
 
 def kept_line(unit, holds, others, windows, asked):
-    """What is told of a line that is left so, where it could be as each of the others: what of it that could be otherwise."""
-    first = 64 * unit[1]
+    """What is told of a line that is left so, where it could be as each of the others, None where it is not there: what of it that
+    could be otherwise."""
+    first, what = 64 * unit[-1], f"file {unit[1]}" if unit[0] == "file" else "volume"
     if holds[0]:
-        return f" | volume {first} poison" if any(not other[0] for other in others) else ""
+        return f" | {what} {first} poison" if any(not other or not other[0] for other in others) else ""
     told = ""
     for w, (_, values) in enumerate(holds[2]):
         place = first + 8 * w
         value = first_agreed(values, place, windows)
-        free = any(other[0] or any(v != value for v in other[2][w][1]) for other in others)
+        free = any(not other or other[0] or any(v != value for v in other[2][w][1]) for other in others)
         if free and any(at < place + 8 and place < at + size for at, size in asked):
-            told += f" | volume {place} {spelled(value)}"
+            told += f" | {what} {place} {spelled(value)}"
     return told
 
 
@@ -341,27 +335,33 @@ def kept_block(unit, holds, others):
 
 
 def kept_text(place, reads, replies):
-    """What is told behind the answer of that place: each unit is left as it was where it suits so, and else as the command makes it."""
+    """What is told behind the answer of that place: each unit is left as it was where it suits so, and else as the command makes it, and
+    so are all files where they change together."""
     _, state, worlds = place
-    wants = wants_of(reads, replies)
-    parts = [parts_of(read) for read, reply in zip(reads, replies) if reply != "_"]
-    asked = [(first, size) for fault, first, size, units in parts if not fault and units[0][0] == "line"]
-    units = sorted(dict.fromkeys(unit for _, _, _, some in parts for unit in some), key=lambda unit: unit[0] == "block")
+    told_of = [(read, reply) for read, reply in zip(reads, replies) if reply != "_"]
 
     def options(world, unit):
-        return world.get(unit) or (state.unit(unit),)
+        return world.get(unit) or (state.unit(unit, world.get("files")),)
 
     def left(world):
-        suiting = {unit: [holds for holds in options(world, unit) if suits(unit, holds, wants.get(unit, []))] for unit in units}
-        return {unit: some[0] for unit, some in suiting.items()} if all(suiting.values()) else None
+        """The reads, by where they begin and how long they are, what is wanted, and what each unit that they look at holds."""
+        files = world.get("files", state.files)
+        parts = [parts_of(read, files) for read, _ in told_of]
+        wants = wants_of(reads, replies, files)
+        units = dict.fromkeys(unit for _, _, _, some in parts for unit in some)
+        suiting = {} if wants is None else {
+            unit: [holds for holds in options(world, unit) if suits(unit, holds, wants.get(unit, []))] for unit in units}
+        fits = wants is not None and all(suiting.values())
+        return (parts, wants, {unit: some[0] for unit, some in suiting.items()}) if fits else None
 
-    chosen = next(filter(lambda some: some is not None, map(left, worlds)))
+    parts, wants, chosen = next(filter(None, map(left, worlds)))
     told = ""
-    for unit in units:
+    for unit in sorted(chosen, key=lambda unit: ["line", "block", "file"].index(unit[0])):
         others = [state.unit(unit), *(holds for world in worlds for holds in options(world, unit))]
-        if unit[0] == "line":
-            windows = [want for want in wants.get(unit, []) if isinstance(want, tuple)]
-            told += kept_line(unit, chosen[unit], others, windows, asked)
-        else:
+        if unit[0] == "block":
             told += kept_block(unit, chosen[unit], others)
+        else:
+            windows = [want for want in wants.get(unit, []) if isinstance(want, tuple)]
+            asked = [(first, size) for _, first, size, some in parts if some and some[0][:-1] == unit[:-1]]
+            told += kept_line(unit, chosen[unit], others, windows, asked)
     return told

@@ -12,12 +12,13 @@ use Rattle.asked_reads.specs.declared.question.Question.{Question}
 use Rattle.asked_reads.specs.declared.reads.PageReply.{PageReply as AskedOfPages}
 use Rattle.asked_reads.specs.declared.reads.PageRead.{PageRead as AskedPages}
 use Rattle.asked_reads.specs.declared.reads.BlockRead.{BlockRead as AskedBlocks}
+use Rattle.asked_reads.specs.declared.reads.FileRead.{FileRead as AskedFile}
 use Rattle.asked_reads.specs.Asking.{IsLook}
-use Rattle.asked_reads.specs.Reads.{block_read, block_reply as asked_block_reply, page_read, page_reply}
+use Rattle.asked_reads.specs.Reads.{block_read, block_reply as asked_block_reply, file_read, page_read, page_reply}
 use Rattle.asked_reads.specs.declared.read.Read.{Read}
-use Rattle.asked_reads.specs.declared.read.Read.TheVariants.{Blocks, Volume}
+use Rattle.asked_reads.specs.declared.read.Read.TheVariants.{Blocks, File, Volume}
 use Rattle.exploration.specs.Exploration.{question_of, with_seen}
-use Rattle.exploration.specs.Reads.{seen_of}
+use Rattle.exploration.specs.Reads.{seen_by, seen_of}
 use Rattle.asked_reads.specs.Looking.{read_action}
 use Rattle.exploration.specs.Replies.{block_reply, volume_reply}
 use Rattle.exploration.proofs.LookLemmas.{some_and}
@@ -61,35 +62,50 @@ file_reads-append (of_file r ∷ look) more = ap (λ reads. r ∷ reads) (file_r
 
 -- a read of the volume is asked with its reply
 pub look-page : (look : List Seen) (old new : Question) (r : AskedPages) → IsLook look old → new.volume.items ≡ old.volume.items ++ r ∷ []
-    → new.blocks.items ≡ old.blocks.items → IsLook (look ++ of_volume (page_read r) ∷ []) new
-look-page look old new r is pages blocks = record {
+    → new.blocks.items ≡ old.blocks.items → new.files.items ≡ old.files.items → IsLook (look ++ of_volume (page_read r) ∷ []) new
+look-page look old new r is pages blocks files = record {
   volume = volume_reads-append look (of_volume (page_read r) ∷ []) ∙ ap (λ reads. reads ++ page_read r ∷ []) is.volume
       ∙ sym (map-append page_read old.volume.items (r ∷ [])) ∙ ap (map page_read) (sym pages);
   blocks = block_reads-append look (of_volume (page_read r) ∷ []) ∙ append-nil (block_reads look) ∙ is.blocks ∙ ap (map block_read) (sym blocks);
-  files = file_reads-append look (of_volume (page_read r) ∷ []) ∙ append-nil (file_reads look) ∙ is.files;
+  files = file_reads-append look (of_volume (page_read r) ∷ []) ∙ append-nil (file_reads look) ∙ is.files ∙ ap (map file_read) (sym files);
 }
 
 pub adds-page : (look : List Seen) (old new : Question) (read : Read) (start len : ℕ) (reply : AskedOfPages) (answer : Answer) → IsLook look old → read ≡ Volume start len
     → volume_reply answer ≡ Some (page_reply reply) → new.volume.items ≡ old.volume.items ++ record { start = start; len = len; reply = reply } ∷ []
-    → new.blocks.items ≡ old.blocks.items → IsSomeAnd (seen_of (read_action read) answer) (λ s. IsLook (look ++ s ∷ []) new)
-adds-page look old new read start len reply answer is same told pages blocks =
-    rw (same, told) (look-page look old new (record { start = start; len = len; reply = reply }) is pages blocks)
+    → new.blocks.items ≡ old.blocks.items → new.files.items ≡ old.files.items → IsSomeAnd (seen_of (read_action read) answer) (λ s. IsLook (look ++ s ∷ []) new)
+adds-page look old new read start len reply answer is same told pages blocks files =
+    rw (same, told) (look-page look old new (record { start = start; len = len; reply = reply }) is pages blocks files)
 
 -- a read of blocks is
 pub look-blocks : (look : List Seen) (old new : Question) (r : AskedBlocks) → IsLook look old → new.blocks.items ≡ old.blocks.items ++ r ∷ []
-    → new.volume.items ≡ old.volume.items → IsLook (look ++ of_blocks (block_read r) ∷ []) new
-look-blocks look old new r is blocks pages = record {
+    → new.volume.items ≡ old.volume.items → new.files.items ≡ old.files.items → IsLook (look ++ of_blocks (block_read r) ∷ []) new
+look-blocks look old new r is blocks pages files = record {
   volume = volume_reads-append look (of_blocks (block_read r) ∷ []) ∙ append-nil (volume_reads look) ∙ is.volume ∙ ap (map page_read) (sym pages);
   blocks = block_reads-append look (of_blocks (block_read r) ∷ []) ∙ ap (λ reads. reads ++ block_read r ∷ []) is.blocks
       ∙ sym (map-append block_read old.blocks.items (r ∷ [])) ∙ ap (map block_read) (sym blocks);
-  files = file_reads-append look (of_blocks (block_read r) ∷ []) ∙ append-nil (file_reads look) ∙ is.files;
+  files = file_reads-append look (of_blocks (block_read r) ∷ []) ∙ append-nil (file_reads look) ∙ is.files ∙ ap (map file_read) (sym files);
 }
 
 pub adds-blocks : (look : List Seen) (old new : Question) (read : Read) (first count : ℕ) (r : AskedBlocks) (answer : Answer) (ok : Bool) → IsLook look old → read ≡ Blocks first count
     → new.blocks.items ≡ (if ok then old.blocks.items ++ r ∷ [] else old.blocks.items) → ok ≡ true → new.volume.items ≡ old.volume.items
-    → r.first ≡ first → r.count ≡ count → block_reply answer ≡ Some (asked_block_reply r.reply) → IsSomeAnd (seen_of (read_action read) answer) (λ s. IsLook (look ++ s ∷ []) new)
-adds-blocks look old new read first count r answer ok is same blocks done pages at so told =
-    rw (same, ← at, ← so, told) (look-blocks look old new r is (blocks ∙ ap (λ b. if b then old.blocks.items ++ r ∷ [] else old.blocks.items) done) pages)
+    → new.files.items ≡ old.files.items → r.first ≡ first → r.count ≡ count → block_reply answer ≡ Some (asked_block_reply r.reply) → IsSomeAnd (seen_of (read_action read) answer) (λ s. IsLook (look ++ s ∷ []) new)
+adds-blocks look old new read first count r answer ok is same blocks done pages files at so told =
+    rw (same, ← at, ← so, told) (look-blocks look old new r is (blocks ∙ ap (λ b. if b then old.blocks.items ++ r ∷ [] else old.blocks.items) done) pages files)
+
+-- a read of a file is
+pub look-file : (look : List Seen) (old new : Question) (r : AskedFile) → IsLook look old → new.files.items ≡ old.files.items ++ r ∷ []
+    → new.volume.items ≡ old.volume.items → new.blocks.items ≡ old.blocks.items → IsLook (look ++ of_file (file_read r) ∷ []) new
+look-file look old new r is files pages blocks = record {
+  volume = volume_reads-append look (of_file (file_read r) ∷ []) ∙ append-nil (volume_reads look) ∙ is.volume ∙ ap (map page_read) (sym pages);
+  blocks = block_reads-append look (of_file (file_read r) ∷ []) ∙ append-nil (block_reads look) ∙ is.blocks ∙ ap (map block_read) (sym blocks);
+  files = file_reads-append look (of_file (file_read r) ∷ []) ∙ ap (λ reads. reads ++ file_read r ∷ []) is.files
+      ∙ sym (map-append file_read old.files.items (r ∷ [])) ∙ ap (map file_read) (sym files);
+}
+
+pub adds-file : (look : List Seen) (old new : Question) (read : Read) (name : List ℕ) (start len : ℕ) (r : AskedFile) (answer : Answer) → IsLook look old → read ≡ File name start len
+    → seen_by (File name start len) answer ≡ Some (of_file (file_read r)) → new.files.items ≡ old.files.items ++ r ∷ [] → new.volume.items ≡ old.volume.items
+    → new.blocks.items ≡ old.blocks.items → IsSomeAnd (seen_of (read_action read) answer) (λ s. IsLook (look ++ s ∷ []) new)
+adds-file look old new read name start len r answer is same told files pages blocks = rw (same, told) (look-file look old new r is files pages blocks)
 
 -- a read more before others
 before-more : (look : List Seen) (seen : Option Seen) (s : Seen) (more : Option (List Seen)) → seen ≡ Some s → before look (with_seen seen more) ≡ before (look ++ s ∷ []) more
@@ -101,10 +117,11 @@ before-none None = refl
 before-none (Some more) = refl
 
 -- before any read is asked
-pub asked-start : (reads : List Read) (replies : List (Option AskedReply)) (q : Question) → q.volume.items ≡ [] → q.blocks.items ≡ [] → AskedUpTo reads replies q 0 replies
-asked-start reads replies q pages blocks = record {
+pub asked-start : (reads : List Read) (replies : List (Option AskedReply)) (q : Question) → q.volume.items ≡ [] → q.blocks.items ≡ [] → q.files.items ≡ []
+    → AskedUpTo reads replies q 0 replies
+asked-start reads replies q pages blocks files = record {
   look = [];
-  is = record { volume = rw pages refl; blocks = rw blocks refl; files = refl };
+  is = record { volume = rw pages refl; blocks = rw blocks refl; files = rw files refl };
   goes = sym (before-none (question_of (commands reads) (answers replies)));
 }
 

@@ -1,5 +1,6 @@
 -- The answers that a read may have, whatever is stored.
-use Rattle.std.specs.Prelude.{Option, Some, None}
+use Rattle.std.specs.Prelude.{ℕ, List, Option, Some, None, if◌then◌else◌}
+use Rattle.std.specs.Str.{bytes_eq}
 use Rattle.reply_text.specs.Answer.{Answer}
 use Rattle.reply_text.specs.Answer.Answer.{Attribute, BadLines, Bytes, DeviceFailed, Done, DoneBad, Files, Handle, Happened, No, NoEvent, PoisonBlock as ToldPoisonBlock, PoisonFile as ToldPoisonFile, PoisonVolume as ToldPoisonVolume, PowerLost, Ranges, Refused, RefusedMeta, Scarred, Stopped, VerifyFile, Yes}
 use Rattle.outcomes.specs.Pages.{PageReply}
@@ -56,3 +57,28 @@ block_reply DeviceFailed = None
 block_reply PowerLost = None
 block_reply (Stopped line) = None
 block_reply (RefusedMeta line) = None
+
+-- how a read of the file of that name may be answered: a bad line is one of that file
+abbrev pub file_reply : List ℕ → Answer → Option PageReply
+file_reply name (Bytes bytes) = Some (Shows bytes)
+file_reply name (ToldPoisonFile other offset) = if bytes_eq other name then Some (Poison offset) else None
+file_reply name (Refused why) = Some (Refuses why)
+file_reply name (ToldPoisonBlock block line) = None
+file_reply name (ToldPoisonVolume offset) = None
+file_reply name (Scarred block) = None
+file_reply name Done = None
+file_reply name (DoneBad n) = None
+file_reply name (Ranges ranges) = None
+file_reply name (Files files) = None
+file_reply name Yes = None
+file_reply name No = None
+file_reply name (Handle handle) = None
+file_reply name (Happened event) = None
+file_reply name NoEvent = None
+file_reply name (BadLines offsets) = None
+file_reply name (Attribute n) = None
+file_reply name (VerifyFile other offset) = None
+file_reply name DeviceFailed = None
+file_reply name PowerLost = None
+file_reply name (Stopped line) = None
+file_reply name (RefusedMeta line) = None

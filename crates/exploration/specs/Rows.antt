@@ -1,13 +1,13 @@
 -- Worked scripts: what is explored of them, or where they stop.
 use Rattle.std.specs.Prelude.{◌≡◌, ℕ, true, false, List, [], ◌∷◌, ◌++◌, Some, None, replicate, codes}
-use Rattle.script_text.specs.Action.Action.{BRead, BWrite, VLoad, VStore, VSync}
-use Rattle.reply_text.specs.declared.reply.Why.TheVariants.{Range}
+use Rattle.script_text.specs.Action.Action.{BRead, BWrite, Create, FRead, VLoad, VStore, VSync}
+use Rattle.reply_text.specs.declared.reply.Why.TheVariants.{Missing, Range}
 use Rattle.outcomes.specs.Pages.{PageReply}
 use Rattle.outcomes.specs.Pages.PageReply.{Shows, Poison, Refuses}
 use Rattle.outcomes.specs.Blocks.{BlockReply}
 use Rattle.outcomes.specs.Blocks.BlockReply.{Scar, BadLine}
 use Rattle.outcomes.specs.Seen.{Seen}
-use Rattle.outcomes.specs.Seen.Seen.{of_blocks, of_volume}
+use Rattle.outcomes.specs.Seen.Seen.{of_blocks, of_file, of_volume}
 use Rattle.exploration.specs.Exploration.{script_of}
 use Rattle.exploration.specs.Exploration.Script.{StopsAt, Taken}
 
@@ -16,12 +16,15 @@ abbrev pub text_of : List (List ℕ) → List ℕ
 text_of [] = []
 text_of (line ∷ lines) = line ++ 10 ∷ text_of lines
 
--- a read of the volume, or of blocks, and its reply
+-- a read of the volume, of blocks, or of a file, and its reply
 abbrev pub page : ℕ → ℕ → PageReply → Seen
 page start len reply = of_volume (record { start = start; len = len; reply = reply })
 
 abbrev pub block : ℕ → ℕ → BlockReply → Seen
 block first count reply = of_blocks (record { first = first; count = count; reply = reply })
+
+abbrev pub file : List ℕ → ℕ → ℕ → PageReply → Seen
+file name start len reply = of_file (record { name = name; pages = record { start = start; len = len; reply = reply } })
 
 pub record ScriptRows : Type 0 where
   pub one_question : script_of (text_of (codes "vstore 0 01" ∷ codes "vsync 0 64" ∷ codes "# look" ∷ codes "vload 0 1" ∷ codes "# never data 00" ∷ []))
@@ -43,5 +46,15 @@ pub record ScriptRows : Type 0 where
   pub one_reply_to_two_reads : script_of (text_of (codes "# look" ∷ codes "vload 0 1" ∷ codes "bread 0 1" ∷ codes "# never data 00" ∷ [])) ≡ StopsAt 4
   pub reply_of_another_read : script_of (text_of (codes "# look" ∷ codes "vload 0 64" ∷ codes "# never poison block 0 0" ∷ [])) ≡ StopsAt 3
   pub second_look : script_of (text_of (codes "vexists 0" ∷ codes "# look" ∷ codes "# look" ∷ [])) ≡ StopsAt 3
-  pub read_of_a_file : script_of (text_of (codes "# look" ∷ codes "fread log 0 64" ∷ [])) ≡ StopsAt 2
+  pub reads_of_files : script_of (text_of (codes "create log 1" ∷ codes "# look" ∷ codes "fread log 0 64" ∷ codes "fread f 64 1" ∷ codes "# never data 07*64 | refused missing"
+      ∷ codes "# never poison file log 0 64 | _" ∷ []))
+      ≡ Taken (record {
+        program = Some (Create (codes "log") 1) ∷ [];
+        reads = FRead (codes "log") 0 64 ∷ FRead (codes "f") 64 1 ∷ [];
+        table = false;
+        questions = (file (codes "log") 0 64 (Shows (replicate 64 7)) ∷ file (codes "f") 64 1 (Refuses Missing) ∷ []) ∷ (file (codes "log") 0 64 (Poison 0) ∷ []) ∷ [];
+      })
+  pub line_of_another_file : script_of (text_of (codes "# look" ∷ codes "fread log 0 64" ∷ codes "# never poison file logs 0 64" ∷ [])) ≡ StopsAt 3
+  pub line_of_a_file_and_of_the_volume : script_of (text_of (codes "# look" ∷ codes "fread log 0 64" ∷ codes "# never poison volume 0 64" ∷ [])) ≡ StopsAt 3
+  pub load_of_a_mapping : script_of (text_of (codes "# look" ∷ codes "load 0 0 64" ∷ [])) ≡ StopsAt 2
   pub list_before_the_look : script_of (text_of (codes "# list" ∷ codes "# look" ∷ [])) ≡ StopsAt 1

@@ -65,6 +65,11 @@ fn read_of(command: &Command) -> Option<Read>
             first: *block as u32,
             count: *count,
         }),
+        Command::FRead { name, offset, len } => Some(Read::File {
+            name: *name,
+            start: *offset as u32,
+            len: *len,
+        }),
         Command::BWrite { .. }
         | Command::BAtomic { .. }
         | Command::BMulti { .. }
@@ -84,7 +89,6 @@ fn read_of(command: &Command) -> Option<Read>
         | Command::Rename { .. }
         | Command::Resize { .. }
         | Command::List
-        | Command::FRead { .. }
         | Command::FWrite { .. }
         | Command::FAtomic { .. }
         | Command::FMulti { .. }

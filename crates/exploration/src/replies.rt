@@ -2,12 +2,12 @@
 ghost use Rattle.std.specs.Prelude.{◌≡◌, IfOk};
 ghost use Rattle.questions.specs.Asked.{answer_asked};
 ghost use Rattle.asked_reads.specs.Reads.{block_reply as asked_block_reply, page_reply as asked_page_reply};
-ghost use Rattle.exploration.specs.Replies.{block_reply, volume_reply};
+ghost use Rattle.exploration.specs.Replies.{block_reply, file_reply, volume_reply};
 ghost use Rattle.exploration.specs.Steps.{Finds};
 
 use crate::stop::LineStop;
 use asked_reads::{BlockReply, PageReply};
-use nvm_base::Bytes;
+use nvm_base::{Bytes, Name};
 use questions::AskedReply;
 use std::alloc::{AllocError, Global};
 
@@ -38,6 +38,28 @@ pub(crate) fn block_reply(alloc: Global, reply: &AskedReply) -> Result<BlockRepl
         }),
         AskedReply::Refused(why) => Ok(BlockReply::Refuses(*why)),
         AskedReply::PoisonVolume { .. } | AskedReply::PoisonFile { .. } => Err(LineStop::Untaken),
+    }
+}
+
+// That of a read of the file of this name.
+pub(crate) fn file_reply(
+    alloc: Global,
+    name: &Name,
+    reply: &AskedReply,
+) -> Result<PageReply, LineStop>
+    ensures { Finds asked_page_reply (file_reply name.now (answer_asked reply.now)) result }
+{
+    match reply {
+        AskedReply::Bytes(bytes) => Ok(PageReply::Shows(copy(alloc, bytes)?)),
+        AskedReply::PoisonFile {
+            name: other,
+            offset,
+        } if *other == *name => Ok(PageReply::Poison(*offset)),
+        AskedReply::Refused(why) => Ok(PageReply::Refuses(*why)),
+        AskedReply::PoisonFile { .. }
+        | AskedReply::PoisonBlock { .. }
+        | AskedReply::PoisonVolume { .. }
+        | AskedReply::Scarred { .. } => Err(LineStop::Untaken),
     }
 }
 

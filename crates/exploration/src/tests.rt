@@ -1,5 +1,6 @@
-use crate::read_script;
-use asked_reads::{BlockReply, PageReply};
+use crate::{ScriptFault, read_script};
+use asked_reads::{BlockReply, PageReply, Read};
+use reply_text::Why;
 use script_text::Command;
 use std::test::Fail;
 
@@ -22,5 +23,44 @@ fn questions_follow_a_program(rt: HostRuntime) -> Result<(), Fail> {
     let second = &read.questions[1];
     assert_eq!(rt; second.blocks.len(), 0);
     assert_eq!(rt; second.volume.len(), 1);
+    Ok(())
+}
+
+#[test]
+fn files_are_asked_of_by_name(rt: HostRuntime) -> Result<(), Fail> {
+    let script =
+        b"create log 1\n# look\nfread log 4294967295 2\nfread f 0 64\n# never poison file log 64 64 | refused missing\n# never _ | data 07*64\n";
+    let Ok(read) = read_script(rt.alloc(), script) else {
+        return Err("not taken".into());
+    };
+    assert!(rt;
+        matches!(
+            read.reads[0],
+            Read::File {
+                start: 4294967295,
+                len: 2,
+                ..
+            }
+        )
+    );
+    assert_eq!(rt; read.questions.len(), 2);
+    let first = &read.questions[0];
+    assert_eq!(rt; first.volume.len(), 0);
+    assert_eq!(rt; first.files.len(), 2);
+    assert_eq!(rt; first.files[0].name.bytes(), b"log".as_slice());
+    assert_eq!(rt; first.files[0].pages.start, 4294967295);
+    assert!(rt; matches!(first.files[0].pages.reply, PageReply::Poison(64)));
+    assert_eq!(rt; first.files[1].name.bytes(), b"f".as_slice());
+    assert!(rt; matches!(first.files[1].pages.reply, PageReply::Refuses(Why::Missing)));
+    let second = &read.questions[1];
+    assert_eq!(rt; second.files.len(), 1);
+    assert!(rt; matches!(second.files[0].pages.reply, PageReply::Shows(_)));
+    Ok(())
+}
+
+#[test]
+fn a_line_of_another_file_is_no_reply(rt: HostRuntime) -> Result<(), Fail> {
+    let script = b"# look\nfread log 0 64\n# never poison file logs 0 64\n";
+    assert!(rt; matches!(read_script(rt.alloc(), script), Err(ScriptFault::Line(3))));
     Ok(())
 }

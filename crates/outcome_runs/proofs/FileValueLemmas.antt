@@ -28,7 +28,8 @@ use Rattle.machine_host.specs.OnPages.{fwrite, pages_named, stored_in}
 use Rattle.outcomes.specs.Outcome.{AllHaveValues, HasValues, HaveValues}
 use Rattle.durable.proofs.FileKeepLemmas.{load-leaves}
 use Rattle.durable.proofs.StepKinds.{files_made}
-use Rattle.outcome_runs.proofs.ValueLemmas.{clear_have, discard_have, fill_have, lose_have, put_have, spans_have, weaken_have}
+use Rattle.outcomes.proofs.ValueLemmas.{clear_have, discard_have, fill_have, put_have, spans_have}
+use Rattle.outcome_runs.proofs.ValueLemmas.{lose_have, weaken_have}
 
 -- holes have no lines
 holes_have : (count : ℕ) → HaveValues (replicate count Absent)

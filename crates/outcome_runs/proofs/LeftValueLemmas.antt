@@ -22,7 +22,7 @@ use Rattle.machine_host.specs.Meaning.FilesLeft.{Unchanged, OldOrNew, StoredInPa
 use Rattle.machine_host.specs.Meaning.VolumeLeft.{Kept as AsItWas, PartStored, PartSynced, AllOrNone, PageByPage}
 use Rattle.outcomes.specs.Outcome.{AllHaveValues, HasValues, HaveValues}
 use Rattle.outcome_runs.proofs.FileValueLemmas.{files_made_have}
-use Rattle.outcome_runs.proofs.ValueLemmas.{fill_have, flushed_has, stored_words, volume_made_have, zeros_have}
+use Rattle.outcomes.proofs.ValueLemmas.{fill_have, flushed_has, made_have, stored_words, zeros_have}
 
 -- words of which each is of the one list or of the other
 abbrev WordsHave : List (List ℕ) → Type 0
@@ -85,7 +85,7 @@ volume_leaves PageByPage old to left have made may = mixed_pages old to left hav
 pub volume_left_has : (geo : Geometry) (o : Option Action) (old left : List Page) → HaveValues old → MayLeaveVolume geo o old left → HaveValues left
 volume_left_has geo None old left have is = subst HaveValues {x = old} (sym is) have
 volume_left_has geo (Some action) old left have may =
-    volume_leaves ((meaning action).volume_left geo) old ((meaning action).volume geo old) left have (volume_made_have geo action old have) may
+    volume_leaves ((meaning action).volume_left geo) old ((meaning action).volume geo old) left have (made_have geo action old have) may
 
 -- files
 one_left : (name : List ℕ) (R : List Page → List Page → Type 0) → ((old left : List Page) → HaveValues old → R old left → HaveValues left) → (old new : List File)

@@ -10,7 +10,7 @@ mod BlockLemmas
 mod FileLemmas
 mod SeenLemmas
 mod FoundLemmas
-mod ValueLemmas
+pub mod ValueLemmas
 mod PickLemmas
 mod WordLemmas
 mod TellLemmas

@@ -22,7 +22,7 @@ use Rattle.machine_host.specs.OnVolume.{persist_at}
 use Rattle.pm_volume.specs.Refusals.{physical_offset}
 use Rattle.outcomes.specs.Outcome.{HasValues, HaveValues}
 
-zeros_have : (w count : ℕ) (history : List ℕ) → slice_get (replicate count (0 ∷ [])) w ≡ Some history → 1 ≤ length history
+pub zeros_have : (w count : ℕ) (history : List ℕ) → slice_get (replicate count (0 ∷ [])) w ≡ Some history → 1 ≤ length history
 zeros_have w zero history is = cc is
 zeros_have zero (suc count) history is = let e : 0 ∷ [] ≡ history = same_Some (0 ∷ []) history is in subst (λ h. 1 ≤ length h) e (omega arith)
 zeros_have (suc w) (suc count) history is = zeros_have w count history is
@@ -42,7 +42,7 @@ stored_has at bytes p history some = by_test (reaches at (length bytes) p)
     by_test true = omega (arith, length-append history (word_over at bytes p (newest history) ∷ []), some)
     by_test false = some
 
-stored_words : (at : ℕ) (bytes : List ℕ) (n : ℕ) (words : List (List ℕ)) → ((w : ℕ) (history : List ℕ) → slice_get words w ≡ Some history → 1 ≤ length history)
+pub stored_words : (at : ℕ) (bytes : List ℕ) (n : ℕ) (words : List (List ℕ)) → ((w : ℕ) (history : List ℕ) → slice_get words w ≡ Some history → 1 ≤ length history)
     → (w : ℕ) (history : List ℕ) → slice_get (map_from (word_stored at bytes) n words) w ≡ Some history → 1 ≤ length history
 stored_words at bytes n words have w history is = by_old (slice_get words w) refl (sym (slice_get-map_from (word_stored at bytes) n words w) ∙ is)
   where
@@ -118,11 +118,11 @@ clear_has true Bad have = zero_has
 clear_has true (Kept weak words) have = have
 clear_has false cell have = have
 
-clear_have : (line : ℕ) (pages : List Page) → HaveValues pages → HaveValues (change_line clear_cell line pages)
+pub clear_have : (line : ℕ) (pages : List Page) → HaveValues pages → HaveValues (change_line clear_cell line pages)
 unfolding change_line
 clear_have line pages have = all_map (at_line clear_cell line) pages (λ n cell has. clear_has (n == line) cell has) have
 
-persist_at_have : (o : Option ℕ) (len : ℕ) (pages : List Page) → HaveValues pages → HaveValues (persist_at o len pages)
+pub persist_at_have : (o : Option ℕ) (len : ℕ) (pages : List Page) → HaveValues pages → HaveValues (persist_at o len pages)
 persist_at_have None len pages have = have
 persist_at_have (Some offset) len pages have = persist_have offset len pages have
 

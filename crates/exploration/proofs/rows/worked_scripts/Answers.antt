@@ -19,6 +19,9 @@ returns c = record {
   one_reply_to_two_reads = refl;
   reply_of_another_read = refl;
   second_look = refl;
-  read_of_a_file = refl;
+  reads_of_files = refl;
+  line_of_another_file = refl;
+  line_of_a_file_and_of_the_volume = refl;
+  load_of_a_mapping = refl;
   list_before_the_look = refl;
 }
