@@ -23,7 +23,7 @@ class State:
         self.there, self.lines, self.blocks, self.files, self.maps = there, lines or {}, blocks, files or {}, maps
 
     def unit(self, unit, files=None):
-        """What it holds, where the files are these or those of the state; None where there is no such file."""
+        """What it holds, where the files are these or those of the state; None where there is no such line of a file."""
         if unit[0] == "file":
             return file_model.line_of(self.files if files is None else files, *unit[1:])
         return self.lines.get(unit[1], CLEAN) if unit[0] == "line" else self.blocks[unit[1]]
@@ -311,8 +311,8 @@ def first_agreed(values, place, windows):
 
 
 def kept_line(unit, holds, others, windows, asked):
-    """What is told of a line that is left so, where it could be as each of the others, None where its file is not there: what of it
-    that could be otherwise."""
+    """What is told of a line that is left so, where it could be as each of the others, None where it is not there: what of it that
+    could be otherwise."""
     first, what = 64 * unit[-1], f"file {unit[1]}" if unit[0] == "file" else "volume"
     if holds[0]:
         return f" | {what} {first} poison" if any(not other or not other[0] for other in others) else ""

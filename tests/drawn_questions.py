@@ -72,7 +72,8 @@ class Script:
         self.tables = draw.choice(([], [], ["# table"]))
 
     def text(self, questions):
-        return "".join(line + "\n" for line in [*self.program, "# look", *self.reads, *self.tables, *(f"# never {asked}" for asked in questions)])
+        asked = [f"# never {asked}" for asked in questions]
+        return "".join(line + "\n" for line in [*self.program, "# look", *self.reads, *self.tables, *asked])
 
     def run_cut(self, draw):
         """Before which line a cut comes or is armed, the lines of such a run, and its look's."""

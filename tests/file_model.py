@@ -15,12 +15,13 @@ Mapping = namedtuple("Mapping", "name start size shared")
 NO_MAPS = (0, {})  # the next handle, and the mappings by handle
 
 
-def line_of(files, name, n):
-    return files[name].lines.get(n, CLEAN) if name in files else None
-
-
 def ends_before(file, n):
     return 64 * n >= 4096 * file.pages
+
+
+def line_of(files, name, n):
+    """Line n of a file, None where it ends before, or there is none."""
+    return files[name].lines.get(n, CLEAN) if name in files and not ends_before(files[name], n) else None
 
 
 def told_bad(name, n):
@@ -187,8 +188,10 @@ def by_handle(state, word, handle, words):
 
 def check(state, name, at, size):
     fault = span_fault(at, size, 4096 * state.files[name].pages)
+    if fault:
+        return refused(state, fault)
     bad = [64 * n for n in touched(at, size) if line_of(state.files, name, n)[0]]
-    return refused(state, fault) if fault else (" ".join(map(str, ["bad", len(bad), *bad])), state, [{}])
+    return " ".join(map(str, ["bad", len(bad), *bad])), state, [{}]
 
 
 def by_name(state, word, name, words):

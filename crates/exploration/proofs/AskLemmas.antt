@@ -18,9 +18,9 @@ use Rattle.asked_reads.specs.Reads.{block_read, block_reply as asked_block_reply
 use Rattle.asked_reads.specs.declared.read.Read.{Read}
 use Rattle.asked_reads.specs.declared.read.Read.TheVariants.{Blocks, File, Volume}
 use Rattle.exploration.specs.Exploration.{question_of, with_seen}
-use Rattle.exploration.specs.Reads.{seen_of}
+use Rattle.exploration.specs.Reads.{seen_by, seen_of}
 use Rattle.asked_reads.specs.Looking.{read_action}
-use Rattle.exploration.specs.Replies.{block_reply, file_reply, volume_reply}
+use Rattle.exploration.specs.Replies.{block_reply, volume_reply}
 use Rattle.exploration.proofs.LookLemmas.{some_and}
 
 -- the answers that replies ask for
@@ -102,12 +102,10 @@ look-file look old new r is files pages blocks = record {
       ∙ sym (map-append file_read old.files.items (r ∷ [])) ∙ ap (map file_read) (sym files);
 }
 
-pub adds-file : (look : List Seen) (old new : Question) (read : Read) (name : List ℕ) (start len : ℕ) (r : AskedFile) (answer : Answer) (ok : Bool) → IsLook look old → read ≡ File name start len
-    → new.files.items ≡ (if ok then old.files.items ++ r ∷ [] else old.files.items) → ok ≡ true → new.volume.items ≡ old.volume.items
-    → new.blocks.items ≡ old.blocks.items → r.name ≡ name → r.pages.start ≡ start → r.pages.len ≡ len → file_reply name answer ≡ Some (page_reply r.pages.reply)
-    → IsSomeAnd (seen_of (read_action read) answer) (λ s. IsLook (look ++ s ∷ []) new)
-adds-file look old new read name start len r answer ok is same files done pages blocks named at so told =
-    rw (same, ← named, ← at, ← so, told) (look-file look old new r is (files ∙ ap (λ b. if b then old.files.items ++ r ∷ [] else old.files.items) done) pages blocks)
+pub adds-file : (look : List Seen) (old new : Question) (read : Read) (name : List ℕ) (start len : ℕ) (r : AskedFile) (answer : Answer) → IsLook look old → read ≡ File name start len
+    → seen_by (File name start len) answer ≡ Some (of_file (file_read r)) → new.files.items ≡ old.files.items ++ r ∷ [] → new.volume.items ≡ old.volume.items
+    → new.blocks.items ≡ old.blocks.items → IsSomeAnd (seen_of (read_action read) answer) (λ s. IsLook (look ++ s ∷ []) new)
+adds-file look old new read name start len r answer is same told files pages blocks = rw (same, told) (look-file look old new r is files pages blocks)
 
 -- a read more before others
 before-more : (look : List Seen) (seen : Option Seen) (s : Seen) (more : Option (List Seen)) → seen ≡ Some s → before look (with_seen seen more) ≡ before (look ++ s ∷ []) more

@@ -2,15 +2,19 @@
 ghost use Rattle.std.specs.Prelude.{List, map, option_map};
 ghost use Rattle.questions.specs.Asked.{answer_asked};
 ghost use Rattle.outcomes.specs.Seen.{Seen};
+ghost use Rattle.outcomes.specs.Seen.Seen.{of_file};
 ghost use Rattle.asked_reads.specs.Asking.{IsLook};
 ghost use Rattle.exploration.specs.Exploration.{question_of};
-ghost use Rattle.exploration.specs.Reads.{seen_of};
+ghost use Rattle.exploration.specs.Reads.{seen_by, seen_of};
 ghost use Rattle.asked_reads.specs.Looking.{read_action};
-ghost use Rattle.exploration.specs.Steps.{AddsRead, FindsQuestion};
+ghost use Rattle.asked_reads.specs.Reads.{file_read as asked_file_read};
+ghost use Rattle.asked_reads.specs.declared.read.Read.TheVariants.{File};
+ghost use Rattle.exploration.specs.Steps.{AddsRead, Finds, FindsQuestion};
 
 use crate::replies::{block_reply, file_reply, volume_reply};
 use crate::stop::LineStop;
 use asked_reads::{BlockRead, FileRead, PageRead, Question, Read};
+use nvm_base::Name;
 use questions::AskedReply;
 use std::alloc::{AllocError, Global};
 
@@ -74,15 +78,28 @@ fn add(
             question.blocks.push(read).map_err(AllocError::from)?;
         }
         Read::File { name, start, len } => {
-            let reply = file_reply(alloc, name, reply)?;
-            let pages = PageRead {
-                start: u64::from(*start),
-                len: *len,
-                reply,
-            };
-            let read = FileRead { name: *name, pages };
+            let read = file_read(alloc, *name, *start, *len, reply)?;
             question.files.push(read).map_err(AllocError::from)?;
         }
     }
     Ok(())
+}
+
+// One of a file, with its reply.
+fn file_read(
+    alloc: Global,
+    name: Name,
+    start: u32,
+    len: u64,
+    reply: &AskedReply,
+) -> Result<FileRead, LineStop>
+    ensures { Finds (λ r. of_file (asked_file_read r)) (seen_by (File name start len) (answer_asked reply.now)) result }
+{
+    let reply = file_reply(alloc, &name, reply)?;
+    let pages = PageRead {
+        start: u64::from(start),
+        len,
+        reply,
+    };
+    Ok(FileRead { name, pages })
 }

@@ -108,7 +108,7 @@ module _ (reads : List FileRead) where
           let still : length (fill at len pages) ≤ n / 64 = omega (arith, length-fill at len pages, behind) in
           seen_past (fill at len pages) n still ∙ sym (seen_past pages n behind)
 
-  stored : (at : ℕ) (bytes : List ℕ) (rs : List PageRead) (pages : List Page) → HaveLines pages
+  pub stored : (at : ℕ) (bytes : List ℕ) (rs : List PageRead) (pages : List Page) → HaveLines pages
       → stored_file at bytes rs pages ≡ list_all (λ n. line_fits rs n (cell_of pages n) || line_fits rs n (cell_of (pages_changed (Puts at bytes) pages) n)) (all_lines_read rs)
   stored at bytes rs pages whole =
       ap (λ b. list_all (λ n. line_fits rs n (cell_of pages n)) (all_lines_read rs) || b)

@@ -2,7 +2,7 @@ mod LookRunLemmas
 mod FollowLemmas
 mod BlockKeptLemmas
 mod ValueLemmas
-mod FileValueLemmas
+pub mod FileValueLemmas
 mod CountLemmas
 mod PageUseLemmas
 mod ListedLemmas

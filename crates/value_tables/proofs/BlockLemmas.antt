@@ -120,7 +120,7 @@ nothing_left (PartSynced offset len) old to = refl
 nothing_left AllOrNone old to = refl
 nothing_left PageByPage old to = refl
 
-no_line : (geo : Geometry) (o : Option Action) (pages : List Page) → volume_may_pass geo o (line_fits []) pages [] ≡ true
+pub no_line : (geo : Geometry) (o : Option Action) (pages : List Page) → volume_may_pass geo o (line_fits []) pages [] ≡ true
 no_line geo None pages = refl
 no_line geo (Some action) pages = nothing_left ((meaning action).volume_left geo) pages ((meaning action).volume geo pages)
 

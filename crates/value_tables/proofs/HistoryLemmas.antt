@@ -32,7 +32,7 @@ zeros_have : (count : ℕ) → HaveOne (replicate count (0 ∷ []))
 zeros_have zero = tt
 zeros_have (suc count) = (omega arith, zeros_have count)
 
-zero_has : HasWords zero_cell
+pub zero_has : HasWords zero_cell
 zero_has = (refl, zeros_have 8)
 
 stored_has : (at : ℕ) (bytes : List ℕ) (p : ℕ) (history : List ℕ) → 1 ≤ length history → 1 ≤ length (word_stored at bytes p history)

@@ -5,10 +5,13 @@ pub mod WordLemmas
 pub mod LeftLemmas
 pub mod ListedLemmas
 pub mod BlockLemmas
+pub mod FileValueLemmas
+pub mod FileListedLemmas
 pub mod RowLemmas
 pub mod ChangedLemmas
 pub mod LookLemmas
 pub mod SideLemmas
+pub mod FileSideLemmas
 pub mod PlaceLemmas
 pub mod GoLemmas
 pub mod SoundLemmas

@@ -30,7 +30,7 @@ use Rattle.value_tables.specs.Values.{history_of, may_be_bad, word_values}
 use Rattle.value_tables.proofs.HistoryLemmas.{made_has}
 use Rattle.value_tables.proofs.LeftLemmas.{line_passes}
 use Rattle.value_tables.proofs.OnceLemmas.{any_of, any_value}
-use Rattle.value_tables.proofs.WordLemmas.{read_of, shows_poison, shows_word}
+use Rattle.value_tables.proofs.WordLemmas.{poison_given, read_of, shows_poison, shows_word, word_line}
 
 -- each line that may be left has its words
 both_have : (left : VolumeLeft) (old new : Cell) → HasWords old → HasWords new → EachUnit HasWords (of_lines left old new)
@@ -45,7 +45,7 @@ all_have geo None pages n lines within have = (have, tt)
 all_have geo (Some action) pages n lines within have =
     both_have ((meaning action).volume_left geo) (seen pages n) (seen ((meaning action).volume geo pages) n) have (made_has pages lines n have geo action within)
 
-always : {A : Type 0} (xs : List A) → EachUnit (λ x. Unit {0}) xs
+pub always : {A : Type 0} (xs : List A) → EachUnit (λ x. Unit {0}) xs
 always [] = tt
 always (x ∷ xs) = (tt, always xs)
 
@@ -55,7 +55,7 @@ nothing_left Same old to = refl
 nothing_left Either old to = refl
 nothing_left Mixed old to = refl
 
-no_block : (o : Option Action) (blocks : List Block) → blocks_may_pass o (block_fits []) blocks [] ≡ true
+pub no_block : (o : Option Action) (blocks : List Block) → blocks_may_pass o (block_fits []) blocks [] ≡ true
 no_block None blocks = refl
 no_block (Some action) blocks = nothing_left (meaning action).blocks_left blocks ((meaning action).blocks blocks)
 
@@ -70,9 +70,7 @@ module _ (off : Machine) (p : ℕ) (sound : IsSound off) (within : p < 512 * off
   one_line : (reply : PageReply) → ((start len : ℕ) → all_lines_read (record { start = start; len = len; reply = reply } ∷ []) ≡ range_with_len (start / 64) ((start + len - 1) / 64 + 1 - start / 64) ++ [])
       → all_lines_read (read_of p reply) ≡ p / 8 ∷ []
   one_line reply are =
-      let first : 8 * p / 64 ≡ p / 8 = omega arith in
-      let one : (8 * p + 8 - 1) / 64 + 1 - 8 * p / 64 ≡ 1 = omega arith in
-      are (8 * p) 8 ∙ ap (λ n. range_with_len (8 * p / 64) n ++ []) one ∙ ap (λ n. range_with_len n 1 ++ []) first
+      are (8 * p) 8 ∙ ap (λ lines. lines ++ []) (word_line p)
 
   allowed : most_refusal 65536 (4096 * off.geometry.vpages) (8 * p) 8 ≡ None
   allowed = ap (λ b. first_there (cond b (Some Range) None) None) (le-ltb (4096 * off.geometry.vpages) (8 * p + 8) (omega (arith, within)))
@@ -101,12 +99,4 @@ module _ (off : Machine) (p : ℕ) (sound : IsSound off) (within : p < 512 * off
   poison_listed =
       sym (any_of (λ cell. Unit {0}) (cell_fits (read_of p (Poison (64 * (p / 8)))) (p / 8)) (λ cell. is_bad_cell (Some cell)) (line_left off (p / 8))
       (always (line_left off (p / 8))) (λ cell have. shows_poison p cell))
-      ∙ sym (shown (Poison (64 * (p / 8))) given (one_line (Poison (64 * (p / 8))) (λ start len. refl)))
-    where
-      touched : touches (8 * p) 8 (64 * (p / 8) / 64) ≡ true
-      touched =
-          ap (λ b. b && nat_lt (64 * (64 * (p / 8) / 64)) (8 * p + 8)) (lt-ltb (8 * p) (64 * (64 * (p / 8) / 64) + 64) (omega arith))
-          ∙ lt-ltb (64 * (64 * (p / 8) / 64)) (8 * p + 8) (omega arith)
-
-      given : is_given (8 * p) 8 (Poison (64 * (p / 8))) ≡ true
-      given = ap (λ b. b && (64 * (p / 8) == 64 * (64 * (p / 8) / 64))) touched ∙ eq-eqb (64 * (p / 8)) (64 * (64 * (p / 8) / 64)) (omega arith)
+      ∙ sym (shown (Poison (64 * (p / 8))) (poison_given p) (one_line (Poison (64 * (p / 8))) (λ start len. refl)))

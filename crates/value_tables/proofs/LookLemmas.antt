@@ -1,11 +1,14 @@
 -- The reads of a look, one after the other.
-use Rattle.std.proofs.Common.{◌≡◌, ℕ, suc, ◌+◌, ◌<◌, List, ◌∷◌, ◌++◌, drop, drop-cons, get_or, length, map, sym, ap, ◌∙◌, append_assoc, arith}
+use Rattle.std.proofs.Common.{◌≡◌, ℕ, suc, ◌+◌, ◌<◌, true, List, ◌∷◌, ◌++◌, drop, drop-cons, get_or, length, map, sym, ap, ◌∙◌, append_assoc, arith}
+use Rattle.std.specs.List.{list_all}
+use Rattle.std.proofs.lemmas.Bool.{and_parts}
 use Rattle.word_tables.specs.declared.geometry.Geometry.{Geometry}
-use Rattle.nvm_model.specs.Cell.{Cell}
-use Rattle.block_sights.specs.Sights.{Sight}
 use Rattle.asked_reads.specs.declared.read.Read.{Read}
 use Rattle.asked_reads.specs.declared.read.Read.TheVariants.{Volume}
-use Rattle.value_tables.specs.Looking.{blocks_looked_at, blocks_touched, lines_looked_at, lines_touched, none_refused}
+use Rattle.file_sights.specs.Sees.{is_held}
+use Rattle.file_sights.proofs.AllLemmas.{all_append}
+use Rattle.value_tables.specs.Left.{Found}
+use Rattle.value_tables.specs.Looking.{blocks_looked_at, blocks_touched, file_lines_looked_at, file_lines_touched, lines_looked_at, lines_touched, none_refused}
 use Rattle.value_tables.specs.Rows.{read_refusal, row_text, rows_of_read, rows_text}
 use Rattle.value_tables.specs.Sides.{HasRun}
 use Rattle.value_tables.proofs.RowLemmas.{run_rest}
@@ -37,11 +40,27 @@ module _ (geo : Geometry) (reads : List Read) (i : ℕ) (lt : i < length reads) 
     blocks_after after is more =
         ap (λ n. drop n numbers) more ∙ run_rest numbers at (none_refused (read_refusal geo (read_at reads i)) (blocks_touched (read_at reads i))) (blocks_next is)
 
-  pub rows_after : (lines : ℕ → List Cell) (blocks : ℕ → List Sight) (old new whole : List (List ℕ)) → old ++ rows_text lines blocks (i + 1) geo (drop i reads) ≡ whole
-      → new ≡ old ++ map (row_text lines blocks (i + 1)) (rows_of_read geo (read_at reads i)) → new ++ rows_text lines blocks (i + 1 + 1) geo (drop (i + 1) reads) ≡ whole
-  rows_after lines blocks old new whole is more =
-      ap (λ l. l ++ rows_text lines blocks (i + 1 + 1) geo (drop (i + 1) reads)) more
-      ∙ append_assoc old (map (row_text lines blocks (i + 1)) (rows_of_read geo (read_at reads i))) (rows_text lines blocks (i + 1 + 1) geo (drop (i + 1) reads))
-      ∙ ap (λ n. old ++ (map (row_text lines blocks (i + 1)) (rows_of_read geo (read_at reads i)) ++ rows_text lines blocks n geo (drop (i + 1) reads))) (sym (suc_is (i + 1)))
-      ∙ ap (λ r. old ++ rows_text lines blocks (i + 1) geo r) (sym next)
+  -- lines of files that are held, of this read and of those behind it
+  module _ (numbers : List ℕ) (held : list_all (is_held numbers) (file_lines_looked_at geo (drop i reads)) ≡ true) where
+    of_both : (list_all (is_held numbers) (none_refused (read_refusal geo (read_at reads i)) (file_lines_touched (read_at reads i))) ≡ true)
+        × (list_all (is_held numbers) (file_lines_looked_at geo (drop (i + 1) reads)) ≡ true)
+    of_both =
+        and_parts (list_all (is_held numbers) (none_refused (read_refusal geo (read_at reads i)) (file_lines_touched (read_at reads i))))
+        (list_all (is_held numbers) (file_lines_looked_at geo (drop (i + 1) reads)))
+        (sym (all_append (is_held numbers) (none_refused (read_refusal geo (read_at reads i)) (file_lines_touched (read_at reads i))) (file_lines_looked_at geo (drop (i + 1) reads)))
+        ∙ ap (λ r. list_all (is_held numbers) (file_lines_looked_at geo r)) (sym next) ∙ held)
+
+    pub files_next : list_all (is_held numbers) (none_refused (read_refusal geo (read_at reads i)) (file_lines_touched (read_at reads i))) ≡ true
+    files_next = of_both.0
+
+    pub files_after : list_all (is_held numbers) (file_lines_looked_at geo (drop (i + 1) reads)) ≡ true
+    files_after = of_both.1
+
+  pub rows_after : (may : Found) (old new whole : List (List ℕ)) → old ++ rows_text may (i + 1) geo (drop i reads) ≡ whole
+      → new ≡ old ++ map (row_text may (i + 1)) (rows_of_read geo (read_at reads i)) → new ++ rows_text may (i + 1 + 1) geo (drop (i + 1) reads) ≡ whole
+  rows_after may old new whole is more =
+      ap (λ l. l ++ rows_text may (i + 1 + 1) geo (drop (i + 1) reads)) more
+      ∙ append_assoc old (map (row_text may (i + 1)) (rows_of_read geo (read_at reads i))) (rows_text may (i + 1 + 1) geo (drop (i + 1) reads))
+      ∙ ap (λ n. old ++ (map (row_text may (i + 1)) (rows_of_read geo (read_at reads i)) ++ rows_text may n geo (drop (i + 1) reads))) (sym (suc_is (i + 1)))
+      ∙ ap (λ r. old ++ rows_text may (i + 1) geo r) (sym next)
       ∙ is

@@ -1,10 +1,13 @@
 -- The places of one command are printed.
 use Rattle.std.proofs.Common.{◌≡◌, inl, inr, ℕ, true, false, IsTrue, Option, Some, None, List, [], ◌∷◌, ◌++◌, map, refl, sym, ap, subst, ◌∙◌, append_assoc}
+use Rattle.std.specs.List.{list_all}
 use Rattle.std.specs.Option.{is_none}
 use Rattle.std.proofs.lemmas.List.{append-nil}
 use Rattle.word_tables.specs.declared.geometry.Geometry.{Geometry}
-use Rattle.nvm_model.specs.Cell.{Cell}
-use Rattle.block_sights.specs.Sights.{Sight as Shown}
+use Rattle.file_sights.specs.Changes.{left_by}
+use Rattle.file_sights.specs.Commands.{files_change}
+use Rattle.file_sights.specs.Sees.{is_held}
+use Rattle.file_sights.specs.State.{FilesState}
 use Rattle.reply_text.specs.Answer.{Answer}
 use Rattle.script_text.specs.Action.{Action}
 use Rattle.machine_host.specs.Machine.{Machine, Fate}
@@ -19,19 +22,21 @@ use Rattle.cut_places.specs.declared.place.CutPlace.TheVariants.{Before, Inside}
 use Rattle.cut_places.specs.declared.sight.Sight.{Sight}
 use Rattle.cut_places.specs.Following.{Follows, IsWithin}
 use Rattle.cut_places.specs.Places.{Stop}
+use Rattle.cut_places.specs.Sights.{files_once_done}
 use Rattle.sights.specs.Units.{block_numbers, block_once_done, line_numbers, line_once_done}
 use Rattle.sights.specs.Ways.{blocks_way, lines_way}
 use Rattle.sights.proofs.SizeLemmas.{geometry_stays}
 use Rattle.cut_places.proofs.StepLemmas.{blocks_in, lines_of, ready_after, sees_after}
 use Rattle.cut_places.proofs.WorkLemmas.{ChangesNone, works_or_none}
 use Rattle.value_tables.specs.declared.table.Table.{Table}
-use Rattle.value_tables.specs.Left.{block_left, line_left}
-use Rattle.value_tables.specs.Looking.{IsOf}
+use Rattle.value_tables.specs.Left.{Found, found}
+use Rattle.value_tables.specs.Looking.{IsOf, file_lines_looked_at}
 use Rattle.value_tables.specs.Rows.{rows_at, rows_text}
-use Rattle.value_tables.specs.Sides.{AreBlocksLeft, AreLeft, texts, where_mixed}
+use Rattle.value_tables.specs.Sides.{AreBlocksLeft, AreFilesLeft, AreLeft, texts, where_files_mixed, where_mixed}
 use Rattle.value_tables.specs.Tables.{changed, part, table_from}
 use Rattle.value_tables.specs.Walking.{Prints, with_places}
 use Rattle.value_tables.proofs.ChangedLemmas.{none_changed}
+use Rattle.value_tables.proofs.FileSideLemmas.{files_cut, files_rest}
 use Rattle.value_tables.proofs.SideLemmas.{blocks_cut, blocks_rest, lines_cut, lines_rest}
 
 -- a table after the rows of a place
@@ -68,19 +73,22 @@ blocks_stay geo action [] = refl
 blocks_stay geo action (s ∷ blocks) = ap (λ ns. s.number ∷ ns) (blocks_stay geo action blocks)
 
 pub of_after : (sizes geo : Geometry) (action : Action) (look : List Read) (now after : Sight) → IsOf now sizes look
-    → after.lines.items ≡ map (line_once_done geo action) now.lines.items → after.blocks.items ≡ map (block_once_done geo action) now.blocks.items → IsOf after sizes look
-of_after sizes geo action look now after of lines blocks = record {
+    → after.lines.items ≡ map (line_once_done geo action) now.lines.items → after.blocks.items ≡ map (block_once_done geo action) now.blocks.items
+    → after.files ≡ files_once_done action now.files → IsOf after sizes look
+of_after sizes geo action look now after of lines blocks files = record {
   lines = ap line_numbers lines ∙ lines_stay geo action now.lines.items ∙ of.lines;
   blocks = ap block_numbers blocks ∙ blocks_stay geo action now.blocks.items ∙ of.blocks;
+  files = ap (λ (s : FilesState). list_all (is_held s.numbers) (file_lines_looked_at sizes look)) files ∙ of.files;
 }
 
 module _ (look : List Read) (geo : Geometry) (now : Sight) (h : Machine) (follows : Follows now geo h) where
   -- the rows before a command
   pub at_rest : (rows : List (List ℕ))
-      → ((lines : ℕ → List Cell) (blocks : ℕ → List Shown) → AreLeft lines now.lines.items [] → AreBlocksLeft blocks now.blocks.items [] → rows ≡ rows_text lines blocks 1 geo look) → rows ≡ rows_at look h
+      → ((may : Found) → AreLeft may.lines now.lines.items [] → AreBlocksLeft may.blocks now.blocks.items [] → AreFilesLeft may.files now.files None → rows ≡ rows_text may 1 geo look) → rows ≡ rows_at look h
   at_rest rows are =
-      are (line_left h) (block_left h) (lines_rest h follows.ready.settled now.lines.items follows.sees.lines) (blocks_rest h follows.ready.settled now.blocks.items follows.sees.blocks)
-      ∙ ap (λ sizes. rows_text (line_left h) (block_left h) 1 sizes look) (sym follows.sizes)
+      are (found h) (lines_rest h follows.ready.settled now.lines.items follows.sees.lines) (blocks_rest h follows.ready.settled now.blocks.items follows.sees.blocks)
+      (files_rest h now.files follows.sees.files follows.ready.settled)
+      ∙ ap (λ sizes. rows_text (found h) 1 sizes look) (sym follows.sizes)
 
   module _ (line : ℕ) (action : Action) where
     -- a command that is refused
@@ -99,9 +107,11 @@ module _ (look : List Read) (geo : Geometry) (now : Sight) (h : Machine) (follow
 
     module _ (done : is_none (refusal h action) ≡ true) (within : IsWithin now geo) (after : Sight)
         (lines_after : after.lines.items ≡ map (line_once_done geo action) now.lines.items) (blocks_after : after.blocks.items ≡ map (block_once_done geo action) now.blocks.items)
+        (files_after : after.files ≡ files_once_done action now.files)
         (rows : List (List ℕ))
-        (are : (lines : ℕ → List Cell) (blocks : ℕ → List Shown) → AreLeft lines now.lines.items (where_mixed (lines_way action) after.lines.items)
-        → AreBlocksLeft blocks now.blocks.items (where_mixed (blocks_way action) after.blocks.items) → rows ≡ rows_text lines blocks 1 geo look) where
+        (are : (may : Found) → AreLeft may.lines now.lines.items (where_mixed (lines_way action) after.lines.items)
+        → AreBlocksLeft may.blocks now.blocks.items (where_mixed (blocks_way action) after.blocks.items)
+        → AreFilesLeft may.files now.files (where_files_mixed (left_by (files_change now.files.mappings.mappings action)) after.files) → rows ≡ rows_text may 1 geo look) where
       allowed_none : (o : Option Answer) → is_none o ≡ true → o ≡ None
       allowed_none None none = refl
       allowed_none (Some why) none = cc none
@@ -124,20 +134,23 @@ module _ (look : List Read) (geo : Geometry) (now : Sight) (h : Machine) (follow
       -- the rows inside it
       rows_cut : rows ≡ rows_at look (while_interrupted h action)
       rows_cut =
-          are (line_left (while_interrupted h action)) (block_left (while_interrupted h action))
-          (subst (λ new. AreLeft (line_left (while_interrupted h action)) now.lines.items (where_mixed (lines_way action) new)) (sym lines_made)
+          are (found (while_interrupted h action))
+          (subst (λ new. AreLeft (found (while_interrupted h action)).lines now.lines.items (where_mixed (lines_way action) new)) (sym lines_made)
           (lines_cut h action now.lines.items allowed follows.ready.whole.lines follows.sees.lines (lines_of h now follows.ready inside_sizes)))
-          (subst (λ new. AreBlocksLeft (block_left (while_interrupted h action)) now.blocks.items (where_mixed (blocks_way action) new)) (sym blocks_made)
+          (subst (λ new. AreBlocksLeft (found (while_interrupted h action)).blocks now.blocks.items (where_mixed (blocks_way action) new)) (sym blocks_made)
           (blocks_cut h action now.blocks.items allowed follows.ready.whole.eight follows.sees.blocks (blocks_in h now follows.ready inside_sizes)))
-          ∙ ap (λ sizes. rows_text (line_left (while_interrupted h action)) (block_left (while_interrupted h action)) 1 sizes look) (sym follows.sizes)
+          (files_cut h now.files follows.sees.files action allowed follows.ready.whole after.files files_after)
+          ∙ ap (λ sizes. rows_text (found (while_interrupted h action)) 1 sizes look) (sym follows.sizes)
 
       -- are those before it, where it is no work
-      rows_quiet : ChangesNone action → rows ≡ rows_at look h
+      rows_quiet : ChangesNone h action → rows ≡ rows_at look h
       rows_quiet none =
-          are (line_left h) (block_left h)
-          (subst (λ way. AreLeft (line_left h) now.lines.items (where_mixed way after.lines.items)) (sym none.lines) (lines_rest h follows.ready.settled now.lines.items follows.sees.lines))
-          (subst (λ way. AreBlocksLeft (block_left h) now.blocks.items (where_mixed way after.blocks.items)) (sym none.blocks) (blocks_rest h follows.ready.settled now.blocks.items follows.sees.blocks))
-          ∙ ap (λ sizes. rows_text (line_left h) (block_left h) 1 sizes look) (sym follows.sizes)
+          are (found h)
+          (subst (λ way. AreLeft (found h).lines now.lines.items (where_mixed way after.lines.items)) (sym none.lines) (lines_rest h follows.ready.settled now.lines.items follows.sees.lines))
+          (subst (λ way. AreBlocksLeft (found h).blocks now.blocks.items (where_mixed way after.blocks.items)) (sym none.blocks) (blocks_rest h follows.ready.settled now.blocks.items follows.sees.blocks))
+          (subst (λ left. AreFilesLeft (found h).files now.files (where_files_mixed left after.files))
+          (sym (ap (λ ms. left_by (files_change ms action)) follows.sees.files.mappings ∙ none.files)) (files_rest h now.files follows.sees.files follows.ready.settled))
+          ∙ ap (λ sizes. rows_text (found h) 1 sizes look) (sym follows.sizes)
 
       module _ (old mid new : Table) (before : List (List ℕ)) (first : Printed (Before line) before old mid) (is : before ≡ rows_at look h) (second : Printed (Inside line) rows mid new) where
         quiet : (to : Fate) → (meaning action).comes h ≡ to → ((answer : Answer) (next : Machine) → to ≡ Works answer next → ⊥) → (later : List Stop) → with_places look mid later ≡ with_places look new later
@@ -160,7 +173,7 @@ module _ (look : List Read) (geo : Geometry) (now : Sight) (h : Machine) (follow
           follows = subst (Follows after geo) (sym (ap (led_to h) fate_is)) (record {
             ready = ready_after h action follows.ready program allowed;
             sizes = geometry_stays h action ∙ follows.sizes;
-            sees = sees_after h action now after allowed follows.ready follows.sees inside_sizes lines_made blocks_made;
+            sees = sees_after h action now after allowed follows.ready follows.sees inside_sizes lines_made blocks_made files_after;
           });
           text = λ later.
               place_printed look (Before line) h old mid before first is (map (λ m. record { place = Inside line; state = m }) (inside h action (fate h action)) ++ later)

@@ -1,6 +1,6 @@
 -- Rows of the words and blocks of a read, by what is looked at.
-use Rattle.std.proofs.Common.{◌≡◌, ℕ, zero, suc, ◌+◌, ◌-◌, ◌*◌, ◌/◌, ◌%◌, ◌<◌, ◌≤◌, List, [], ◌∷◌, ◌++◌, codes, decimal, drop, get_or, length, map, take, Result, Ok, Err, refl, sym, ap, subst, ◌∙◌, append_assoc, arith}
-use Rattle.std.specs.List.{range_with_len}
+use Rattle.std.proofs.Common.{◌≡◌, ℕ, zero, suc, ◌+◌, ◌-◌, ◌*◌, ◌/◌, ◌%◌, ◌<◌, ◌≤◌, true, Option, List, [], ◌∷◌, ◌++◌, codes, decimal, drop, get_or, length, map, take, Result, Ok, Err, refl, sym, ap, subst, ◌∙◌, append_assoc, arith}
+use Rattle.std.specs.List.{list_all, range_with_len}
 use Rattle.std.specs.Result.{OnOk}
 use Rattle.std.proofs.lemmas.List.{get_or-drop, get_or_append_left, length-append, length-drop, map-append, take_more}
 use Rattle.std.proofs.Math.Seq.{drop-append_seam}
@@ -12,10 +12,15 @@ use Rattle.sights.specs.declared.line_seen.LineSeen.{LineSeen}
 use Rattle.sights.specs.declared.block_seen.BlockSeen.{BlockSeen}
 use Rattle.sights.specs.Units.{block_numbers, line_numbers}
 use Rattle.value_tables.specs.declared.shown.Shown.{Shown}
-use Rattle.value_tables.specs.declared.shown.Shown.TheVariants.{Block, Word}
-use Rattle.value_tables.specs.Rows.{row_text, sights_text, word_text}
-use Rattle.value_tables.specs.Sides.{AreBlocksLeft, AreLeft, HasRun, block_at, line_at, texts}
+use Rattle.value_tables.specs.declared.shown.Shown.TheVariants.{Block, FileWord, Word}
+use Rattle.file_sights.specs.Sees.{is_held}
+use Rattle.file_sights.specs.State.{FilesState}
+use Rattle.value_tables.specs.Left.{Found}
+use Rattle.value_tables.specs.Looking.{lines_spanned}
+use Rattle.value_tables.specs.Rows.{row_text, sides_text, sights_text, word_text}
+use Rattle.value_tables.specs.Sides.{AreBlocksLeft, AreFilesLeft, AreLeft, HasRun, block_at, line_at, new_side, side_at, texts}
 use Rattle.value_tables.specs.Values.{block_values}
+use Rattle.value_tables.proofs.RangeLemmas.{range_each}
 
 -- a place of a run is one of the list, and has its number
 module _ (numbers : List ℕ) (at first count : ℕ) (run : HasRun numbers at (range_with_len first count)) where
@@ -59,21 +64,33 @@ block_count [] = refl
 block_count (s ∷ blocks) = ap suc (block_count blocks)
 
 -- the row of a word, and that of a block
-pub row_of_word : (lines : ℕ → List Cell) (blocks : ℕ → List Sight) (now new : List LineSeen) (k p at first count j : ℕ) → HasRun (line_numbers now) at (range_with_len first count)
-    → AreLeft lines now new → j < count → first + j ≡ p / 8
-    → decimal k ++ (codes " volume " ++ (decimal (8 * p) ++ (word_text (p % 8) (line_at now (at + j) ++ line_at new (at + j)) ++ 10 ∷ []))) ≡ row_text lines blocks k (Word p)
-row_of_word lines blocks now new k p at first count j run are lt is =
+pub row_of_word : (may : Found) (now new : List LineSeen) (k p at first count j : ℕ) → HasRun (line_numbers now) at (range_with_len first count)
+    → AreLeft may.lines now new → j < count → first + j ≡ p / 8
+    → decimal k ++ (codes " volume " ++ (decimal (8 * p) ++ (word_text (p % 8) (line_at now (at + j) ++ line_at new (at + j)) ++ 10 ∷ []))) ≡ row_text may k (Word p)
+row_of_word may now new k p at first count j run are lt is =
     ap (λ cells. decimal k ++ (codes " volume " ++ (decimal (8 * p) ++ (word_text (p % 8) cells ++ 10 ∷ []))))
-    (lines_at lines now new (at + j) (p / 8) are (subst (λ n. at + j < n) (line_count now) (run_within (line_numbers now) at first count run j lt))
+    (lines_at may.lines now new (at + j) (p / 8) are (subst (λ n. at + j < n) (line_count now) (run_within (line_numbers now) at first count run j lt))
     (run_number (line_numbers now) at first count run j lt ∙ is))
 
-pub row_of_block : (lines : ℕ → List Cell) (blocks : ℕ → List Sight) (now new : List BlockSeen) (k b at first count j : ℕ) → HasRun (block_numbers now) at (range_with_len first count)
-    → AreBlocksLeft blocks now new → j < count → first + j ≡ b
-    → decimal k ++ (codes " block " ++ (decimal b ++ (sights_text (block_values (block_at now (at + j) ++ block_at new (at + j))) ++ 10 ∷ []))) ≡ row_text lines blocks k (Block b)
-row_of_block lines blocks now new k b at first count j run are lt is =
+pub row_of_block : (may : Found) (now new : List BlockSeen) (k b at first count j : ℕ) → HasRun (block_numbers now) at (range_with_len first count)
+    → AreBlocksLeft may.blocks now new → j < count → first + j ≡ b
+    → decimal k ++ (codes " block " ++ (decimal b ++ (sights_text (block_values (block_at now (at + j) ++ block_at new (at + j))) ++ 10 ∷ []))) ≡ row_text may k (Block b)
+row_of_block may now new k b at first count j run are lt is =
     ap (λ sights. decimal k ++ (codes " block " ++ (decimal b ++ (sights_text (block_values sights) ++ 10 ∷ []))))
-    (blocks_at blocks now new (at + j) b are (subst (λ n. at + j < n) (block_count now) (run_within (block_numbers now) at first count run j lt))
+    (blocks_at may.blocks now new (at + j) b are (subst (λ n. at + j < n) (block_count now) (run_within (block_numbers now) at first count run j lt))
     (run_number (block_numbers now) at first count run j lt ∙ is))
+
+-- the row of a word of a file, whose line is held
+word_held : (numbers : List ℕ) (start len p : ℕ) → list_all (is_held numbers) (lines_spanned start len) ≡ true → start / 8 ≤ p → p < (start + len - 1) / 8 + 1 → is_held numbers (p / 8) ≡ true
+word_held numbers start len p held from to =
+    range_each (is_held numbers) (start / 64) ((start + len - 1) / 64 + 1 - start / 64) held (p / 8) (omega (arith, from)) (omega (arith, from, to))
+
+pub row_of_file_word : (may : Found) (now : FilesState) (new : Option FilesState) (name : List ℕ) (k p start len : ℕ) → AreFilesLeft may.files now new
+    → list_all (is_held now.numbers) (lines_spanned start len) ≡ true → start / 8 ≤ p → p < (start + len - 1) / 8 + 1
+    → decimal k ++ (codes " file " ++ (name ++ (32 ∷ (decimal (8 * p) ++ (sides_text (p % 8) (side_at now name p ++ new_side new name p) ++ 10 ∷ []))))) ≡ row_text may k (FileWord name p)
+row_of_file_word may now new name k p start len are held from to =
+    ap (λ sides. decimal k ++ (codes " file " ++ (name ++ (32 ∷ (decimal (8 * p) ++ (sides_text (p % 8) sides ++ 10 ∷ []))))))
+    (sym (are name p (word_held now.numbers start len p held from to)))
 
 -- one row more
 pub texts_more : (old new : List (Stock ℕ)) (row : Stock ℕ) (text : List ℕ) → new ≡ old ++ row ∷ [] → row.items ≡ text → texts new ≡ texts old ++ text ∷ []

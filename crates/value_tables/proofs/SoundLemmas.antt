@@ -10,8 +10,12 @@ use Rattle.machine_host.specs.Machine.{Machine, Fate}
 use Rattle.machine_host.specs.Machine.Fate.{Gives, Works, Orders, Cuts, Restarts, Recovers}
 use Rattle.machine_host.specs.Commands.{fate, meaning, refusal, unless_refused, while_interrupted}
 use Rattle.durable.specs.Durable.{IsCounted}
+use Rattle.durable.proofs.StepKinds.{files_made}
+use Rattle.durable.proofs.SuitLemmas.{Suits, suits}
 use Rattle.outcomes.specs.Finds.{IsReady}
+use Rattle.outcomes.specs.Outcome.{AllHaveValues}
 use Rattle.outcomes.specs.Stops.{IsProgram, inside, is_of_program, led_to}
+use Rattle.outcome_runs.proofs.FileValueLemmas.{files_after_have}
 use Rattle.cut_places.specs.declared.place.CutPlace.{CutPlace}
 use Rattle.cut_places.specs.declared.place.CutPlace.TheVariants.{Before, Inside}
 use Rattle.sights.specs.Changing.{volume_change}
@@ -25,6 +29,22 @@ use Rattle.value_tables.proofs.HistoryLemmas.{changed_has}
 
 counted : (h : Machine) → IsReady h → IsCounted h
 counted h ready = elim ready.whole.counted as (λ _. IsCounted h) [ inl is ↦ is | inr nothing ↦ absurd (nothing.mode ready.mode) ]
+
+-- words of files have values still
+values_after : (h : Machine) (action : Action) → AllHaveValues h.files → AllHaveValues (led_to h ((meaning action).comes h)).files
+values_after h action values = by_fate ((meaning action).comes h) (suits h action)
+  where
+    made : AllHaveValues (files_made h.mappings action h.files)
+    made = files_after_have action h.mappings h.files values
+
+    by_fate : (to : Fate) → Suits h action to → AllHaveValues (led_to h to).files
+    by_fate (Gives answer to) (inl idle) = subst AllHaveValues (sym idle.1.files) values
+    by_fate (Gives answer to) (inr done) = subst AllHaveValues (sym done.1.files) made
+    by_fate (Works answer to) done = subst AllHaveValues (sym done.1.files) made
+    by_fate (Orders order to) idle = subst AllHaveValues (sym idle.1.files) values
+    by_fate (Cuts to) idle = subst AllHaveValues (sym idle.1.files) values
+    by_fate (Restarts choice) restarts = values
+    by_fate Recovers recovers = values
 
 module _ (h : Machine) (action : Action) (ready : IsReady h) (sound : IsSound h) (program : IsTrue (is_of_program action)) where
   -- a state, and what a command leads to
@@ -40,6 +60,8 @@ module _ (h : Machine) (action : Action) (ready : IsReady h) (sound : IsSound h)
           words = λ n lt.
               let there : n / 64 < length h.volume = subst (λ m. n / 64 < m) (all.pages ∙ ap (λ geo. geo.vpages) (geometry_stays h action) ∙ sym sound.counted.pages) lt in
               subst HasWords (sym (volume_changed h action n allowed sound.lines there)) (changed_has (volume_change h.geometry action) n (seen h.volume n) (sound.words n there));
+          file_lines = still.whole.file_lines;
+          file_values = values_after h action sound.file_values;
         },
       )
 
@@ -55,7 +77,7 @@ module _ (h : Machine) (action : Action) (ready : IsReady h) (sound : IsSound h)
   within place (Gives answer to) rest all = all
   within place (Works answer to) rest all =
       All-cons (λ (stop : Stop). IsSound stop.state) (record { place = place; state = while_interrupted h action }) rest
-      (record { counted = record { blocks = sound.counted.blocks; pages = sound.counted.pages }; lines = sound.lines; words = sound.words }) all
+      (record { counted = record { blocks = sound.counted.blocks; pages = sound.counted.pages }; lines = sound.lines; words = sound.words; file_lines = sound.file_lines; file_values = sound.file_values }) all
   within place (Orders order to) rest all = all
   within place (Cuts to) rest all = all
   within place (Restarts choice) rest all = all

@@ -2,8 +2,8 @@
 use Rattle.std.proofs.Common.{◌≡◌, ℕ, ◌+◌, ◌-◌, ◌*◌, ◌/◌, ◌%◌, ◌<◌, ◌≤◌, ◌==◌, ◌&&◌, ◌||◌, nat_le, nat_lt, not, Bool, true, false, Some, List, [], ◌∷◌, length, get_or, refl, sym, ap, subst, ◌∙◌, arith}
 use Rattle.std.specs.Prelude.{slice_index, slice_index_or}
 use Rattle.std.specs.Int.{byte_at, w64, to_le_bytes}
-use Rattle.std.specs.List.{list_any}
-use Rattle.std.proofs.lemmas.Bool.{eq-eqb, eqb-true, le-ltb, leb-true, ltb-true}
+use Rattle.std.specs.List.{list_any, range_with_len}
+use Rattle.std.proofs.lemmas.Bool.{eq-eqb, eqb-true, le-ltb, leb-true, lt-ltb, ltb-true}
 use Rattle.std.proofs.lemmas.Bool.Decides.{same_from_decides}
 use Rattle.std.proofs.lemmas.Grind.{same_number_lists}
 use Rattle.std.proofs.lemmas.Slice.Eq.{bytes_eq-Decides}
@@ -12,7 +12,7 @@ use Rattle.nvm_model.specs.Cell.{Cell, touches}
 use Rattle.nvm_model.specs.Cell.Cell.{Bad, Kept}
 use Rattle.nvm_model.specs.Numbered.{is_among}
 use Rattle.nvm_model.specs.Page.{is_bad_cell}
-use Rattle.outcomes.specs.Pages.{PageRead, PageReply, agrees, all_agree, words_fit}
+use Rattle.outcomes.specs.Pages.{PageRead, PageReply, agrees, all_agree, is_given, words_fit}
 use Rattle.outcomes.specs.Pages.PageReply.{Shows, Poison}
 use Rattle.asked_reads.specs.Fitting.{cell_fits}
 use Rattle.value_tables.specs.Listed.{HasWords, has_bytes, lists_bytes}
@@ -107,3 +107,18 @@ shows_poison p Bad = not_below (touches (8 * p) 8 (p / 8)) (nat_lt (p / 8) (64 *
     not_below false b is = refl
 shows_poison p (Kept weak words) =
     ap (λ b. (not b && true) && words_fit (read_of p (Poison (64 * (p / 8)))) (p / 8) words) (eq-eqb (p / 8) (64 * (p / 8) / 64) (omega arith))
+
+-- a read of one word looks at one line, and may name it
+pub word_line : (p : ℕ) → range_with_len (8 * p / 64) ((8 * p + 8 - 1) / 64 + 1 - 8 * p / 64) ≡ p / 8 ∷ []
+word_line p =
+    let first : 8 * p / 64 ≡ p / 8 = omega arith in
+    let one : (8 * p + 8 - 1) / 64 + 1 - 8 * p / 64 ≡ 1 = omega arith in
+    ap (range_with_len (8 * p / 64)) one ∙ ap (λ n. range_with_len n 1) first
+
+pub poison_given : (p : ℕ) → is_given (8 * p) 8 (Poison (64 * (p / 8))) ≡ true
+poison_given p = ap (λ b. b && (64 * (p / 8) == 64 * (64 * (p / 8) / 64))) touched ∙ eq-eqb (64 * (p / 8)) (64 * (64 * (p / 8) / 64)) (omega arith)
+  where
+    touched : touches (8 * p) 8 (64 * (p / 8) / 64) ≡ true
+    touched =
+        ap (λ b. b && nat_lt (64 * (64 * (p / 8) / 64)) (8 * p + 8)) (lt-ltb (8 * p) (64 * (64 * (p / 8) / 64) + 64) (omega arith))
+        ∙ lt-ltb (64 * (64 * (p / 8) / 64)) (8 * p + 8) (omega arith)

@@ -5,14 +5,13 @@ use Rattle.std.specs.List.{list_any}
 use Rattle.std.specs.Str.{bytes_eq}
 use Rattle.nvm_model.specs.Cell.{Cell}
 use Rattle.nvm_model.specs.Cell.Cell.{Bad, Kept}
-use Rattle.nvm_model.specs.Page.{Page}
-use Rattle.nvm_model.specs.Storage.{File}
 use Rattle.block_sights.specs.Sights.{Sight}
 use Rattle.block_sights.specs.Sights.Sight.{Whole, Scar, BadLine}
 use Rattle.machine_host.specs.Machine.{Machine}
 use Rattle.durable.specs.Durable.{AllHaveLines, HaveLines, IsCounted}
 use Rattle.outcomes.specs.Blocks.{BlockReply}
 use Rattle.outcomes.specs.Blocks.BlockReply.{Shows as ShowsBlocks, Scar as Scarred, BadLine as Poisoned}
+use Rattle.outcomes.specs.Outcome.{AllHaveValues}
 use Rattle.outcomes.specs.Pages.{PageReply}
 use Rattle.outcomes.specs.Seen.{Seen}
 use Rattle.outcomes.specs.Seen.Seen.{of_blocks, of_file, of_volume}
@@ -28,21 +27,13 @@ abbrev pub HasWords : Cell → Type 0
 HasWords Bad = Unit {0}
 HasWords (Kept weak words) = (length words ≡ 8) × HaveOne words
 
--- so have all lines of these pages, and those of all files
-abbrev pub HaveWords : List Page → Type 0
-HaveWords pages = (n : ℕ) → n / 64 < length pages → HasWords (seen pages n)
-
-abbrev pub AllHaveWords : List File → Type 0
-AllHaveWords [] = Unit {0}
-AllHaveWords (file ∷ files) = HaveWords file.pages × AllHaveWords files
-
--- all blocks and pages are there, and so are their lines as reads see them, and those of files
+-- all blocks and pages are there, and so are their lines as reads see them; and so are those of files, whose words have values
 pub record IsSound (off : Machine) : Type 0 where
   pub counted : IsCounted off
   pub lines : HaveLines off.volume
-  pub words : HaveWords off.volume
+  pub words : (n : ℕ) → n / 64 < length off.volume → HasWords (seen off.volume n)
   pub file_lines : AllHaveLines off.files
-  pub file_words : AllHaveWords off.files
+  pub file_values : AllHaveValues off.files
 
 -- word p is read, of the volume or of a file, or block b, and answered so
 abbrev pub word_read : ℕ → PageReply → List Seen

@@ -24,8 +24,10 @@ pub fn a_value_is_listed_where_it_may_be_shown()
         → may_be_bad (line_left off (p / 8)) ≡ may_show (word_read p (Poison (64 * (p / 8)))) off }
     ensures blocks { (off : Machine) (b : ℕ) (sight : Sight) → b < off.geometry.blocks → IsSized sight
         → lists_sight sight (block_values (block_left off b)) ≡ may_show (block_read b (reply_of b sight)) off }
-    ensures missing { (off : Machine) (name : List ℕ) (p : ℕ) → list_any is_missing (file_left off name p) ≡ may_show (file_word_read name p (Refuses Missing)) off }
-    ensures range { (off : Machine) (name : List ℕ) (p : ℕ) → list_any is_past (file_left off name p) ≡ may_show (file_word_read name p (Refuses Range)) off }
+    ensures missing { (off : Machine) (name : List ℕ) (p : ℕ) → IsSound off
+        → list_any is_missing (file_left off name p) ≡ may_show (file_word_read name p (Refuses Missing)) off }
+    ensures range { (off : Machine) (name : List ℕ) (p : ℕ) → IsSound off
+        → list_any is_past (file_left off name p) ≡ may_show (file_word_read name p (Refuses Range)) off }
     ensures file_words { (off : Machine) (name : List ℕ) (p : ℕ) (bytes : List ℕ) → IsSound off → length bytes ≡ 8
         → lists_bytes bytes (word_values (p % 8) (cells_of (file_left off name p))) ≡ may_show (file_word_read name p (Shows bytes)) off }
     ensures file_poison { (off : Machine) (name : List ℕ) (p : ℕ) → IsSound off

@@ -15,5 +15,5 @@ returns-in_ok-map_err-in-Blocks c = λ look is.
 
 pub returns-in_ok-map_err-in-File : goal.returns-in_ok-map_err-in-File
 returns-in_ok-map_err-in-File c = λ look is.
-    adds-file look c.args.question.now _ c.args.read.now c.in-File.name c.in-File.start c.in-File.len _ (answer_asked c.args.reply.now) _ is c.in-File.is
-    c.push-in-File.ensures.items (search rules) refl refl refl c.from.ensures refl c.in_ok-reply-in-File.ensures
+    adds-file look c.args.question.now _ c.args.read.now c.in-File.name c.in-File.start c.in-File.len c.in_ok-read-in-File.read (answer_asked c.args.reply.now) is c.in-File.is
+    c.in_ok-read-in-File.ensures (search rules) refl refl

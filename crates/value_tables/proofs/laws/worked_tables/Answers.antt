@@ -34,5 +34,9 @@ returns c = record {
   bad_line_healed_by_a_store = refl;
   weak_line_synced = refl;
   reads_that_are_refused = refl;
+  file_written_and_renamed = refl;
+  file_renamed_before_it_is_synced = refl;
+  file_resized = refl;
+  file_with_a_bad_line = refl;
   nothing_looked_at = refl;
 }

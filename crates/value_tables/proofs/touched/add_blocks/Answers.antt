@@ -35,16 +35,16 @@ loop-b-preserved c =
     record {
       ordered = omega (arith, ordered);
       ends = refl;
-      text = λ lines blocks are.
-          rows_more (row_text lines blocks c.args.k) (λ n. Block n) first b (texts c.args.rows.now.items) c.loop-b.rows.items c.keep.new.items.items c.in_ok-row.row i.ordered
-          (i.text lines blocks are) c.in_ok-keep.ensures
-          (c.in_ok-row.ensures ∙ row_of_block lines blocks c.args.sides.now.blocks.now c.args.sides.now.new_blocks.now c.args.k b c.args.at first c.args.count (b - first)
+      text = λ may are.
+          rows_more (row_text may c.args.k) (λ n. Block n) first b (texts c.args.rows.now.items) c.loop-b.rows.items c.keep.new.items.items c.in_ok-row.row i.ordered
+          (i.text may are) c.in_ok-keep.ensures
+          (c.in_ok-row.ensures ∙ row_of_block may c.args.sides.now.blocks.now c.args.sides.now.new_blocks.now c.args.k b c.args.at first c.args.count (b - first)
           c.requires.run are (omega (arith, ordered)) (omega (arith, ordered)));
     }
 
 pub returns : goal.returns
-returns c = λ lines blocks are.
+returns c = λ may are.
     let i = c.loop-b.invariant in
     let ordered = i.ordered in
     let count : c.loop-b.b - c.args.first ≡ c.args.count = omega (arith, ordered) in
-    i.text lines blocks are ∙ ap (λ n. texts c.args.rows.now.items ++ map (row_text lines blocks c.args.k) (map (λ b. Block b) (range_with_len c.args.first n))) count
+    i.text may are ∙ ap (λ n. texts c.args.rows.now.items ++ map (row_text may c.args.k) (map (λ b. Block b) (range_with_len c.args.first n))) count

@@ -37,9 +37,9 @@ overflow_add-passed-in-Blocks c =
     omega (arith, within, count, fits)
 
 pub returns-in_ok-add_words-in-Volume-clause-text : goal.returns-in_ok-add_words-in-Volume-clause-text
-returns-in_ok-add_words-in-Volume-clause-text c = λ lines blocks are others.
-    c.in_ok-add_words-in-Volume.ensures lines blocks are
-    ∙ ap (λ r. texts c.args.rows.now.items ++ map (row_text lines blocks c.args.k) (touched r)) (sym c.in-Volume.is)
+returns-in_ok-add_words-in-Volume-clause-text c = λ may are others files.
+    c.in_ok-add_words-in-Volume.ensures may are
+    ∙ ap (λ r. texts c.args.rows.now.items ++ map (row_text may c.args.k) (touched r)) (sym c.in-Volume.is)
 
 pub returns-in_ok-add_words-in-Volume-clause-lines : goal.returns-in_ok-add_words-in-Volume-clause-lines
 returns-in_ok-add_words-in-Volume-clause-lines c =
@@ -50,10 +50,10 @@ returns-in_ok-add_words-in-Volume-clause-lines c =
     ∙ ap (λ r. length (lines_touched r)) (sym c.in-Volume.is))
 
 pub returns-in_ok-add_blocks-in-Blocks-clause-text : goal.returns-in_ok-add_blocks-in-Blocks-clause-text
-returns-in_ok-add_blocks-in-Blocks-clause-text c = λ lines blocks others are.
-    c.in_ok-add_blocks-in-Blocks.ensures lines blocks are
-    ∙ ap (λ n. texts c.args.rows.now.items ++ map (row_text lines blocks c.args.k) (map (λ b. Block b) (range_with_len n c.in-Blocks.count))) c.from.ensures
-    ∙ ap (λ r. texts c.args.rows.now.items ++ map (row_text lines blocks c.args.k) (touched r)) (sym c.in-Blocks.is)
+returns-in_ok-add_blocks-in-Blocks-clause-text c = λ may others are files.
+    c.in_ok-add_blocks-in-Blocks.ensures may are
+    ∙ ap (λ n. texts c.args.rows.now.items ++ map (row_text may c.args.k) (map (λ b. Block b) (range_with_len n c.in-Blocks.count))) c.from.ensures
+    ∙ ap (λ r. texts c.args.rows.now.items ++ map (row_text may c.args.k) (touched r)) (sym c.in-Blocks.is)
 
 pub returns-in_ok-add_blocks-in-Blocks-clause-blocks : goal.returns-in_ok-add_blocks-in-Blocks-clause-blocks
 returns-in_ok-add_blocks-in-Blocks-clause-blocks c =

@@ -30,16 +30,16 @@ loop-p-preserved c =
       begins = refl;
       ordered = omega (arith, ordered);
       ends = refl;
-      text = λ lines blocks are.
-          rows_more (row_text lines blocks c.args.k) (λ n. Word n) (c.args.span.start / 8) p (texts c.args.rows.now.items) c.loop-p.rows.items c.keep.new.items.items c.in_ok-row.row i.ordered
-          (i.text lines blocks are) c.in_ok-keep.ensures
-          (c.in_ok-row.ensures ∙ row_of_word lines blocks c.args.sides.now.lines.now c.args.sides.now.new_lines.now c.args.k p c.args.at first number (p / 8 - first)
+      text = λ may are.
+          rows_more (row_text may c.args.k) (λ n. Word n) (c.args.span.start / 8) p (texts c.args.rows.now.items) c.loop-p.rows.items c.keep.new.items.items c.in_ok-row.row i.ordered
+          (i.text may are) c.in_ok-keep.ensures
+          (c.in_ok-row.ensures ∙ row_of_word may c.args.sides.now.lines.now c.args.sides.now.new_lines.now c.args.k p c.args.at first number (p / 8 - first)
           c.requires.run are (omega (arith, ordered)) (omega (arith, ordered)));
     }
 
 pub returns : goal.returns
-returns c = λ lines blocks are.
+returns c = λ may are.
     let i = c.loop-p.invariant in
     let ordered = i.ordered in
     let count : c.loop-p.p - c.args.span.start / 8 ≡ (c.args.span.start + c.args.span.len - 1) / 8 + 1 - c.args.span.start / 8 = omega (arith, ordered) in
-    i.text lines blocks are ∙ ap (λ n. texts c.args.rows.now.items ++ map (row_text lines blocks c.args.k) (map (λ p. Word p) (range_with_len (c.args.span.start / 8) n))) count
+    i.text may are ∙ ap (λ n. texts c.args.rows.now.items ++ map (row_text may c.args.k) (map (λ p. Word p) (range_with_len (c.args.span.start / 8) n))) count

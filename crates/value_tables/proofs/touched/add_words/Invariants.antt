@@ -1,8 +1,7 @@
-use Rattle.std.proofs.Common.{◌≡◌, ◌+◌, ◌-◌, ◌/◌, ◌≤◌, ◌++◌, ℕ, List, map}
+use Rattle.std.proofs.Common.{◌≡◌, ◌+◌, ◌-◌, ◌/◌, ◌≤◌, ◌++◌, map}
 use Rattle.std.specs.List.{range_with_len}
-use Rattle.nvm_model.specs.Cell.{Cell}
-use Rattle.block_sights.specs.Sights.{Sight}
 use Rattle.value_tables.specs.declared.shown.Shown.TheVariants.{Word}
+use Rattle.value_tables.specs.Left.{Found}
 use Rattle.value_tables.specs.Rows.{row_text}
 use Rattle.value_tables.specs.Sides.{AreLeft, texts}
 use Rattle.value_tables.proofs.touched.add_words.Given as goal
@@ -12,6 +11,6 @@ invariant-loop-p l = record {
   begins : l.initial.p ≡ l.fn.span.start / 8;
   ordered : l.initial.p ≤ l.p;
   ends : l.p-end ≡ (l.fn.span.start + l.fn.span.len - 1) / 8 + 1;
-  text : (lines : ℕ → List Cell) (blocks : ℕ → List Sight) → AreLeft lines l.sides.lines.now l.sides.new_lines.now
-      → texts l.rows.items ≡ texts l.fn.rows.items ++ map (row_text lines blocks l.k) (map Word (range_with_len l.initial.p (l.p - l.initial.p)));
+  text : (may : Found) → AreLeft may.lines l.sides.lines.now l.sides.new_lines.now
+      → texts l.rows.items ≡ texts l.fn.rows.items ++ map (row_text may l.k) (map Word (range_with_len l.initial.p (l.p - l.initial.p)));
 }
