@@ -1,31 +1,22 @@
 -- Files as a cut leaves them: reads are answered so by them, and by no others than it may leave.
 use Rattle.std.proofs.Common.{◌≡◌, ℕ, ◌*◌, ◌/◌, ◌&&◌, ◌||◌, Bool, true, false, cond, not, Option, Some, None, List, [], ◌∷◌, map, nat_lt, option_map, if◌then◌else◌, refl, sym, ap, subst, ◌∙◌}
-use Rattle.std.specs.List.{list_all}
 use Rattle.std.specs.Str.{bytes_eq}
 use Rattle.std.proofs.lemmas.Bool.{and_from, and_parts, or_left, or_right}
 use Rattle.std.proofs.lemmas.List.Folds.{list_all-map}
 use Rattle.std.proofs.lemmas.Slice.Eq.{bytes_eq-Decides}
 use Rattle.nvm_model.specs.Cell.{Cell}
-use Rattle.nvm_model.specs.Listing.{change_file, file_name, file_of, is_named}
-use Rattle.nvm_model.proofs.AlikeLemmas.{alike-found}
-use Rattle.script_text.specs.Action.{Action}
-use Rattle.machine_host.specs.Commands.{refusal}
-use Rattle.machine_host.specs.Machine.{Machine}
-use Rattle.durable.specs.Durable.{IsComplete}
+use Rattle.nvm_model.specs.Listing.{change_file, file_of, is_named}
 use Rattle.outcomes.specs.Files.{FileRead}
 use Rattle.outcomes.specs.Pages.{PageRead, is_reply}
-use Rattle.sights.specs.Seeing.{seen}
 use Rattle.file_sights.specs.declared.line.FileLine.{FileLine}
 use Rattle.file_sights.specs.Changes.{FilesChange, LinesChange, line_changed}
 use Rattle.file_sights.specs.Changes.FilesChange.{Nothing, Makes, Removes, Renames, Resizes, Changes, Maps, Unmaps}
 use Rattle.file_sights.specs.Changes.LinesChange.{Puts, Persists, Rewrites, Zeroes, Loses, Weakens, Clears}
-use Rattle.file_sights.specs.Commands.{files_change}
 use Rattle.file_sights.specs.Fitting.{either_fits, fit_by_line, fit_either, fit_now, looks_at, now_fits, read_passes, seen_pass}
-use Rattle.file_sights.specs.Leaving.{files_left, fit_there, left_by_line, left_either, left_inside, left_of_lines, line_left, lines_left}
-use Rattle.file_sights.specs.Sees.{AreLines, SeesFile, SeesFiles, line_numbers}
+use Rattle.file_sights.specs.Leaving.{files_left, fit_there, left_by_line, left_either, left_of_lines, line_left, lines_left}
+use Rattle.file_sights.specs.Sees.{AreLines, line_numbers}
 use Rattle.file_sights.specs.State.{FileState, FilesState, after, line_of_after, name_seen}
 use Rattle.file_sights.proofs.AllLemmas.{all_so}
-use Rattle.file_sights.proofs.SeesLemmas.{sees_done}
 
 -- what follows where one test does not pass
 or_then : (a b c : Bool) → (b ≡ true → c ≡ true) → (a || b) ≡ true → (a || c) ≡ true
@@ -118,10 +109,11 @@ module _ (reads : List FileRead) (name : List ℕ) (c : LinesChange) (pages : �
   pub left_lines : (f : ℕ → Cell) (lines : List FileLine) → AreLines f lines
       → AreLines (λ n. (line_left reads name c pages (record { number = n; line = f n })).line) (map (line_left reads name c pages) lines)
   left_lines f [] are = tt
-  left_lines f (line ∷ lines) are =
-      (ap (λ cell. (line_left reads name c pages (record { number = line.number; line = cell })).line) are.0
-      ∙ sym (ap (λ n. (line_left reads name c pages (record { number = n; line = f n })).line) (left_number line)),
-      left_lines f lines are.1)
+  left_lines f (line ∷ lines) are = (
+    ap (λ cell. (line_left reads name c pages (record { number = line.number; line = cell })).line) are.0
+        ∙ sym (ap (λ n. (line_left reads name c pages (record { number = n; line = f n })).line) (left_number line)),
+    left_lines f lines are.1,
+  )
 
 -- One read, and all of them, where lines of the file of one name are left.
 module _ (reads : List FileRead) (name : List ℕ) (c : LinesChange) where

@@ -1,5 +1,5 @@
 -- The lines of files as a cut leaves them: in each file one cell of each number.
-use Rattle.std.proofs.Common.{◌≡◌, ℕ, Bool, true, false, cond, Option, Some, None, List, option_map, if◌then◌else◌, refl, sym, ap, subst, ◌∙◌}
+use Rattle.std.proofs.Common.{◌≡◌, ℕ, Bool, true, false, cond, Option, Some, None, List, option_map, if◌then◌else◌, refl, sym, subst, ◌∙◌}
 use Rattle.nvm_model.specs.Cell.{Cell}
 use Rattle.nvm_model.specs.Listing.{file_name, file_of, is_named}
 use Rattle.nvm_model.proofs.AlikeLemmas.{alike-found}
