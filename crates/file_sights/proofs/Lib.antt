@@ -5,7 +5,6 @@ pub mod PageChangeLemmas
 pub mod HeldLemmas
 pub mod CommandLemmas
 pub mod LeftLemmas
-pub mod MixingLemmas
 pub mod SeesLemmas
 pub mod AskedLemmas
 pub mod AllLemmas
