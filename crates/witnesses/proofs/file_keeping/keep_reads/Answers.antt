@@ -1,5 +1,4 @@
 -- One more read is kept.
-use Rattle.std.proofs.Common.{◌≡◌}
 use Rattle.asked_reads.specs.Asking.{may_be_file_reply}
 use Rattle.asked_reads.specs.Reads.{file_read, file_reads_asked}
 use Rattle.witnesses.specs.Files.{read_kept}
