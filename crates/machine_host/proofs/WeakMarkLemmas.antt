@@ -14,15 +14,14 @@ use Rattle.nvm_model.specs.Storage.{File}
 use Rattle.file_journal.specs.Object.{JournalState}
 use Rattle.file_journal.specs.Tables.{AreTables}
 use Rattle.file_pages.specs.Object.{IsFileAt, file_place, pages_there, units_of}
-use Rattle.file_pages.proofs.FoundLemmas.{FoundFile, file-found, file-missing}
+use Rattle.file_pages.proofs.FoundLemmas.{file-found, file-missing}
 use Rattle.file_pages.proofs.PassLemmas.{pages_on}
 use Rattle.file_pages.proofs.PlaceLemmas.{PagesOn, line_at, located}
 use Rattle.scrub.proofs.LineLemmas.{cell_here, no_cell}
 use Rattle.machine_host.specs.declared.mode.Mode.TheVariants.{On}
 use Rattle.machine_host.specs.Machine.{Machine}
 use Rattle.machine_host.specs.OnFileErrors.{is_weak_line, is_weak_there}
-use Rattle.machine_host.specs.OnPages.{pages_named}
-use Rattle.machine_host.specs.Stands.{AreMounted, HostServes, HostState, Stands}
+use Rattle.machine_host.specs.Stands.{HostServes, HostState, Stands}
 
 -- the mark of the device is that of the line
 marked : (m : Medium) (place : ℕ) (cell : Cell) → IsSound m → CellStands m place cell → m.is_weak place ≡ is_weak_cell cell

@@ -1,4 +1,4 @@
-use Rattle.std.proofs.Common.{◌≡◌, ◌∙◌, ◌/◌, ◌*◌, sym, subst, arith}
+use Rattle.std.proofs.Common.{◌≡◌, ◌∙◌, ◌/◌, sym, subst, arith}
 use Rattle.inode_table.specs.Slots.{pages_at}
 use Rattle.file_journal.specs.Object.{JournalState}
 use Rattle.file_journal.specs.Tables.{AreTables}
@@ -27,7 +27,7 @@ returns-in-Some g c = λ all file at.
     let s = c.args.files.now.journal in
     let m = (g.D.Lines.state c.args.device.now).medium in
     let are = subst (λ (j : JournalState). AreTables j.geo.fpages j.tables) c.journal.ensures c.pages.ensures.tables in
-    c.is_weak.ensures ∙ weak_placed s m c.args.inode (c.args.offset / 64) are all file at c.in-Some.line.0 (g.met.D.Lines.sound c.args.device) (sym c.in-Some.ensures.line)
+    c.is_weak.ensures ∙ weak_placed s m c.args.inode (c.args.offset / 64) are all file at c.in-Some.line.0 (g.met.D.Lines.sound c.args.device.now) (sym c.in-Some.ensures.line)
 
 pub returns-in-None : goal.returns-in-None
 returns-in-None g c = λ all file at.
