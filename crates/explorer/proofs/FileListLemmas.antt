@@ -1,7 +1,8 @@
 -- The files of a list, one behind the other.
-use Rattle.std.proofs.Common.{◌≡◌, ◌<◌, ◌+◌, ℕ, zero, suc, true, false, List, [], ◌∷◌, ◌++◌, Some, None, drop, get_or, length, map, take, refl, sym, ap, subst, ◌∙◌, append_assoc, arith}
+use Rattle.std.proofs.Common.{◌≡◌, ◌<◌, ℕ, zero, suc, true, List, [], ◌∷◌, ◌++◌, Some, drop, get_or, length, map, take, refl, sym, ap, ap₂, subst, ◌∙◌, arith}
 use Rattle.std.specs.List.{list_all}
 use Rattle.std.proofs.lemmas.Bool.{and_parts, cond-false, cond-true}
+use Rattle.std.proofs.lemmas.List.{map-append, take_all, take_more}
 use Rattle.std.proofs.lemmas.List.Folds.{list_all-append}
 use Rattle.nvm_base.specs.declared.files.FileEntry.{FileEntry}
 use Rattle.nvm_model.specs.Files.{entry_of_file}
@@ -9,7 +10,15 @@ use Rattle.nvm_model.specs.Listing.{AreAlike, file_name, file_of, is_before, is_
 use Rattle.nvm_model.specs.Storage.{File}
 use Rattle.nvm_model.proofs.FileLemmas.{named-is, named-not}
 use Rattle.nvm_model.proofs.OrderLemmas.{before-itself}
+use Rattle.nvm_model.specs.Cell.{Cell}
+use Rattle.machine_host.specs.Machine.{Machine}
+use Rattle.outcomes.specs.Finds.{armed}
+use Rattle.file_sights.specs.declared.line.FileLine.{FileLine}
+use Rattle.file_sights.specs.Maps.{uncopied}
+use Rattle.file_sights.specs.Sees.{AreLines, SeesFile, SeesFiles, line_numbers}
+use Rattle.file_sights.specs.State.{FileState, FilesState, name_seen}
 use Rattle.explorer.specs.Files.{IsListed}
+use Rattle.explorer.specs.Starting.{Begins}
 
 -- a file behind others of a list in order is the one of its name
 found_behind : (before : List File) (file : File) (later : List File) → rises file_name (before ++ file ∷ later) ≡ true
@@ -54,3 +63,28 @@ alike_more name other R [] [] x y alike same holds = (same, holds, tt)
 alike_more name other R [] (b ∷ ys) x y alike same holds = absurd alike
 alike_more name other R (a ∷ xs) [] x y alike same holds = absurd alike
 alike_more name other R (a ∷ xs) (b ∷ ys) x y alike same holds = (alike.0, alike.1, alike_more name other R xs ys x y alike.2 same holds)
+
+-- that a cut may come changes no file
+pub sees_armed : (held : FilesState) (h : Machine) → SeesFiles held h → SeesFiles held (armed h)
+sees_armed held h sees = record { files = sees.files; in_order = sees.in_order; mappings = sees.mappings; next = sees.next; handles = sees.handles }
+
+-- One line more of a file, and one file more.
+pub lines_more : (f : ℕ → Cell) (lines : List FileLine) (line : FileLine) → AreLines f lines → line.line ≡ f line.number → AreLines f (lines ++ line ∷ [])
+lines_more f [] line are is = (is, tt)
+lines_more f (x ∷ lines) line are is = (are.0, lines_more f lines line are.1 is)
+
+pub numbers_more : (numbers : List ℕ) (i n : ℕ) (lines : List FileLine) (line : FileLine) → i < length numbers → n ≡ get_or numbers i n → line.number ≡ n
+    → line_numbers lines ≡ take i numbers → line_numbers (lines ++ line ∷ []) ≡ take (i + 1) numbers
+numbers_more numbers i n lines line lt is same are =
+    map-append (λ (l : FileLine). l.number) lines (line ∷ []) ∙ ap₂ (λ ns m. ns ++ m ∷ []) are (same ∙ is) ∙ sym (take_more numbers i n lt)
+
+pub sees_all : (numbers : List ℕ) (held : List FileState) (h : Machine) (k : ℕ) → AreAlike name_seen file_name (SeesFile numbers) held (take k h.files) → length h.files ≤ k → Begins h
+    → SeesFiles (record { numbers = numbers; files = held; mappings = record { mappings = []; next = 0 } }) h
+sees_all numbers held h k alike all begins = record {
+  files = subst (AreAlike name_seen file_name (SeesFile numbers) held) (take_all h.files k all) alike;
+  in_order = begins.in_order;
+  mappings = ap (map uncopied) (sym begins.mappings);
+  next = sym begins.handles;
+  handles = let none : h.next_handle ≡ 0 = begins.handles in omega (arith, none);
+}
+

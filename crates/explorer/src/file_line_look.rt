@@ -41,19 +41,18 @@ pub fn look_line<D: LineDevice>(
     ensures cause { (h : Machine) (file : File) → Stands host.old (D.state device.old) h → Begins h → IsListed entry.now file h.files
         → IfErr result (λ fault. fault ≡ ExploreFault.Device → DeviceStopped (D.state device.old).panel (D.state device.new).panel) }
 {
-    if u64::from(n) / PAGE_LINES >= entry.pages {
+    let line = u64::from(n);
+    if line / PAGE_LINES >= entry.pages {
         return Ok(HeldLine::zeros(alloc));
     }
-    let name = entry.name;
-    let offset = LINE * u64::from(n);
     let read = Command::FRead {
-        name,
-        offset,
+        name: entry.name,
+        offset: LINE * line,
         len: LINE,
     };
     match host.answer(device, &read, work)? {
         Outcome::Read(_) => {
-            let weak = host.is_weak_in_file(device, &name, n);
+            let weak = host.is_weak_in_file(device, &entry.name, n);
             Ok(HeldLine::of_bytes(alloc, &work[..LINE as usize], weak))
         }
         Outcome::Reply(Reply::PoisonFile(_, _)) => Ok(HeldLine::bad(alloc)),

@@ -20,7 +20,7 @@ pub fn file_numbers(alloc: Global, reads: &[FileRead]) -> Result<Vec<u32>, Alloc
     for read in reads {
         add_lines(&mut held, read)?;
     }
-    listed(alloc, &held)
+    held.into_iter().collect(alloc)
 }
 
 // Those of one read.
@@ -49,14 +49,4 @@ fn looked_at(read: &FileRead) -> Span
         }),
         PageReply::Refuses(_) => Span { start: 0, len: 0 },
     }
-}
-
-fn listed(alloc: Global, held: &BTreeSet<u32>) -> Result<Vec<u32>, AllocError>
-    ensures { IfOk result (λ numbers. numbers.items ≡ held.now.keys) }
-{
-    let mut numbers = Vec::new(alloc);
-    for n in held {
-        numbers.push(*n)?;
-    }
-    Ok(numbers)
 }
