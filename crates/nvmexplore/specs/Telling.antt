@@ -1,7 +1,7 @@
 -- What is said of the questions, and the status.
 use Rattle.std.specs.Prelude.{ℕ, Bool, List, ◌++◌, Option, Some, None, codes, decimal, is_some, if◌then◌else◌}
 use Rattle.std.specs.List.{list_any}
-use Rattle.outcomes.specs.Seen.{Seen, volume_reads}
+use Rattle.outcomes.specs.Seen.{Seen, file_reads, volume_reads}
 use Rattle.cut_places.specs.declared.place.CutPlace.{CutPlace}
 use Rattle.cut_places.specs.declared.place.CutPlace.TheVariants.{Before, Inside}
 use Rattle.explorer.specs.declared.found.Found.{Found}
@@ -16,7 +16,7 @@ place_text (Inside n) = codes "inside " ++ decimal n
 -- of one question: never, or the first place of a cut that may leave it, and what it keeps then
 abbrev pub answer_line : List Seen → Option Found → List ℕ
 answer_line look None = line (codes "never")
-answer_line look (Some found) = codes "may " ++ (place_text found.place ++ line (kept_text (volume_reads look) found.kept))
+answer_line look (Some found) = codes "may " ++ (place_text found.place ++ line (kept_text (volume_reads look) (file_reads look) found.kept))
 
 -- whether anything that was asked may be found
 abbrev pub is_any_found : {A : Type 0} → List (Option A) → Bool
