@@ -11,6 +11,7 @@ use Rattle.nvm_model.specs.Storage.{File}
 use Rattle.nvm_model.proofs.FileLemmas.{named-is, named-not}
 use Rattle.nvm_model.proofs.OrderLemmas.{before-itself}
 use Rattle.nvm_model.specs.Cell.{Cell}
+use Rattle.mappings.specs.Object.{MappingsState}
 use Rattle.machine_host.specs.Machine.{Machine}
 use Rattle.outcomes.specs.Finds.{armed}
 use Rattle.file_sights.specs.declared.line.FileLine.{FileLine}
@@ -78,13 +79,13 @@ pub numbers_more : (numbers : List ℕ) (i n : ℕ) (lines : List FileLine) (lin
 numbers_more numbers i n lines line lt is same are =
     map-append (λ (l : FileLine). l.number) lines (line ∷ []) ∙ ap₂ (λ ns m. ns ++ m ∷ []) are (same ∙ is) ∙ sym (take_more numbers i n lt)
 
-pub sees_all : (numbers : List ℕ) (held : List FileState) (h : Machine) (k : ℕ) → AreAlike name_seen file_name (SeesFile numbers) held (take k h.files) → length h.files ≤ k → Begins h
-    → SeesFiles (record { numbers = numbers; files = held; mappings = record { mappings = []; next = 0 } }) h
-sees_all numbers held h k alike all begins = record {
-  files = subst (AreAlike name_seen file_name (SeesFile numbers) held) (take_all h.files k all) alike;
+-- All files are seen, as they were before anything was mapped.
+pub sees_all : (held : FilesState) (h : Machine) (k : ℕ) → held.mappings ≡ record { mappings = []; next = 0 } → AreAlike name_seen file_name (SeesFile held.numbers) held.files (take k h.files)
+    → length h.files ≤ k → Begins h → SeesFiles held h
+sees_all held h k none alike all begins = record {
+  files = subst (AreAlike name_seen file_name (SeesFile held.numbers) held.files) (take_all k h.files all) alike;
   in_order = begins.in_order;
-  mappings = ap (map uncopied) (sym begins.mappings);
-  next = sym begins.handles;
-  handles = let none : h.next_handle ≡ 0 = begins.handles in omega (arith, none);
+  mappings = ap (λ (s : MappingsState). s.mappings) none ∙ ap (map uncopied) (sym begins.mappings);
+  next = ap (λ (s : MappingsState). s.next) none ∙ sym begins.handles;
+  handles = let first : h.next_handle ≡ 0 = begins.handles in omega (arith, first);
 }
-

@@ -45,6 +45,7 @@ pub fn look_line<D: LineDevice>(
     if line / PAGE_LINES >= entry.pages {
         return Ok(HeldLine::zeros(alloc));
     }
+    let _is_name = entry.name.bytes();
     let read = Command::FRead {
         name: entry.name,
         offset: LINE * line,
