@@ -2,7 +2,7 @@
 use Rattle.std.proofs.Common.{◌≡◌, ℕ, ◌+◌, ◌*◌, ◌/◌, ◌%◌, ◌<◌, ◌≤◌, ◌==◌, ◌&&◌, ◌||◌, nat_lt, Bool, true, false, cond, Option, Some, None, option_map, List, [], ◌∷◌, ◌++◌, length, map, refl, sym, ap, ◌∙◌, arith}
 use Rattle.std.specs.List.{list_all, list_any}
 use Rattle.std.specs.Str.{bytes_eq}
-use Rattle.std.proofs.lemmas.Bool.{eq-eqb, le-ltb, lt-ltb}
+use Rattle.std.proofs.lemmas.Bool.{eq-eqb, le-ltb, lt-ltb, ltb-false, ltb-true}
 use Rattle.std.proofs.lemmas.Bool.Decides.{same_from_decides}
 use Rattle.std.proofs.lemmas.Slice.Eq.{bytes_eq-Decides}
 use Rattle.nvm_model.specs.Blocks.{first_there}
@@ -136,10 +136,10 @@ module _ (name : List ℕ) (p : ℕ) (reply : PageReply) where
         by_place : (b : Bool) → nat_lt (p / 512) count ≡ b
             → (is_reply (4096 * count) read && list_all test (all_lines_read (read ∷ []))) ≡ cond b (is_given (8 * p) 8 reply && test (p / 8)) (is_refused_for because.Range reply)
         by_place true is =
-            let fits : nat_lt (4096 * count) (8 * p + 8) ≡ false = le-ltb (4096 * count) (8 * p + 8) (grind arith) in
+            let fits : nat_lt (4096 * count) (8 * p + 8) ≡ false = le-ltb (4096 * count) (8 * p + 8) (omega (arith, ltb-true (p / 512) count is)) in
             ap (λ b. is_reply_by (first_there (cond b (Some because.Range) None) None) (8 * p) 8 reply && list_all test (all_lines_read (read ∷ []))) fits ∙ given reply
         by_place false is =
-            let past : nat_lt (4096 * count) (8 * p + 8) ≡ true = lt-ltb (4096 * count) (8 * p + 8) (grind arith) in
+            let past : nat_lt (4096 * count) (8 * p + 8) ≡ true = lt-ltb (4096 * count) (8 * p + 8) (omega (arith, ltb-false (p / 512) count is)) in
             ap (λ b. is_reply_by (first_there (cond b (Some because.Range) None) None) (8 * p) 8 reply && list_all test (all_lines_read (read ∷ []))) past ∙ refused because.Range reply
 
   same_reads : reads_of name one_read ≡ read ∷ []
