@@ -10,3 +10,5 @@ pub mod AskedLemmas
 pub mod AllLemmas
 pub mod ReadLemmas
 pub mod InsideLemmas
+pub mod LeavingLemmas
+pub mod LeftLinesLemmas

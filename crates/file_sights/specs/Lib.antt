@@ -5,4 +5,5 @@ pub mod Commands
 pub mod Fitting
 pub mod Sees
 pub mod Finding
+pub mod Leaving
 pub mod Mixing

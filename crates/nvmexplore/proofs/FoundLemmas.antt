@@ -15,6 +15,7 @@ use Rattle.explorer.specs.Finding.{IsFound}
 use Rattle.explorer.specs.declared.found.Found.{Found}
 use Rattle.witnesses.specs.Telling.{told}
 use Rattle.nvmexplore.specs.Calls.{AreTheorems}
+use Rattle.nvmexplore.specs.Tables.{TellsRuns}
 
 module _ (test : Machine → Bool) where
   first_more : (stop : Stop) (stops : List Stop) (states : List Machine) → is_some (first_stop test stops) ≡ list_any test states
@@ -40,7 +41,7 @@ module _ (test : Machine → Bool) where
       let rest = stop_may (suc n) to inputs in
       first_more _ _ (inside h action (fate h action) ++ stops to inputs) (inside_more n (inside h action (fate h action)) (cut_places (suc n) to inputs) (stops to inputs) rest)
 
-found_may : (h : Machine) (program : List Input) (look : List Seen) → is_some (found_stop h program look) ≡ may_find h program look
+pub found_may : (h : Machine) (program : List Input) (look : List Seen) → is_some (found_stop h program look) ≡ may_find h program look
 found_may h program look = stop_may (may_show look) 1 (armed h) program
 
 -- what the first stop shows may be found
@@ -65,8 +66,9 @@ kept_found h program look (Some stop) found at is =
 
 -- so each answer is a theorem about the machine's runs
 pub are_theorems : (h : Machine) (program : List Input) → ((look : List Seen) → (may_find h program look ≡ true → Finds h program look) × (Finds h program look → may_find h program look ≡ true))
-    → AreTheorems h program
-are_theorems h program tells = record {
+    → TellsRuns h program → AreTheorems h program
+are_theorems h program tells table = record {
   never = λ look none finds. true≢false (sym ((tells look).1 finds) ∙ sym (found_may h program look) ∙ ap is_some none);
   may = λ look found is. (tells (look ++ told found.kept)).0 (kept_found h program look (found_stop h program look) found refl is);
+  table = table;
 }

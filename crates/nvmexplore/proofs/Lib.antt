@@ -1,6 +1,7 @@
 mod ReadingLemmas
 mod ProgramLemmas
 mod FoundLemmas
+mod TableLemmas
 mod BeginLemmas
 mod CauseLemmas
 mod AnswerLemmas

@@ -1,3 +1,4 @@
 pub mod Stops
 pub mod Telling
+pub mod Tables
 pub mod Calls

@@ -12,6 +12,7 @@ ghost use Rattle.program_base.specs.Opening.{opened};
 ghost use Rattle.nvmexplore.specs.Calls.{AreMountable, AreTheorems};
 
 use outcome_runs::{runs_keep_states, scripts_bring_right, the_test_tells_what_is_found};
+use value_tables::{a_value_is_listed_where_it_may_be_shown, each_place_is_sound};
 
 /// Law: an exploration may begin in the state of a right image.
 pub fn images_begin()
@@ -20,7 +21,7 @@ pub fn images_begin()
     runs_keep_states();
 }
 
-/// Law: each answer about a script is a theorem about the machine's runs.
+/// Law: each answer about a script is a theorem about the machine's runs, and so is what its table lists.
 pub fn answers_are_theorems()
     ensures { (lines : List LineState) (script : List ℕ) (e : Exploration) → first_finding (medium_of lines) ≡ None
         → script_of script ≡ Taken e → IsProgram (map asks_for e.program)
@@ -29,4 +30,6 @@ pub fn answers_are_theorems()
     runs_keep_states();
     scripts_bring_right();
     the_test_tells_what_is_found();
+    a_value_is_listed_where_it_may_be_shown();
+    each_place_is_sound();
 }

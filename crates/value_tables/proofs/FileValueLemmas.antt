@@ -29,7 +29,7 @@ have_one [] each = tt
 have_one (history ∷ words) each = (each 0 history refl, have_one words (λ w other is. each (suc w) other is))
 
 -- a line as reads see it
-seen_has : (pages : List Page) (n : ℕ) → HaveLines pages → HaveValues pages → HasWords (seen pages n)
+pub seen_has : (pages : List Page) (n : ℕ) → HaveLines pages → HaveValues pages → HasWords (seen pages n)
 seen_has pages n lines values = by_line (cell_of pages n) refl
   where
     present : (cell : Cell) → cell_of pages n ≡ Some cell → is_line_present pages n ≡ true

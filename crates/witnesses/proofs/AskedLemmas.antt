@@ -1,4 +1,4 @@
--- What is told of lines and blocks, as a question of its own.
+-- What is told of lines of the volume and of blocks, as a question of its own.
 use Rattle.std.proofs.Common.{◌≡◌, ℕ, ◌+◌, ◌-◌, ◌*◌, ◌/◌, ◌%◌, ◌<◌, ◌≤◌, ◌==◌, ◌&&◌, nat_lt, true, cond, Option, Some, None, List, [], ◌∷◌, ◌++◌, map, length, slice_index, refl, sym, ap, ◌∙◌, arith, eq-eqb}
 use Rattle.std.specs.Int.{byte_at}
 use Rattle.std.specs.List.{range_with_len}
@@ -21,7 +21,7 @@ use Rattle.asked_reads.specs.declared.reads.PageRead.{PageRead as AskedPages}
 use Rattle.asked_reads.specs.declared.reads.BlockReply.{BlockReply as AskedOfBlocks}
 use Rattle.asked_reads.specs.declared.reads.BlockReply.TheVariants as asked_blocks
 use Rattle.asked_reads.specs.declared.reads.BlockRead.{BlockRead as AskedBlocks}
-use Rattle.asked_reads.specs.Asking.{blocks_of, volume_asked}
+use Rattle.asked_reads.specs.Asking.{blocks_of, files_asked, volume_asked}
 use Rattle.asked_reads.specs.Reads.{block_reply as reply_of_blocks, blocks_asked, page_reply, pages_asked}
 use Rattle.sights.specs.declared.line_seen.LineSeen.{LineSeen}
 use Rattle.sights.specs.declared.block_seen.BlockSeen.{BlockSeen}
@@ -32,7 +32,7 @@ use Rattle.witnesses.specs.declared.line_kept.LineLeft.TheVariants as left
 use Rattle.witnesses.specs.Lines.{left_of}
 use Rattle.witnesses.specs.Telling.{block_reply, bytes_of_words, line_reply}
 use Rattle.witnesses.proofs.BlockToldLemmas.{among_own, told_as as block_told_as}
-use Rattle.witnesses.proofs.LineToldLemmas.{told_as as line_told_as}
+use Rattle.witnesses.proofs.LineToldLemmas.{line_told_as}
 
 -- a told read, as a question asks for it
 asked_of_line : ℕ → LineLeft → AskedOfPages
@@ -62,7 +62,7 @@ one_line n =
     ap (λ k. range_with_len k ((64 * n + 64 - 1) / 64 + 1 - k)) first ∙ ap (range_with_len n) one
 
 -- the lines that told reads look at
-lines_at : (n : ℕ) (kept : LineLeft) → lines_read (64 * n) 64 (line_reply n kept) ≡ n ∷ []
+pub lines_at : (n : ℕ) (kept : LineLeft) → lines_read (64 * n) 64 (line_reply n kept) ≡ n ∷ []
 lines_at n left.Bad = one_line n
 lines_at n (left.Words words) = one_line n
 
@@ -106,7 +106,7 @@ module _ (reads : List PageRead) (cell : LineSeen → Cell) (seen : BlockSeen �
   asked_block : BlockSeen → AskedBlocks
   asked_block s = record { first = s.number; count = 1; reply = asked_of_block s.number (seen s); reach = s.reach }
 
-  -- the question whether these lines and blocks are as they are told
+  -- the question whether these lines and blocks are as they are told, of no files
   pub told_question : Sight → Question
   told_question now = record {
     volume = record {
@@ -126,6 +126,15 @@ module _ (reads : List PageRead) (cell : LineSeen → Cell) (seen : BlockSeen �
       items = map asked_block now.blocks.items;
       ok = (now.blocks.ok.0 ∙ sym (length-map now.blocks.items asked_block), now.blocks.ok.1);
       small = now.blocks.small;
+    };
+    files = record {
+      ptr = now.lines.ptr;
+      len = 0;
+      cap = now.lines.cap;
+      alloc = now.lines.alloc;
+      items = [];
+      ok = (refl, omega arith);
+      small = now.lines.small;
     };
   }
 
@@ -150,6 +159,10 @@ module _ (reads : List PageRead) (cell : LineSeen → Cell) (seen : BlockSeen �
   pub blocks_told : (now : Sight) → blocks_of (told_question now) ≡ map (block_told_as seen) now.blocks.items
   unfolding told_question
   blocks_told now = units_asked now.blocks.items
+
+  pub files_told : (now : Sight) → files_asked (told_question now) ≡ []
+  unfolding told_question
+  files_told now = refl
 
   -- it looks at these lines and blocks
   pub lines_looked : (lines : List LineSeen) → all_lines_read (map (line_told_as reads cell) lines) ≡ line_numbers lines

@@ -1,5 +1,5 @@
 -- What is kept is left by a cut that leaves what the question asks.
-use Rattle.std.proofs.Common.{◌≡◌, ℕ, ◌*◌, ◌/◌, true, cond, Option, List, [], ◌∷◌, ◌++◌, map, length, refl, sym, ap, subst, ◌∙◌}
+use Rattle.std.proofs.Common.{◌≡◌, ℕ, ◌*◌, ◌/◌, true, cond, ◌&&◌, Option, List, [], ◌∷◌, ◌++◌, map, length, refl, sym, ap, subst, ◌∙◌}
 use Rattle.std.specs.List.{list_all}
 use Rattle.std.specs.Option.{option_and_then}
 use Rattle.std.proofs.lemmas.Bool.{and_from, and_parts}
@@ -13,14 +13,17 @@ use Rattle.block_sights.specs.Sights.Sight.{Whole}
 use Rattle.script_text.specs.Action.{Action}
 use Rattle.machine_host.specs.Machine.{Machine}
 use Rattle.outcomes.specs.Blocks.{BlockRead, all_numbers_read, block_fits, is_block_reply}
+use Rattle.outcomes.specs.Files.{FileRead}
 use Rattle.outcomes.specs.Pages.{PageRead, all_lines_read, is_reply, line_fits}
-use Rattle.outcomes.specs.Seen.{Seen, may_show}
-use Rattle.outcomes.specs.Seen.Seen.{of_blocks, of_volume}
+use Rattle.outcomes.specs.Seen.{Seen, files_may_show, may_show}
+use Rattle.outcomes.specs.Seen.Seen.{of_blocks, of_file, of_volume}
 use Rattle.asked_reads.specs.declared.question.Question.{Question}
-use Rattle.asked_reads.specs.Asking.{IsLook, blocks_of, may_be_replies, volume_asked}
+use Rattle.asked_reads.specs.Asking.{IsLook, blocks_of, files_asked, may_be_file_reply, may_be_replies, volume_asked}
 use Rattle.asked_reads.specs.Fitting.{cell_fits, sight_fits}
 use Rattle.sights.specs.declared.line_seen.LineSeen.{LineSeen}
 use Rattle.sights.specs.declared.block_seen.BlockSeen.{BlockSeen}
+use Rattle.file_sights.specs.Leaving.{fit_there}
+use Rattle.file_sights.specs.Sees.{are_held}
 use Rattle.cut_places.specs.declared.sight.Sight.{Sight}
 use Rattle.cut_places.specs.Following.{Follows, IsWhole, IsWithin}
 use Rattle.sights.specs.Seeing.{seen}
@@ -28,20 +31,23 @@ use Rattle.sights.specs.Units.{block_may_fit, block_numbers, line_may_fit, line_
 use Rattle.sights.specs.Ways.{blocks_way, lines_way}
 use Rattle.cut_places.proofs.StepLemmas.{blocks_in}
 use Rattle.witnesses.specs.declared.block_kept.BlockKept.{BlockKept}
+use Rattle.witnesses.specs.declared.file_kept.FileLineKept.{FileLineKept}
 use Rattle.witnesses.specs.declared.kept.Kept.{Kept}
 use Rattle.witnesses.specs.declared.line_kept.LineKept.{LineKept}
 use Rattle.witnesses.specs.Blocks.{block_kept, block_left, block_made, numbers_of_blocks}
+use Rattle.witnesses.specs.Files.{files_kept, files_made, left_there}
 use Rattle.witnesses.specs.Leaving.{stays}
 use Rattle.witnesses.specs.Lines.{left_of, line_kept, line_left, line_made, numbers_of_lines}
 use Rattle.witnesses.specs.Places.{IsReached, shows_at, state_at}
-use Rattle.witnesses.specs.Telling.{block_told, line_told, told}
-use Rattle.witnesses.proofs.AskedLemmas.{block_reply_is, blocks_looked, blocks_told, line_reply_is, lines_looked, told_question, volume_told}
+use Rattle.witnesses.specs.Telling.{block_told, file_told, line_told, told}
+use Rattle.witnesses.proofs.AskedLemmas.{block_reply_is, blocks_looked, blocks_told, line_reply_is, files_told, lines_looked, told_question, volume_told}
 use Rattle.witnesses.proofs.BlockToldLemmas.{told_as as block_told_as, kept_fits as block_kept_fits, told_fits as block_told_fits}
+use Rattle.witnesses.proofs.FilesLemmas.{files_kept_shown, files_tale, kept_tale, none_fit}
 use Rattle.witnesses.proofs.LeavingLemmas.{left_fits, left_passes, stays_same}
-use Rattle.witnesses.proofs.LineToldLemmas.{told_as as line_told_as, kept_fits as line_kept_fits, told_fits as line_told_fits}
+use Rattle.witnesses.proofs.LineToldLemmas.{line_told_as, kept_fits as line_kept_fits, told_fits as line_told_fits}
 use Rattle.witnesses.proofs.ListLemmas.{IsAmong, all_from}
-use Rattle.witnesses.proofs.SeenLemmas.{blocks_in as blocks_read_in, both_shown, files_in, look_of, volume_in}
-use Rattle.witnesses.proofs.UnitLemmas.{block_number, block_of, block_same, block_within, both_parts, from_numbers, from_parts, geometry_at, line_number, line_of, line_same, line_within, shown_at, sized, there}
+use Rattle.witnesses.proofs.SeenLemmas.{blocks_in as blocks_read_in, both_shown, files_in, look_of, tale_of, volume_in}
+use Rattle.witnesses.proofs.UnitLemmas.{all_parts, block_number, block_of, block_same, block_within, change_at, from_numbers, from_parts, geometry_at, line_number, line_of, line_same, line_within, shown_at, sized, there}
 
 module _ (h : Machine) (look : List Seen) (q : Question) (inside : Option Action) (now : Sight) (follows : Follows now h.geometry h) (is : IsLook look q) (whole : IsWhole now q)
     (within : IsWithin now h.geometry) (replies : may_be_replies h.geometry q ≡ true) (shown : shows_at h.geometry inside q now ≡ true) (reached : IsReached h inside) where
@@ -63,12 +69,12 @@ module _ (h : Machine) (look : List Seen) (q : Question) (inside : Option Action
   lines_fit : (s : LineSeen) → IsAmong s lines → cell_fits (volume_asked q) s.number (cell s) ≡ true
   lines_fit s among =
       ap (λ n. cell_fits (volume_asked q) n (cell s)) (sym (line_number geo inside (stays (option_and_then lines_way inside) (line_may_fit q) (λ (t : LineSeen). t.number / 64) lines s) s))
-      ∙ left_fits (line_may_fit q) (line_made geo inside) (λ (t : LineSeen). t.number / 64) lines (option_and_then lines_way inside) (both_parts geo inside q now shown).0 s among
+      ∙ left_fits (line_may_fit q) (line_made geo inside) (λ (t : LineSeen). t.number / 64) lines (option_and_then lines_way inside) (all_parts geo inside q now shown).0 s among
 
   units_fit : (s : BlockSeen) → IsAmong s units → sight_fits (blocks_of q) s.number (block s) ≡ true
   units_fit s among =
       ap (λ n. sight_fits (blocks_of q) n (block s)) (sym (block_number geo inside (stays (option_and_then blocks_way inside) (block_may_fit q) (λ (t : BlockSeen). t.number) units s) s))
-      ∙ left_fits (block_may_fit q) (block_made geo inside) (λ (t : BlockSeen). t.number) units (option_and_then blocks_way inside) (both_parts geo inside q now shown).1 s among
+      ∙ left_fits (block_may_fit q) (block_made geo inside) (λ (t : BlockSeen). t.number) units (option_and_then blocks_way inside) (all_parts geo inside q now shown).1 s among
 
   lines_alike : (s t : LineSeen) → IsAmong s lines → IsAmong t lines → s.number ≡ t.number → cell s ≡ cell t
   lines_alike s t among also number =
@@ -101,7 +107,7 @@ module _ (h : Machine) (look : List Seen) (q : Question) (inside : Option Action
   line_passes s among =
       ap (λ rs. cell_fits rs (line_left geo inside (volume_asked q) lines s).number (cell s)) (volume_told (volume_asked q) cell block now)
       ∙ ap (λ n. cell_fits pages_told n (cell s)) (line_number geo inside (stays (option_and_then lines_way inside) (line_may_fit q) (λ (t : LineSeen). t.number / 64) lines s) s)
-      ∙ line_kept_fits (volume_asked q) lines cell lines_fit lines_alike s among
+      ∙ line_kept_fits (λ (t : LineSeen). t.number) (volume_asked q) lines cell lines_fit lines_alike s among
 
   unit_passes : (s : BlockSeen) → IsAmong s units → block_may_fit asks (block_left geo inside (blocks_of q) units s) ≡ true
   unit_passes s among =
@@ -117,27 +123,30 @@ module _ (h : Machine) (look : List Seen) (q : Question) (inside : Option Action
   -- each told read has a reply that a read has
   told_replies : may_be_replies geo asks ≡ true
   told_replies =
-      and_from (list_all (is_reply (4096 * geo.vpages)) (volume_asked asks)) (list_all (is_block_reply geo.blocks) (blocks_of asks))
+      and_from (list_all (is_reply (4096 * geo.vpages)) (volume_asked asks)) (list_all (is_block_reply geo.blocks) (blocks_of asks) && list_all may_be_file_reply (files_asked asks))
       (ap (list_all (is_reply (4096 * geo.vpages))) (volume_told (volume_asked q) cell block now)
       ∙ list_all-map (is_reply (4096 * geo.vpages)) (line_told_as (volume_asked q) cell) lines
       ∙ all_from (λ s. is_reply (4096 * geo.vpages) (line_told_as (volume_asked q) cell s)) lines
       (λ s among. line_reply_is geo.vpages s.number (left_of (volume_asked q) s.number (cell s)) (line_within geo lines s within.lines among)))
+      (and_from (list_all (is_block_reply geo.blocks) (blocks_of asks)) (list_all may_be_file_reply (files_asked asks))
       (ap (list_all (is_block_reply geo.blocks)) (blocks_told (volume_asked q) cell block now)
       ∙ list_all-map (is_block_reply geo.blocks) (block_told_as block) units
       ∙ all_from (λ s. is_block_reply geo.blocks (block_told_as block s)) units
       (λ s among. block_reply_is geo.blocks s.number (block s) (block_sized s among) (block_within geo units s within.blocks among)))
+      (ap (list_all may_be_file_reply) (files_told (volume_asked q) cell block now)))
 
   told_look : IsLook (look_of pages_told blocks_told_so) asks
   told_look = record {
     volume = volume_in pages_told blocks_told_so ∙ sym (volume_told (volume_asked q) cell block now);
     blocks = blocks_read_in pages_told blocks_told_so ∙ sym (blocks_told (volume_asked q) cell block now);
-    files = files_in pages_told blocks_told_so;
+    files = files_in pages_told blocks_told_so ∙ sym (files_told (volume_asked q) cell block now);
   }
 
   told_whole : IsWhole now asks
   told_whole = record {
     lines = sym (ap all_lines_read (volume_told (volume_asked q) cell block now) ∙ lines_looked (volume_asked q) cell block lines);
     blocks = sym (ap all_numbers_read (blocks_told (volume_asked q) cell block now) ∙ blocks_looked (volume_asked q) cell block units);
+    files = ap (are_held now.files.numbers) (files_told (volume_asked q) cell block now);
   }
 
   -- the state may show all that is told
@@ -146,22 +155,32 @@ module _ (h : Machine) (look : List Seen) (q : Question) (inside : Option Action
       shown_at h (look_of pages_told blocks_told_so) asks inside now follows told_look told_whole within told_replies
       (from_parts geo inside asks now
       (left_passes (line_may_fit q) (line_made geo inside) (λ (s : LineSeen). s.number / 64) lines (line_may_fit asks) (option_and_then lines_way inside) line_passes)
-      (left_passes (block_may_fit q) (block_made geo inside) (λ (s : BlockSeen). s.number) units (block_may_fit asks) (option_and_then blocks_way inside) unit_passes))
+      (left_passes (block_may_fit q) (block_made geo inside) (λ (s : BlockSeen). s.number) units (block_may_fit asks) (option_and_then blocks_way inside) unit_passes)
+      (ap (λ rs. fit_there (change_at inside now) rs now.files) (files_told (volume_asked q) cell block now) ∙ none_fit (change_at inside now) now.files))
       reached
 
+  -- and what is told of files
+  abbrev files_told_so : List FileRead
+  files_told_so = files_tale (files_asked q) (left_there inside (files_asked q) now.files).files
+
+  files_shown : files_may_show (state_at h inside) (files_asked q ++ files_told_so) ≡ true
+  files_shown =
+      files_kept_shown h inside now.files (files_asked q) follows.ready.settled follows.sees.files follows.ready.whole reached whole.files (all_parts geo inside q now shown).2
+
   -- and what is asked with it
-  pub kept_shown : may_show (look ++ look_of pages_told blocks_told_so) (state_at h inside) ≡ true
+  pub kept_shown : may_show (look ++ tale_of pages_told blocks_told_so files_told_so) (state_at h inside) ≡ true
   kept_shown =
       let off = state_at h inside in
-      let replied = and_parts (list_all (is_reply (4096 * geo.vpages)) (volume_asked q)) (list_all (is_block_reply geo.blocks) (blocks_of q)) replies in
-      both_shown off look pages_told (volume_asked q) blocks_told_so (blocks_of q) is.volume is.blocks is.files told_shown
+      let first = and_parts (list_all (is_reply (4096 * geo.vpages)) (volume_asked q)) (list_all (is_block_reply geo.blocks) (blocks_of q) && list_all may_be_file_reply (files_asked q)) replies in
+      let rest = and_parts (list_all (is_block_reply geo.blocks) (blocks_of q)) (list_all may_be_file_reply (files_asked q)) first.1 in
+      both_shown off look pages_told (volume_asked q) blocks_told_so (blocks_of q) is.volume is.blocks (files_asked q) files_told_so is.files told_shown files_shown
       (sym whole.lines ∙ sym (lines_looked (volume_asked q) cell block lines))
       (sym whole.blocks ∙ sym (blocks_looked (volume_asked q) cell block units))
-      (ap (λ (g : Geometry). list_all (is_reply (4096 * g.vpages)) (volume_asked q)) (geometry_at h inside) ∙ replied.0)
-      (ap (λ (g : Geometry). list_all (is_block_reply g.blocks) (blocks_of q)) (geometry_at h inside) ∙ replied.1)
+      (ap (λ (g : Geometry). list_all (is_reply (4096 * g.vpages)) (volume_asked q)) (geometry_at h inside) ∙ first.0)
+      (ap (λ (g : Geometry). list_all (is_block_reply g.blocks) (blocks_of q)) (geometry_at h inside) ∙ rest.0)
       (λ n among.
       from_numbers (λ (s : LineSeen). s.number) lines (λ n. (o : Option Cell) → line_fits pages_told n o ≡ true → line_fits (volume_asked q ++ pages_told) n o ≡ true)
-      (line_told_fits (volume_asked q) lines cell lines_fit lines_alike) n (subst (IsAmong n) (lines_looked (volume_asked q) cell block lines) among))
+      (line_told_fits (λ (t : LineSeen). t.number) (volume_asked q) lines cell lines_fit lines_alike) n (subst (IsAmong n) (lines_looked (volume_asked q) cell block lines) among))
       (λ n among.
       from_numbers (λ (s : BlockSeen). s.number) units (λ n. (b : Block) → block_fits blocks_told_so n b ≡ true → block_fits (blocks_of q ++ blocks_told_so) n b ≡ true)
       (block_told_fits (blocks_of q) units block units_fit units_alike) n (subst (IsAmong n) (blocks_looked (volume_asked q) cell block units) among))
@@ -178,26 +197,29 @@ module _ (h : Machine) (look : List Seen) (q : Question) (inside : Option Action
 
   -- what is told of all that is kept is that
   pub kept_told : (kept : Kept) → kept.lines.items ≡ map (line_kept geo inside (volume_asked q) lines) lines → kept.blocks.items ≡ map (block_kept geo inside (blocks_of q) units) units
-      → may_show (look ++ told kept) (state_at h inside) ≡ true
-  kept_told kept of_lines of_units =
+      → kept.files.items ≡ files_kept inside (files_asked q) now.files → may_show (look ++ told kept) (state_at h inside) ≡ true
+  kept_told kept of_lines of_units of_files =
       ap (λ seen. may_show (look ++ seen) (state_at h inside))
-      (ap (λ ks. map (λ (k : LineKept). of_volume (line_told k)) ks ++ map (λ (k : BlockKept). of_blocks (block_told k)) kept.blocks.items) of_lines
-      ∙ ap (λ seen. seen ++ map (λ (k : BlockKept). of_blocks (block_told k)) kept.blocks.items) (told_lines lines lines)
-      ∙ ap (λ ks. map of_volume pages_told ++ map (λ (k : BlockKept). of_blocks (block_told k)) ks) of_units
-      ∙ ap (λ seen. map of_volume pages_told ++ seen) (told_units units units))
+      (ap (λ ks. map (λ (k : LineKept). of_volume (line_told k)) ks ++ (map (λ (k : BlockKept). of_blocks (block_told k)) kept.blocks.items ++ map (λ (k : FileLineKept). of_file (file_told k)) kept.files.items)) of_lines
+      ∙ ap (λ seen. seen ++ (map (λ (k : BlockKept). of_blocks (block_told k)) kept.blocks.items ++ map (λ (k : FileLineKept). of_file (file_told k)) kept.files.items)) (told_lines lines lines)
+      ∙ ap (λ ks. map of_volume pages_told ++ (map (λ (k : BlockKept). of_blocks (block_told k)) ks ++ map (λ (k : FileLineKept). of_file (file_told k)) kept.files.items)) of_units
+      ∙ ap (λ seen. map of_volume pages_told ++ (seen ++ map (λ (k : FileLineKept). of_file (file_told k)) kept.files.items)) (told_units units units)
+      ∙ ap (λ ks. map of_volume pages_told ++ (map of_blocks blocks_told_so ++ map (λ (k : FileLineKept). of_file (file_told k)) ks)) of_files
+      ∙ ap (λ seen. map of_volume pages_told ++ (map of_blocks blocks_told_so ++ seen))
+      (kept_tale (files_asked q) now.files (files_made inside now.files) (left_there inside (files_asked q) now.files)))
       ∙ kept_shown
 
 -- the same where the sizes are those of the state
 pub kept_so : (h : Machine) (look : List Seen) (q : Question) (inside : Option Action) (now : Sight) (sizes : Geometry) (kept : Kept) → Follows now sizes h → IsLook look q → IsWhole now q
     → IsWithin now sizes → may_be_replies sizes q ≡ true → shows_at sizes inside q now ≡ true → IsReached h inside
     → kept.lines.items ≡ map (line_kept sizes inside (volume_asked q) now.lines.items) now.lines.items → kept.blocks.items ≡ map (block_kept sizes inside (blocks_of q) now.blocks.items) now.blocks.items
-    → may_show (look ++ told kept) (state_at h inside) ≡ true
-kept_so h look q inside now sizes kept follows is whole within replies shown reached lines blocks =
+    → kept.files.items ≡ files_kept inside (files_asked q) now.files → may_show (look ++ told kept) (state_at h inside) ≡ true
+kept_so h look q inside now sizes kept follows is whole within replies shown reached lines blocks files =
     let at : sizes ≡ h.geometry = sym follows.sizes in
     kept_told h look q inside now (subst (λ g. Follows now g h) at follows) is whole (subst (IsWithin now) at within) (subst (λ g. may_be_replies g q ≡ true) at replies)
     (subst (λ g. shows_at g inside q now ≡ true) at shown) reached kept
     (subst (λ g. kept.lines.items ≡ map (line_kept g inside (volume_asked q) now.lines.items) now.lines.items) at lines)
-    (subst (λ g. kept.blocks.items ≡ map (block_kept g inside (blocks_of q) now.blocks.items) now.blocks.items) at blocks)
+    (subst (λ g. kept.blocks.items ≡ map (block_kept g inside (blocks_of q) now.blocks.items) now.blocks.items) at blocks) files
 
 -- what is kept has the numbers of what is looked at
 pub numbers_kept : (sizes : Geometry) (inside : Option Action) (reads : List PageRead) (all lines : List LineSeen) → numbers_of_lines (map (line_kept sizes inside reads all) lines) ≡ line_numbers lines

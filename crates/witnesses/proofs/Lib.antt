@@ -8,5 +8,7 @@ pub mod BlockToldLemmas
 pub mod SeenLemmas
 pub mod AskedLemmas
 pub mod UnitLemmas
+pub mod FilesToldLemmas
+pub mod FilesLemmas
 pub mod KeepLemmas
 pub mod TextLemmas

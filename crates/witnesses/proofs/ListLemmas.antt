@@ -1,10 +1,16 @@
 -- Tests over lists, and their items.
-use Rattle.std.proofs.Common.{◌≡◌, ◌⊎◌, inl, inr, ℕ, zero, suc, ◌+◌, ◌<◌, ◌≤◌, Bool, true, false, cond, ◌||◌, List, [], ◌∷◌, ◌++◌, map, Some, find, unwrap_or, length, take, get_or, refl, sym, ap, ◌∙◌, arith}
+use Rattle.std.proofs.Common.{◌≡◌, ◌⊎◌, inl, inr, ℕ, zero, suc, ◌+◌, ◌<◌, ◌≤◌, Bool, true, false, cond, ◌&&◌, ◌||◌, List, [], ◌∷◌, ◌++◌, map, flat_map, Some, find, unwrap_or, length, take, get_or, refl, sym, ap, ◌∙◌, arith, append-nil, append_assoc}
 use Rattle.std.specs.List.{list_all, list_any, range_with_len}
 use Rattle.std.proofs.lemmas.Bool.{and_from, and_parts, cases_lt, or_left, or_right}
+use Rattle.std.proofs.lemmas.Grind.{flat_map-append}
 use Rattle.std.proofs.lemmas.List.Folds.{list_all-append}
 use Rattle.std.proofs.lemmas.List.{map-append, take_more}
 use Rattle.line_device.specs.History.{IsIn}
+use Rattle.std.specs.Str.{bytes_eq}
+use Rattle.outcomes.specs.Files.{reads_of}
+use Rattle.outcomes.specs.Pages.{PageRead}
+use Rattle.asked_reads.specs.Reads.{file_reads_asked, page_read}
+use Rattle.asked_reads.specs.declared.reads.FileRead.{FileRead as Asked}
 
 -- x is one of them
 abbrev pub IsAmong : {A : Type 0} → A → List A → Type 0
@@ -32,6 +38,15 @@ pub pushed : {A B : Type 0} (f : A → B) (xs : List A) (i : ℕ) (x : A) (y : B
     → new ≡ map f (take (i + 1) xs)
 pushed f xs i x y old new lt is was pushes made =
     pushes ∙ ap (λ ys. ys ++ y ∷ []) was ∙ ap (λ z. map f (take i xs) ++ z ∷ []) (made ∙ ap f is) ∙ sym (map-append f (take i xs) (get_or xs i x ∷ [])) ∙ sym (ap (map f) (take_more xs i x lt))
+
+-- one more of them made a list
+pub appended : {A B : Type 0} (f : A → List B) (xs : List A) (i : ℕ) (x : A) (first old new : List B) → i < length xs → x ≡ get_or xs i x → old ≡ first ++ flat_map f (take i xs) → new ≡ old ++ f x
+    → new ≡ first ++ flat_map f (take (i + 1) xs)
+appended f xs i x first old new lt is was more =
+    more ∙ ap (λ ys. ys ++ f x) was ∙ append_assoc first (flat_map f (take i xs)) (f x)
+    ∙ ap (λ ys. first ++ ys)
+    (ap (λ ys. flat_map f (take i xs) ++ ys) (sym (append-nil (f x)) ∙ ap (λ y. flat_map f (y ∷ [])) is)
+    ∙ sym (flat_map-append f (take i xs) (get_or xs i x ∷ [])) ∙ sym (ap (flat_map f) (take_more xs i x lt)))
 
 -- all twice over
 pub all_twice : {A : Type 0} (f : A → Bool) (xs : List A) → list_all f xs ≡ true → list_all f (xs ++ xs) ≡ true
@@ -84,3 +99,15 @@ any_more f g (x ∷ xs) each any = by_first (any_more f g xs each) (f x) refl an
 pub any_map : {A B : Type 0} (f : B → Bool) (g : A → B) (xs : List A) → list_any f (map g xs) ≡ list_any (λ x. f (g x)) xs
 any_map f g [] = refl
 any_map f g (x ∷ xs) = ap (λ b. f (g x) || b) (any_map f g xs)
+
+-- of the reads of one file, those of other files are passed over
+pub any_of_file : (f : PageRead → Bool) (name : List ℕ) (reads : List Asked)
+    → list_any (λ (r : Asked). bytes_eq r.name name && f (page_read r.pages)) reads ≡ list_any f (reads_of name (file_reads_asked reads))
+any_of_file f name [] = refl
+any_of_file f name (r ∷ reads) = by_name (bytes_eq r.name name) (any_of_file f name reads)
+  where
+    by_name : (b : Bool) → list_any (λ (q : Asked). bytes_eq q.name name && f (page_read q.pages)) reads ≡ list_any f (reads_of name (file_reads_asked reads))
+        → ((b && f (page_read r.pages)) || list_any (λ (q : Asked). bytes_eq q.name name && f (page_read q.pages)) reads)
+        ≡ list_any f (cond b (page_read r.pages ∷ reads_of name (file_reads_asked reads)) (reads_of name (file_reads_asked reads)))
+    by_name true rest = ap (λ b. f (page_read r.pages) || b) rest
+    by_name false rest = rest

@@ -7,6 +7,7 @@ use Rattle.nvm_model.specs.Cell.{Cell}
 use Rattle.nvm_model.specs.Storage.{Block}
 use Rattle.machine_host.specs.Machine.{Machine}
 use Rattle.outcomes.specs.Blocks.{BlockRead, all_numbers_read, block_fits, is_block_reply, numbers_read}
+use Rattle.outcomes.specs.Files.{FileRead}
 use Rattle.outcomes.specs.Left.{blocks_may_pass, volume_may_pass}
 use Rattle.outcomes.specs.Pages.{PageRead, all_lines_read, is_reply, line_fits, lines_read}
 use Rattle.outcomes.specs.Seen.{Seen, block_reads, blocks_may_show, file_reads, files_may_show, may_show, volume_may_show, volume_reads}
@@ -66,15 +67,41 @@ module _ (pages : List PageRead) (blocks : List BlockRead) where
   files_in =
       file_reads-append (map of_volume pages) (map of_blocks blocks) ∙ ap (λ rs. rs ++ file_reads (map of_blocks blocks)) (only_pages pages).2 ∙ (only_blocks blocks).2
 
+-- and of files behind them
+module _ (pages : List PageRead) (blocks : List BlockRead) (files : List FileRead) where
+  abbrev pub tale_of : List Seen
+  tale_of = map of_volume pages ++ (map of_blocks blocks ++ map of_file files)
+
+  only_files : (files : List FileRead) → (volume_reads (map of_file files) ≡ []) × (block_reads (map of_file files) ≡ []) × (file_reads (map of_file files) ≡ files)
+  only_files [] = (refl, refl, refl)
+  only_files (r ∷ files) = let rest = only_files files in (rest.0, rest.1, ap (λ rs. r ∷ rs) rest.2)
+
+  in_parts : tale_of ≡ look_of pages blocks ++ map of_file files
+  in_parts = sym (append_assoc (map of_volume pages) (map of_blocks blocks) (map of_file files))
+
+  pub volume_of : volume_reads tale_of ≡ pages
+  volume_of =
+      ap volume_reads in_parts ∙ volume_reads-append (look_of pages blocks) (map of_file files) ∙ ap (λ rs. rs ++ volume_reads (map of_file files)) (volume_in pages blocks)
+      ∙ ap (λ rs. pages ++ rs) (only_files files).0 ∙ append-nil pages
+
+  pub blocks_of : block_reads tale_of ≡ blocks
+  blocks_of =
+      ap block_reads in_parts ∙ block_reads-append (look_of pages blocks) (map of_file files) ∙ ap (λ rs. rs ++ block_reads (map of_file files)) (blocks_in pages blocks)
+      ∙ ap (λ rs. blocks ++ rs) (only_files files).1 ∙ append-nil blocks
+
+  pub files_of : file_reads tale_of ≡ files
+  files_of =
+      ap file_reads in_parts ∙ file_reads-append (look_of pages blocks) (map of_file files) ∙ ap (λ rs. rs ++ file_reads (map of_file files)) (files_in pages blocks) ∙ (only_files files).2
+
 -- What a state may show of the one look it may show of both, where both look at the same, whatever fits the one fits both, and each
--- reply is one that a read has.
-module _ (off : Machine) (look : List Seen) (pages asked : List PageRead) (blocks units : List BlockRead) (is : volume_reads look ≡ asked) (are : block_reads look ≡ units) (none : file_reads look ≡ [])
-    (shown : may_show (look_of pages blocks) off ≡ true) where
-  parts : (volume_may_show off pages ≡ true) × (blocks_may_show off blocks ≡ true) × (files_may_show off [] ≡ true)
+-- reply is one that a read has; and where it may show the reads of files of both.
+module _ (off : Machine) (look : List Seen) (pages asked : List PageRead) (blocks units : List BlockRead) (is : volume_reads look ≡ asked) (are : block_reads look ≡ units) (files more_files : List FileRead) (of_files : file_reads look ≡ files)
+    (shown : may_show (look_of pages blocks) off ≡ true) (files_shown : files_may_show off (files ++ more_files) ≡ true) where
+  parts : (volume_may_show off pages ≡ true) × (blocks_may_show off blocks ≡ true)
   parts =
       let first = and_parts (volume_may_show off (volume_reads (look_of pages blocks))) (blocks_may_show off (block_reads (look_of pages blocks)) && files_may_show off (file_reads (look_of pages blocks))) shown in
       let rest = and_parts (blocks_may_show off (block_reads (look_of pages blocks))) (files_may_show off (file_reads (look_of pages blocks))) first.1 in
-      (sym (ap (volume_may_show off) (volume_in pages blocks)) ∙ first.0, sym (ap (blocks_may_show off) (blocks_in pages blocks)) ∙ rest.0, sym (ap (files_may_show off) (files_in pages blocks)) ∙ rest.1)
+      (sym (ap (volume_may_show off) (volume_in pages blocks)) ∙ first.0, sym (ap (blocks_may_show off) (blocks_in pages blocks)) ∙ rest.0)
 
   both_volume : all_lines_read asked ≡ all_lines_read pages → list_all (is_reply (4096 * off.geometry.vpages)) asked ≡ true
       → ((n : ℕ) → IsAmong n (all_lines_read pages) → (o : Option Cell) → line_fits pages n o ≡ true → line_fits (asked ++ pages) n o ≡ true)
@@ -100,11 +127,11 @@ module _ (off : Machine) (look : List Seen) (pages asked : List PageRead) (block
       → list_all (is_reply (4096 * off.geometry.vpages)) asked ≡ true → list_all (is_block_reply off.geometry.blocks) units ≡ true
       → ((n : ℕ) → IsAmong n (all_lines_read pages) → (o : Option Cell) → line_fits pages n o ≡ true → line_fits (asked ++ pages) n o ≡ true)
       → ((n : ℕ) → IsAmong n (all_numbers_read blocks) → (block : Block) → block_fits blocks n block ≡ true → block_fits (units ++ blocks) n block ≡ true)
-      → may_show (look ++ look_of pages blocks) off ≡ true
+      → may_show (look ++ tale_of pages blocks more_files) off ≡ true
   both_shown lines numbers replies block_replies more more_blocks =
-      let tale = look_of pages blocks in
+      let tale = tale_of pages blocks more_files in
       and_from (volume_may_show off (volume_reads (look ++ tale))) (blocks_may_show off (block_reads (look ++ tale)) && files_may_show off (file_reads (look ++ tale)))
-      (ap (volume_may_show off) (volume_reads-append look tale ∙ ap (λ rs. rs ++ volume_reads tale) is ∙ ap (λ rs. asked ++ rs) (volume_in pages blocks)) ∙ both_volume lines replies more)
+      (ap (volume_may_show off) (volume_reads-append look tale ∙ ap (λ rs. rs ++ volume_reads tale) is ∙ ap (λ rs. asked ++ rs) (volume_of pages blocks more_files)) ∙ both_volume lines replies more)
       (and_from (blocks_may_show off (block_reads (look ++ tale))) (files_may_show off (file_reads (look ++ tale)))
-      (ap (blocks_may_show off) (block_reads-append look tale ∙ ap (λ rs. rs ++ block_reads tale) are ∙ ap (λ rs. units ++ rs) (blocks_in pages blocks)) ∙ both_blocks numbers block_replies more_blocks)
-      (ap (files_may_show off) (file_reads-append look tale ∙ ap (λ rs. rs ++ file_reads tale) none ∙ files_in pages blocks) ∙ parts.2))
+      (ap (blocks_may_show off) (block_reads-append look tale ∙ ap (λ rs. rs ++ block_reads tale) are ∙ ap (λ rs. units ++ rs) (blocks_of pages blocks more_files)) ∙ both_blocks numbers block_replies more_blocks)
+      (ap (files_may_show off) (file_reads-append look tale ∙ ap (λ rs. rs ++ file_reads tale) of_files ∙ ap (λ rs. files ++ rs) (files_of pages blocks more_files)) ∙ files_shown))

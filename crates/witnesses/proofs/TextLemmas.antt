@@ -1,5 +1,5 @@
 -- Texts that are appended one behind the other.
-use Rattle.std.proofs.Common.{◌≡◌, ◌+◌, ◌<◌, ℕ, suc, List, [], ◌∷◌, ◌++◌, Result, Ok, Err, flat_map, length, take, drop, get_or, sym, ap, ◌∙◌, arith, append-nil, append_assoc}
+use Rattle.std.proofs.Common.{◌≡◌, ◌+◌, ◌<◌, ℕ, suc, Bool, List, [], ◌∷◌, ◌++◌, Result, Ok, Err, flat_map, length, take, drop, get_or, sym, ap, ◌∙◌, arith, append-nil, append_assoc}
 use Rattle.std.specs.List.{range_with_len}
 use Rattle.std.specs.Result.{OnOk}
 use Rattle.std.proofs.Math.Seq.{drop-cons}
@@ -25,16 +25,16 @@ four old w x y z a b c d first second third fourth =
     ∙ ap (λ l. old ++ l) (append_assoc a (b ++ c) d ∙ ap (λ l. a ++ l) (append_assoc b c d))
 
 -- one item of a list goes from those that are left to those that are told
-pub told_next : {A : Type 0} (number : A → ℕ) (text : A → List ℕ) (xs : List A) (i : ℕ) (x : A) (before new old : List ℕ) → i < length xs → x ≡ get_or xs i x
-    → new ≡ before ++ unless_told number text (take i xs) x → before ++ texts_once number text (take i xs) (drop i xs) ≡ old
-    → new ++ texts_once number text (take (i + 1) xs) (drop (i + 1) xs) ≡ old
-told_next number text xs i x before new old lt is more was =
-    let rest = texts_once number text (take i xs ++ x ∷ []) (drop (suc i) xs) in
+pub told_next : {A : Type 0} (same : A → A → Bool) (text : A → List ℕ) (xs : List A) (i : ℕ) (x : A) (before new old : List ℕ) → i < length xs → x ≡ get_or xs i x
+    → new ≡ before ++ unless_told same text (take i xs) x → before ++ texts_once same text (take i xs) (drop i xs) ≡ old
+    → new ++ texts_once same text (take (i + 1) xs) (drop (i + 1) xs) ≡ old
+told_next same text xs i x before new old lt is more was =
+    let rest = texts_once same text (take i xs ++ x ∷ []) (drop (suc i) xs) in
     let next : i + 1 ≡ suc i = omega arith in
-    ap (λ told. new ++ texts_once number text told (drop (i + 1) xs)) (take_more xs i x lt ∙ ap (λ z. take i xs ++ z ∷ []) (sym is))
-    ∙ ap (λ k. new ++ texts_once number text (take i xs ++ x ∷ []) (drop k xs)) next
-    ∙ ap (λ l. l ++ rest) more ∙ append_assoc before (unless_told number text (take i xs) x) rest
-    ∙ ap (λ left. before ++ texts_once number text (take i xs) left) (sym (drop-cons xs i x lt ∙ ap (λ z. z ∷ drop (suc i) xs) (sym is)))
+    ap (λ told. new ++ texts_once same text told (drop (i + 1) xs)) (take_more xs i x lt ∙ ap (λ z. take i xs ++ z ∷ []) (sym is))
+    ∙ ap (λ k. new ++ texts_once same text (take i xs ++ x ∷ []) (drop k xs)) next
+    ∙ ap (λ l. l ++ rest) more ∙ append_assoc before (unless_told same text (take i xs) x) rest
+    ∙ ap (λ left. before ++ texts_once same text (take i xs) left) (sym (drop-cons xs i x lt ∙ ap (λ z. z ∷ drop (suc i) xs) (sym is)))
     ∙ was
 
 -- one more number of a range

@@ -1,6 +1,5 @@
 -- Lines and blocks that are looked at: what a cut there may leave of them, and those that are of a state.
-use Rattle.std.proofs.Common.{◌≡◌, ℕ, ◌*◌, ◌/◌, ◌<◌, Bool, true, false, cond, Option, Some, None, inl, inr, List, [], ◌∷◌, map, length, refl, sym, ap, subst, ◌∙◌}
-use Rattle.std.specs.List.{list_all}
+use Rattle.std.proofs.Common.{◌≡◌, ℕ, ◌*◌, ◌/◌, ◌<◌, Bool, true, false, cond, ◌&&◌, option_map, Option, Some, None, inl, inr, List, [], ◌∷◌, map, length, refl, sym, ap, subst, ◌∙◌}
 use Rattle.std.specs.Option.{option_and_then}
 use Rattle.std.proofs.lemmas.Bool.{and_from, and_parts}
 use Rattle.word_tables.specs.declared.geometry.Geometry.{Geometry}
@@ -17,10 +16,13 @@ use Rattle.durable.specs.Durable.{HaveEightLines}
 use Rattle.outcomes.specs.Seen.{Seen, may_show}
 use Rattle.outcomes.specs.Stops.{led_to}
 use Rattle.asked_reads.specs.declared.question.Question.{Question}
-use Rattle.asked_reads.specs.Asking.{IsLook, may_be_replies}
+use Rattle.asked_reads.specs.Asking.{IsLook, files_asked, may_be_replies}
 use Rattle.sights.specs.declared.line_seen.LineSeen.{LineSeen}
 use Rattle.sights.specs.declared.block_seen.BlockSeen.{BlockSeen}
 use Rattle.cut_places.specs.declared.sight.Sight.{Sight}
+use Rattle.file_sights.specs.Changes.{FilesChange}
+use Rattle.file_sights.specs.Commands.{files_change}
+use Rattle.file_sights.specs.Leaving.{fit_there}
 use Rattle.sights.specs.Changing.{line_changed, volume_change}
 use Rattle.sights.specs.ChangingBlocks.{block_changed}
 use Rattle.cut_places.specs.Following.{Follows, IsWhole, IsWithin}
@@ -36,23 +38,41 @@ use Rattle.witnesses.specs.Lines.{line_made}
 use Rattle.witnesses.specs.Places.{IsReached, shows_at, state_at}
 use Rattle.witnesses.proofs.ListLemmas.{IsAmong}
 
--- a cut there leaves lines and blocks so, and the other way round
-pub both_parts : (geo : Geometry) (inside : Option Action) (q : Question) (now : Sight) → shows_at geo inside q now ≡ true
+-- the change of files that a cut falls in, if there is one
+abbrev pub change_at : Option Action → Sight → Option FilesChange
+change_at inside now = option_map (files_change now.files.mappings.mappings) inside
+
+-- a cut there leaves lines, blocks and files so, and the other way round
+module _ (geo : Geometry) (inside : Option Action) (q : Question) (now : Sight) where
+  abbrev lines_so : Bool
+  lines_so = passes_inside (option_and_then lines_way inside) (line_may_fit q) (λ s. line_may_fit q (line_made geo inside s)) (λ (s : LineSeen). s.number / 64) now.lines.items
+
+  abbrev blocks_so : Bool
+  blocks_so = passes_inside (option_and_then blocks_way inside) (block_may_fit q) (λ s. block_may_fit q (block_made geo inside s)) (λ (s : BlockSeen). s.number) now.blocks.items
+
+  abbrev files_so : Bool
+  files_so = fit_there (change_at inside now) (files_asked q) now.files
+
+all_so : (geo : Geometry) (inside : Option Action) (q : Question) (now : Sight) → shows_at geo inside q now ≡ (lines_so geo inside q now && (blocks_so geo inside q now && files_so geo inside q now))
+all_so geo None q now = refl
+all_so geo (Some action) q now = refl
+
+pub all_parts : (geo : Geometry) (inside : Option Action) (q : Question) (now : Sight) → shows_at geo inside q now ≡ true
     → (passes_inside (option_and_then lines_way inside) (line_may_fit q) (λ s. line_may_fit q (line_made geo inside s)) (λ (s : LineSeen). s.number / 64) now.lines.items ≡ true)
     × (passes_inside (option_and_then blocks_way inside) (block_may_fit q) (λ s. block_may_fit q (block_made geo inside s)) (λ (s : BlockSeen). s.number) now.blocks.items ≡ true)
-both_parts geo None q now shown = and_parts (list_all (line_may_fit q) now.lines.items) (list_all (block_may_fit q) now.blocks.items) shown
-both_parts geo (Some action) q now shown =
-    and_parts (passes_inside (lines_way action) (line_may_fit q) (λ s. line_may_fit q (line_made geo (Some action) s)) (λ (s : LineSeen). s.number / 64) now.lines.items)
-    (passes_inside (blocks_way action) (block_may_fit q) (λ s. block_may_fit q (block_made geo (Some action) s)) (λ (s : BlockSeen). s.number) now.blocks.items) shown
+    × (fit_there (change_at inside now) (files_asked q) now.files ≡ true)
+all_parts geo inside q now shown =
+    let first = and_parts (lines_so geo inside q now) (blocks_so geo inside q now && files_so geo inside q now) (sym (all_so geo inside q now) ∙ shown) in
+    let rest = and_parts (blocks_so geo inside q now) (files_so geo inside q now) first.1 in
+    (first.0, rest.0, rest.1)
 
 pub from_parts : (geo : Geometry) (inside : Option Action) (q : Question) (now : Sight)
     → passes_inside (option_and_then lines_way inside) (line_may_fit q) (λ s. line_may_fit q (line_made geo inside s)) (λ (s : LineSeen). s.number / 64) now.lines.items ≡ true
     → passes_inside (option_and_then blocks_way inside) (block_may_fit q) (λ s. block_may_fit q (block_made geo inside s)) (λ (s : BlockSeen). s.number) now.blocks.items ≡ true
-    → shows_at geo inside q now ≡ true
-from_parts geo None q now lines blocks = and_from (list_all (line_may_fit q) now.lines.items) (list_all (block_may_fit q) now.blocks.items) lines blocks
-from_parts geo (Some action) q now lines blocks =
-    and_from (passes_inside (lines_way action) (line_may_fit q) (λ s. line_may_fit q (line_made geo (Some action) s)) (λ (s : LineSeen). s.number / 64) now.lines.items)
-    (passes_inside (blocks_way action) (block_may_fit q) (λ s. block_may_fit q (block_made geo (Some action) s)) (λ (s : BlockSeen). s.number) now.blocks.items) lines blocks
+    → fit_there (change_at inside now) (files_asked q) now.files ≡ true → shows_at geo inside q now ≡ true
+from_parts geo inside q now lines blocks files =
+    all_so geo inside q now
+    ∙ and_from (lines_so geo inside q now) (blocks_so geo inside q now && files_so geo inside q now) lines (and_from (blocks_so geo inside q now) (files_so geo inside q now) blocks files)
 
 -- what is left of a line, or of a block, has its number
 pub line_number : (geo : Geometry) (inside : Option Action) (b : Bool) (s : LineSeen) → (cond b s (line_made geo inside s)).number ≡ s.number

@@ -1,7 +1,10 @@
 pub mod Leaving
 pub mod Lines
 pub mod Blocks
+pub mod Asked
+pub mod Files
 pub mod Telling
 pub mod Places
 pub mod Texts
 pub mod Rows
+pub mod FileRows

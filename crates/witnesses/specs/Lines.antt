@@ -1,5 +1,5 @@
 -- What is kept of the lines of the volume.
-use Rattle.std.specs.Prelude.{◌≡◌, ◌==◌, ◌+◌, ◌*◌, ◌/◌, ◌||◌, ℕ, Bool, true, false, not, List, [], slice_index, slice_index_or, find, map, unwrap_or, Option, option_and_then}
+use Rattle.std.specs.Prelude.{◌≡◌, ◌==◌, ◌+◌, ◌*◌, ◌/◌, ◌||◌, ℕ, Bool, true, false, not, List, [], slice_index, slice_index_or, find, map, unwrap_or, Option, Some, None, option_and_then}
 use Rattle.std.specs.List.{list_any}
 use Rattle.word_tables.specs.declared.geometry.Geometry.{Geometry}
 use Rattle.nvm_model.specs.Numbered.{list_from}
@@ -42,9 +42,14 @@ abbrev pub HasOther : Cell → ℕ → ℕ → Bool → Type 0
 HasOther Bad w value has = Unit {0}
 HasOther (Kept weak words) w value has = has ≡ list_any (λ v. not (v == value)) (slice_index_or words w [])
 
+-- any word could be otherwise where no such line may be there
+abbrev pub could_differ : Option Cell → ℕ → LineLeft → Bool
+could_differ None w left = true
+could_differ (Some cell) w left = may_differ cell w left
+
 -- which words may be otherwise where a line is such, or as a command makes it
-abbrev pub free_words : Cell → Cell → LineLeft → List Bool
-free_words now made left = list_from (λ w. may_differ now w left || may_differ made w left) 0 8
+abbrev pub free_words : Option Cell → Option Cell → LineLeft → List Bool
+free_words now made left = list_from (λ w. could_differ now w left || could_differ made w left) 0 8
 
 -- a line as the command makes it, if there is one
 abbrev pub line_made : Geometry → Option Action → LineSeen → LineSeen
@@ -59,7 +64,7 @@ line_left geo inside reads lines seen =
 abbrev pub kept_line : List PageRead → LineSeen → LineSeen → LineSeen → LineKept
 kept_line reads now made left =
     let kept = left_of reads now.number left.line in
-    record { number = now.number; left = kept; free = free_words now.line made.line kept; reach = now.reach }
+    record { number = now.number; left = kept; free = free_words (Some now.line) (Some made.line) kept; reach = now.reach }
 
 -- and of each
 abbrev pub line_kept : Geometry → Option Action → List PageRead → List LineSeen → LineSeen → LineKept

@@ -1,4 +1,4 @@
--- What is kept, told as reads of a look: each line by one read of all its bytes, each block by one of its own.
+-- What is kept, told as reads of a look: each line, of the volume or of a file, by one read of all its bytes, each block by one of its own.
 use Rattle.std.specs.Prelude.{◌*◌, ◌/◌, ◌%◌, ◌++◌, ℕ, List, map, slice_index}
 use Rattle.std.specs.Int.{byte_at}
 use Rattle.nvm_model.specs.Numbered.{list_from}
@@ -8,12 +8,14 @@ use Rattle.outcomes.specs.Pages.{PageRead, PageReply}
 use Rattle.outcomes.specs.Pages.PageReply.{Shows, Poison}
 use Rattle.outcomes.specs.Blocks.{BlockRead, BlockReply}
 use Rattle.outcomes.specs.Blocks.BlockReply.{Shows as ShowsBlock, Scar as TellsScar, BadLine as TellsBadLine}
+use Rattle.outcomes.specs.Files.{FileRead}
 use Rattle.outcomes.specs.Seen.{Seen}
-use Rattle.outcomes.specs.Seen.Seen.{of_volume, of_blocks}
+use Rattle.outcomes.specs.Seen.Seen.{of_blocks, of_file, of_volume}
 use Rattle.witnesses.specs.declared.line_kept.LineLeft.{LineLeft}
 use Rattle.witnesses.specs.declared.line_kept.LineLeft.TheVariants as left
 use Rattle.witnesses.specs.declared.line_kept.LineKept.{LineKept}
 use Rattle.witnesses.specs.declared.block_kept.BlockKept.{BlockKept}
+use Rattle.witnesses.specs.declared.file_kept.FileLineKept.{FileLineKept}
 use Rattle.witnesses.specs.declared.kept.Kept.{Kept}
 
 -- the 64 bytes of eight words
@@ -36,5 +38,9 @@ line_told kept = record { start = 64 * kept.number; len = 64; reply = line_reply
 abbrev pub block_told : BlockKept → BlockRead
 block_told kept = record { first = kept.number; count = 1; reply = block_reply kept.number kept.block }
 
+abbrev pub file_told : FileLineKept → FileRead
+file_told kept = record { name = kept.name; pages = record { start = 64 * kept.number; len = 64; reply = line_reply kept.number kept.left } }
+
 abbrev pub told : Kept → List Seen
-told kept = map (λ k. of_volume (line_told k)) kept.lines.items ++ map (λ k. of_blocks (block_told k)) kept.blocks.items
+told kept =
+    map (λ k. of_volume (line_told k)) kept.lines.items ++ (map (λ k. of_blocks (block_told k)) kept.blocks.items ++ map (λ k. of_file (file_told k)) kept.files.items)

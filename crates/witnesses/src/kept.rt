@@ -1,4 +1,5 @@
 use crate::block_kept::BlockKept;
+use crate::file_kept::FileLineKept;
 use crate::line_kept::LineKept;
 
 /// What a cut leaves of all lines and blocks that a question looks at, in the order in which its reads look.
@@ -6,4 +7,5 @@ use crate::line_kept::LineKept;
 pub struct Kept {
     pub lines: Vec<LineKept>,
     pub blocks: Vec<BlockKept>,
+    pub files: Vec<FileLineKept>,
 }

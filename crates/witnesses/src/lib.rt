@@ -1,11 +1,21 @@
-//! How a cut may leave what a question asks: which word keeps which value, which line is bad, and what each block has.
+//! How a cut may leave what a question asks: which word of the volume and of files keeps which value, which line is bad, and
+//! what each block has.
 #![tactic(auto)]
 
+mod asked;
+mod asking;
+mod block_keeping;
 mod block_kept;
 mod block_text;
+mod file_keeping;
+mod file_kept;
+mod file_lines;
+#[cfg(test)]
+mod file_tests;
 mod keeping;
 mod kept;
 mod laws;
+mod line_keeping;
 mod line_kept;
 mod line_text;
 mod staying;
@@ -15,8 +25,9 @@ mod text;
 mod words;
 
 pub use block_kept::BlockKept;
+pub use file_kept::FileLineKept;
 pub use keeping::keep;
 pub use kept::Kept;
-pub use laws::worked_witnesses;
+pub use laws::{worked_file_witnesses, worked_witnesses};
 pub use line_kept::{LineKept, LineLeft};
 pub use text::kept_text;

@@ -1,58 +1,87 @@
-// The text of a line that is kept.
-ghost use Rattle.std.specs.Prelude.{◌≡◌, ◌+◌, ◌*◌, ◌<◌, ◌++◌, ◌^◌, OnOk, flat_map, false, slice_index_or};
-ghost use Rattle.std.specs.List.{list_any, range_with_len};
-ghost use Rattle.nvm_model.specs.Numbered.{is_among};
-ghost use Rattle.asked_reads.specs.Reads.{page_reply, pages_asked};
-ghost use Rattle.witnesses.specs.Texts.{asked_text, asks_word, bad_text, is_asked, line_text, word_text};
+// The text of a line that is kept, of the volume or of a file.
+ghost use Rattle.std.specs.Prelude.{◌≡◌, ◌<◌, ◌++◌, ◌^◌, OnOk, flat_map, false, slice_index_or};
+ghost use Rattle.std.specs.List.{range_with_len};
+ghost use Rattle.asked_reads.specs.Reads.{file_reads_asked, pages_asked};
+ghost use Rattle.witnesses.specs.Asked.{head_of, reads_in};
+ghost use Rattle.witnesses.specs.Texts.{asked_text, bad_text, file_line_text, left_text, line_text, word_text};
 
+use crate::asked::Asked;
+use crate::file_kept::FileLineKept;
 use crate::line_kept::{LineKept, LineLeft};
-use asked_reads::{PageRead, PageReply};
+use asked_reads::{FileRead, PageRead};
 use nvm_base::{Bytes, print_bytes, print_number};
-use sights::is_among;
 use std::alloc::AllocError;
 
 /// Appends that the line is bad, or each of its words that is asked, where it could be otherwise.
 pub fn print_line(reads: &[PageRead], kept: &LineKept, out: &mut Bytes) -> Result<(), AllocError>
     ensures { OnOk result (out.new.items ≡ out.old.items ++ line_text (pages_asked reads.now) kept.now) }
 {
-    match &kept.left {
+    let asked = Asked::OfVolume(reads);
+    print_left(&asked, kept.number, &kept.left, &kept.free, out)
+}
+
+/// The same of a line of a file.
+pub fn print_file_line(
+    reads: &[FileRead],
+    kept: &FileLineKept,
+    out: &mut Bytes,
+) -> Result<(), AllocError>
+    ensures { OnOk result (out.new.items ≡ out.old.items ++ file_line_text (file_reads_asked reads.now) kept.now) }
+{
+    let asked = Asked::OfFile(reads, &kept.name);
+    let n = u64::from(kept.number);
+    print_left(&asked, n, &kept.left, &kept.free, out)
+}
+
+fn print_left(
+    asked: &Asked<'_>,
+    n: u64,
+    left: &LineLeft,
+    free: &[bool; 8],
+    out: &mut Bytes,
+) -> Result<(), AllocError>
+    requires { n < 2 ^ 32 }
+    ensures { OnOk result (out.new.items ≡ out.old.items ++ left_text (head_of asked.now) (reads_in asked.now) n free.now left.now) }
+{
+    match left {
         LineLeft::Bad => {
-            if kept.free[0] {
-                print_bad(kept.number, out)?;
+            if free[0] {
+                print_bad(asked, n, out)?;
             }
             Ok(())
         }
-        LineLeft::Words(words) => print_words(reads, kept.number, words, &kept.free, out),
+        LineLeft::Words(words) => print_words(asked, n, words, free, out),
     }
 }
 
-fn print_bad(n: u64, out: &mut Bytes) -> Result<(), AllocError>
+fn print_bad(asked: &Asked<'_>, n: u64, out: &mut Bytes) -> Result<(), AllocError>
     requires { n < 2 ^ 32 }
-    ensures { OnOk result (out.new.items ≡ out.old.items ++ bad_text n) }
+    ensures { OnOk result (out.new.items ≡ out.old.items ++ bad_text (head_of asked.now) n) }
 {
-    out.extend(b" | volume ")?;
+    asked.print_head(out)?;
     print_number(64 * n, out)?;
     out.extend(b" poison")
 }
 
 fn print_words(
-    reads: &[PageRead],
+    asked: &Asked<'_>,
     n: u64,
     words: &[u64; 8],
     free: &[bool; 8],
     out: &mut Bytes,
 ) -> Result<(), AllocError>
     requires { n < 2 ^ 32 }
-    ensures { OnOk result (out.new.items ≡ out.old.items ++ flat_map (λ w. asked_text (pages_asked reads.now) n words.now w (slice_index_or free.now w false)) (range_with_len 0 8)) }
+    ensures { OnOk result (out.new.items ≡ out.old.items
+        ++ flat_map (λ w. asked_text (head_of asked.now) (reads_in asked.now) n words.now w (slice_index_or free.now w false)) (range_with_len 0 8)) }
 {
     for w in 0..8_u64 {
-        print_asked(reads, n, words, w, free[w as usize], out)?;
+        print_asked(asked, n, words, w, free[w as usize], out)?;
     }
     Ok(())
 }
 
 fn print_asked(
-    reads: &[PageRead],
+    asked: &Asked<'_>,
     n: u64,
     words: &[u64; 8],
     w: u64,
@@ -61,47 +90,27 @@ fn print_asked(
 ) -> Result<(), AllocError>
     requires line { n < 2 ^ 32 }
     requires word { w < 8 }
-    ensures { OnOk result (out.new.items ≡ out.old.items ++ asked_text (pages_asked reads.now) n words.now w free) }
+    ensures { OnOk result (out.new.items ≡ out.old.items ++ asked_text (head_of asked.now) (reads_in asked.now) n words.now w free) }
 {
-    if free && is_asked(reads, 8 * n + w) {
-        print_word(n, words[w as usize], w, out)?;
+    if free && asked.asks(8 * n + w) {
+        print_word(asked, n, words[w as usize], w, out)?;
     }
     Ok(())
 }
 
-fn print_word(n: u64, value: u64, w: u64, out: &mut Bytes) -> Result<(), AllocError>
+fn print_word(
+    asked: &Asked<'_>,
+    n: u64,
+    value: u64,
+    w: u64,
+    out: &mut Bytes,
+) -> Result<(), AllocError>
     requires line { n < 2 ^ 32 }
     requires word { w < 8 }
-    ensures { OnOk result (out.new.items ≡ out.old.items ++ word_text n value w) }
+    ensures { OnOk result (out.new.items ≡ out.old.items ++ word_text (head_of asked.now) n value w) }
 {
-    out.extend(b" | volume ")?;
+    asked.print_head(out)?;
     print_number(64 * n + 8 * w, out)?;
     out.push(b' ')?;
     print_bytes(&value.to_le_bytes(), out)
-}
-
-// Whether some read asks about word p.
-fn is_asked(reads: &[PageRead], p: u64) -> bool
-    requires { p < 2 ^ 36 }
-    ensures { result ≡ is_asked (pages_asked reads.now) p }
-{
-    reads.iter().any(|read| asks_word(read, p))
-}
-
-fn asks_word(read: &PageRead, p: u64) -> bool
-    requires { p < 2 ^ 36 }
-    ensures { result ≡ asks_word p read.now.start read.now.len (page_reply read.now.reply) }
-{
-    match &read.reply {
-        PageReply::Shows(_) | PageReply::Poison(_) => reaches(read.start, read.len, p),
-        PageReply::Refuses(_) => false,
-    }
-}
-
-// Whether a byte of word p is one of so many from this one on.
-fn reaches(start: u64, len: u64, p: u64) -> bool
-    requires { p < 2 ^ 36 }
-    ensures { result ≡ list_any (is_among start len) (range_with_len (8 * p) 8) }
-{
-    (8 * p..8 * p + 8).any(|i| is_among(start, len, i))
 }

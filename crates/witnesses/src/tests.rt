@@ -1,4 +1,5 @@
 // Where there is memory, words keep a value on which all reads agree, and what is kept is told.
+use crate::asked::Asked;
 use crate::block_kept::BlockKept;
 use crate::keeping::keep;
 use crate::kept::Kept;
@@ -7,9 +8,10 @@ use crate::text::kept_text;
 use crate::words::{free_words, line_left};
 use asked_reads::{PageRead, PageReply, Question};
 use block_sights::{HeldBlock, Unreadable};
+use cut_places::Sight;
+use file_sights::FilesSeen;
 use line_histories::HeldLine;
 use nvm_base::Bytes;
-use cut_places::Sight;
 use sights::{LineSeen, may_be_replies};
 use std::test::Fail;
 use word_tables::Geometry;
@@ -28,17 +30,17 @@ fn a_word_keeps_the_value_that_is_read(rt: HostRuntime) -> Result<(), Fail> {
         len: 1,
         reply: PageReply::Shows(bytes),
     };
-    let left = line_left(&[read], 0, &line);
+    let left = line_left(&Asked::OfVolume(&[read]), 0, &line);
     assert_eq!(rt;
         left,
         LineLeft::Words([0x0202_0202_0202_0202, 0, 0, 0, 0, 0, 0, 0])
     );
     assert_eq!(rt;
-        free_words(&line, &line, &left),
+        free_words(Some(&line), Some(&line), &left),
         [true, true, false, false, false, false, false, false]
     );
     line.lose();
-    assert_eq!(rt; line_left(&[], 0, &line), LineLeft::Bad);
+    assert_eq!(rt; line_left(&Asked::OfVolume(&[]), 0, &line), LineLeft::Bad);
     Ok(())
 }
 
@@ -73,8 +75,18 @@ fn what_is_kept_is_told_once(rt: HostRuntime) -> Result<(), Fail> {
     let question = Question {
         volume,
         blocks: Vec::new(alloc),
+        files: Vec::new(alloc),
     };
-    let text = kept_text(alloc, &question, &Kept { lines, blocks })?;
+    let files = Vec::new(alloc);
+    let text = kept_text(
+        alloc,
+        &question,
+        &Kept {
+            lines,
+            blocks,
+            files,
+        },
+    )?;
     let told = b" | volume 64 07,00*7 | volume 128 poison | block 3 poison 2";
     assert_eq!(rt; text.as_slice(), told.as_slice());
     Ok(())
@@ -99,6 +111,7 @@ fn a_cut_keeps_what_is_asked(rt: HostRuntime) -> Result<(), Fail> {
     let question = Question {
         volume,
         blocks: Vec::new(alloc),
+        files: Vec::new(alloc),
     };
     let mut line = HeldLine::zeros(alloc);
     line.put(0, 0, &[1])?;
@@ -107,6 +120,7 @@ fn a_cut_keeps_what_is_asked(rt: HostRuntime) -> Result<(), Fail> {
     let sight = Sight {
         lines,
         blocks: Vec::new(alloc),
+        files: FilesSeen::new(alloc, Vec::new(alloc)),
     };
     assert!(rt; geometry.valid() && may_be_replies(&question, geometry) && sight.shows(&question));
     let kept = keep(alloc, &question, &sight, geometry, None)?;

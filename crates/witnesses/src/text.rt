@@ -1,25 +1,27 @@
 // What is kept, as it is printed behind an answer.
 ghost use Rattle.std.specs.Prelude.{◌≡◌, ◌++◌, IfOk, OnOk};
-ghost use Rattle.asked_reads.specs.Asking.{volume_asked};
-ghost use Rattle.asked_reads.specs.Reads.{pages_asked};
-ghost use Rattle.witnesses.specs.Texts.{block_text, blocks_text, kept_text, line_text, lines_text, number_of_block, number_of_line, unless_told};
+ghost use Rattle.asked_reads.specs.Asking.{files_asked, volume_asked};
+ghost use Rattle.asked_reads.specs.Reads.{file_reads_asked, pages_asked};
+ghost use Rattle.witnesses.specs.Texts.{block_text, blocks_text, file_line_text, files_text, kept_text, line_text, lines_text, same_block, same_file_line, same_line, unless_told};
 
 use crate::block_kept::BlockKept;
 use crate::block_text::print_block;
+use crate::file_kept::FileLineKept;
 use crate::kept::Kept;
 use crate::line_kept::LineKept;
-use crate::line_text::print_line;
-use asked_reads::{PageRead, Question};
+use crate::line_text::{print_file_line, print_line};
+use asked_reads::{FileRead, PageRead, Question};
 use nvm_base::Bytes;
 use std::alloc::{AllocError, Global};
 
 /// Each word that the question asks about and could be otherwise, each such bad line and block, once.
 pub fn kept_text(alloc: Global, question: &Question, kept: &Kept) -> Result<Bytes, AllocError>
-    ensures { IfOk result (λ text. text.items ≡ kept_text (volume_asked question.now) kept.now) }
+    ensures { IfOk result (λ text. text.items ≡ kept_text (volume_asked question.now) (files_asked question.now) kept.now) }
 {
     let mut out = Bytes::new(alloc);
     print_lines(&question.volume, &kept.lines, &mut out)?;
     print_blocks(&kept.blocks, &mut out)?;
+    print_files(&question.files, &kept.files, &mut out)?;
     Ok(out)
 }
 
@@ -39,7 +41,7 @@ fn print_new_line(
     line: &LineKept,
     out: &mut Bytes,
 ) -> Result<(), AllocError>
-    ensures { OnOk result (out.new.items ≡ out.old.items ++ unless_told number_of_line (line_text (pages_asked reads.now)) before.now line.now) }
+    ensures { OnOk result (out.new.items ≡ out.old.items ++ unless_told same_line (line_text (pages_asked reads.now)) before.now line.now) }
 {
     if before.iter().any(|other| other.number == line.number) {
         return Ok(());
@@ -62,10 +64,38 @@ fn print_new_block(
     unit: &BlockKept,
     out: &mut Bytes,
 ) -> Result<(), AllocError>
-    ensures { OnOk result (out.new.items ≡ out.old.items ++ unless_told number_of_block block_text before.now unit.now) }
+    ensures { OnOk result (out.new.items ≡ out.old.items ++ unless_told same_block block_text before.now unit.now) }
 {
     if before.iter().any(|other| other.number == unit.number) {
         return Ok(());
     }
     print_block(unit, out)
+}
+
+fn print_files(
+    reads: &[FileRead],
+    lines: &[FileLineKept],
+    out: &mut Bytes,
+) -> Result<(), AllocError>
+    ensures { OnOk result (out.new.items ≡ out.old.items ++ files_text (file_reads_asked reads.now) lines.now) }
+{
+    for (i, line) in lines.iter().enumerate() {
+        print_new_file_line(reads, &lines[..i], line, out)?;
+    }
+    Ok(())
+}
+
+// And such a line of the same file.
+fn print_new_file_line(
+    reads: &[FileRead],
+    before: &[FileLineKept],
+    line: &FileLineKept,
+    out: &mut Bytes,
+) -> Result<(), AllocError>
+    ensures { OnOk result (out.new.items ≡ out.old.items ++ unless_told same_file_line (file_line_text (file_reads_asked reads.now)) before.now line.now) }
+{
+    if before.iter().any(|other| other.number == line.number && other.name == line.name) {
+        return Ok(());
+    }
+    print_file_line(reads, line, out)
 }

@@ -1,13 +1,28 @@
-use Rattle.std.proofs.Common.{map}
+use Rattle.std.proofs.Common.{List, map}
+use Rattle.outcomes.specs.Finds.{armed}
+use Rattle.outcomes.specs.Seen.{Seen}
 use Rattle.asked_reads.specs.Program.{asks_for}
+use Rattle.explorer.proofs.PerformLemmas.{ready_armed}
 use Rattle.program_base.specs.Opening.{opened}
 use Rattle.nvmexplore.proofs.BeginLemmas.{kept_opened}
 use Rattle.nvmexplore.proofs.FoundLemmas.{are_theorems}
 use Rattle.nvmexplore.proofs.ProgramLemmas.{taken_bring}
+use Rattle.nvmexplore.proofs.TableLemmas.{sound_armed, tells_runs}
 use Rattle.nvmexplore.proofs.laws.answers_are_theorems.Goals as goal
 
 pub returns : goal.returns
 returns c = λ lines script e right is program.
     let kept = kept_opened c.runs_keep_states.ensures.mounted lines right in
-    are_theorems (opened lines) (map asks_for e.program)
-    (λ look. c.the_test_tells_what_is_found.ensures.states (opened lines) (map asks_for e.program) look kept.0 kept.1 program (taken_bring script e (c.scripts_bring_right.ensures script) is))
+    let tells = λ (look : List Seen). c.the_test_tells_what_is_found.ensures.states (opened lines) (map asks_for e.program) look kept.0 kept.1 program (taken_bring script e (c.scripts_bring_right.ensures script) is) in
+    let sound = c.each_place_is_sound.ensures 1 (armed (opened lines)) (map asks_for e.program) (ready_armed (opened lines) kept.0) (sound_armed (opened lines) kept.0 kept.1) program in
+    let lists = c.a_value_is_listed_where_it_may_be_shown.ensures in
+    are_theorems (opened lines) (map asks_for e.program) tells
+    (tells_runs (opened lines) (map asks_for e.program) tells sound (record {
+      words = lists.words;
+      poison = lists.poison;
+      blocks = lists.blocks;
+      missing = lists.missing;
+      range = lists.range;
+      file_words = lists.file_words;
+      file_poison = lists.file_poison;
+    }))

@@ -1,9 +1,9 @@
 use Rattle.std.proofs.Common.{◌≡◌, ◌++◌, [], drop, take}
 use Rattle.asked_reads.specs.Reads.{pages_asked}
-use Rattle.witnesses.specs.Texts.{line_text, number_of_line, texts_once}
+use Rattle.witnesses.specs.Texts.{line_text, same_line, texts_once}
 use Rattle.witnesses.proofs.text.print_lines.Given as goal
 
 abbrev pub invariant-loop-i : goal.invariant-loop-i
 invariant-loop-i l =
-    l.out.items ++ texts_once number_of_line (line_text (pages_asked l.reads)) (take l.i l.lines) (drop l.i l.lines)
-    ≡ l.fn.out.items ++ texts_once number_of_line (line_text (pages_asked l.reads)) [] l.lines
+    l.out.items ++ texts_once same_line (line_text (pages_asked l.reads)) (take l.i l.lines) (drop l.i l.lines)
+    ≡ l.fn.out.items ++ texts_once same_line (line_text (pages_asked l.reads)) [] l.lines

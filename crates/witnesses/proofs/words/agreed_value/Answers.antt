@@ -5,13 +5,13 @@ use Rattle.std.proofs.lemmas.Iterator.{YieldsList-from_slice}
 use Rattle.std.proofs.lemmas.Iterator.Search.{find_from_yields_List}
 use Rattle.line_histories.specs.declared.log.Stored.{Stored}
 use Rattle.outcomes.specs.Pages.{all_agree}
-use Rattle.asked_reads.specs.Reads.{pages_asked}
+use Rattle.witnesses.specs.Asked.{reads_in}
 use Rattle.witnesses.proofs.ValueLemmas.{agreed_by, value_of}
 use Rattle.witnesses.proofs.words.agreed_value.Goals as goal
 
 pub returns-in-Some : goal.returns-in-Some
 returns-in-Some c =
-    let reads = pages_asked c.args.reads.now in
+    let reads = reads_in c.args.asked.now in
     let p = 8 * c.args.n + c.args.w in
     let w = c.args.w in
     let log = c.values-durable.result.1.now in
@@ -22,7 +22,7 @@ returns-in-Some c =
 
 pub returns-in-None : goal.returns-in-None
 returns-in-None c =
-    let reads = pages_asked c.args.reads.now in
+    let reads = reads_in c.args.asked.now in
     let p = 8 * c.args.n + c.args.w in
     let w = c.args.w in
     let log = c.values-durable.result.1.now in

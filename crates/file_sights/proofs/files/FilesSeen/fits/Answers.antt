@@ -1,6 +1,6 @@
-use Rattle.std.proofs.Common.{◌≡◌, sym, ap, ◌∙◌}
+use Rattle.std.proofs.Common.{sym, ap, ◌∙◌}
 use Rattle.asked_reads.specs.Reads.{file_reads_asked}
-use Rattle.file_sights.specs.Fitting.{fit_now, now_fits, reads_pass}
+use Rattle.file_sights.specs.Fitting.{now_fits, reads_pass}
 use Rattle.file_sights.specs.State.{FilesState}
 use Rattle.file_sights.proofs.InsideLemmas.{now_same}
 use Rattle.file_sights.proofs.files.FilesSeen.fits.Goals as goal

@@ -7,7 +7,7 @@ use Rattle.asked_reads.specs.declared.reads.PageRead.{PageRead as Asked}
 use Rattle.outcomes.specs.Pages.{PageRead}
 use Rattle.witnesses.specs.Texts.{asks_word}
 use Rattle.witnesses.proofs.ListLemmas.{any_map}
-use Rattle.witnesses.proofs.line_text.is_asked.Goals as goal
+use Rattle.witnesses.proofs.asked.is_asked.Goals as goal
 
 pub returns : goal.returns
 returns c =

@@ -3,7 +3,7 @@ use Rattle.std.proofs.Common.{◌+◌, ◌*◌, refl, arith, rules, tests}
 use Rattle.std.proofs.lemmas.Iterator.{YieldsList-from_range}
 use Rattle.std.proofs.lemmas.Iterator.Search.{any_from_yields_List}
 use Rattle.nvm_model.specs.Numbered.{is_among}
-use Rattle.witnesses.proofs.line_text.reaches.Goals as goal
+use Rattle.witnesses.proofs.asking.reaches.Goals as goal
 
 pub returns : goal.returns
 returns c =

@@ -10,7 +10,7 @@ use Rattle.sights.specs.Ways.{lines_way}
 use Rattle.witnesses.specs.Leaving.{stays}
 use Rattle.witnesses.specs.Lines.{kept_line, line_kept, line_made}
 use Rattle.witnesses.proofs.ListLemmas.{pushed}
-use Rattle.witnesses.proofs.keeping.keep_lines.Goals as goal
+use Rattle.witnesses.proofs.line_keeping.keep_lines.Goals as goal
 
 pub loop-seen-preserved : goal.loop-seen-preserved
 loop-seen-preserved c =

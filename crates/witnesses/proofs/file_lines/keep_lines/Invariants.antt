@@ -1,0 +1,10 @@
+use Rattle.std.proofs.Common.{◌≡◌, ◌++◌, map}
+use Rattle.std.specs.List.{range_with_len}
+use Rattle.std.specs.Option.{option_copied}
+use Rattle.asked_reads.specs.Reads.{file_reads_asked}
+use Rattle.witnesses.specs.Files.{line_kept_of}
+use Rattle.witnesses.proofs.file_lines.keep_lines.Given as goal
+
+abbrev pub invariant-loop-k : goal.invariant-loop-k
+invariant-loop-k l =
+    l.kept.items ≡ l.fn.kept.items ++ map (λ n. line_kept_of (file_reads_asked l.reads) l.name n (option_copied l.now) (option_copied l.made) (option_copied l.left)) (range_with_len l.lines.start l.k)

@@ -1,0 +1,59 @@
+-- What is kept of the lines of files.
+use Rattle.std.specs.Prelude.{◌/◌, ℕ, List, flat_map, map, nat_lt, replicate, Option, Some, None, option_map, if◌then◌else◌}
+use Rattle.nvm_model.specs.Cell.{Cell}
+use Rattle.nvm_model.specs.Listing.{file_of}
+use Rattle.script_text.specs.Action.{Action}
+use Rattle.outcomes.specs.Files.{FileRead, reads_of}
+use Rattle.outcomes.specs.Pages.{PageRead, lines_read}
+use Rattle.file_sights.specs.Commands.{files_change}
+use Rattle.file_sights.specs.Finding.{line_held}
+use Rattle.file_sights.specs.Leaving.{files_left}
+use Rattle.file_sights.specs.State.{FileState, FilesState, name_seen}
+use Rattle.cut_places.specs.Sights.{files_once_done}
+use Rattle.witnesses.specs.declared.file_kept.FileLineKept.{FileLineKept}
+use Rattle.witnesses.specs.declared.line_kept.LineLeft.{LineLeft}
+use Rattle.witnesses.specs.declared.line_kept.LineLeft.TheVariants as left
+use Rattle.witnesses.specs.Leaving.{made_by}
+use Rattle.witnesses.specs.Lines.{free_words, left_of}
+
+-- line n of a file, if there is one
+abbrev pub line_there : ℕ → Option FileState → Option Cell
+line_there n None = None
+line_there n (Some file) = if nat_lt (n / 64) file.pages then line_held n file.lines else None
+
+-- as reads may find it; one that is not held is taken for one of zeros
+abbrev pub left_at : List PageRead → ℕ → Option Cell → LineLeft
+left_at reads n None = left.Words (replicate 8 0)
+left_at reads n (Some cell) = left_of reads n cell
+
+-- the files once the command is done, if there is one, and as the cut leaves them
+abbrev pub files_made : Option Action → FilesState → FilesState
+files_made inside s = made_by files_once_done inside s
+
+abbrev pub left_there : Option Action → List FileRead → FilesState → FilesState
+left_there inside reads s = files_left (option_map (files_change s.mappings.mappings) inside) reads s
+
+-- what is kept of line n of a file, which is now so, is made so, and is left so
+abbrev pub line_kept_of : List FileRead → List ℕ → ℕ → Option FileState → Option FileState → Option FileState → FileLineKept
+line_kept_of reads name n now made file =
+    let kept = left_at (reads_of name reads) n (line_there n file) in
+    record { name = name; number = n; left = kept; free = free_words (line_there n now) (line_there n made) kept }
+
+-- and of each line that a read looks at
+abbrev pub read_kept : List FileRead → FilesState → FilesState → FilesState → FileRead → List FileLineKept
+read_kept reads now made file r =
+    map (λ n. line_kept_of reads r.name n (file_of name_seen r.name now.files) (file_of name_seen r.name made.files) (file_of name_seen r.name file.files))
+    (lines_read r.pages.start r.pages.len r.pages.reply)
+
+abbrev pub files_kept : Option Action → List FileRead → FilesState → List FileLineKept
+files_kept inside reads s = flat_map (read_kept reads s (files_made inside s) (left_there inside reads s)) reads
+
+-- which lines of which files: those that are kept, and those that reads look at
+abbrev pub place_of : FileLineKept → List ℕ × ℕ
+place_of kept = (kept.name, kept.number)
+
+abbrev pub places_of : List FileLineKept → List (List ℕ × ℕ)
+places_of lines = map place_of lines
+
+abbrev pub places_read : List FileRead → List (List ℕ × ℕ)
+places_read reads = flat_map (λ (r : FileRead). map (λ n. (r.name, n)) (lines_read r.pages.start r.pages.len r.pages.reply)) reads

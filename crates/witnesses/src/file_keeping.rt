@@ -1,0 +1,81 @@
+// What a cut keeps of files, where it may leave what a question asks.
+ghost use Rattle.std.specs.Prelude.{◌≡◌, ◌++◌, IfOk, OnOk, option_map, true};
+ghost use Rattle.std.specs.List.{list_all};
+ghost use Rattle.std.specs.Option.{option_copied};
+ghost use Rattle.script_text.specs.Action.{action_of};
+ghost use Rattle.asked_reads.specs.Asking.{may_be_file_reply};
+ghost use Rattle.asked_reads.specs.Program.{IsBounded};
+ghost use Rattle.asked_reads.specs.Reads.{file_read, file_reads_asked};
+ghost use Rattle.witnesses.specs.Files.{files_kept, files_made, read_kept};
+
+use crate::file_kept::FileLineKept;
+use crate::file_lines::keep_lines;
+use asked_reads::{FileRead, PageReply};
+use file_sights::FilesSeen;
+use nvm_base::Span;
+use script_text::Command;
+use std::alloc::{AllocError, Global};
+
+/// What is kept of each line that a read looks at which is not refused, read by read.
+pub fn keep_files(
+    alloc: Global,
+    reads: &[FileRead],
+    now: &FilesSeen,
+    inside: Option<&Command>,
+) -> Result<Vec<FileLineKept>, AllocError>
+    requires bounded { IsBounded (option_copied inside) }
+    requires replies { list_all may_be_file_reply (file_reads_asked reads.now) ≡ true }
+    ensures { IfOk result (λ kept. kept.items ≡ files_kept (option_map action_of (option_copied inside.entry)) (file_reads_asked reads.now) now.now) }
+{
+    let made = make_files(now, inside)?;
+    let left = now.leave(reads, inside)?;
+    let mut kept = Vec::new(alloc);
+    for read in reads {
+        keep_read(reads, read, now, &made, &left, &mut kept)?;
+    }
+    Ok(kept)
+}
+
+// The files once the command is done, or the same where there is none.
+fn make_files(now: &FilesSeen, inside: Option<&Command>) -> Result<FilesSeen, AllocError>
+    requires bounded { IsBounded (option_copied inside) }
+    ensures { IfOk result (λ made. made ≡ files_made (option_map action_of (option_copied inside.entry)) now.now) }
+{
+    let mut made = now.duplicate()?;
+    if let Some(command) = inside {
+        made.change(command)?;
+    }
+    Ok(made)
+}
+
+fn keep_read(
+    reads: &[FileRead],
+    read: &FileRead,
+    now: &FilesSeen,
+    made: &FilesSeen,
+    left: &FilesSeen,
+    kept: &mut Vec<FileLineKept>,
+) -> Result<(), AllocError>
+    requires { may_be_file_reply (file_read read.now) ≡ true }
+    ensures { OnOk result (kept.new.items ≡ kept.old.items ++ read_kept (file_reads_asked reads.now) now.now made.now left.now (file_read read.now)) }
+{
+    match &read.pages.reply {
+        PageReply::Shows(_) | PageReply::Poison(_) => {
+            let name = &read.name;
+            let span = Span {
+                start: read.pages.start,
+                len: read.pages.len,
+            };
+            keep_lines(
+                reads,
+                name,
+                span,
+                now.find(name),
+                made.find(name),
+                left.find(name),
+                kept,
+            )
+        }
+        PageReply::Refuses(_) => Ok(()),
+    }
+}
