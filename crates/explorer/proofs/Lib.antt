@@ -6,3 +6,6 @@ pub mod CauseLemmas
 pub mod UntoldLemmas
 pub mod FoundLemmas
 pub mod LookingLemmas
+pub mod FileListLemmas
+pub mod NumberLemmas
+pub mod FileLookLemmas

@@ -160,7 +160,7 @@ unfolding look
 look_is pages n bytes size each =
     sym (list_from-is (byte_in pages) (64 * n) bytes (λ k lt. each k (omega (arith, lt, size))) ∙ ap (list_from (byte_in pages) (64 * n)) size)
 
-length-look : (pages : List Page) (at count : ℕ) → length (look pages at count) ≡ count
+pub length-look : (pages : List Page) (at count : ℕ) → length (look pages at count) ≡ count
 unfolding look
 length-look pages at count = length-list_from (byte_in pages) at count
 
@@ -178,7 +178,7 @@ module _ (pages : List Page) (n : ℕ) where
           ∙ none_found (λ m. is_bad_cell (cell_of pages m)) (64 * n / 64) ((64 * n + 64 - 1) / 64 + 1 - 64 * n / 64) 0 is (omega arith)
       by_place (Some k) is none = cc none
 
-  line_bad : (m : ℕ) → first_bad_line pages (64 * n) 64 ≡ Some m → is_bad_cell (cell_of pages n) ≡ true
+  pub line_bad : (m : ℕ) → first_bad_line pages (64 * n) 64 ≡ Some m → is_bad_cell (cell_of pages n) ≡ true
   unfolding first_bad_line
   line_bad m found = by_place (position (λ m. is_bad_cell (cell_of pages m)) (range_with_len (64 * n / 64) ((64 * n + 64 - 1) / 64 + 1 - 64 * n / 64))) refl found
     where
@@ -196,7 +196,7 @@ unfolding word_from
 zero_words = refl
 
 -- a line that is shown is of the bytes that are read of it
-shown_line : (pages : List Page) (n : ℕ) (weak : Bool) → AreDurable pages → first_bad_line pages (64 * n) 64 ≡ None → weak ≡ is_weak_cell (seen pages n)
+pub shown_line : (pages : List Page) (n : ℕ) (weak : Bool) → AreDurable pages → first_bad_line pages (64 * n) 64 ≡ None → weak ≡ is_weak_cell (seen pages n)
     → Kept weak (list_from (λ w. word_at (look pages (64 * n) 64) w ∷ []) 0 8) ≡ seen pages n
 shown_line pages n weak durable none marked = by_cell (cell_of pages n) refl
   where
@@ -243,7 +243,7 @@ poisoned_bad h at len offset on is =
     bad_named (most_refusal 65536 (4096 * h.geometry.vpages) at len) (first_bad_line h.volume at len) offset
     (sym (ap (λ o. first_there o (first_there placed unreadable)) usable) ∙ is)
 
-bad_seen : (pages : List Page) (n : ℕ) → is_bad_cell (cell_of pages n) ≡ true → Bad ≡ seen pages n
+pub bad_seen : (pages : List Page) (n : ℕ) → is_bad_cell (cell_of pages n) ≡ true → Bad ≡ seen pages n
 bad_seen pages n = by_cell (cell_of pages n)
   where
     by_cell : (o : Option Cell) → is_bad_cell o ≡ true → Bad ≡ or_zeros o
@@ -251,11 +251,11 @@ bad_seen pages n = by_cell (cell_of pages n)
     by_cell (Some Bad) is = refl
     by_cell (Some (Kept weak words)) is = cc is
 
-same_bytes : (a b : List ℕ) → Bytes a ≡ Bytes b → a ≡ b
+pub same_bytes : (a b : List ℕ) → Bytes a ≡ Bytes b → a ≡ b
 same_bytes a b is = cc is
 
 -- so many bytes stand at the head of the buffer
-head_of : (work bytes : List ℕ) (k size : ℕ) → k ≤ length work → take k work ≡ bytes → length bytes ≡ size → take size work ≡ bytes
+pub head_of : (work bytes : List ℕ) (k size : ℕ) → k ≤ length work → take k work ≡ bytes → length bytes ≡ size → take size work ≡ bytes
 head_of work bytes k size within is long =
     let count : k ≡ size = sym (length-take-le k work within) ∙ ap (λ (b : List ℕ). length b) is ∙ long in
     ap (λ i. take i work) (sym count) ∙ is

@@ -2,11 +2,13 @@
 use Rattle.std.proofs.Common.{◌≡◌, ◌≢◌, ◌+◌, ◌*◌, ◌/◌, ◌<◌, if◌then◌else◌, ℕ, Bool, true, false, nat_lt, Option, Some, None, option_map, List, slice_index_or, refl, sym, ap, ◌∙◌, arith}
 use Rattle.std.proofs.lemmas.Bool.{le-ltb, lt-ltb}
 use Rattle.line_device.specs.Device.{Device}
+use Rattle.nvm_base.specs.Stock.{Stock}
+use Rattle.nvm_base.specs.declared.files.FileEntry.{FileEntry}
 use Rattle.nvm_model.specs.Blocks.{first_there, look_blocks}
 use Rattle.nvm_model.specs.Page.{first_bad_line, look, presence_of}
 use Rattle.pm_volume.specs.Refusals.{poisoned_at}
 use Rattle.reply_text.specs.Answer.{Answer, answer_of}
-use Rattle.reply_text.specs.Answer.Answer.{Bytes, No, PoisonBlock, PoisonVolume, Refused as IsRefused, Scarred, Yes}
+use Rattle.reply_text.specs.Answer.Answer.{Bytes, Files, No, PoisonBlock, PoisonFile, PoisonVolume, Refused as IsRefused, Scarred, Yes}
 use Rattle.reply_text.specs.declared.reply.Reply.{Reply}
 use Rattle.reply_text.specs.declared.reply.Reply.TheVariants as reply
 use Rattle.reply_text.specs.declared.reply.Why.TheVariants as because
@@ -60,6 +62,25 @@ not_poison work (Replied r) other n is = other n (ap Replied (by_reply r is))
     by_reply : (r : Reply) → answer_of r ≡ PoisonVolume n → r ≡ reply.PoisonVolume n
     by_reply (reply.PoisonVolume k) is = let same : k ≡ n = cc is in ap reply.PoisonVolume same
     by_reply some is = cc is
+
+pub not_file_poison : (work : List ℕ) (o : Outcome) → ((name : List ℕ) (n : ℕ) → o ≢ Replied (reply.PoisonFile name n)) → (name : List ℕ) (n : ℕ) → outcome_answer work o ≢ PoisonFile name n
+not_file_poison work (Read k) other name n is = cc is
+not_file_poison work (Replied r) other name n is = other name n (ap Replied (by_reply r is))
+  where
+    by_reply : (r : Reply) → answer_of r ≡ PoisonFile name n → r ≡ reply.PoisonFile name n
+    by_reply (reply.PoisonFile text k) is =
+        let same : text ≡ name = cc is in
+        let offset : k ≡ n = cc is in
+        ap (λ x. reply.PoisonFile x k) same ∙ ap (reply.PoisonFile name) offset
+    by_reply some is = cc is
+
+pub not_listed : (work : List ℕ) (o : Outcome) → ((files : Stock FileEntry) → o ≢ Replied (reply.Files files)) → (entries : List FileEntry) → outcome_answer work o ≢ Files entries
+not_listed work (Read k) other entries is = cc is
+not_listed work (Replied r) other entries is = by_reply r refl is
+  where
+    by_reply : (some : Reply) → some ≡ r → answer_of some ≢ Files entries
+    by_reply (reply.Files files) same is = other files (ap Replied (sym same))
+    by_reply some same is = cc is
 
 not_scarred : (work : List ℕ) (o : Outcome) → ((b : ℕ) → o ≢ Replied (reply.Scarred b)) → (b : ℕ) → outcome_answer work o ≢ Scarred b
 not_scarred work (Read k) other b is = cc is

@@ -4,3 +4,4 @@ pub mod Stopping
 pub mod Performing
 pub mod Finding
 pub mod Tabulating
+pub mod Files

@@ -1,10 +1,12 @@
 // What a table looks at.
-ghost use Rattle.std.specs.Prelude.{◌++◌, ◌∷◌, [], IfOk, List, OnOk};
+ghost use Rattle.std.specs.Prelude.{◌≡◌, ◌*◌, ◌/◌, ◌++◌, ◌∷◌, [], IfOk, List, OnOk};
 ghost use Rattle.word_tables.specs.Bounds.{IsValid};
+ghost use Rattle.outcomes.specs.Pages.PageReply.{Poison};
+ghost use Rattle.asked_reads.specs.Reads.{page_read};
 ghost use Rattle.asked_reads.specs.declared.read.Read.{Read as Asked};
 ghost use Rattle.explorer.specs.Tabulating.{LooksAt};
 
-use asked_reads::{BlockRead, BlockReply, PageRead, PageReply, Question, Read};
+use asked_reads::{BlockRead, BlockReply, FileRead, PageRead, PageReply, Question, Read};
 use nvm_base::LINE;
 use std::alloc::{AllocError, Global};
 use value_tables::read_refusal;
@@ -18,6 +20,7 @@ pub fn look_at(alloc: Global, geometry: Geometry, reads: &[Read]) -> Result<Ques
     let mut question = Question {
         volume: Vec::new(alloc),
         blocks: Vec::new(alloc),
+        files: Vec::new(alloc),
     };
     for read in reads {
         add(geometry, &mut question, *read)?;
@@ -33,16 +36,27 @@ fn add(geometry: Geometry, question: &mut Question, read: Read) -> Result<(), Al
         return Ok(());
     }
     match read {
-        Read::Volume { start, len } => question.volume.push(PageRead {
-            start,
-            len,
-            reply: PageReply::Poison(start / LINE * LINE),
-        })?,
+        Read::Volume { start, len } => question.volume.push(all_lines(start, len))?,
         Read::Blocks { first, count } => question.blocks.push(BlockRead {
             first: u64::from(first),
             count,
             reply: BlockReply::Scar(u64::from(first)),
         })?,
+        Read::File { name, start, len } => question.files.push(FileRead {
+            name,
+            pages: all_lines(u64::from(start), len),
+        })?,
     }
     Ok(())
+}
+
+// A read of all these lines, of which the first may be bad.
+fn all_lines(start: u64, len: u64) -> PageRead
+    ensures { page_read result ≡ record { start = start; len = len; reply = Poison (start / 64 * 64) } }
+{
+    PageRead {
+        start,
+        len,
+        reply: PageReply::Poison(start / LINE * LINE),
+    }
 }

@@ -13,14 +13,15 @@ ghost use Rattle.explorer.specs.Stopping.{DeviceStopped, NoneFell};
 
 use crate::blocks_look::look_blocks;
 use crate::fault::ExploreFault;
+use crate::files_look::look_files;
 use crate::performing::{arm, perform};
 use crate::volume_look::look_lines;
 use asked_reads::Question;
+use cut_places::Sight;
 use line_device::LineDevice;
 use machine_host::Host;
 use nvm_base::MOST;
 use script_text::Command;
-use cut_places::Sight;
 use std::alloc::Global;
 
 /// What a question looks at before a program, and which lines of the program are done.
@@ -53,11 +54,16 @@ pub fn watch<D: LineDevice>(
     let mut work = vec![in alloc; 0u8; MOST as usize]?;
     let lines = look_lines(alloc, host, device, &question.volume, &mut work)?;
     let blocks = look_blocks(alloc, host, device, &question.blocks, &mut work)?;
+    let files = look_files(alloc, host, device, &question.files, &mut work)?;
     // From now on the power may go at any call.
     arm(host, device, &mut work)?;
     let done = perform(alloc, host, device, program, &mut work)?;
     Ok(Watched {
-        sight: Sight { lines, blocks },
+        sight: Sight {
+            lines,
+            blocks,
+            files,
+        },
         done,
     })
 }

@@ -1,0 +1,15 @@
+use Rattle.std.proofs.Common.{◌≡◌, ◌-◌, ◌≤◌, ◌<◌, ◌^◌, ℕ, true}
+use Rattle.std.specs.List.{range_with_len}
+use Rattle.outcomes.specs.Pages.{lines_read}
+use Rattle.asked_reads.specs.Reads.{page_reply}
+use Rattle.file_sights.specs.Sees.{is_held}
+use Rattle.explorer.proofs.file_numbers.add_lines.Given as goal
+
+abbrev pub invariant-loop-n : goal.invariant-loop-n
+invariant-loop-n l = record {
+  ordered : l.initial.n ≤ l.n-end;
+  small : l.n-end ≤ 2 ^ 32;
+  reads : range_with_len l.initial.n (l.n-end - l.initial.n) ≡ lines_read l.read.pages.start l.read.pages.len (page_reply l.read.pages.reply);
+  here : (n : ℕ) → l.initial.n ≤ n → n < l.n → is_held l.held.keys n ≡ true;
+  others : (n : ℕ) → is_held l.fn.held.keys n ≡ true → is_held l.held.keys n ≡ true;
+}
