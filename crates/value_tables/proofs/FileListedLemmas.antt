@@ -1,5 +1,5 @@
 -- What is listed of a word of a file is what a look of it alone may show.
-use Rattle.std.proofs.Common.{◌≡◌, ℕ, ◌+◌, ◌*◌, ◌/◌, ◌%◌, ◌<◌, ◌≤◌, ◌==◌, ◌&&◌, ◌||◌, nat_lt, Bool, true, false, cond, Option, Some, None, option_map, List, [], ◌∷◌, ◌++◌, length, map, refl, sym, ap, ◌∙◌, arith}
+use Rattle.std.proofs.Common.{◌≡◌, ℕ, ◌+◌, ◌*◌, ◌/◌, ◌%◌, ◌&&◌, ◌||◌, nat_lt, Bool, true, false, cond, Option, Some, None, option_map, List, [], ◌∷◌, ◌++◌, length, map, refl, sym, ap, ◌∙◌, arith}
 use Rattle.std.specs.List.{list_all, list_any}
 use Rattle.std.specs.Str.{bytes_eq}
 use Rattle.std.proofs.lemmas.Bool.{eq-eqb, le-ltb, lt-ltb, ltb-false, ltb-true}
@@ -15,7 +15,6 @@ use Rattle.reply_text.specs.declared.reply.Why.{Why}
 use Rattle.reply_text.specs.declared.reply.Why.TheVariants as because
 use Rattle.script_text.specs.Action.{Action}
 use Rattle.machine_host.specs.Machine.{Machine}
-use Rattle.machine_host.specs.Meaning.{most_refusal}
 use Rattle.machine_host.specs.OnPages.{pages_named}
 use Rattle.durable.specs.Durable.{AllHaveLines}
 use Rattle.durable.proofs.FileThereLemmas.{lines-named}
@@ -40,7 +39,7 @@ use Rattle.file_sights.proofs.LeftLemmas.{left_by_command, left_same}
 use Rattle.file_sights.proofs.PageChangeLemmas.{length_changed}
 use Rattle.value_tables.specs.Left.{FileSide, file_left, file_side, files_left, of_files, side_of}
 use Rattle.value_tables.specs.Left.FileSide.{NoFile, PastEnd, OfLine}
-use Rattle.value_tables.specs.Listed.{HasWords, IsSound, file_word_read, has_bytes, lists_bytes}
+use Rattle.value_tables.specs.Listed.{HasWords, file_word_read, has_bytes, lists_bytes}
 use Rattle.value_tables.specs.Values.{cells_of, history_of, is_missing, is_past, may_be_bad, word_values}
 use Rattle.value_tables.proofs.BlockLemmas.{no_line}
 use Rattle.value_tables.proofs.FileValueLemmas.{SideHasWords, sides_have}

@@ -7,7 +7,7 @@ use Rattle.nvm_model.specs.Cell.{Cell}
 use Rattle.nvm_model.specs.Listing.{AreAlike, file_name, file_of, is_named}
 use Rattle.nvm_model.specs.Storage.{File}
 use Rattle.script_text.specs.Action.{Action}
-use Rattle.machine_host.specs.Commands.{meaning, refusal, while_interrupted}
+use Rattle.machine_host.specs.Commands.{refusal, while_interrupted}
 use Rattle.machine_host.specs.Machine.{Machine}
 use Rattle.machine_host.specs.Meaning.{FilesLeft}
 use Rattle.machine_host.specs.Meaning.FilesLeft.{Unchanged, OldOrNew, StoredInPart, SyncedInPart}
@@ -24,7 +24,7 @@ use Rattle.file_sights.specs.State.{FileState, FilesState, files_after, name_see
 use Rattle.file_sights.proofs.CommandLemmas.{command_follows}
 use Rattle.file_sights.proofs.HeldLemmas.{files_follow}
 use Rattle.file_sights.proofs.LeftLemmas.{left_same}
-use Rattle.value_tables.specs.Left.{FileSide, file_left, file_side, files_left, of_files, side_of}
+use Rattle.value_tables.specs.Left.{file_left, file_side, files_left, of_files, side_of}
 use Rattle.value_tables.specs.Left.FileSide.{PastEnd, OfLine}
 use Rattle.value_tables.specs.Sides.{AreFilesLeft, new_side, side_at, side_held, side_in, where_files_mixed}
 

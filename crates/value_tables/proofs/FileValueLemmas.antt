@@ -1,6 +1,5 @@
 -- Lines of files that may be left have words, each with a value.
-use Rattle.std.proofs.Common.{◌≡◌, ℕ, zero, suc, ◌/◌, ◌≤◌, nat_lt, Bool, true, false, cond, Option, Some, None, List, [], ◌∷◌, length, slice_get, refl, sym, ap, subst, ◌∙◌}
-use Rattle.std.proofs.lemmas.Bool.{cases_Bool}
+use Rattle.std.proofs.Common.{◌≡◌, ℕ, suc, ◌/◌, ◌≤◌, nat_lt, Bool, true, false, cond, Option, Some, None, List, [], ◌∷◌, length, slice_get, refl, subst}
 use Rattle.nvm_model.specs.Cell.{Cell}
 use Rattle.nvm_model.specs.Cell.Cell.{Bad, Kept}
 use Rattle.nvm_model.specs.Listing.{file_name, file_of, is_named}
@@ -15,7 +14,7 @@ use Rattle.durable.specs.Durable.{AllHaveLines, HaveLines, IsLineThere}
 use Rattle.durable.specs.Place.{is_line_present}
 use Rattle.durable.proofs.FileThereLemmas.{lines-files_altered}
 use Rattle.durable.proofs.PresenceLemmas.{absent_line}
-use Rattle.outcomes.specs.Outcome.{AllHaveValues, HasValues, HaveValues}
+use Rattle.outcomes.specs.Outcome.{AllHaveValues, HaveValues}
 use Rattle.outcome_runs.proofs.FileValueLemmas.{files_made_have}
 use Rattle.sights.specs.Seeing.{or_zeros, seen}
 use Rattle.sights.proofs.PassLemmas.{EachUnit}

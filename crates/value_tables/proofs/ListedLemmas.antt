@@ -1,10 +1,10 @@
 -- What is listed of a word or of a block is what a look of it alone may show.
-use Rattle.std.proofs.Common.{◌≡◌, ℕ, ◌+◌, ◌-◌, ◌*◌, ◌/◌, ◌%◌, ◌<◌, ◌==◌, ◌&&◌, nat_lt, Bool, true, false, cond, Option, Some, None, List, [], ◌∷◌, ◌++◌, length, refl, sym, ap, subst, ◌∙◌, arith}
+use Rattle.std.proofs.Common.{◌≡◌, ℕ, ◌+◌, ◌-◌, ◌*◌, ◌/◌, ◌%◌, ◌<◌, ◌&&◌, Bool, true, false, cond, Option, Some, None, List, [], ◌∷◌, ◌++◌, length, refl, sym, ap, subst, ◌∙◌, arith}
 use Rattle.std.specs.List.{list_any, range_with_len}
-use Rattle.std.proofs.lemmas.Bool.{eq-eqb, le-ltb, lt-ltb}
+use Rattle.std.proofs.lemmas.Bool.{eq-eqb, le-ltb}
 use Rattle.word_tables.specs.declared.geometry.Geometry.{Geometry}
 use Rattle.nvm_model.specs.Blocks.{first_there}
-use Rattle.nvm_model.specs.Cell.{Cell, touches}
+use Rattle.nvm_model.specs.Cell.{Cell}
 use Rattle.nvm_model.specs.Page.{Page, is_bad_cell}
 use Rattle.nvm_model.specs.Storage.{Block}
 use Rattle.reply_text.specs.declared.reply.Why.TheVariants.{Range}
