@@ -1,8 +1,6 @@
 -- Reads that are seen.
-use Rattle.std.proofs.Common.{◌≡◌, ℕ, Bool, true, false, List, Option, Some, None, refl, ap, ap₂, sym}
+use Rattle.std.proofs.Common.{◌≡◌, ℕ, List, Some, refl}
 use Rattle.std.proofs.lemmas.Slice.Eq.{bytes_eq-Decides}
-use Rattle.std.specs.Prelude.{if◌then◌else◌}
-use Rattle.std.specs.Str.{bytes_eq}
 use Rattle.script_text.specs.Action.Action.{BRead, FRead, VLoad}
 use Rattle.reply_text.specs.Answer.Answer.{PoisonFile, PoisonVolume}
 use Rattle.outcomes.specs.Pages.{PageReply}

@@ -1,5 +1,5 @@
 -- What reading an exploration may give.
-use Rattle.std.specs.Prelude.{◌≡◌, List, [], ◌∷◌, map, option_map, Option, Some, None, Result, Ok, Err}
+use Rattle.std.specs.Prelude.{◌≡◌, List, [], ◌∷◌, map, option_map, Result, Ok, Err}
 use Rattle.script_text.specs.Action.{action_of}
 use Rattle.outcomes.specs.Seen.{Seen}
 use Rattle.asked_reads.specs.declared.question.Question.{Question}

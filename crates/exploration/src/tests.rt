@@ -33,6 +33,7 @@ fn files_are_asked_of_by_name(rt: HostRuntime) -> Result<(), Fail> {
     let Ok(read) = read_script(rt.alloc(), script) else {
         return Err("not taken".into());
     };
+    assert_eq!(rt; read.reads.len(), 2);
     assert!(rt;
         matches!(
             read.reads[0],

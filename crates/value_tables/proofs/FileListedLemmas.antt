@@ -155,7 +155,7 @@ module _ (name : List ℕ) (p : ℕ) (reply : PageReply) where
       ∙ by_found (file_of file_name name files) (there name files (file_of file_name name files) refl)
     where
       by_found : (o : Option File) → has_file file_name name files ≡ elim o [ None ↦ false | Some y ↦ true ]
-          → (is_reply_of (has_file file_name name files) (4096 * length (elim o [ None ↦ [] | Some file ↦ file.pages ])) read
+          → (is_reply_of (has_file file_name name files) (4096 * length {A = Page} (elim o [ None ↦ [] | Some file ↦ file.pages ])) read
           && list_all (test (elim o [ None ↦ [] | Some file ↦ file.pages ])) (all_lines_read (read ∷ [])))
           ≡ side_by test o
       by_found None has = ap (λ b. is_reply_of b 0 read && list_all (test []) (all_lines_read (read ∷ []))) has ∙ refused (test []) because.Missing reply

@@ -8,6 +8,7 @@ pub mod BlockLemmas
 pub mod FileValueLemmas
 pub mod FileListedLemmas
 pub mod RowLemmas
+pub mod AddingLemmas
 pub mod ChangedLemmas
 pub mod LookLemmas
 pub mod SideLemmas

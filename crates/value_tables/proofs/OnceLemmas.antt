@@ -16,7 +16,7 @@ or_none true b = refl
 or_none false true = refl
 or_none false false = refl
 
-or_apart : (a b c : Bool) → ((a || b) || c) ≡ (a || (b || c))
+pub or_apart : (a b c : Bool) → ((a || b) || c) ≡ (a || (b || c))
 or_apart true b c = refl
 or_apart false b c = refl
 

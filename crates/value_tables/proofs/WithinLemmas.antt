@@ -5,7 +5,7 @@ use Rattle.word_tables.specs.declared.geometry.Geometry.{Geometry}
 use Rattle.reply_text.specs.declared.reply.Why.{Why}
 use Rattle.machine_host.proofs.RefusalLemmas.{read_within}
 use Rattle.asked_reads.specs.declared.read.Read.{Read}
-use Rattle.asked_reads.specs.declared.read.Read.TheVariants.{Blocks, Volume}
+use Rattle.asked_reads.specs.declared.read.Read.TheVariants.{Blocks, File, Volume}
 use Rattle.sights.specs.declared.line_seen.LineSeen.{LineSeen}
 use Rattle.sights.specs.declared.block_seen.BlockSeen.{BlockSeen}
 use Rattle.cut_places.specs.declared.sight.Sight.{Sight}
@@ -37,10 +37,12 @@ lines_below geo (Volume start len) allowed =
     let fits = place.1 in
     range_below (64 * geo.vpages) (start / 64) ((start + len - 1) / 64 + 1 - start / 64) (omega (arith, some, fits))
 lines_below geo (Blocks first count) allowed = tt
+lines_below geo (File name start len) allowed = tt
 
 blocks_below : (geo : Geometry) (read : Read) → read_refusal geo read ≡ None → AreBelow geo.blocks (blocks_touched read)
 blocks_below geo (Volume start len) allowed = tt
 blocks_below geo (Blocks first count) allowed = range_below geo.blocks first count (read_within 128 geo.blocks first count allowed).1
+blocks_below geo (File name start len) allowed = tt
 
 all_lines : (geo : Geometry) (look : List Read) → AreBelow (64 * geo.vpages) (lines_looked_at geo look)
 all_lines geo [] = tt

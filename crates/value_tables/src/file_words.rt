@@ -64,7 +64,7 @@ fn add_new(
     p: u64,
 ) -> Result<(), AllocError>
     requires { p < 2 ^ 34 }
-    ensures { OnOk result (Adds (p % 8) (new_side (option_copied files) name.now p) values.old values.new) }
+    ensures { OnOk result (Adds (p % 8) (new_side (option_copied files.entry) name.now p) values.old values.new) }
 {
     match files {
         Some(files) => values.add(files, name, p),

@@ -8,13 +8,12 @@ use Rattle.durable.specs.Durable.{IsComplete}
 use Rattle.outcomes.specs.Files.{FileRead}
 use Rattle.outcomes.specs.Left.{files_may_pass}
 use Rattle.outcomes.specs.Pages.{lines_read}
-use Rattle.outcomes.specs.Seen.{Seen, files_may_show}
+use Rattle.outcomes.specs.Seen.{files_may_show}
 use Rattle.outcomes.specs.Seen.Seen.{of_file}
 use Rattle.file_sights.specs.Changes.{FilesChange}
 use Rattle.file_sights.specs.Changes.FilesChange.{Nothing, Makes, Removes, Renames, Resizes, Changes, Maps, Unmaps}
 use Rattle.file_sights.specs.Changes.LinesChange.{Puts, Persists, Rewrites, Zeroes, Loses, Weakens, Clears}
 use Rattle.file_sights.specs.Commands.{files_change}
-use Rattle.file_sights.specs.Fitting.{fit_now, now_fits, reads_pass}
 use Rattle.file_sights.specs.Leaving.{fit_there}
 use Rattle.file_sights.specs.Sees.{SeesFiles, are_held}
 use Rattle.file_sights.specs.State.{FileState, FilesState, name_seen}

@@ -39,14 +39,20 @@ pub pushed : {A B : Type 0} (f : A → B) (xs : List A) (i : ℕ) (x : A) (y : B
 pushed f xs i x y old new lt is was pushes made =
     pushes ∙ ap (λ ys. ys ++ y ∷ []) was ∙ ap (λ z. map f (take i xs) ++ z ∷ []) (made ∙ ap f is) ∙ sym (map-append f (take i xs) (get_or xs i x ∷ [])) ∙ sym (ap (map f) (take_more xs i x lt))
 
--- one more of them made a list
-pub appended : {A B : Type 0} (f : A → List B) (xs : List A) (i : ℕ) (x : A) (first old new : List B) → i < length xs → x ≡ get_or xs i x → old ≡ first ++ flat_map f (take i xs) → new ≡ old ++ f x
-    → new ≡ first ++ flat_map f (take (i + 1) xs)
-appended f xs i x first old new lt is was more =
-    more ∙ ap (λ ys. ys ++ f x) was ∙ append_assoc first (flat_map f (take i xs)) (f x)
+-- of items that are made something, each passes; and one more of them made a list
+pub item_passes : {A B : Type 0} (test : B → Bool) (f : A → B) (xs : List A) (i : ℕ) (x : A) → i < length xs → x ≡ get_or xs i x → list_all test (map f xs) ≡ true → test (f x) ≡ true
+item_passes test f [] i x lt is all = absurd (omega (arith, lt))
+item_passes test f (y ∷ ys) zero x lt is all = ap (λ z. test (f z)) is ∙ (and_parts (test (f y)) (list_all test (map f ys)) all).0
+item_passes test f (y ∷ ys) (suc i) x lt is all = item_passes test f ys i x (omega (arith, lt)) is (and_parts (test (f y)) (list_all test (map f ys)) all).1
+
+pub appended_of : {A B C : Type 0} (f : B → List C) (g : A → B) (xs : List A) (i : ℕ) (x : A) (first old new : List C) → i < length xs → x ≡ get_or xs i x
+    → old ≡ first ++ flat_map f (map g (take i xs)) → new ≡ old ++ f (g x) → new ≡ first ++ flat_map f (map g (take (i + 1) xs))
+appended_of f g xs i x first old new lt is was more =
+    more ∙ ap (λ ys. ys ++ f (g x)) was ∙ append_assoc first (flat_map f (map g (take i xs))) (f (g x))
     ∙ ap (λ ys. first ++ ys)
-    (ap (λ ys. flat_map f (take i xs) ++ ys) (sym (append-nil (f x)) ∙ ap (λ y. flat_map f (y ∷ [])) is)
-    ∙ sym (flat_map-append f (take i xs) (get_or xs i x ∷ [])) ∙ sym (ap (flat_map f) (take_more xs i x lt)))
+    (ap (λ ys. flat_map f (map g (take i xs)) ++ ys) (sym (append-nil (f (g x))) ∙ ap (λ y. flat_map f (g y ∷ [])) is)
+    ∙ sym (flat_map-append f (map g (take i xs)) (g (get_or xs i x) ∷ []))
+    ∙ sym (ap (flat_map f) (ap (map g) (take_more xs i x lt) ∙ map-append g (take i xs) (get_or xs i x ∷ []))))
 
 -- all twice over
 pub all_twice : {A : Type 0} (f : A → Bool) (xs : List A) → list_all f xs ≡ true → list_all f (xs ++ xs) ≡ true

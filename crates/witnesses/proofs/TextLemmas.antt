@@ -1,10 +1,10 @@
 -- Texts that are appended one behind the other.
-use Rattle.std.proofs.Common.{◌≡◌, ◌+◌, ◌<◌, ℕ, suc, Bool, List, [], ◌∷◌, ◌++◌, Result, Ok, Err, flat_map, length, take, drop, get_or, sym, ap, ◌∙◌, arith, append-nil, append_assoc}
+use Rattle.std.proofs.Common.{◌≡◌, ◌+◌, ◌<◌, ℕ, suc, Bool, List, [], ◌∷◌, ◌++◌, Result, Ok, Err, flat_map, length, map, take, drop, get_or, sym, ap, ◌∙◌, arith, append-nil, append_assoc}
 use Rattle.std.specs.List.{range_with_len}
 use Rattle.std.specs.Result.{OnOk}
 use Rattle.std.proofs.Math.Seq.{drop-cons}
 use Rattle.std.proofs.lemmas.Grind.{flat_map-append}
-use Rattle.std.proofs.lemmas.List.{take_more}
+use Rattle.std.proofs.lemmas.List.{map-append, take_more}
 use Rattle.nvm_model.proofs.RangeLemmas.{range-split}
 use Rattle.witnesses.specs.Texts.{texts_once, unless_told}
 
@@ -43,3 +43,11 @@ one_more text n old mid new was more =
     two old mid new (flat_map text (range_with_len 0 n)) (text n) was more
     ∙ ap (λ l. old ++ l) (sym (ap (flat_map text) (range-split 0 n 1) ∙ flat_map-append text (range_with_len 0 n) (range_with_len (0 + n) 1)
     ∙ ap (λ l. flat_map text (range_with_len 0 n) ++ l) (append-nil (text (0 + n)) ∙ ap text (omega arith))))
+
+pub one_more_made : {A : Type 0} (f : ℕ → A) (start k : ℕ) (first old new : List A) (y : A) → old ≡ first ++ map f (range_with_len start k) → new ≡ old ++ y ∷ [] → y ≡ f (start + k)
+    → new ≡ first ++ map f (range_with_len start (k + 1))
+one_more_made f start k first old new y was pushes made =
+    two first old new (map f (range_with_len start k)) (y ∷ []) was pushes
+    ∙ ap (λ l. first ++ l)
+    (ap (λ z. map f (range_with_len start k) ++ z ∷ []) made
+    ∙ sym (ap (map f) (range-split start k 1) ∙ map-append f (range_with_len start k) (range_with_len (start + k) 1)))

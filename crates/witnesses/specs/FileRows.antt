@@ -1,5 +1,5 @@
 -- Worked witnesses of files: how a cut leaves what is asked of them, as it is printed.
-use Rattle.std.specs.Prelude.{◌≡◌, ℕ, true, false, List, [], ◌∷◌, codes, replicate, Option, Some, None}
+use Rattle.std.specs.Prelude.{◌≡◌, ℕ, true, List, [], ◌∷◌, codes, replicate, Option, Some, None}
 use Rattle.nvm_model.specs.Cell.{Cell}
 use Rattle.nvm_model.specs.Cell.Cell.{Kept}
 use Rattle.script_text.specs.Action.{Action}
@@ -7,8 +7,7 @@ use Rattle.script_text.specs.Action.Action.{Create, Delete, FAtomic, FSync, FWri
 use Rattle.outcomes.specs.Files.{FileRead}
 use Rattle.outcomes.specs.Pages.{PageReply}
 use Rattle.outcomes.specs.Pages.PageReply.{Shows, Poison}
-use Rattle.file_sights.specs.declared.line.FileLine.{FileLine}
-use Rattle.file_sights.specs.State.{FileState, FilesState}
+use Rattle.file_sights.specs.State.{FileState}
 use Rattle.witnesses.specs.Files.{files_kept}
 use Rattle.witnesses.specs.Rows.{read_of, word_with}
 use Rattle.witnesses.specs.Texts.{files_text}

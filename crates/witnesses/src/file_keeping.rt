@@ -1,5 +1,5 @@
 // What a cut keeps of files, where it may leave what a question asks.
-ghost use Rattle.std.specs.Prelude.{◌≡◌, ◌++◌, IfOk, OnOk, option_map, true};
+ghost use Rattle.std.specs.Prelude.{◌≡◌, ◌++◌, IfOk, OnOk, flat_map, option_map, true};
 ghost use Rattle.std.specs.List.{list_all};
 ghost use Rattle.std.specs.Option.{option_copied};
 ghost use Rattle.script_text.specs.Action.{action_of};
@@ -30,9 +30,7 @@ pub fn keep_files(
     let made = make_files(now, inside)?;
     let left = now.leave(reads, inside)?;
     let mut kept = Vec::new(alloc);
-    for read in reads {
-        keep_read(reads, read, now, &made, &left, &mut kept)?;
-    }
+    keep_reads(reads, now, &made, &left, &mut kept)?;
     Ok(kept)
 }
 
@@ -46,6 +44,22 @@ fn make_files(now: &FilesSeen, inside: Option<&Command>) -> Result<FilesSeen, Al
         made.change(command)?;
     }
     Ok(made)
+}
+
+fn keep_reads(
+    reads: &[FileRead],
+    now: &FilesSeen,
+    made: &FilesSeen,
+    left: &FilesSeen,
+    kept: &mut Vec<FileLineKept>,
+) -> Result<(), AllocError>
+    requires { list_all may_be_file_reply (file_reads_asked reads.now) ≡ true }
+    ensures { OnOk result (kept.new.items ≡ kept.old.items ++ flat_map (read_kept (file_reads_asked reads.now) now.now made.now left.now) (file_reads_asked reads.now)) }
+{
+    for read in reads {
+        keep_read(reads, read, now, made, left, kept)?;
+    }
+    Ok(())
 }
 
 fn keep_read(
