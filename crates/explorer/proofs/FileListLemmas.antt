@@ -1,6 +1,7 @@
 -- The files of a list, one behind the other.
-use Rattle.std.proofs.Common.{◌≡◌, ◌<◌, ℕ, zero, suc, true, List, [], ◌∷◌, ◌++◌, Some, drop, get_or, length, map, take, refl, sym, ap, ap₂, subst, ◌∙◌, arith}
-use Rattle.std.specs.List.{list_all}
+use Rattle.std.proofs.Common.{◌≡◌, ◌^◌, ◌+◌, ◌≤◌, ◌<◌, ℕ, zero, suc, true, List, [], ◌∷◌, ◌++◌, Some, drop, get_or, length, map, take, refl, sym, ap, ap₂, subst, ◌∙◌, arith}
+use Rattle.std.specs.Prelude.{slice_index}
+use Rattle.std.specs.List.{All, list_all}
 use Rattle.std.proofs.lemmas.Bool.{and_parts, cond-false, cond-true}
 use Rattle.std.proofs.lemmas.List.{map-append, take_all, take_more}
 use Rattle.std.proofs.lemmas.List.Folds.{list_all-append}
@@ -18,7 +19,7 @@ use Rattle.file_sights.specs.declared.line.FileLine.{FileLine}
 use Rattle.file_sights.specs.Maps.{uncopied}
 use Rattle.file_sights.specs.Sees.{AreLines, SeesFile, SeesFiles, line_numbers}
 use Rattle.file_sights.specs.State.{FileState, FilesState, name_seen}
-use Rattle.explorer.specs.Files.{IsListed}
+use Rattle.explorer.specs.Files.{HasFewPages, IsListed}
 use Rattle.explorer.specs.Starting.{Begins}
 
 -- a file behind others of a list in order is the one of its name
@@ -74,10 +75,24 @@ pub lines_more : (f : ℕ → Cell) (lines : List FileLine) (line : FileLine) �
 lines_more f [] line are is = (is, tt)
 lines_more f (x ∷ lines) line are is = (are.0, lines_more f lines line are.1 is)
 
-pub numbers_more : (numbers : List ℕ) (i n : ℕ) (lines : List FileLine) (line : FileLine) → i < length numbers → n ≡ get_or numbers i n → line.number ≡ n
+pub numbers_more : (numbers : List ℕ) (i : ℕ) (lines : List FileLine) (line : FileLine) → i < length numbers → line.number ≡ slice_index numbers i
     → line_numbers lines ≡ take i numbers → line_numbers (lines ++ line ∷ []) ≡ take (i + 1) numbers
-numbers_more numbers i n lines line lt is same are =
-    map-append (λ (l : FileLine). l.number) lines (line ∷ []) ∙ ap₂ (λ ns m. ns ++ m ∷ []) are (same ∙ is) ∙ sym (take_more numbers i n lt)
+numbers_more numbers i lines line lt is are =
+    map-append (λ (l : FileLine). l.number) lines (line ∷ []) ∙ ap₂ (λ ns m. ns ++ m ∷ []) are is ∙ sym (take_more numbers i 0 lt)
+
+pub files_more : (numbers : List ℕ) (held : List FileState) (one : FileState) (files : List File) (i : ℕ) (entry : FileEntry) (has : HasFile files i entry)
+    → AreAlike name_seen file_name (SeesFile numbers) held (take i files) → one.name ≡ entry.name → SeesFile numbers one has.file
+    → AreAlike name_seen file_name (SeesFile numbers) (held ++ one ∷ []) (take (i + 1) files)
+files_more numbers held one files i entry has alike named sees =
+    let next : i + 1 ≡ suc i = omega arith in
+    subst (AreAlike name_seen file_name (SeesFile numbers) (held ++ one ∷ [])) (sym (ap (λ k. take k files) next ∙ has.more))
+    (alike_more name_seen file_name (SeesFile numbers) held (take i files) one has.file alike (named ∙ ap (λ (e : FileEntry). e.name) has.is) sees)
+
+pub small_at : (entries : List FileEntry) (i : ℕ) (entry : FileEntry) → All HasFewPages entries → i < length entries → entry ≡ get_or entries i entry → HasFewPages entry
+small_at entries i entry small lt is = subst HasFewPages (sym is) (small i entry lt)
+
+pub numbers_all : (numbers : List ℕ) (i : ℕ) (ns : List ℕ) → length numbers ≤ i → ns ≡ take i numbers → ns ≡ numbers
+numbers_all numbers i ns all are = are ∙ take_all i numbers all
 
 -- All files are seen, as they were before anything was mapped.
 pub sees_all : (held : FilesState) (h : Machine) (k : ℕ) → held.mappings ≡ record { mappings = []; next = 0 } → AreAlike name_seen file_name (SeesFile held.numbers) held.files (take k h.files)

@@ -69,7 +69,7 @@ weak_seen None = refl
 weak_seen (Some cell) = refl
 
 -- why a read of a file is refused
-unreadable : List ℕ → Option ℕ → Option Answer
+abbrev unreadable : List ℕ → Option ℕ → Option Answer
 unreadable name l = option_map (page_answer name) (poisoned_at l)
 
 none_unreadable : (name : List ℕ) (l : Option ℕ) → unreadable name l ≡ None → l ≡ None

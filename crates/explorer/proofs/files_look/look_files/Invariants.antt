@@ -17,11 +17,11 @@ invariant-loop-entry g l = record {
   known : GoesOn l.host (g.D.Lines.state l.device);
   geometry : l.host.geometry ≡ l.fn.host.geometry;
   counts : NoneFell (g.D.Lines.state l.fn.device).panel (g.D.Lines.state l.device).panel;
-  small : All HasFewPages l.listed.items;
+  small : All HasFewPages l.entry-items;
   numbers : l.files.numbers ≡ l.numbers.items;
   mappings : l.files.mappings ≡ record { mappings = []; next = 0 };
   sees : (h : Machine) → Stands l.fn.host (g.D.Lines.state l.fn.device) h → Begins h
-      → (l.listed.items ≡ map entry_of_file h.files)
+      → (l.entry-items ≡ map entry_of_file h.files)
       × AreAlike name_seen file_name (SeesFile l.numbers.items) l.files.files (take l.entry-index h.files)
       × Stands l.host (g.D.Lines.state l.device) h;
 }
