@@ -88,11 +88,12 @@ any_so f g geo each (x ∷ xs) sound same =
 
 any_first : (test : Machine → Bool) (xs : List Stop) → list_any (λ (stop : Stop). test stop.state) xs ≡ is_some (first_stop test xs)
 any_first test [] = refl
-any_first test (x ∷ xs) = by_test (test x.state)
+any_first test (x ∷ xs) = by_test (test x.state) (any_first test xs)
   where
-    by_test : (b : Bool) → (b || list_any (λ (stop : Stop). test stop.state) xs) ≡ is_some (if b then Some x else first_stop test xs)
-    by_test true = refl
-    by_test false = any_first test xs
+    by_test : (b : Bool) → list_any (λ (stop : Stop). test stop.state) xs ≡ is_some (first_stop test xs)
+        → (b || list_any (λ (stop : Stop). test stop.state) xs) ≡ is_some (if b then Some x else first_stop test xs)
+    by_test true rest = refl
+    by_test false rest = rest
 
 module _ (h : Machine) (program : List Input) (tells : (look : List Seen) → (may_find h program look ≡ true → Finds h program look) × (Finds h program look → may_find h program look ≡ true))
     (sound : All (λ (stop : Stop). IsSound stop.state) (cut_places 1 (armed h) program)) where

@@ -5,10 +5,10 @@ ghost use Rattle.asked_reads.specs.Asking.{IsLook};
 ghost use Rattle.nvmexplore.specs.Telling.{answer_line, place_text};
 
 use asked_reads::Question;
+use cut_places::CutPlace;
 use explorer::Found;
 use nvm_base::{Bytes, print_number};
 use program_base::plain_line;
-use cut_places::CutPlace;
 use std::alloc::{AllocError, Global};
 use witnesses::kept_text;
 
