@@ -80,6 +80,7 @@ reads_are : (reads : List ReadOfLook) → reads_of (map read_action reads) ≡ r
 reads_are [] = refl
 reads_are (looks.Volume start len ∷ reads) = ap (λ rs. looks.Volume start len ∷ rs) (reads_are reads)
 reads_are (looks.Blocks first count ∷ reads) = ap (λ rs. looks.Blocks first count ∷ rs) (reads_are reads)
+reads_are (looks.File name start len ∷ reads) = ap (λ rs. looks.File name start len ∷ rs) (reads_are reads)
 
 same_table : (h : Machine) (x : Read) (e : Exploration) → inputs_of_lines x.program.items ≡ map asks_for e.program → map read_action x.reads.items ≡ e.reads → x.table ≡ e.table → read_table h x ≡ asked_table h e
 same_table h x e inputs reads table =
