@@ -5,8 +5,7 @@ use block_sights::HeldBlock;
 use cut_places::Sight;
 use file_sights::FilesSeen;
 use line_histories::HeldLine;
-use nvm_base::Name;
-use script_text::{Command, parse};
+use script_text::Command;
 use sights::{BlockSeen, LineSeen};
 use std::alloc::AllocError;
 use std::test::Fail;
@@ -64,37 +63,6 @@ fn a_block_is_discarded_at_once(rt: HostRuntime) -> Result<(), Fail> {
     let table = table_of(alloc, &program, &[false, true], SMALL, &reads, &mut sight)?;
     let wanted = "before 2\n1 block 3 07*512\n2 refused range\n\
         inside 2\n1 block 3 07*512 00*512\nbefore 3\n1 block 3 00*512\n";
-    assert!(rt; table.as_slice() == wanted.as_bytes());
-    Ok(())
-}
-
-#[test]
-fn a_file_is_found_whole_under_its_new_name(rt: HostRuntime) -> Result<(), Fail> {
-    let alloc = rt.alloc();
-    let mut sight = Sight {
-        lines: Vec::new(alloc),
-        blocks: Vec::new(alloc),
-        files: FilesSeen::new(alloc, [0, 1].to_vec(alloc)?),
-    };
-    let Some(name) = Name::read(b"f") else {
-        return Err(Fail::from("a name"));
-    };
-    let program = [
-        parse(alloc, b"create t 1")?,
-        parse(alloc, b"fwrite t 56 07*16")?,
-        parse(alloc, b"rename t f")?,
-        parse(alloc, b"fsync f")?,
-    ];
-    let reads = [Read::File {
-        name,
-        start: 63,
-        len: 2,
-    }];
-    let table = table_of(alloc, &program, &[true; 4], SMALL, &reads, &mut sight)?;
-    let wanted = "before 1\n1 file f 56 missing\n1 file f 64 missing\n\
-        inside 3\n1 file f 56 missing 00*8 07*8\n1 file f 64 missing 00*8 07*8\n\
-        before 4\n1 file f 56 00*8 07*8\n1 file f 64 00*8 07*8\n\
-        before 5\n1 file f 56 07*8\n1 file f 64 07*8\n";
     assert!(rt; table.as_slice() == wanted.as_bytes());
     Ok(())
 }
