@@ -1,6 +1,6 @@
 -- A look that was read up to some line.
-use Rattle.std.proofs.Common.{◌≡◌, ℕ, Bool, true, false, ◌+◌, ◌<◌, ◌≤◌, List, [], ◌∷◌, ◌++◌, map, Option, Some, None, Ok, Err, length, refl, ap, sym, ◌∙◌, arith}
-use Rattle.std.specs.Prelude.{IsSomeAnd, option_and_then, if◌then◌else◌}
+use Rattle.std.proofs.Common.{◌≡◌, ℕ, Bool, true, false, ◌==◌, ◌+◌, ◌<◌, ◌≤◌, List, [], ◌∷◌, ◌++◌, map, Option, Some, None, Ok, Err, length, refl, ap, sym, ◌∙◌, arith}
+use Rattle.std.specs.Prelude.{suc, not, ◌||◌, IsSomeAnd, option_and_then, if◌then◌else◌}
 use Rattle.script_text.specs.Script.{lines_of}
 use Rattle.reply_text.specs.Answer.{Answer}
 use Rattle.outcomes.specs.Seen.{Seen}
@@ -11,7 +11,7 @@ use Rattle.asked_reads.specs.Looking.{read_action}
 use Rattle.exploration.specs.declared.look.Look.{Look as LookHeld}
 use Rattle.exploration.specs.declared.stop.LineStop.{LineStop}
 use Rattle.exploration.specs.declared.stop.LineStop.TheVariants.{Memory, Untaken}
-use Rattle.exploration.specs.Exploration.{Look, go_on, look_from, look_start, question_of, with_line}
+use Rattle.exploration.specs.Exploration.{Look, go_on, is_asked, look_from, look_start, question_of, with_line}
 use Rattle.exploration.specs.Lines.{LookLine, look_line}
 use Rattle.exploration.specs.Lines.LookLine.{Asks}
 use Rattle.exploration.specs.Reading.{AskOf}
@@ -65,6 +65,17 @@ pub look_up_to-end : (text : List ℕ) (first : ℕ) (held : LookHeld) (n : ℕ)
 look_up_to-end text first held n rest up over =
     let e = up.goes ∙ ap (look_from n up.look) over in
     rw e up.is
+
+-- as many questions are asked as are held
+asked-count : (looks : List (List Seen)) (qs : List Question) → AskOf looks qs → length looks ≡ length qs
+asked-count [] [] asked = refl
+asked-count [] (q ∷ qs) asked = absurd asked
+asked-count (look ∷ looks) [] asked = absurd asked
+asked-count (look ∷ looks) (q ∷ qs) asked = ap suc (asked-count looks qs asked.1)
+
+-- whether something is asked, by what is held
+pub held_asked : (look : Look) (held : LookHeld) → IsHeld look held → is_asked look ≡ held.table || held.list || not (length held.questions.items == 0)
+held_asked look held is = rw (is.table, is.list, asked-count look.questions held.questions.items is.questions) refl
 
 asked-more : (looks : List (List Seen)) (qs : List Question) (look : List Seen) (q : Question) → AskOf looks qs → IsLook look q → AskOf (looks ++ look ∷ []) (qs ++ q ∷ [])
 asked-more [] [] look q asked is = (is, tt)

@@ -49,7 +49,7 @@ look_start = record { reads = []; table = false; list = false; questions = [] }
 
 -- whether something is asked of the reads
 abbrev pub is_asked : Look → Bool
-is_asked look = look.table || (look.list || not (length look.questions == 0))
+is_asked look = look.table || look.list || not (length look.questions == 0)
 
 -- one read more, None behind what is asked
 abbrev pub with_read : Look → Action → Option Look

@@ -82,6 +82,7 @@ impl Look {
     }
 
     // Whether something is asked of the reads.
+    #[tactic(auto, using(crate::proofs::LookLemmas::held_asked))]
     fn is_asked(&self) -> bool
         ensures { (look : LookRead) → IsHeld look self.now → result ≡ is_asked look }
     {
