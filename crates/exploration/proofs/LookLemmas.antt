@@ -28,10 +28,10 @@ pub record LookUpTo (text : List ℕ) (first : ℕ) (held : LookHeld) (n : ℕ) 
   pub goes : look_from first look_start (lines_of text) ≡ look_from n look (lines_of rest)
   pub room : n + length rest ≤ first + length text
 
-pub look_up_to-start : (text : List ℕ) (first : ℕ) (held : LookHeld) → held.reads.items ≡ [] → held.table ≡ false → held.questions.items ≡ [] → LookUpTo text first held first text
-look_up_to-start text first held reads table questions = record {
+pub look_up_to-start : (text : List ℕ) (first : ℕ) (held : LookHeld) → held.reads.items ≡ [] → held.table ≡ false → held.list ≡ false → held.questions.items ≡ [] → LookUpTo text first held first text
+look_up_to-start text first held reads table list questions = record {
   look = look_start;
-  is = record { reads = rw reads refl; table = table; questions = rw questions tt };
+  is = record { reads = rw reads refl; table = table; list = list; questions = rw questions tt };
   goes = refl;
   room = omega arith;
 }
@@ -75,10 +75,10 @@ asked-more (l ∷ looks) (r ∷ qs) look q asked is = (asked.0, asked-more looks
 -- one question more
 pub held-asks : (look : Look) (old new : LookHeld) (kind : Option LookLine) (replies : List (Option Answer)) (reads : List Action) (q : Question) (ok : Bool) → IsHeld look old
     → kind ≡ Some (Asks replies) → reads ≡ map read_action old.reads.items → IsSomeAnd (question_of reads replies) (λ asked. IsLook asked q)
-    → new.questions.items ≡ (if ok then old.questions.items ++ q ∷ [] else old.questions.items) → ok ≡ true → new.reads.items ≡ old.reads.items → new.table ≡ old.table
+    → new.questions.items ≡ (if ok then old.questions.items ++ q ∷ [] else old.questions.items) → ok ≡ true → new.reads.items ≡ old.reads.items → new.table ≡ old.table → new.list ≡ old.list
     → IsSomeAnd (option_and_then (with_line look) kind) (λ next. IsHeld next new)
-held-asks look old new kind replies reads q ok is asks all finds questions done same as_before =
+held-asks look old new kind replies reads q ok is asks all finds questions done same table list =
     let asked = some_and (question_of reads replies) (λ asked. IsLook asked q) finds in
     let found : question_of look.reads replies ≡ Some asked.0 = ap (λ rs. question_of rs replies) (sym (all ∙ is.reads)) ∙ asked.1 in
     let grown : new.questions.items ≡ old.questions.items ++ q ∷ [] = questions ∙ ap (λ b. if b then old.questions.items ++ q ∷ [] else old.questions.items) done in
-    rw (asks, found) (record { reads = ap (map read_action) same ∙ is.reads; table = as_before ∙ is.table; questions = rw grown (asked-more look.questions old.questions.items asked.0 q is.questions asked.2) })
+    rw (asks, found) (record { reads = ap (map read_action) same ∙ is.reads; table = table ∙ is.table; list = list ∙ is.list; questions = rw grown (asked-more look.questions old.questions.items asked.0 q is.questions asked.2) })

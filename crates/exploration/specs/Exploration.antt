@@ -1,20 +1,21 @@
 -- A script that is to be explored: its program, and the questions behind it.
-use Rattle.std.specs.Prelude.{ℕ, Bool, true, false, ◌+◌, List, [], ◌∷◌, ◌++◌, length, Option, Some, None, option_map, option_and_then, Result, Ok, Err}
+use Rattle.std.specs.Prelude.{ℕ, Bool, true, false, not, ◌||◌, ◌==◌, ◌+◌, List, [], ◌∷◌, ◌++◌, length, if◌then◌else◌, Option, Some, None, option_map, option_and_then, Result, Ok, Err}
 use Rattle.script_text.specs.Action.{Action}
 use Rattle.script_text.specs.Script.{lines_of}
 use Rattle.reply_text.specs.Answer.{Answer}
 use Rattle.outcomes.specs.Seen.{Seen}
 use Rattle.exploration.specs.Reads.{seen_of}
 use Rattle.exploration.specs.Lines.{LookLine, ProgramLine, look_line, program_line}
-use Rattle.exploration.specs.Lines.LookLine.{Asks, Passes, Reads, Tables}
+use Rattle.exploration.specs.Lines.LookLine.{Asks, Lists, Passes, Reads, Tables}
 use Rattle.exploration.specs.Lines.ProgramLine.{Does, Ends}
 
--- one item for each line of the program, None where it has no command, the reads of the look, whether a table of what they may find is
--- asked for, and of each question the reads that it asks
+-- one item for each line of the program, None where it has no command, the reads of the look, whether a table of what they may find and
+-- a list of all outcomes are asked for, and of each question the reads that it asks
 pub record Exploration : Type 0 where
   pub program : List (Option Action)
   pub reads : List Action
   pub table : Bool
+  pub list : Bool
   pub questions : List (List Seen)
 
 -- a script: its exploration, or the number of its first line that is not taken
@@ -36,20 +37,23 @@ question_of (read ∷ reads) [] = None
 question_of (read ∷ reads) (None ∷ replies) = question_of reads replies
 question_of (read ∷ reads) (Some answer ∷ replies) = with_seen (seen_of read answer) (question_of reads replies)
 
--- some lines of a look: their reads, whether they ask for a table, and their questions
+-- some lines of a look: their reads, whether they ask for a table and for a list, and their questions
 pub record Look : Type 0 where
   pub reads : List Action
   pub table : Bool
+  pub list : Bool
   pub questions : List (List Seen)
 
 abbrev pub look_start : Look
-look_start = record { reads = []; table = false; questions = [] }
+look_start = record { reads = []; table = false; list = false; questions = [] }
 
--- one read more, None behind a table or a question
-abbrev pub with_read : Action → List Action → Bool → List (List Seen) → Option Look
-with_read read reads false [] = Some (record { reads = reads ++ read ∷ []; table = false; questions = [] })
-with_read read reads false (question ∷ questions) = None
-with_read read reads true questions = None
+-- whether something is asked of the reads
+abbrev pub is_asked : Look → Bool
+is_asked look = look.table || (look.list || not (length look.questions == 0))
+
+-- one read more, None behind what is asked
+abbrev pub with_read : Look → Action → Option Look
+with_read look read = if is_asked look then None else Some (record look { reads = look.reads ++ read ∷ [] })
 
 -- one question more
 abbrev pub with_question : Look → List Seen → Look
@@ -58,8 +62,9 @@ with_question look question = record look { questions = look.questions ++ questi
 -- one line more, None where it is not taken there
 abbrev pub with_line : Look → LookLine → Option Look
 with_line look Passes = Some look
-with_line look (Reads read) = with_read read look.reads look.table look.questions
+with_line look (Reads read) = with_read look read
 with_line look Tables = Some (record look { table = true })
+with_line look Lists = Some (record look { list = true })
 with_line look (Asks replies) = option_map (with_question look) (question_of look.reads replies)
 
 -- the rest where there is something to go on from, and else the line of that number
@@ -89,7 +94,7 @@ parts_from items (line ∷ lines) = go_on (length items + 1) (part_by items line
 
 -- the script of that program and look
 abbrev pub script_with : List (Option Action) → Result Look ℕ → Script
-script_with program (Ok look) = Taken (record { program = program; reads = look.reads; table = look.table; questions = look.questions })
+script_with program (Ok look) = Taken (record { program = program; reads = look.reads; table = look.table; list = look.list; questions = look.questions })
 script_with program (Err n) = StopsAt n
 
 -- the look begins behind its line, which is none of the program

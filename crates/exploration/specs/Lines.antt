@@ -5,7 +5,7 @@ use Rattle.script_text.specs.Script.{Input, line_input}
 use Rattle.script_text.specs.Script.Input.{Skipped, Malformed, Overlong, Asked}
 use Rattle.reply_text.specs.Answer.{Answer}
 use Rattle.questions.specs.Question.{QuestionLine, question_line}
-use Rattle.questions.specs.Question.QuestionLine.{Plain, Look, Lists, Tabulates, Never, Wrong}
+use Rattle.questions.specs.Question.QuestionLine.{Plain, Look, Lists as AsksList, Tabulates, Never, Wrong}
 use Rattle.outcomes.specs.Stops.{is_of_program}
 use Rattle.exploration.specs.Reads.{read_of}
 
@@ -14,11 +14,12 @@ pub data ProgramLine : Type 0 where
   Does : Option Action → ProgramLine
   Ends : ProgramLine
 
--- a line of the look: nothing to do, a read, a table of what the reads may find, or a question of them
+-- a line of the look: nothing to do, a read, a table of what the reads may find, a list of all outcomes, or a question
 pub data LookLine : Type 0 where
   Passes : LookLine
   Reads : Action → LookLine
   Tables : LookLine
+  Lists : LookLine
   Asks : List (Option Answer) → LookLine
 
 -- what a line that is no question is in the program, None where it is not taken
@@ -32,7 +33,7 @@ program_input (Asked action) = if is_of_program action then Some (Does (Some act
 abbrev pub program_kind : QuestionLine → Input → Option ProgramLine
 program_kind Plain input = program_input input
 program_kind Look input = Some Ends
-program_kind Lists input = None
+program_kind AsksList input = None
 program_kind Tabulates input = None
 program_kind (Never replies) input = None
 program_kind Wrong input = None
@@ -51,7 +52,7 @@ look_input (Asked action) = if is_some (read_of action) then Some (Reads action)
 abbrev pub look_kind : QuestionLine → Input → Option LookLine
 look_kind Plain input = look_input input
 look_kind Look input = None
-look_kind Lists input = None
+look_kind AsksList input = Some Lists
 look_kind Tabulates input = Some Tables
 look_kind (Never replies) input = Some (Asks replies)
 look_kind Wrong input = None

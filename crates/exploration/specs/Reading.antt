@@ -18,11 +18,11 @@ AskOf [] (q ∷ qs) = ⊥
 AskOf (look ∷ looks) [] = ⊥
 AskOf (look ∷ looks) (q ∷ qs) = IsLook look q × AskOf looks qs
 
--- the commands of the program, the reads, whether a table is asked for, and the questions are those of the script
+-- the commands of the program, the reads, whether a table and a list are asked for, and the questions are those of the script
 abbrev pub Holds : Script → Exploration → Type 0
 Holds (Taken e) exploration =
     (map (option_map action_of) exploration.program.items ≡ e.program) × (map read_action exploration.reads.items ≡ e.reads) × (exploration.table ≡ e.table)
-    × AskOf e.questions exploration.questions.items
+    × (exploration.list ≡ e.list) × AskOf e.questions exploration.questions.items
 Holds (StopsAt n) exploration = ⊥
 
 -- what came of a script's text

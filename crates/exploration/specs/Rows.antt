@@ -28,19 +28,25 @@ file name start len reply = of_file (record { name = name; pages = record { star
 
 pub record ScriptRows : Type 0 where
   pub one_question : script_of (text_of (codes "vstore 0 01" ∷ codes "vsync 0 64" ∷ codes "# look" ∷ codes "vload 0 1" ∷ codes "# never data 00" ∷ []))
-      ≡ Taken (record { program = Some (VStore 0 (1 ∷ [])) ∷ Some (VSync 0 64) ∷ []; reads = VLoad 0 1 ∷ []; table = false; questions = (page 0 1 (Shows (0 ∷ [])) ∷ []) ∷ [] })
+      ≡ Taken (record { program = Some (VStore 0 (1 ∷ [])) ∷ Some (VSync 0 64) ∷ []; reads = VLoad 0 1 ∷ []; table = false; list = false; questions = (page 0 1 (Shows (0 ∷ [])) ∷ []) ∷ [] })
   pub reads_of_both_kinds : script_of (text_of (codes "# a block" ∷ [] ∷ codes "bwrite 3 aa*512" ∷ codes "# look" ∷ codes "bread 3 1" ∷ [] ∷ codes "vload 64 64"
       ∷ codes "# never scarred 3 | poison volume 64 64" ∷ codes "# never _ | refused range" ∷ codes "# never poison block 3 7 | _" ∷ []))
       ≡ Taken (record {
         program = None ∷ None ∷ Some (BWrite 3 (replicate 512 170)) ∷ [];
         reads = BRead 3 1 ∷ VLoad 64 64 ∷ [];
         table = false;
+        list = false;
         questions = (block 3 1 (Scar 3) ∷ page 64 64 (Poison 64) ∷ []) ∷ (page 64 64 (Refuses Range) ∷ []) ∷ (block 3 1 (BadLine 3 7) ∷ []) ∷ [];
       })
-  pub no_look : script_of (codes "vstore 0 01") ≡ Taken (record { program = Some (VStore 0 (1 ∷ [])) ∷ []; reads = []; table = false; questions = [] })
+  pub no_look : script_of (codes "vstore 0 01") ≡ Taken (record { program = Some (VStore 0 (1 ∷ [])) ∷ []; reads = []; table = false; list = false; questions = [] })
   pub a_table : script_of (text_of (codes "# look" ∷ codes "vload 0 1" ∷ codes "# table" ∷ []))
-      ≡ Taken (record { program = []; reads = VLoad 0 1 ∷ []; table = true; questions = [] })
+      ≡ Taken (record { program = []; reads = VLoad 0 1 ∷ []; table = true; list = false; questions = [] })
+  pub a_list : script_of (text_of (codes "# look" ∷ codes "vload 0 1" ∷ codes "# list" ∷ []))
+      ≡ Taken (record { program = []; reads = VLoad 0 1 ∷ []; table = false; list = true; questions = [] })
+  pub all_that_may_be_asked : script_of (text_of (codes "# look" ∷ codes "vload 0 1" ∷ codes "# list" ∷ codes "# never data 00" ∷ codes "# table" ∷ codes "# list" ∷ []))
+      ≡ Taken (record { program = []; reads = VLoad 0 1 ∷ []; table = true; list = true; questions = (page 0 1 (Shows (0 ∷ [])) ∷ []) ∷ [] })
   pub read_behind_a_table : script_of (text_of (codes "# look" ∷ codes "# table" ∷ codes "vload 0 1" ∷ [])) ≡ StopsAt 3
+  pub read_behind_a_list : script_of (text_of (codes "# look" ∷ codes "vload 0 1" ∷ codes "# list" ∷ codes "vload 0 1" ∷ [])) ≡ StopsAt 4
   pub read_behind_a_question : script_of (text_of (codes "# look" ∷ codes "vload 0 1" ∷ codes "# never data 00" ∷ codes "vload 0 1" ∷ [])) ≡ StopsAt 4
   pub command_of_power : script_of (text_of (codes "vstore 0 01" ∷ codes "cut" ∷ codes "vsync" ∷ [])) ≡ StopsAt 2
   pub one_reply_to_two_reads : script_of (text_of (codes "# look" ∷ codes "vload 0 1" ∷ codes "bread 0 1" ∷ codes "# never data 00" ∷ [])) ≡ StopsAt 4
@@ -52,6 +58,7 @@ pub record ScriptRows : Type 0 where
         program = Some (Create (codes "log") 1) ∷ [];
         reads = FRead (codes "log") 0 64 ∷ FRead (codes "f") 64 1 ∷ [];
         table = false;
+        list = false;
         questions = (file (codes "log") 0 64 (Shows (replicate 64 7)) ∷ file (codes "f") 64 1 (Refuses Missing) ∷ []) ∷ (file (codes "log") 0 64 (Poison 0) ∷ []) ∷ [];
       })
   pub line_of_another_file : script_of (text_of (codes "# look" ∷ codes "fread log 0 64" ∷ codes "# never poison file logs 0 64" ∷ [])) ≡ StopsAt 3

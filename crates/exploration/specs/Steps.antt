@@ -18,7 +18,7 @@ use Rattle.exploration.specs.declared.stop.LineStop.{LineStop}
 use Rattle.exploration.specs.declared.stop.LineStop.TheVariants.{Memory, Untaken}
 use Rattle.exploration.specs.Exploration.{Look, Parts}
 use Rattle.exploration.specs.Lines.{LookLine, ProgramLine}
-use Rattle.exploration.specs.Lines.LookLine.{Asks, Passes, Reads, Tables}
+use Rattle.exploration.specs.Lines.LookLine.{Asks, Lists, Passes, Reads, Tables}
 use Rattle.exploration.specs.Lines.ProgramLine.{Does, Ends}
 use Rattle.asked_reads.specs.Program.{IsBounded}
 use Rattle.exploration.specs.Reading.{AskOf}
@@ -38,6 +38,7 @@ abbrev pub look_line_of : LookLineRead → LookLine
 look_line_of look_read.Passes = Passes
 look_line_of (look_read.Reads read) = Reads (read_action read)
 look_line_of look_read.Table = Tables
+look_line_of look_read.List = Lists
 look_line_of (look_read.Asks replies) = Asks (map (option_map answer_asked) replies.items)
 
 -- what came of something that is there, or is not taken
@@ -67,6 +68,7 @@ AddsRead look seen new (Err Memory) = Unit {0}
 pub record IsHeld (look : Look) (held : LookHeld) : Type 0 where
   pub reads : map read_action held.reads.items ≡ look.reads
   pub table : held.table ≡ look.table
+  pub list : held.list ≡ look.list
   pub questions : AskOf look.questions held.questions.items
 
 -- what came of one line more, behind which the look is this one

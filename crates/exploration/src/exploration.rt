@@ -19,6 +19,8 @@ pub struct Exploration {
     pub reads: Vec<Read>,
     /// Whether a table of what they may find is asked for.
     pub table: bool,
+    /// Whether a list of all outcomes is asked for.
+    pub list: bool,
     pub questions: Vec<Question>,
 }
 
@@ -53,12 +55,14 @@ pub fn read_script(alloc: Global, script: &[u8]) -> Result<Exploration, ScriptFa
     let Look {
         reads,
         table,
+        list,
         questions,
     } = read_look(alloc, look, first)?;
     Ok(Exploration {
         program,
         reads,
         table,
+        list,
         questions,
     })
 }

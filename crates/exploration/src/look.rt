@@ -1,7 +1,7 @@
 // The reads of a look and the questions behind them.
-ghost use Rattle.std.specs.Prelude.{◌+◌, ◌<◌, ◌≤◌, ◌^◌, length, option_and_then};
+ghost use Rattle.std.specs.Prelude.{◌≡◌, ◌+◌, ◌<◌, ◌≤◌, ◌^◌, length, option_and_then};
 ghost use Rattle.script_text.specs.Script.{lines_of};
-ghost use Rattle.exploration.specs.Exploration.{Look as LookRead, look_from, look_start, with_line, with_read};
+ghost use Rattle.exploration.specs.Exploration.{Look as LookRead, is_asked, look_from, look_start, with_line, with_read};
 ghost use Rattle.exploration.specs.Lines.{look_line};
 ghost use Rattle.asked_reads.specs.Looking.{read_action};
 ghost use Rattle.exploration.specs.Steps.{IsHeld, ReadsLook, TakesLine};
@@ -18,6 +18,7 @@ use std::alloc::{AllocError, Global};
 pub(crate) struct Look {
     pub(crate) reads: Vec<Read>,
     pub(crate) table: bool,
+    pub(crate) list: bool,
     pub(crate) questions: Vec<Question>,
 }
 
@@ -29,6 +30,7 @@ pub(crate) fn read_look(alloc: Global, text: &[u8], first: u64) -> Result<Look, 
     let mut look = Look {
         reads: Vec::new(alloc),
         table: false,
+        list: false,
         questions: Vec::new(alloc),
     };
     let mut number = first;
@@ -56,6 +58,10 @@ impl Look {
                 self.table = true;
                 Ok(())
             }
+            LookLine::List => {
+                self.list = true;
+                Ok(())
+            }
             LookLine::Asks(replies) => {
                 let question = question_of(alloc, self.reads.as_slice(), replies.as_slice())?;
                 self.questions.push(question).map_err(AllocError::from)?;
@@ -66,12 +72,19 @@ impl Look {
 
     // All reads stand before what is asked of them.
     fn add_read(&mut self, read: Read) -> Result<(), LineStop>
-        ensures { (look : LookRead) → IsHeld look self.old → TakesLine (with_read (read_action read) look.reads look.table look.questions) self.new result }
+        ensures { (look : LookRead) → IsHeld look self.old → TakesLine (with_read look (read_action read)) self.new result }
     {
-        if self.table || !self.questions.is_empty() {
+        if self.is_asked() {
             return Err(LineStop::Untaken);
         }
         self.reads.push(read).map_err(AllocError::from)?;
         Ok(())
+    }
+
+    // Whether something is asked of the reads.
+    fn is_asked(&self) -> bool
+        ensures { (look : LookRead) → IsHeld look self.now → result ≡ is_asked look }
+    {
+        self.table || self.list || !self.questions.is_empty()
     }
 }

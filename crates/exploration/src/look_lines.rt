@@ -20,6 +20,8 @@ pub(crate) enum LookLine {
     Reads(Read),
     /// A table of what the reads may find.
     Table,
+    /// A list of all outcomes.
+    List,
     /// A question, by the replies to all reads.
     Asks(Replies),
 }
@@ -31,7 +33,8 @@ pub(crate) fn read_look_line(alloc: Global, line: &[u8]) -> Result<LookLine, Lin
         Ok(QuestionKind::Plain) => read_plain_line(alloc, line),
         Ok(QuestionKind::Never(replies)) => Ok(LookLine::Asks(replies)),
         Ok(QuestionKind::Table) => Ok(LookLine::Table),
-        Ok(QuestionKind::Look | QuestionKind::List) => Err(LineStop::Untaken),
+        Ok(QuestionKind::List) => Ok(LookLine::List),
+        Ok(QuestionKind::Look) => Err(LineStop::Untaken),
         Err(QuestionFault::Syntax) => Err(LineStop::Untaken),
         Err(QuestionFault::Memory) => Err(LineStop::Memory),
     }

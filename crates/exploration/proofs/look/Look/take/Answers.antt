@@ -9,4 +9,4 @@ pub returns-in_ok-map_err-in-Asks : goal.returns-in_ok-map_err-in-Asks
 returns-in_ok-map_err-in-Asks c = λ look is.
     let finds = c.in_ok-question-in-Asks.ensures in
     held-asks look c.args.self.now _ _ _ _ c.in_ok-question-in-Asks.question _ is (c.in_ok-read_look_line.ensures ∙ ap (λ l. Some (look_line_of l)) c.in-Asks.is)
-    (ap (map read_action) c.as_slice.ensures.value) (rw c.as_slice-in-Asks.ensures at finds) c.push.ensures.items (search rules) refl refl
+    (ap (map read_action) c.as_slice.ensures.value) (rw c.as_slice-in-Asks.ensures at finds) c.push.ensures.items (search rules) refl refl refl
