@@ -1,5 +1,5 @@
 -- A program that was performed, and what is looked at.
-use Rattle.std.specs.Prelude.{◌≡◌, ◌++◌, ◌∷◌, [], All, true, List, length, take}
+use Rattle.std.specs.Prelude.{◌≡◌, ◌≤◌, ◌++◌, ◌∷◌, [], All, true, List, length, take}
 use Rattle.word_tables.specs.Bounds.{IsValid}
 use Rattle.word_tables.specs.declared.geometry.Geometry.{Geometry}
 use Rattle.outcomes.specs.Blocks.{all_numbers_read}
@@ -33,7 +33,9 @@ pub record IsFrom (course : Course) (h : Machine) : Type 0 where
 
 -- reads are of the first lines and blocks that are looked at, and of files that are
 pub record AreFirst (sight : Sight) (a : Asked) : Type 0 where
+  pub lines_there : length a.volume ≤ length sight.lines.items
   pub lines : line_numbers (take (length a.volume) sight.lines.items) ≡ all_lines_read a.volume
+  pub blocks_there : length a.blocks ≤ length sight.blocks.items
   pub blocks : block_numbers (take (length a.blocks) sight.blocks.items) ≡ all_numbers_read a.blocks
   pub files : are_held sight.files.numbers a.files ≡ true
 

@@ -84,7 +84,7 @@ fn add_word(
     ensures { OnOk result (choices_held choices.new.items ≡ choices_held choices.old.items
         ++ word_choices (head (part_of_word word.now)) (seen_of_word word.now) (start_of_word word.now) values.now) }
 {
-    let at = word.start() / LINE * LINE;
+    let at = LINE * (word.start() / LINE);
     choices.push(choice(alloc, word, PageReply::Poison(at), b" poison")?)?;
     for value in values {
         choices.push(value_choice(alloc, word, *value)?)?;
