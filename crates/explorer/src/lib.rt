@@ -19,4 +19,6 @@ mod watching;
 pub use exploring::explore;
 pub use fault::ExploreFault;
 pub use found::Found;
+pub use looking::look_at;
 pub use tabulating::tabulate;
+pub use watching::{Watched, watch};

@@ -20,16 +20,16 @@ use Rattle.asked_reads.specs.declared.read.Read.{Read}
 use Rattle.exploration.specs.Exploration.{Exploration, script_of}
 use Rattle.exploration.specs.Exploration.Script.{StopsAt, Taken}
 use Rattle.exploration.specs.Reads.{read_of}
-use Rattle.cut_places.specs.Places.{Stop, cut_places, found_stop}
+use Rattle.cut_places.specs.Places.{Stop, found_stop}
 use Rattle.explorer.specs.Finding.{IsFound}
 use Rattle.explorer.specs.declared.found.Found.{Found}
-use Rattle.value_tables.specs.Tables.{table_text}
 use Rattle.witnesses.specs.Telling.{told}
 use Rattle.program_base.specs.Opening.{CountsOpening, DeviceFailed, FailsToOpen, IsHeld, opened, snapshot}
 use Rattle.program_base.specs.World.{World}
 use Rattle.program_base.specs.Writing.{WritesFront, WritesLine}
 use Rattle.program_base.specs.declared.ending.Ending.{Ending}
 use Rattle.program_base.specs.declared.ending.Ending.TheVariants as endings
+use Rattle.nvmexplore.specs.Showing.{shown}
 use Rattle.nvmexplore.specs.Stops.{stop_status, stop_text}
 use Rattle.nvmexplore.specs.Tables.{TellsRuns}
 use Rattle.nvmexplore.specs.Telling.{answer_line, answers_status, is_any_found}
@@ -45,9 +45,9 @@ abbrev pub reads_of : List Action → List Read
 reads_of [] = []
 reads_of (action ∷ actions) = and_read (read_of action) (reads_of actions)
 
--- the table that is asked for, if one is, from that state on
-abbrev pub asked_table : Machine → Exploration → List ℕ
-asked_table h e = if e.table then table_text (reads_of e.reads) (cut_places 1 (armed h) (map asks_for e.program)) else []
+-- the table and the list that are asked for, if they are, from that state on
+abbrev pub asked_first : Machine → Exploration → List ℕ
+asked_first h e = shown e.table e.list (armed h) (map asks_for e.program) (reads_of e.reads)
 
 -- of each question the first place of a cut after which its look may be as asked, from that state on
 abbrev pub found : Machine → Exploration → List (Option Stop)
@@ -108,18 +108,18 @@ IsUnanswered (stops.Early (endings.Meta line)) count_old count_new old new = ⊥
 IsUnanswered (stops.Script n) count_old count_new old new = ⊥
 IsUnanswered stops.Usage count_old count_new old new = ⊥
 
--- A table was written, or it was in part, and then came that.
-abbrev pub TellsTable : List ℕ → Result (Unit {0}) Stopped → Option (List ℕ) → Option (List ℕ) → ℕ → ℕ → Panel → Panel → Type 0
-TellsTable table result old new count_old count_new device_old device_new = MatchResult result
-    (λ _. Appends old new table)
-    (λ stop. IsUnanswered stop count_old count_new device_old device_new × WritesFront table old new)
+-- That was written, or it was in part, and then came that.
+abbrev pub TellsShown : List ℕ → Result (Unit {0}) Stopped → Option (List ℕ) → Option (List ℕ) → ℕ → ℕ → Panel → Panel → Type 0
+TellsShown text result old new count_old count_new device_old device_new = MatchResult result
+    (λ _. Appends old new text)
+    (λ stop. IsUnanswered stop count_old count_new device_old device_new × WritesFront text old new)
 
--- Behind a table all questions were answered, each as this tells of its look; or all of that was written up to some place, with answers of
+-- Behind a text all questions were answered, each as this tells of its look; or all of that was written up to some place, with answers of
 -- the first questions, and then came that.
 abbrev pub AnswersAll : List ℕ → (List Seen → Option Stop) → List (List Seen) → Result Bool Stopped → Option (List ℕ) → Option (List ℕ) → ℕ → ℕ → Panel → Panel → Type 0
-AnswersAll table tell looks result old new count_old count_new device_old device_new = MatchResult result
-    (λ may. (may ≡ is_any_found (map tell looks)) × (text : List ℕ) × AreAnswered tell looks text × Appends old new (table ++ text))
-    (λ stop. IsUnanswered stop count_old count_new device_old device_new × (text : List ℕ) × FirstAnswered tell looks text × WritesFront (table ++ text) old new)
+AnswersAll front tell looks result old new count_old count_new device_old device_new = MatchResult result
+    (λ may. (may ≡ is_any_found (map tell looks)) × (text : List ℕ) × AreAnswered tell looks text × Appends old new (front ++ text))
+    (λ stop. IsUnanswered stop count_old count_new device_old device_new × (text : List ℕ) × FirstAnswered tell looks text × WritesFront (front ++ text) old new)
 
 -- Each answer is a theorem: where it is never, no run of the machine from that state finds what was asked, and else some run does, which
 -- keeps then what is told. A table lists at some place what runs find by a read of it alone.
@@ -140,7 +140,7 @@ pub record LeavesImages (old new : World) : Type 0 where
   pub held : KeepsHeld (λ _. ⊤) old.held new.held
   pub counts : CountsOpening old.images new.images
 
--- The table, if one is asked for, was written, and all questions of the script were answered, from the state that is read in the image.
+-- The table and the list that are asked for were written, and all questions of the script were answered, from the state that is read in the image.
 pub record Answers (name : List ℕ) (ended : ℕ) (old new : World) : Type 0 where
   pub lines : List LineState
   pub there : IsHeld name old.held lines
@@ -151,7 +151,7 @@ pub record Answers (name : List ℕ) (ended : ℕ) (old new : World) : Type 0 wh
   pub status : ended ≡ answers_status (found (opened lines) exploration)
   pub text : List ℕ
   pub answered : AreAnswered (found_stop (opened lines) (map asks_for exploration.program)) exploration.questions text
-  pub wrote : Appends old.written new.written (asked_table (opened lines) exploration ++ text)
+  pub wrote : Appends old.written new.written (asked_first (opened lines) exploration ++ text)
   pub theorems : AreTheorems (opened lines) (map asks_for exploration.program)
   pub images : LeavesImages old new
 
@@ -180,7 +180,7 @@ pub record Halts (name : List ℕ) (stop : Stopped) (old new : World) : Type 0 w
   pub cause : IsCaused stop script old new
   pub wrote : (new.written ≡ old.written)
       ⊎ ((e : Exploration) × IsTaken script e old new × (text : List ℕ)
-      × FirstAnswered (found_stop (opened lines) (map asks_for e.program)) e.questions text × WritesFront (asked_table (opened lines) e ++ text) old.written new.written)
+      × FirstAnswered (found_stop (opened lines) (map asks_for e.program)) e.questions text × WritesFront (asked_first (opened lines) e ++ text) old.written new.written)
   pub images : LeavesImages old new
 
 -- the image was not opened, or not all was answered

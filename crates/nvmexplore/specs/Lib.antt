@@ -1,4 +1,5 @@
 pub mod Stops
 pub mod Telling
 pub mod Tables
+pub mod Showing
 pub mod Calls

@@ -1,17 +1,11 @@
 -- What is said of the questions, and the status.
-use Rattle.std.specs.Prelude.{ℕ, Bool, List, ◌++◌, Option, Some, None, codes, decimal, is_some, if◌then◌else◌}
+use Rattle.std.specs.Prelude.{ℕ, Bool, List, ◌++◌, Option, Some, None, codes, is_some, if◌then◌else◌}
 use Rattle.std.specs.List.{list_any}
 use Rattle.outcomes.specs.Seen.{Seen, file_reads, volume_reads}
-use Rattle.cut_places.specs.declared.place.CutPlace.{CutPlace}
-use Rattle.cut_places.specs.declared.place.CutPlace.TheVariants.{Before, Inside}
 use Rattle.explorer.specs.declared.found.Found.{Found}
+use Rattle.outcome_lists.specs.Lists.{place_text}
 use Rattle.program_base.specs.Ending.{line}
 use Rattle.witnesses.specs.Texts.{kept_text}
-
--- where a cut falls
-abbrev pub place_text : CutPlace → List ℕ
-place_text (Before n) = codes "before " ++ decimal n
-place_text (Inside n) = codes "inside " ++ decimal n
 
 -- of one question: never, or the first place of a cut that may leave it, and what it keeps then
 abbrev pub answer_line : List Seen → Option Found → List ℕ

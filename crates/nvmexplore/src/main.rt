@@ -3,10 +3,11 @@
 
 mod answering;
 mod asking;
+mod form;
 mod laws;
 mod reading;
+mod showing;
 mod stop;
-mod tabling;
 mod telling;
 #[cfg(test)]
 mod tests;

@@ -1,13 +1,13 @@
 // The line that answers a question.
-ghost use Rattle.std.specs.Prelude.{◌≡◌, ◌++◌, IfOk, List, OnOk};
+ghost use Rattle.std.specs.Prelude.{◌≡◌, IfOk, List};
 ghost use Rattle.outcomes.specs.Seen.{Seen};
 ghost use Rattle.asked_reads.specs.Asking.{IsLook};
-ghost use Rattle.nvmexplore.specs.Telling.{answer_line, place_text};
+ghost use Rattle.nvmexplore.specs.Telling.{answer_line};
 
 use asked_reads::Question;
-use cut_places::CutPlace;
 use explorer::Found;
-use nvm_base::{Bytes, print_number};
+use nvm_base::Bytes;
+use outcome_lists::print_place;
 use program_base::plain_line;
 use std::alloc::{AllocError, Global};
 use witnesses::kept_text;
@@ -30,15 +30,4 @@ pub fn answer_line(
     line.extend(kept.as_slice())?;
     line.push(b'\n')?;
     Ok(line)
-}
-
-fn print_place(place: CutPlace, line: &mut Bytes) -> Result<(), AllocError>
-    ensures { OnOk result (line.new.items ≡ line.old.items ++ place_text place) }
-{
-    let (word, n) = match place {
-        CutPlace::Before(n) => (b"before ".as_slice(), n),
-        CutPlace::Inside(n) => (b"inside ".as_slice(), n),
-    };
-    line.extend(word)?;
-    print_number(n, line)
 }

@@ -9,8 +9,8 @@ ghost use Rattle.nvmexplore.specs.declared.stop.Stop.{Stop as Early};
 use crate::answering::answer_all;
 use crate::laws::answers_are_theorems;
 use crate::reading::read_all;
+use crate::showing::show;
 use crate::stop::Stop;
-use crate::tabling::show_table;
 use exploration::read_script;
 use host_io::{Images, Sink, Source};
 use line_device::LineDevice;
@@ -98,6 +98,6 @@ fn answer_script<D: LineDevice, F: Images, T: Source, K: Sink>(
     let text = read_all(alloc, script)?;
     let exploration = read_script(alloc, text.as_slice())?;
     answers_are_theorems();
-    show_table(alloc, &image, &exploration, device, answers)?;
+    show(alloc, &image, &exploration, device, answers)?;
     answer_all(alloc, &image, &exploration, device, answers)
 }

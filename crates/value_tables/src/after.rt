@@ -35,7 +35,8 @@ pub fn once_done(
     Ok(after)
 }
 
-fn copied<U: Unit>(alloc: Global, units: &[U]) -> Result<Vec<U>, AllocError>
+/// The same units once more.
+pub fn copied<U: Unit>(alloc: Global, units: &[U]) -> Result<Vec<U>, AllocError>
     ensures { IfOk result (λ copies. copies.items ≡ units.now) }
 {
     let mut copies = Vec::new(alloc);

@@ -19,6 +19,9 @@ mod tests;
 mod touched;
 mod values;
 
+pub use after::copied;
+pub use file_values::FileValues;
 pub use laws::{a_value_is_listed_where_it_may_be_shown, each_place_is_sound, worked_tables};
 pub use listing::table_of;
 pub use refusal::read_refusal;
+pub use row::WORDS;

@@ -1,0 +1,81 @@
+// A form in which a script may ask for what its look may find.
+ghost use Rattle.std.specs.Prelude.{◌≡◌, ℕ, All, IfErr, IfOk, OnOk};
+ghost use Rattle.machine_host.specs.Machine.{Machine};
+ghost use Rattle.machine_host.specs.Settling.{GoesOn};
+ghost use Rattle.machine_host.specs.Stands.{Stands};
+ghost use Rattle.outcomes.specs.Finds.{armed};
+ghost use Rattle.outcomes.specs.Stops.{IsProgram};
+ghost use Rattle.asked_reads.specs.Program.{IsBounded, inputs_of_lines};
+ghost use Rattle.explorer.specs.Starting.{Begins};
+ghost use Rattle.explorer.specs.Stopping.{DeviceStopped, NoneFell};
+ghost use Rattle.program_base.specs.Opening.{opened};
+ghost use Rattle.nvmexplore.specs.Calls.{AreMountable, IsUnanswered};
+ghost use Rattle.nvmexplore.specs.Showing.{form_text};
+
+use crate::laws::images_begin;
+use crate::stop::Stop;
+use asked_reads::Read;
+use explorer::{ExploreFault, tabulate};
+use image_file::Image;
+use line_device::LineDevice;
+use machine_host::Host;
+use nvm_base::Bytes;
+use outcome_lists::list_outcomes;
+use program_base::start;
+use script_text::Command;
+use std::alloc::Global;
+
+#[derive(Clone, Copy, Debug, PartialEq, Eq)]
+pub enum Form {
+    /// The values of each word and block, by place.
+    Table,
+    /// All outcomes, one by one.
+    List,
+}
+
+/// What the reads may find, in that form, on a device made anew of the image.
+pub fn make<D: LineDevice>(
+    alloc: Global,
+    image: &Image,
+    program: &[Option<Command>],
+    reads: &[Read],
+    form: Form,
+    device: &mut D,
+) -> Result<Bytes, Stop>
+    requires image { AreMountable image.now.lines.items }
+    requires program { IsProgram (inputs_of_lines program.now) }
+    requires bounded { All IsBounded program.now }
+    ensures text { IfOk result (λ text. text.items ≡ form_text form (armed (opened image.now.lines.items)) (inputs_of_lines program.now) reads.now) }
+    ensures cause { (counted counts : ℕ) → IfErr result (λ stop. IsUnanswered stop counted counts (D.state device.old).panel (D.state device.new).panel) }
+    ensures counts { OnOk result (NoneFell (D.state device.old).panel (D.state device.new).panel) }
+{
+    device.disarm();
+    images_begin();
+    let mut host = start(alloc, device, image)?;
+    Ok(form.make(alloc, &mut host, device, program, reads)?)
+}
+
+impl Form {
+    fn make<D: LineDevice>(
+        self,
+        alloc: Global,
+        host: &mut Host,
+        device: &mut D,
+        program: &[Option<Command>],
+        reads: &[Read],
+    ) -> Result<Bytes, ExploreFault>
+        requires known { GoesOn host.old (D.state device.old) }
+        requires program { IsProgram (inputs_of_lines program.now) }
+        requires bounded { All IsBounded program.now }
+        ensures text { (h : Machine) → Stands host.old (D.state device.old) h → Begins h
+            → IfOk result (λ text. text.items ≡ form_text self (armed h) (inputs_of_lines program.now) reads.now) }
+        ensures counts { OnOk result (NoneFell (D.state device.old).panel (D.state device.new).panel) }
+        ensures cause { (h : Machine) → Stands host.old (D.state device.old) h → Begins h
+            → IfErr result (λ fault. fault ≡ ExploreFault.Device → DeviceStopped (D.state device.old).panel (D.state device.new).panel) }
+    {
+        match self {
+            Form::Table => tabulate(alloc, host, device, program, reads),
+            Form::List => list_outcomes(alloc, host, device, program, reads),
+        }
+    }
+}

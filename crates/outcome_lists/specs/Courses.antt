@@ -1,0 +1,63 @@
+-- A program that was performed, and what is looked at.
+use Rattle.std.specs.Prelude.{◌≡◌, ◌≤◌, ◌++◌, ◌∷◌, [], All, true, List, length, take}
+use Rattle.word_tables.specs.Bounds.{IsValid}
+use Rattle.word_tables.specs.declared.geometry.Geometry.{Geometry}
+use Rattle.outcomes.specs.Blocks.{all_numbers_read}
+use Rattle.outcomes.specs.Pages.{all_lines_read}
+use Rattle.outcomes.specs.Stops.{IsProgram}
+use Rattle.machine_host.specs.Machine.{Machine}
+use Rattle.asked_reads.specs.declared.read.Read.{Read}
+use Rattle.asked_reads.specs.Program.{IsBounded, inputs_of_lines}
+use Rattle.cut_places.specs.declared.sight.Sight.{Sight}
+use Rattle.cut_places.specs.Following.{AreDone, Follows}
+use Rattle.file_sights.specs.Sees.{are_held}
+use Rattle.sights.specs.Units.{block_numbers, line_numbers}
+use Rattle.value_tables.specs.Looking.{blocks_looked_at, lines_looked_at}
+use Rattle.outcome_lists.specs.Asking.{asked}
+use Rattle.outcome_lists.specs.Choices.{Choice}
+use Rattle.outcome_lists.specs.Outcomes.{Asked, and_seen}
+use Rattle.outcome_lists.specs.declared.course.Course.{Course}
+use Rattle.outcome_lists.specs.declared.outcome.Outcome.{Outcome}
+
+-- its commands are such, and it is told of each whether it is done
+pub record IsCourse (course : Course) : Type 0 where
+  pub valid : IsValid course.geometry
+  pub program : IsProgram (inputs_of_lines course.program.now)
+  pub bounded : All IsBounded course.program.now
+  pub told : length course.done.now ≡ length course.program.now
+
+-- it is one from that state on
+pub record IsFrom (course : Course) (h : Machine) : Type 0 where
+  pub follows : Follows course.sight.now course.geometry h
+  pub done : AreDone h course.program.now course.done.now
+
+-- reads are of the first lines and blocks that are looked at, and of files that are
+pub record AreFirst (sight : Sight) (a : Asked) : Type 0 where
+  pub lines_there : length a.volume ≤ length sight.lines.items
+  pub lines : line_numbers (take (length a.volume) sight.lines.items) ≡ all_lines_read a.volume
+  pub blocks_there : length a.blocks ≤ length sight.blocks.items
+  pub blocks : block_numbers (take (length a.blocks) sight.blocks.items) ≡ all_numbers_read a.blocks
+  pub files : are_held sight.files.numbers a.files ≡ true
+
+-- they are of these parts, a line or a block each, or of a file that is looked at
+pub record AreOf (sight : Sight) (geo : Geometry) (parts : List Read) (a : Asked) : Type 0 where
+  pub lines : all_lines_read a.volume ≡ lines_looked_at geo parts
+  pub one_line : length a.volume ≡ length (lines_looked_at geo parts)
+  pub blocks : all_numbers_read a.blocks ≡ blocks_looked_at geo parts
+  pub one_block : length a.blocks ≡ length (blocks_looked_at geo parts)
+  pub files : are_held sight.files.numbers a.files ≡ true
+
+-- with each of these choices they are of the first ones, or of these parts
+abbrev pub AllFirst : Sight → Asked → List Choice → Type 0
+AllFirst sight a choices = All (λ (c : Choice). AreFirst sight (and_seen a c.seen)) choices
+
+abbrev pub AllWith : Sight → Geometry → List Read → Asked → List Choice → Type 0
+AllWith sight geo parts a choices = All (λ (c : Choice). AreOf sight geo parts (and_seen a c.seen)) choices
+
+-- so are all these outcomes
+abbrev pub AllOf : Sight → Geometry → List Read → List Outcome → Type 0
+AllOf sight geo parts outcomes = All (λ (o : Outcome). AreOf sight geo parts (asked o.asked)) outcomes
+
+-- choices are of a part: behind those of others they are of those and of it
+abbrev pub AreWays : Sight → Geometry → Read → List Choice → Type 0
+AreWays sight geo part choices = (before : List Read) (a : Asked) → AreOf sight geo before a → AllWith sight geo (before ++ part ∷ []) a choices

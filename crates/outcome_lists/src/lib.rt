@@ -1,0 +1,18 @@
+//! The outcomes of a look one by one: what its reads may find together once the power is back, and where a cut first leaves that.
+#![tactic(auto)]
+
+mod choice;
+mod choosing;
+mod copies;
+mod course;
+mod gathered;
+mod gathering;
+mod growing;
+mod listing;
+mod outcome;
+mod parts;
+mod printing;
+mod word;
+
+pub use listing::list_outcomes;
+pub use printing::print_place;

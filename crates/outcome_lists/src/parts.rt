@@ -1,0 +1,97 @@
+// The reads of a look, parted: each is of one word, of the volume or of a file, or of one block.
+ghost use Rattle.std.specs.Prelude.{◌≡◌, ◌+◌, ◌*◌, ◌≤◌, ◌<◌, ◌^◌, ◌++◌, IfOk, None, OnOk};
+ghost use Rattle.word_tables.specs.Bounds.{IsValid};
+ghost use Rattle.value_tables.specs.Rows.{read_refusal};
+ghost use Rattle.outcome_lists.specs.Parts.{AreTaken, part, parts_of, parts_read, reach};
+
+use asked_reads::Read;
+use nvm_base::{Span, WORD};
+use std::alloc::{AllocError, Global};
+use value_tables::read_refusal;
+use word_tables::Geometry;
+
+/// No file has a byte from here on.
+const FILE_END: u64 = 4_294_967_296;
+
+/// The parts of the reads that are not refused, in order.
+pub fn parts_of(alloc: Global, geometry: Geometry, reads: &[Read]) -> Result<Vec<Read>, AllocError>
+    requires { IsValid geometry }
+    ensures parts { IfOk result (λ parts. parts.items ≡ parts_of geometry reads.now) }
+    ensures taken { IfOk result (λ parts. AreTaken geometry parts.items) }
+{
+    let mut parts = Vec::new(alloc);
+    for read in reads {
+        if read_refusal(geometry, read).is_none() {
+            add_parts(geometry, *read, &mut parts)?;
+        }
+    }
+    Ok(parts)
+}
+
+fn add_parts(geometry: Geometry, read: Read, parts: &mut Vec<Read>) -> Result<(), AllocError>
+    requires valid { IsValid geometry }
+    requires taken { read_refusal geometry read ≡ None }
+    ensures parts { OnOk result (parts.new.items ≡ parts.old.items ++ parts_read read) }
+{
+    let reach = reach_of(geometry, read);
+    for n in reach.start..reach.start + reach.len {
+        parts.push(part(geometry, read, n))?;
+    }
+    Ok(())
+}
+
+// The words or the blocks that the read touches: the first, and how many.
+fn reach_of(geometry: Geometry, read: Read) -> Span
+    requires valid { IsValid geometry }
+    requires taken { read_refusal geometry read ≡ None }
+    ensures { result ≡ reach read }
+{
+    match read {
+        Read::Volume { start, len } => words_of(start, len),
+        Read::Blocks { first, count } => Span {
+            start: u64::from(first),
+            len: count,
+        },
+        Read::File { start, len, .. } => {
+            let start = u64::from(start);
+            words_of(start, len.min(FILE_END - start))
+        }
+    }
+}
+
+fn words_of(start: u64, len: u64) -> Span
+    requires some { 1 ≤ len }
+    requires within { start + len ≤ 2 ^ 40 }
+    ensures { result ≡ units_of 8 (record { start = start; len = len }) }
+{
+    let first = start / WORD;
+    Span {
+        start: first,
+        len: (start + len - 1) / WORD + 1 - first,
+    }
+}
+
+fn part(geometry: Geometry, read: Read, n: u64) -> Read
+    requires valid { IsValid geometry }
+    requires taken { read_refusal geometry read ≡ None }
+    requires from { (reach read).start ≤ n }
+    requires below { n < (reach read).start + (reach read).len }
+    ensures part { result ≡ part read n }
+    ensures taken { read_refusal geometry result ≡ None }
+{
+    match read {
+        Read::Volume { .. } => Read::Volume {
+            start: WORD * n,
+            len: WORD,
+        },
+        Read::Blocks { .. } => Read::Blocks {
+            first: n as u32,
+            count: 1,
+        },
+        Read::File { name, .. } => Read::File {
+            name,
+            start: (WORD * n) as u32,
+            len: WORD,
+        },
+    }
+}
