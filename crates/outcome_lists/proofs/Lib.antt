@@ -1,3 +1,4 @@
 pub mod LookLemmas
 pub mod SightLemmas
 pub mod GatherLemmas
+pub mod GrowLemmas

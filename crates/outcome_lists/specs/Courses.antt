@@ -1,5 +1,6 @@
 -- A program that was performed, and what is looked at.
-use Rattle.std.specs.Prelude.{◌≡◌, ◌≤◌, ◌++◌, ◌∷◌, [], All, true, List, length, take}
+use Rattle.std.specs.Prelude.{◌≡◌, ◌≤◌, ◌++◌, ◌∷◌, [], ℕ, All, true, List, length, take}
+use Rattle.std.specs.List.{list_all}
 use Rattle.word_tables.specs.Bounds.{IsValid}
 use Rattle.word_tables.specs.declared.geometry.Geometry.{Geometry}
 use Rattle.outcomes.specs.Blocks.{all_numbers_read}
@@ -10,9 +11,10 @@ use Rattle.asked_reads.specs.declared.read.Read.{Read}
 use Rattle.asked_reads.specs.Program.{IsBounded, inputs_of_lines}
 use Rattle.cut_places.specs.declared.sight.Sight.{Sight}
 use Rattle.cut_places.specs.Following.{AreDone, Follows}
-use Rattle.file_sights.specs.Sees.{are_held}
+use Rattle.file_sights.specs.Sees.{are_held, is_held}
 use Rattle.sights.specs.Units.{block_numbers, line_numbers}
-use Rattle.value_tables.specs.Looking.{blocks_looked_at, lines_looked_at}
+use Rattle.value_tables.specs.Looking.{blocks_looked_at, blocks_touched, file_lines_touched, lines_looked_at, lines_touched}
+use Rattle.value_tables.specs.Sides.{HasRun}
 use Rattle.outcome_lists.specs.Asking.{asked}
 use Rattle.outcome_lists.specs.Choices.{Choice}
 use Rattle.outcome_lists.specs.Outcomes.{Asked, and_seen}
@@ -30,6 +32,12 @@ pub record IsCourse (course : Course) : Type 0 where
 pub record IsFrom (course : Course) (h : Machine) : Type 0 where
   pub follows : Follows course.sight.now course.geometry h
   pub done : AreDone h course.program.now course.done.now
+
+-- the line, the block or the file of a part is looked at, at that place among lines, and among blocks
+pub record IsAt (sight : Sight) (part : Read) (lines_before blocks_before : ℕ) : Type 0 where
+  pub lines : HasRun (line_numbers sight.lines.items) lines_before (lines_touched part)
+  pub blocks : HasRun (block_numbers sight.blocks.items) blocks_before (blocks_touched part)
+  pub files : list_all (is_held sight.files.numbers) (file_lines_touched part) ≡ true
 
 -- reads are of the first lines and blocks that are looked at, and of files that are
 pub record AreFirst (sight : Sight) (a : Asked) : Type 0 where

@@ -1,6 +1,7 @@
 -- The reads of a look in parts: each is of one word, of the volume or of a file, or of one block.
-use Rattle.std.specs.Prelude.{◌≡◌, ◌+◌, ◌-◌, ◌*◌, ◌++◌, ℕ, List, [], ◌∷◌, Option, Some, None, map, nat_le, if◌then◌else◌}
+use Rattle.std.specs.Prelude.{◌≡◌, ◌==◌, ◌+◌, ◌-◌, ◌*◌, ◌%◌, ◌++◌, ◌&&◌, ℕ, Bool, false, All, List, [], ◌∷◌, Option, Some, None, map, nat_le, if◌then◌else◌}
 use Rattle.std.specs.List.{range_with_len}
+use Rattle.std.specs.Str.{bytes_eq}
 use Rattle.nvm_base.specs.Units.{units_of}
 use Rattle.nvm_base.specs.declared.units.Span.{Span}
 use Rattle.word_tables.specs.declared.geometry.Geometry.{Geometry}
@@ -8,6 +9,7 @@ use Rattle.reply_text.specs.declared.reply.Why.{Why}
 use Rattle.asked_reads.specs.declared.read.Read.{Read}
 use Rattle.asked_reads.specs.declared.read.Read.TheVariants.{Volume, Blocks, File}
 use Rattle.value_tables.specs.Rows.{read_refusal}
+use Rattle.value_tables.specs.Values.{with_all}
 
 -- of so many bytes of a file those that some file may have: none is longer than 4 GiB
 abbrev pub len_in_files : ℕ → ℕ → ℕ
@@ -33,12 +35,36 @@ abbrev pub unless_refused : Option Why → List Read → List Read
 unless_refused None parts = parts
 unless_refused (Some why) parts = []
 
--- those of a look, read by read
-abbrev pub parts_of : Geometry → List Read → List Read
-parts_of geo [] = []
-parts_of geo (read ∷ look) = unless_refused (read_refusal geo read) (parts_read read) ++ parts_of geo look
+-- those of reads, one after the other
+abbrev pub parts_of_reads : Geometry → List Read → List Read
+parts_of_reads geo [] = []
+parts_of_reads geo (read ∷ look) = unless_refused (read_refusal geo read) (parts_read read) ++ parts_of_reads geo look
 
--- none of them is refused
-abbrev pub AreTaken : Geometry → List Read → Type 0
-AreTaken geo [] = Unit {0}
-AreTaken geo (read ∷ reads) = (read_refusal geo read ≡ None) × AreTaken geo reads
+-- two parts are of one word, or of one block
+abbrev pub same_part : Read → Read → Bool
+same_part (Volume start len) (Volume other others) = start == other
+same_part (Volume start len) (Blocks first count) = false
+same_part (Volume start len) (File name other others) = false
+same_part (Blocks first count) (Volume start len) = false
+same_part (Blocks first count) (Blocks other others) = first == other
+same_part (Blocks first count) (File name start len) = false
+same_part (File name start len) (Volume other others) = false
+same_part (File name start len) (Blocks first count) = false
+same_part (File name start len) (File text other others) = bytes_eq name text && (start == other)
+
+-- those of a look, each once
+abbrev pub parts_of : Geometry → List Read → List Read
+parts_of geo look = with_all same_part [] (parts_of_reads geo look)
+
+-- a read is of one word or one block, and is not refused
+abbrev pub IsWordOrBlock : Read → Type 0
+IsWordOrBlock (Volume start len) = (start % 8 ≡ 0) × (len ≡ 8)
+IsWordOrBlock (Blocks first count) = count ≡ 1
+IsWordOrBlock (File name start len) = (start % 8 ≡ 0) × (len ≡ 8)
+
+pub record IsPart (geo : Geometry) (read : Read) : Type 0 where
+  pub taken : read_refusal geo read ≡ None
+  pub one : IsWordOrBlock read
+
+abbrev pub AreParts : Geometry → List Read → Type 0
+AreParts geo reads = All (IsPart geo) reads

@@ -5,13 +5,12 @@ ghost use Rattle.asked_reads.specs.Program.{inputs_of_lines};
 ghost use Rattle.cut_places.specs.Places.{cut_places};
 ghost use Rattle.asked_reads.specs.declared.read.Read.{Read as Reading};
 ghost use Rattle.value_tables.specs.Looking.{IsOf};
-ghost use Rattle.value_tables.specs.Rows.{read_refusal};
 ghost use Rattle.outcome_lists.specs.declared.outcome.Outcome.{Outcome as Held};
 ghost use Rattle.outcome_lists.specs.Asking.{asked, choices_held, outcomes_held};
 ghost use Rattle.outcome_lists.specs.Choices.{choices, states};
-ghost use Rattle.outcome_lists.specs.Courses.{AllFirst, AllOf, AllWith, AreWays, IsCourse, IsFrom};
+ghost use Rattle.outcome_lists.specs.Courses.{AllFirst, AllOf, AllWith, AreWays, IsAt, IsCourse, IsFrom};
 ghost use Rattle.outcome_lists.specs.Outcomes.{begun, capped, grown, outcomes_of, place_of};
-ghost use Rattle.outcome_lists.specs.Parts.{AreTaken};
+ghost use Rattle.outcome_lists.specs.Parts.{AreParts, IsPart};
 
 use crate::choice::Choice;
 use crate::choosing::choices_from;
@@ -31,7 +30,7 @@ pub fn outcomes(
     parts: &[Read],
 ) -> Result<Option<Vec<Outcome>>, AllocError>
     requires course { IsCourse course.now }
-    requires taken { AreTaken course.now.geometry parts.now }
+    requires parts { AreParts course.now.geometry parts.now }
     requires looks { IsOf course.now.sight.now course.now.geometry parts.now }
     ensures { (h : Machine) → IsFrom course.now h
         → IfOk result (λ found. option_map (λ outcomes. outcomes_held outcomes.items) found ≡ outcomes_of h (inputs_of_lines course.now.program.now) parts.now) }
@@ -104,7 +103,8 @@ fn choices_of(
     passed: &Passed,
 ) -> Result<Vec<Choice>, AllocError>
     requires course { IsCourse course.now }
-    requires taken { read_refusal course.now.geometry part.now ≡ None }
+    requires part { IsPart course.now.geometry part.now }
+    requires at { IsAt course.now.sight.now part.now passed.now.lines passed.now.blocks }
     ensures choices { (h : Machine) → IsFrom course.now h → IfOk result (λ choices. choices_held choices.items ≡ choices (states h (inputs_of_lines course.now.program.now)) part.now) }
     ensures ways { IfOk result (λ choices. AreWays course.now.sight.now course.now.geometry part.now (choices_held choices.items)) }
 {

@@ -1,8 +1,10 @@
 // The reads of a look, parted: each is of one word, of the volume or of a file, or of one block.
 ghost use Rattle.std.specs.Prelude.{◌≡◌, ◌+◌, ◌*◌, ◌≤◌, ◌<◌, ◌^◌, ◌++◌, IfOk, None, OnOk};
 ghost use Rattle.word_tables.specs.Bounds.{IsValid};
+ghost use Rattle.nvm_base.specs.Units.{units_of};
 ghost use Rattle.value_tables.specs.Rows.{read_refusal};
-ghost use Rattle.outcome_lists.specs.Parts.{AreTaken, part, parts_of, parts_read, reach};
+ghost use Rattle.value_tables.specs.Values.{with_all, with_one};
+ghost use Rattle.outcome_lists.specs.Parts.{AreParts, IsPart, part, parts_of, parts_read, reach, same_part};
 
 use asked_reads::Read;
 use nvm_base::{Span, WORD};
@@ -13,11 +15,11 @@ use word_tables::Geometry;
 /// No file has a byte from here on.
 const FILE_END: u64 = 4_294_967_296;
 
-/// The parts of the reads that are not refused, in order.
+/// The parts of the reads that are not refused, each once, in the order in which they come.
 pub fn parts_of(alloc: Global, geometry: Geometry, reads: &[Read]) -> Result<Vec<Read>, AllocError>
     requires { IsValid geometry }
     ensures parts { IfOk result (λ parts. parts.items ≡ parts_of geometry reads.now) }
-    ensures taken { IfOk result (λ parts. AreTaken geometry parts.items) }
+    ensures taken { IfOk result (λ parts. AreParts geometry parts.items) }
 {
     let mut parts = Vec::new(alloc);
     for read in reads {
@@ -31,13 +33,48 @@ pub fn parts_of(alloc: Global, geometry: Geometry, reads: &[Read]) -> Result<Vec
 fn add_parts(geometry: Geometry, read: Read, parts: &mut Vec<Read>) -> Result<(), AllocError>
     requires valid { IsValid geometry }
     requires taken { read_refusal geometry read ≡ None }
-    ensures parts { OnOk result (parts.new.items ≡ parts.old.items ++ parts_read read) }
+    ensures parts { OnOk result (parts.new.items ≡ with_all same_part parts.old.items (parts_read read)) }
+    ensures taken { AreParts geometry parts.old.items → OnOk result (AreParts geometry parts.new.items) }
 {
     let reach = reach_of(geometry, read);
     for n in reach.start..reach.start + reach.len {
-        parts.push(part(geometry, read, n))?;
+        add_part(part(geometry, read, n), parts)?;
     }
     Ok(())
+}
+
+// One more, unless it is there.
+fn add_part(part: Read, parts: &mut Vec<Read>) -> Result<(), AllocError>
+    ensures parts { OnOk result (parts.new.items ≡ with_one same_part parts.old.items part) }
+{
+    if !parts.iter().any(|other| same_part(&part, other)) {
+        parts.push(part)?;
+    }
+    Ok(())
+}
+
+fn same_part(part: &Read, other: &Read) -> bool
+    ensures { result ≡ same_part part.now other.now }
+{
+    match (part, other) {
+        (Read::Volume { start: a, .. }, Read::Volume { start: b, .. }) => a == b,
+        (Read::Blocks { first: a, .. }, Read::Blocks { first: b, .. }) => a == b,
+        (
+            Read::File {
+                name: x,
+                start: a,
+                ..
+            },
+            Read::File {
+                name: y,
+                start: b,
+                ..
+            },
+        ) => x == y && a == b,
+        (Read::Volume { .. }, Read::Blocks { .. } | Read::File { .. })
+        | (Read::Blocks { .. }, Read::Volume { .. } | Read::File { .. })
+        | (Read::File { .. }, Read::Volume { .. } | Read::Blocks { .. }) => false,
+    }
 }
 
 // The words or the blocks that the read touches: the first, and how many.
@@ -77,7 +114,7 @@ fn part(geometry: Geometry, read: Read, n: u64) -> Read
     requires from { (reach read).start ≤ n }
     requires below { n < (reach read).start + (reach read).len }
     ensures part { result ≡ part read n }
-    ensures taken { read_refusal geometry result ≡ None }
+    ensures is { IsPart geometry result }
 {
     match read {
         Read::Volume { .. } => Read::Volume {
