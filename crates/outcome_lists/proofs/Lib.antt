@@ -2,3 +2,5 @@ pub mod LookLemmas
 pub mod SightLemmas
 pub mod GatherLemmas
 pub mod GrowLemmas
+pub mod OutcomeLemmas
+pub mod AddLemmas
