@@ -2,3 +2,4 @@ pub mod LookLemmas
 pub mod SightLemmas
 pub mod GatherLemmas
 pub mod GrowLemmas
+pub mod ShorterLemmas
