@@ -1,5 +1,8 @@
 -- What is looked at for one part: its line, its block, or its file.
-use Rattle.std.proofs.Common.{◌≡◌, ◌+◌, ◌-◌, ◌*◌, ◌/◌, ◌%◌, ◌≤◌, ◌&&◌, ℕ, zero, suc, true, Option, Some, None, List, [], ◌∷◌, ◌++◌, drop, refl, sym, ap, subst, ◌∙◌, append-nil, arith}
+use Rattle.std.proofs.Common.{◌≡◌, ◌+◌, ◌-◌, ◌*◌, ◌/◌, ◌%◌, ◌≤◌, ◌&&◌, ℕ, zero, suc, true, Option, Some, None, Result, Ok, Err, Bor, List, [], ◌∷◌, ◌++◌, drop, refl, sym, ap, subst, ◌∙◌, append-nil, arith}
+use Rattle.std.specs.Option.{option_copied}
+use Rattle.std.specs.Prelude.{slice_get}
+use Rattle.std.specs.Result.{OnOk}
 use Rattle.std.specs.List.{list_all, range_with_len}
 use Rattle.std.proofs.lemmas.Bool.{and_parts}
 use Rattle.word_tables.specs.declared.geometry.Geometry.{Geometry}
@@ -82,3 +85,17 @@ side_is now geo h name p follows held =
     sym (append-nil (side_at now.files name p))
     ∙ sym (files_rest h now.files follows.sees.files follows.ready.settled name p held)
     ∙ ap (λ o. files_left h.mappings o h.files name p) follows.ready.settled
+
+-- what is so where a call did well
+pub on_ok : {A E : Type 0} {P Q : Type 0} (result : Result A E) → (P → Q) → OnOk result P → OnOk result Q
+on_ok (Ok x) so is = so is
+on_ok (Err e) so is = tt
+
+-- a list has a first item, or none
+pub there : {A : Type 0} (xs ys : List A) (found : Option (Bor A)) (x : Bor A) → ys ≡ xs → option_copied found ≡ slice_get ys 0 → found ≡ Some x → (rest : List A) × (xs ≡ x.now ∷ rest)
+there [] ys found x same first is = cc (same, first, is)
+there (y ∷ rest) ys found x same first is = (rest, cc (same, first, is))
+
+pub gone : {A : Type 0} (xs ys : List A) (found : Option (Bor A)) → ys ≡ xs → option_copied found ≡ slice_get ys 0 → found ≡ None → xs ≡ []
+gone [] ys found same first is = refl
+gone (y ∷ rest) ys found same first is = cc (same, first, is)

@@ -4,3 +4,4 @@ pub mod GatherLemmas
 pub mod GrowLemmas
 pub mod OutcomeLemmas
 pub mod AddLemmas
+pub mod ShorterLemmas

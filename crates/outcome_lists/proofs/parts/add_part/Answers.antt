@@ -12,4 +12,4 @@ returns-in_ok-push c =
     let parts = c.args.parts.now.items in
     let any = any_from_yields_List (same_part part) _ _ _ c.any.ensures.ran (YieldsList-from_slice parts cc) (λ x b q k. search (rules, tests)) in
     let none : list_any (same_part part) parts ≡ false = cc in
-    c.in_ok-push.ensures.items ∙ ap (λ b. cond b parts (parts ++ part ∷ [])) (sym none)
+    record { parts = c.in_ok-push.ensures.items ∙ ap (λ b. cond b parts (parts ++ part ∷ [])) (sym none) }

@@ -12,4 +12,4 @@ returns-in_ok-push-clause-blocks c =
     let blocks = c.args.self.now.blocks.items in
     let any = any_from_yields_List (same_sight block) _ _ _ c.any.ensures.ran (YieldsList-from_slice blocks cc) (λ x b q k. search (rules, tests)) in
     let none : list_any (same_sight block) blocks ≡ false = cc in
-    c.in_ok-push.ensures.items ∙ ap (λ b. cond b blocks (blocks ++ block ∷ [])) (sym none)
+    c.in_ok-push.ensures.items ∙ ap (λ b. blocks ++ b ∷ []) c.in_ok-duplicate.ensures ∙ ap (λ b. cond b blocks (blocks ++ block ∷ [])) (sym none)
