@@ -23,7 +23,7 @@ use Rattle.sights.specs.declared.line_seen.LineSeen.{LineSeen}
 use Rattle.sights.specs.Seeing.{seen}
 use Rattle.sights.specs.Units.{AreBlocks, AreLines, block_numbers, line_numbers}
 use Rattle.value_tables.specs.Left.{file_side, files_left}
-use Rattle.value_tables.specs.Looking.{IsOf, none_refused}
+use Rattle.value_tables.specs.Looking.{IsOf, blocks_touched, file_lines_touched, lines_touched, none_refused}
 use Rattle.value_tables.specs.Rows.{read_refusal}
 use Rattle.value_tables.specs.Sides.{side_at}
 use Rattle.value_tables.proofs.FileSideLemmas.{files_rest}
@@ -31,7 +31,7 @@ use Rattle.value_tables.proofs.FileSideLemmas.{files_rest}
 -- numbers that begin with one
 pub range_first : (a n : ℕ) → 1 ≤ n → (others : List ℕ) × (range_with_len a n ≡ a ∷ others)
 range_first a zero some = absurd (omega (arith, some))
-range_first a (suc n) some = (range_with_len (suc a) n, refl)
+range_first a (suc n) some = (range_with_len (a + 1) n, refl)
 
 spanned : (start len unit : ℕ) → 1 ≤ len → unit ≡ 64 → 1 ≤ (start + len - 1) / 64 + 1 - start / 64
 spanned start len unit some is = omega (arith, some)
@@ -43,21 +43,24 @@ module _ (now : Sight) (geo : Geometry) where
   numbers_of_word start len taken of =
       let some = (read_within 65536 (4096 * geo.vpages) start len taken).0 in
       let lines = range_first (start / 64) ((start + len - 1) / 64 + 1 - start / 64) (spanned start len 64 some refl) in
-      (lines.0, of.lines ∙ append-nil _ ∙ ap (λ o. none_refused o _) taken ∙ lines.1)
+      let touched = lines_touched (Volume start len) in
+      (lines.0, of.lines ∙ append-nil (none_refused (read_refusal geo (Volume start len)) touched) ∙ ap (λ o. none_refused o touched) taken ∙ lines.1)
 
   pub numbers_of_block : (first count : ℕ) → read_refusal geo (Blocks first count) ≡ None → IsOf now geo (Blocks first count ∷ [])
       → (others : List ℕ) × (block_numbers now.blocks.items ≡ first ∷ others)
   numbers_of_block first count taken of =
       let some = (read_within 128 geo.blocks first count taken).0 in
       let blocks = range_first first count some in
-      (blocks.0, of.blocks ∙ append-nil _ ∙ ap (λ o. none_refused o _) taken ∙ blocks.1)
+      let touched = blocks_touched (Blocks first count) in
+      (blocks.0, of.blocks ∙ append-nil (none_refused (read_refusal geo (Blocks first count)) touched) ∙ ap (λ o. none_refused o touched) taken ∙ blocks.1)
 
   pub held_of_word : (name : List ℕ) (start len : ℕ) → read_refusal geo (File name start len) ≡ None → IsOf now geo (File name start len ∷ []) → is_held now.files.numbers (start / 8 / 8) ≡ true
   held_of_word name start len taken of =
       let some = (read_within 65536 (start + len) start len taken).0 in
       let lines = range_first (start / 64) ((start + len - 1) / 64 + 1 - start / 64) (spanned start len 64 some refl) in
+      let touched = file_lines_touched (File name start len) in
       let all : list_all (is_held now.files.numbers) (start / 64 ∷ lines.0) ≡ true =
-      ap (list_all (is_held now.files.numbers)) (sym (append-nil _ ∙ ap (λ o. none_refused o _) taken ∙ lines.1)) ∙ of.files in
+      ap (list_all (is_held now.files.numbers)) (sym (append-nil (none_refused (read_refusal geo (File name start len)) touched) ∙ ap (λ o. none_refused o touched) taken ∙ lines.1)) ∙ of.files in
       let same : start / 8 / 8 ≡ start / 64 = omega arith in
       ap (is_held now.files.numbers) same ∙ (and_parts (is_held now.files.numbers (start / 64)) (list_all (is_held now.files.numbers) lines.0) all).0
 
@@ -99,3 +102,7 @@ there (y ∷ rest) ys found x same first is = (rest, cc (same, first, is))
 pub gone : {A : Type 0} (xs ys : List A) (found : Option (Bor A)) → ys ≡ xs → option_copied found ≡ slice_get ys 0 → found ≡ None → xs ≡ []
 gone [] ys found same first is = refl
 gone (y ∷ rest) ys found same first is = cc (same, first, is)
+
+pub on_ok_all : {A E : Type 0} {P Q R S : Type 0} (result : Result A E) → (P → Q → R → S) → OnOk result P → OnOk result Q → OnOk result R → OnOk result S
+on_ok_all (Ok x) so p q r = so p q r
+on_ok_all (Err e) so p q r = tt

@@ -1,5 +1,5 @@
 -- What a part is in each state of a program, line by line.
-use Rattle.std.proofs.Common.{◌≡◌, ◌+◌, ◌<◌, ◌≤◌, ◌/◌, ◌%◌, ℕ, suc, Bool, true, false, IsTrue, Option, Some, None, List, [], ◌∷◌, ◌++◌, length, drop, drop-cons, get_or, map, refl, sym, ap, subst, ◌∙◌, arith}
+use Rattle.std.proofs.Common.{◌≡◌, ◌==◌, ◌+◌, ◌<◌, ◌≤◌, ◌/◌, ◌%◌, ℕ, suc, Bool, true, false, IsTrue, Option, Some, None, List, [], ◌∷◌, ◌++◌, length, drop, drop-cons, get_or, map, refl, sym, ap, subst, ◌∙◌, arith}
 use Rattle.std.specs.Option.{is_none}
 use Rattle.std.proofs.lemmas.List.{drop_all}
 use Rattle.word_tables.specs.declared.geometry.Geometry.{Geometry}
@@ -25,15 +25,15 @@ use Rattle.sights.proofs.SizeLemmas.{geometry_stays}
 use Rattle.value_tables.specs.Left.{FileSide, file_side}
 use Rattle.value_tables.specs.Left.FileSide.{NoFile, PastEnd, OfLine}
 use Rattle.value_tables.specs.Looking.{IsOf}
-use Rattle.value_tables.specs.Values.{cells_of, values_with}
+use Rattle.value_tables.specs.Values.{cells_of, history_of, values_with, with_all}
 use Rattle.value_tables.proofs.PlaceLemmas.{of_after}
 use Rattle.value_tables.proofs.WithinLemmas.{is_within}
 use Rattle.outcome_lists.specs.Choices.{sights_through, states, values_through}
 
 -- values of lines behind one another
-values_with-append : (w : ℕ) (found : List ℕ) (xs ys : List Cell) → values_with w found (xs ++ ys) ≡ values_with w (values_with w found xs) ys
-values_with-append w found [] ys = refl
-values_with-append w found (x ∷ xs) ys = values_with-append w _ xs ys
+values_with-append : (w : ℕ) (xs : List Cell) (found : List ℕ) (ys : List Cell) → values_with w found (xs ++ ys) ≡ values_with w (values_with w found xs) ys
+values_with-append w [] found ys = refl
+values_with-append w (x ∷ xs) found ys = values_with-append w xs (with_all (λ a b. a == b) found (history_of w x)) ys
 
 cells_of-first : (side : FileSide) (sides : List FileSide) → cells_of (side ∷ sides) ≡ cells_of (side ∷ []) ++ cells_of sides
 cells_of-first NoFile sides = refl
@@ -47,7 +47,7 @@ values_next (Blocks first count) found h hs = refl
 values_next (File name start len) found h hs =
     let sides = map (λ (h : Machine). file_side name (start / 8) h.files) hs in
     ap (values_with (start / 8 % 8) found) (cells_of-first (file_side name (start / 8) h.files) sides)
-    ∙ values_with-append (start / 8 % 8) found (cells_of (file_side name (start / 8) h.files ∷ [])) (cells_of sides)
+    ∙ values_with-append (start / 8 % 8) (cells_of (file_side name (start / 8) h.files ∷ [])) found (cells_of sides)
 
 pub sights_next : (part : Read) (found : List BlockSight) (h : Machine) (hs : List Machine) → sights_through part found (h ∷ hs) ≡ sights_through part (sights_through part found (h ∷ [])) hs
 sights_next (Volume start len) found h hs = refl
@@ -175,3 +175,10 @@ module _ (program : List (Option Command)) (done : List Bool) (part : Read) (geo
       adds before.0 before.1
       ∙ ap (λ ls. sights_through part blocks (states before.0 (inputs_of_lines ls))) (sym (drop_all i program ends))
       ∙ before.4
+
+-- what is gathered stands where it does
+pub gathers_at : (program : List (Option Command)) (done : List Bool) (part : Read) (geo : Geometry) (began : Sight) (i : ℕ) (now now2 : Sight) (values values2 : List ℕ) (blocks blocks2 : List BlockSight)
+    → now2 ≡ now → values2 ≡ values → blocks2 ≡ blocks → Gathers program done part geo began i now values blocks → Gathers program done part geo began i now2 values2 blocks2
+gathers_at program done part geo began i now now2 values values2 blocks blocks2 same vs bs gathers =
+    subst (λ b. Gathers program done part geo began i now2 values2 b) (sym bs)
+    (subst (λ v. Gathers program done part geo began i now2 v blocks) (sym vs) (subst (λ s. Gathers program done part geo began i s values blocks) (sym same) gathers))

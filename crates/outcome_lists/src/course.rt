@@ -1,13 +1,17 @@
 // A program that was performed, with what is looked at as it was before.
-ghost use Rattle.std.specs.Prelude.{◌≡◌, IfOk};
+ghost use Rattle.std.specs.Prelude.{◌≡◌, ◌∷◌, [], IfOk};
 ghost use Rattle.machine_host.specs.Machine.{Machine};
 ghost use Rattle.asked_reads.specs.Program.{inputs_of_lines};
+ghost use Rattle.cut_places.specs.Following.{Follows};
 ghost use Rattle.cut_places.specs.Places.{cut_places};
+ghost use Rattle.value_tables.specs.Looking.{IsOf};
 ghost use Rattle.outcome_lists.specs.Asking.{asked};
-ghost use Rattle.outcome_lists.specs.Courses.{AreFirst, IsCourse, IsFrom};
+ghost use Rattle.outcome_lists.specs.Courses.{AreFirst, IsAt, IsCourse, IsFrom};
 ghost use Rattle.outcome_lists.specs.Outcomes.{look_of, place_of};
+ghost use Rattle.outcome_lists.specs.Parts.{IsPart};
 
-use asked_reads::Question;
+use crate::passed::Passed;
+use asked_reads::{Question, Read};
 use cut_places::{CutPlace, Sight, find};
 use file_sights::FilesSeen;
 use script_text::Command;
@@ -45,6 +49,31 @@ impl Course<'_> {
         let blocks = &self.sight.blocks[..question.blocks.len()];
         let mut seen = sight_of(alloc, lines, blocks, &self.sight.files)?;
         find(self.program, self.done, self.geometry, question, &mut seen)
+    }
+
+    /// What is looked at for one part.
+    pub fn sight_of_part(
+        &self,
+        alloc: Global,
+        part: &Read,
+        passed: &Passed,
+    ) -> Result<Sight, AllocError>
+        requires part { IsPart self.now.geometry part.now }
+        requires at { IsAt self.now.sight.now part.now passed.now.lines passed.now.blocks }
+        ensures looks { IfOk result (λ sight. IsOf sight self.now.geometry (part.now ∷ [])) }
+        ensures follows { (h : Machine) → Follows self.now.sight.now self.now.geometry h → IfOk result (λ sight. Follows sight self.now.geometry h) }
+    {
+        let Sight {
+            lines,
+            blocks,
+            files,
+        } = self.sight;
+        let (line, block) = (passed.lines, passed.blocks);
+        match part {
+            Read::Volume { .. } => sight_of(alloc, &lines[line..line + 1], &[], files),
+            Read::Blocks { .. } => sight_of(alloc, &[], &blocks[block..block + 1], files),
+            Read::File { .. } => sight_of(alloc, &[], &[], files),
+        }
     }
 }
 

@@ -15,9 +15,10 @@ ghost use Rattle.outcome_lists.specs.Parts.{AreParts, IsPart};
 
 use crate::choice::Choice;
 use crate::choosing::choices_from;
-use crate::course::{Course, sight_of};
+use crate::course::Course;
 use crate::gathering::gather;
 use crate::outcome::Outcome;
+use crate::passed::Passed;
 use asked_reads::Read;
 use std::alloc::{AllocError, Global};
 
@@ -38,10 +39,7 @@ pub fn outcomes(
 {
     let mut found = Vec::new(alloc);
     found.push(Outcome::begun(alloc))?;
-    let mut passed = Passed {
-        lines: 0,
-        blocks: 0,
-    };
+    let mut passed = Passed::none();
     for part in parts {
         let choices = choices_of(alloc, course, part, &passed)?;
         let Some(next) = grown(alloc, course, &found, &choices)? else {
@@ -78,24 +76,6 @@ fn grown(
     Ok(Some(next))
 }
 
-/// How many lines and blocks come before a part.
-#[derive(Drop)]
-struct Passed {
-    lines: usize,
-    blocks: usize,
-}
-
-impl Passed {
-    // One part more.
-    fn pass(&mut self, part: &Read) {
-        match part {
-            Read::Volume { .. } => self.lines += 1,
-            Read::Blocks { .. } => self.blocks += 1,
-            Read::File { .. } => {}
-        }
-    }
-}
-
 // The ways that a part may be found.
 fn choices_of(
     alloc: Global,
@@ -107,16 +87,9 @@ fn choices_of(
     requires part { IsPart course.now.geometry part.now }
     requires at { IsAt course.now.sight.now part.now passed.now.lines passed.now.blocks }
     ensures choices { (h : Machine) → IsFrom course.now h → IfOk result (λ found. choices_held found.items ≡ choices (states h (inputs_of_lines course.now.program.now)) part.now) }
-    ensures ways { IfOk result (λ choices. AreWays course.now.sight.now course.now.geometry part.now (choices_held choices.items)) }
+    ensures ways { IfOk result (λ found. AreWays course.now.sight.now course.now.geometry part.now (choices_held found.items)) }
 {
-    let lines = &course.sight.lines;
-    let blocks = &course.sight.blocks;
-    let (lines, blocks) = match part {
-        Read::Volume { .. } => (&lines[passed.lines..passed.lines + 1], &blocks[..0]),
-        Read::Blocks { .. } => (&lines[..0], &blocks[passed.blocks..passed.blocks + 1]),
-        Read::File { .. } => (&lines[..0], &blocks[..0]),
-    };
-    let mut sight = sight_of(alloc, lines, blocks, &course.sight.files)?;
+    let mut sight = course.sight_of_part(alloc, part, passed)?;
     let gathered = gather(alloc, course, part, &mut sight)?;
     choices_from(alloc, part, &gathered)
 }

@@ -12,6 +12,7 @@ mod laws;
 mod listing;
 mod outcome;
 mod parts;
+mod passed;
 mod printing;
 mod word;
 

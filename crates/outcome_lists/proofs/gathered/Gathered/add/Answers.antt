@@ -5,6 +5,7 @@ use Rattle.nvm_model.specs.Blocks.{nth}
 use Rattle.sights.specs.BlockTelling.{same_sight}
 use Rattle.sights.specs.Seeing.{seen}
 use Rattle.value_tables.specs.Looking.{IsOf}
+use Rattle.value_tables.specs.Sides.{side_at}
 use Rattle.value_tables.specs.Values.{cells_of, history_of, values_with, with_all, with_one}
 use Rattle.outcome_lists.specs.Choices.{sights_through, values_through}
 use Rattle.outcome_lists.proofs.AddLemmas.{first_block, first_line, held_of_word, no_block, no_line, numbers_of_block, numbers_of_word, on_ok, there, gone, side_is}
@@ -53,6 +54,7 @@ returns-in-File-clause-values c = λ geo h follows taken of.
     let held = held_of_word now geo name start c.in-File.len (rw c.in-File.is at taken) (rw c.in-File.is at of) in
     on_ok c.add-in-File.result
     (λ added. added.values
+    ∙ ap (λ at. values_with (at / 8 % 8) old (cells_of (side_at now.files name (at / 8)))) c.from.ensures
     ∙ ap (λ sides. values_with (start / 8 % 8) old (cells_of sides)) (side_is now geo h name (start / 8) follows held)
     ∙ ap (λ part. values_through part old (h ∷ [])) (sym c.in-File.is))
     c.add-in-File.ensures
