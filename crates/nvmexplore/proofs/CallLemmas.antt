@@ -26,16 +26,16 @@ use Rattle.exploration.specs.declared.exploration.Exploration.{Exploration as Re
 use Rattle.exploration.specs.declared.exploration.ScriptFault.{ScriptFault}
 use Rattle.exploration.specs.declared.exploration.ScriptFault.TheVariants as script
 use Rattle.explorer.specs.Stopping.{NoneFell}
-use Rattle.cut_places.specs.Places.{Stop as Place, cut_places, found_stop}
+use Rattle.cut_places.specs.Places.{Stop as Place, found_stop}
 use Rattle.program_base.specs.Ending.{status}
 use Rattle.program_base.specs.Opening.{FailsToOpen, IsHeld, opened}
 use Rattle.program_base.specs.World.{World}
 use Rattle.program_base.specs.Writing.{WritesFront, WritesLine}
 use Rattle.program_base.proofs.BytesLemmas.{appends_then}
-use Rattle.value_tables.specs.Tables.{table_text}
 use Rattle.program_base.specs.declared.ending.Ending.{Ending}
 use Rattle.program_base.specs.declared.ending.Ending.TheVariants as endings
-use Rattle.nvmexplore.specs.Calls.{AnswersAll, AreTheorems, Fails, Halts, IsCaused, IsTaken, IsUnanswered, IsUnread, LeavesImages, Outcome, TellsTable, asked_table, most, reads_of}
+use Rattle.nvmexplore.specs.Calls.{AnswersAll, AreTheorems, Fails, Halts, IsCaused, IsTaken, IsUnanswered, IsUnread, LeavesImages, Outcome, TellsShown, asked_first, most, reads_of}
+use Rattle.nvmexplore.specs.Showing.{shown}
 use Rattle.nvmexplore.specs.Stops.{of_script, stop_status}
 use Rattle.nvmexplore.specs.declared.stop.Stop.{Stop}
 use Rattle.nvmexplore.specs.declared.stop.Stop.TheVariants as stops
@@ -72,9 +72,9 @@ caused_unanswered (stops.Early (endings.Meta line)) text old new cause = cause
 caused_unanswered (stops.Script n) text old new cause = absurd cause
 caused_unanswered stops.Usage text old new cause = cause
 
--- the table of a script that was read is the one that is asked for
-abbrev pub read_table : Machine → Read → List ℕ
-read_table h x = if x.table then table_text x.reads.items (cut_places 1 (armed h) (inputs_of_lines x.program.items)) else []
+-- what is shown of a script that was read is what is asked for
+abbrev pub read_first : Machine → Read → List ℕ
+read_first h x = shown x.table x.list (armed h) (inputs_of_lines x.program.items) x.reads.items
 
 reads_are : (reads : List ReadOfLook) → reads_of (map read_action reads) ≡ reads
 reads_are [] = refl
@@ -82,10 +82,11 @@ reads_are (looks.Volume start len ∷ reads) = ap (λ rs. looks.Volume start len
 reads_are (looks.Blocks first count ∷ reads) = ap (λ rs. looks.Blocks first count ∷ rs) (reads_are reads)
 reads_are (looks.File name start len ∷ reads) = ap (λ rs. looks.File name start len ∷ rs) (reads_are reads)
 
-same_table : (h : Machine) (x : Read) (e : Exploration) → inputs_of_lines x.program.items ≡ map asks_for e.program → map read_action x.reads.items ≡ e.reads → x.table ≡ e.table → read_table h x ≡ asked_table h e
-same_table h x e inputs reads table =
-    ap (λ b. if b then table_text x.reads.items (cut_places 1 (armed h) (inputs_of_lines x.program.items)) else []) table
-    ∙ ap₂ (λ rs ins. if e.table then table_text rs (cut_places 1 (armed h) ins) else []) (sym (reads_are x.reads.items) ∙ ap reads_of reads) inputs
+same_first : (h : Machine) (x : Read) (e : Exploration) → inputs_of_lines x.program.items ≡ map asks_for e.program → map read_action x.reads.items ≡ e.reads → x.table ≡ e.table → x.list ≡ e.list
+    → read_first h x ≡ asked_first h e
+same_first h x e inputs reads table list =
+    ap₂ (λ t l. shown t l (armed h) (inputs_of_lines x.program.items) x.reads.items) table list
+    ∙ ap₂ (λ rs ins. shown e.table e.list (armed h) ins rs) (sym (reads_are x.reads.items) ∙ ap reads_of reads) inputs
 
 -- why questions were not answered, told by an earlier count of writes
 unanswered_counted : (stop : Stop) (a b c : ℕ) (old new : Panel) → a ≤ b → IsUnanswered stop b c old new → IsUnanswered stop a c old new
@@ -101,11 +102,11 @@ unanswered_counted (stops.Early (endings.Meta line)) a b c old new later cause =
 unanswered_counted (stops.Script n) a b c old new later cause = cause
 unanswered_counted stops.Usage a b c old new later cause = cause
 
--- answers behind a table
-pub behind_table : (table : List ℕ) (tell : List Seen → Option Place) (looks : List (List Seen)) (result : Result Bool Stop) (old mid new : Option (List ℕ)) (a b c : ℕ) (began at end : Panel)
+-- answers behind a text
+pub behind_shown : (table : List ℕ) (tell : List Seen → Option Place) (looks : List (List Seen)) (result : Result Bool Stop) (old mid new : Option (List ℕ)) (a b c : ℕ) (began at end : Panel)
     → Appends old mid table → a ≤ b → NoneFell began at → AnswersAll [] tell looks result mid new b c at end → AnswersAll table tell looks result old new a c began end
-behind_table table tell looks (Ok may) old mid new a b c began at end wrote later fell told = (told.0, told.1, told.2, appends_then old mid new table told.1 wrote told.3)
-behind_table table tell looks (Err stop) old mid new a b c began at end wrote later fell told = (
+behind_shown table tell looks (Ok may) old mid new a b c began at end wrote later fell told = (told.0, told.1, told.2, appends_then old mid new table told.1 wrote told.3)
+behind_shown table tell looks (Err stop) old mid new a b c began at end wrote later fell told = (
   unanswered_counted stop a b c began end later (unanswered_later stop b c began at end fell told.0),
   told.1,
   told.2,
@@ -116,10 +117,10 @@ behind_table table tell looks (Err stop) old mid new a b c began at end wrote la
   },
 )
 
--- and none, where the table was not written whole
-pub no_table : (table : List ℕ) (tell : List Seen → Option Place) (looks : List (List Seen)) (stop : Stop) (old new : Option (List ℕ)) (a c : ℕ) (began end : Panel)
-    → TellsTable table (Err stop) old new a c began end → AnswersAll table tell looks (Err stop) old new a c began end
-no_table table tell looks stop old new a c began end told = (
+-- and none, where it was not written whole
+pub no_shown : (table : List ℕ) (tell : List Seen → Option Place) (looks : List (List Seen)) (stop : Stop) (old new : Option (List ℕ)) (a c : ℕ) (began end : Panel)
+    → TellsShown table (Err stop) old new a c began end → AnswersAll table tell looks (Err stop) old new a c began end
+no_shown table tell looks stop old new a c began end told = (
   told.0,
   [],
   record { first = []; later = looks; joined = refl; answered = refl },
@@ -155,7 +156,7 @@ module _ (name : List ℕ) (lines : List LineState) (old new : World) (there : I
   }
 
   module _ (text : List ℕ) (e : Exploration) (taken : IsTaken text e old new) (theorems : AreTheorems (opened lines) (map asks_for e.program)) (started : Panel) (fell : NoneFell old.device.panel started) where
-    outcome_taken : (result : Result Bool Stop) → AnswersAll (asked_table (opened lines) e) (found_stop (opened lines) (map asks_for e.program)) e.questions result old.written new.written old.writes new.writes started new.device.panel → Outcome name result old new
+    outcome_taken : (result : Result Bool Stop) → AnswersAll (asked_first (opened lines) e) (found_stop (opened lines) (map asks_for e.program)) e.questions result old.written new.written old.writes new.writes started new.device.panel → Outcome name result old new
     outcome_taken (Ok may) told = record {
       lines = lines;
       there = there;
@@ -186,7 +187,7 @@ module _ (name : List ℕ) (lines : List LineState) (old new : World) (there : I
       → IsProgram (inputs_of_lines x.program.items)
       → ((e : Exploration) → script_of text ≡ Taken e → IsProgram (map asks_for e.program) → AreTheorems (opened lines) (map asks_for e.program))
       → ((looks : List (List Seen)) → AskOf looks x.questions.items
-      → AnswersAll (read_table (opened lines) x) (found_stop (opened lines) (inputs_of_lines x.program.items)) looks result old.written new.written old.writes new.writes started new.device.panel)
+      → AnswersAll (read_first (opened lines) x) (found_stop (opened lines) (inputs_of_lines x.program.items)) looks result old.written new.written old.writes new.writes started new.device.panel)
       → Outcome name result old new
   outcome_read text x result started fell read ended short is program theorems tells = by_script (script_of text) refl is
     where
@@ -194,8 +195,8 @@ module _ (name : List ℕ) (lines : List LineState) (old new : World) (there : I
       by_script (Taken e) told holds =
           let same : inputs_of_lines x.program.items ≡ map asks_for e.program = same_inputs x.program.items e.program holds.0 in
           outcome_taken text e (record { read = read; ended = ended; short = short; is = told }) (theorems e told (subst IsProgram same program)) started fell result
-          (subst (λ table. AnswersAll table (found_stop (opened lines) (map asks_for e.program)) e.questions result old.written new.written old.writes new.writes started new.device.panel) (same_table (opened lines) x e same holds.1 holds.2)
-          (subst (λ (inputs : List Input). AnswersAll (read_table (opened lines) x) (found_stop (opened lines) inputs) e.questions result old.written new.written old.writes new.writes started new.device.panel) same (tells e.questions holds.3)))
+          (subst (λ table. AnswersAll table (found_stop (opened lines) (map asks_for e.program)) e.questions result old.written new.written old.writes new.writes started new.device.panel) (same_first (opened lines) x e same holds.1 holds.2 holds.3)
+          (subst (λ (inputs : List Input). AnswersAll (read_first (opened lines) x) (found_stop (opened lines) inputs) e.questions result old.written new.written old.writes new.writes started new.device.panel) same (tells e.questions holds.4)))
       by_script (StopsAt n) told holds = absurd holds
 
 -- words of which there is one name it

@@ -1,12 +1,12 @@
 // What the look's reads may find, where the script asks for it: a table of their values, and a list of all outcomes.
-ghost use Rattle.std.specs.Prelude.{◌≡◌, ◌≤◌, ◌++◌, ℕ, All, IfErr, OnOk};
+ghost use Rattle.std.specs.Prelude.{◌≡◌, ◌≤◌, ◌++◌, ℕ, All, IfErr, IfOk, OnOk};
 ghost use Rattle.outcomes.specs.Finds.{armed};
 ghost use Rattle.outcomes.specs.Stops.{IsProgram};
 ghost use Rattle.asked_reads.specs.Program.{IsBounded, inputs_of_lines};
 ghost use Rattle.explorer.specs.Stopping.{NoneFell};
 ghost use Rattle.program_base.specs.Opening.{opened};
 ghost use Rattle.nvmexplore.specs.Calls.{AreMountable, IsUnanswered, TellsShown};
-ghost use Rattle.nvmexplore.specs.Showing.{form_text, shown};
+ghost use Rattle.nvmexplore.specs.Showing.{if_asked, shown};
 
 use crate::form::{Form, make};
 use crate::stop::Stop;
@@ -34,23 +34,57 @@ pub fn show<D: LineDevice, K: Sink>(
     ensures later { K.count answers.old ≤ K.count answers.new }
     ensures counts { OnOk result (NoneFell (D.state device.old).panel (D.state device.new).panel) }
 {
-    let mut text = Bytes::new(alloc);
-    if exploration.table {
-        add(alloc, image, exploration, Form::Table, device, &mut text)?;
-    }
-    if exploration.list {
-        add(alloc, image, exploration, Form::List, device, &mut text)?;
-    }
+    let text = asked(alloc, image, exploration, device)?;
     if text.is_empty() {
         return Ok(());
     }
     Ok(tell(Ok(text), answers)?)
 }
 
+// The table, and then the list, where they are asked for.
+fn asked<D: LineDevice>(
+    alloc: Global,
+    image: &Image,
+    exploration: &Exploration,
+    device: &mut D,
+) -> Result<Bytes, Stop>
+    requires image { AreMountable image.now.lines.items }
+    requires program { IsProgram (inputs_of_lines exploration.now.program.items) }
+    requires bounded { All IsBounded exploration.now.program.items }
+    ensures text { IfOk result (λ text. text.items
+        ≡ shown exploration.now.table exploration.now.list (armed (opened image.now.lines.items)) (inputs_of_lines exploration.now.program.items) exploration.now.reads.items) }
+    ensures cause { (counted counts : ℕ) → IfErr result (λ stop. IsUnanswered stop counted counts (D.state device.old).panel (D.state device.new).panel) }
+    ensures counts { OnOk result (NoneFell (D.state device.old).panel (D.state device.new).panel) }
+{
+    let mut text = Bytes::new(alloc);
+    let (table, list) = (exploration.table, exploration.list);
+    add(
+        alloc,
+        image,
+        exploration,
+        table,
+        Form::Table,
+        device,
+        &mut text,
+    )?;
+    add(
+        alloc,
+        image,
+        exploration,
+        list,
+        Form::List,
+        device,
+        &mut text,
+    )?;
+    Ok(text)
+}
+
+// What may be found, in one form, if that is asked for.
 fn add<D: LineDevice>(
     alloc: Global,
     image: &Image,
     exploration: &Exploration,
+    is_asked: bool,
     form: Form,
     device: &mut D,
     text: &mut Bytes,
@@ -59,10 +93,13 @@ fn add<D: LineDevice>(
     requires program { IsProgram (inputs_of_lines exploration.now.program.items) }
     requires bounded { All IsBounded exploration.now.program.items }
     ensures text { OnOk result (text.new.items ≡ text.old.items
-        ++ form_text form (armed (opened image.now.lines.items)) (inputs_of_lines exploration.now.program.items) exploration.now.reads.items) }
+        ++ if_asked is_asked form (armed (opened image.now.lines.items)) (inputs_of_lines exploration.now.program.items) exploration.now.reads.items) }
     ensures cause { (counted counts : ℕ) → IfErr result (λ stop. IsUnanswered stop counted counts (D.state device.old).panel (D.state device.new).panel) }
     ensures counts { OnOk result (NoneFell (D.state device.old).panel (D.state device.new).panel) }
 {
+    if !is_asked {
+        return Ok(());
+    }
     let program = &exploration.program;
     let made = make(alloc, image, program, &exploration.reads, form, device)?;
     text.extend(made.as_slice())?;

@@ -1,6 +1,6 @@
 -- The reads of an outcome, part by part.
-use Rattle.std.proofs.Common.{◌≡◌, ◌+◌, ◌*◌, ◌/◌, ◌%◌, ◌≤◌, ◌<◌, ◌&&◌, ℕ, zero, suc, true, All, Option, Some, None, List, [], ◌∷◌, ◌++◌, drop, length, map, take, refl, sym, ap, ap₂, subst, ◌∙◌, append_assoc, append-nil, arith}
-use Rattle.std.specs.List.{list_all, range_with_len}
+use Rattle.std.proofs.Common.{◌≡◌, ◌+◌, ◌*◌, ◌/◌, ◌%◌, ◌≤◌, ◌<◌, ◌&&◌, ℕ, zero, suc, true, Option, Some, None, List, [], ◌∷◌, ◌++◌, drop, length, map, take, refl, sym, ap, ap₂, subst, ◌∙◌, append_assoc, append-nil, arith}
+use Rattle.std.specs.List.{AllByRecursion, list_all, range_with_len}
 use Rattle.std.proofs.lemmas.Bool.{and_from}
 use Rattle.std.proofs.lemmas.List.Folds.{list_all-append}
 use Rattle.word_tables.specs.declared.geometry.Geometry.{Geometry}
@@ -93,12 +93,12 @@ all_first sight geo parts later a (c ∷ cs) of all = (are_first sight geo parts
 
 -- and of each outcome
 pub all_with : (sight : Sight) (geo : Geometry) (before : List Read) (part : Read) (choices : List Choice) (outcomes : List OutcomeHeld) → AreWays sight geo part choices
-    → AllOf sight geo before outcomes → All (λ (o : OutcomeHeld). AllWith sight geo (before ++ part ∷ []) (asked o.asked) choices) outcomes
+    → AllOf sight geo before outcomes → AllByRecursion (λ (o : OutcomeHeld). AllWith sight geo (before ++ part ∷ []) (asked o.asked) choices) outcomes
 all_with sight geo before part choices [] ways all = tt
 all_with sight geo before part choices (o ∷ os) ways all = (ways before (asked o.asked) all.0, all_with sight geo before part choices os ways all.1)
 
 pub all_all_first : (sight : Sight) (geo : Geometry) (parts later : List Read) (choices : List Choice) (outcomes : List OutcomeHeld) → IsOf sight geo (parts ++ later)
-    → All (λ (o : OutcomeHeld). AllWith sight geo parts (asked o.asked) choices) outcomes → All (λ (o : OutcomeHeld). AllFirst sight (asked o.asked) choices) outcomes
+    → AllByRecursion (λ (o : OutcomeHeld). AllWith sight geo parts (asked o.asked) choices) outcomes → AllByRecursion (λ (o : OutcomeHeld). AllFirst sight (asked o.asked) choices) outcomes
 all_all_first sight geo parts later choices [] of all = tt
 all_all_first sight geo parts later choices (o ∷ os) of all = (all_first sight geo parts later (asked o.asked) choices of all.0, all_all_first sight geo parts later choices os of all.1)
 

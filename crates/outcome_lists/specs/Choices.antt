@@ -53,15 +53,21 @@ head (Volume start len) = codes " | volume " ++ decimal start
 head (Blocks first count) = codes " | block " ++ decimal first
 head (File name start len) = codes " | file " ++ (name ++ (32 ∷ decimal start))
 
+-- a word with that value
+abbrev pub value_choice : List ℕ → (PageReply → Seen) → ℕ → Choice
+value_choice before read v = record { seen = read (Shows (to_le_bytes w64 v)); text = before ++ (32 ∷ data_text (to_le_bytes w64 v)) }
+
 -- a word: that its line is bad, and each of these values
 abbrev pub word_choices : List ℕ → (PageReply → Seen) → ℕ → List ℕ → List Choice
-word_choices before read start values =
-    record { seen = read (Poison (64 * (start / 64))); text = before ++ codes " poison" }
-    ∷ map (λ v. record { seen = read (Shows (to_le_bytes w64 v)); text = before ++ (32 ∷ data_text (to_le_bytes w64 v)) }) values
+word_choices before read start values = record { seen = read (Poison (64 * (start / 64))); text = before ++ codes " poison" } ∷ map (value_choice before read) values
+
+-- a block that is seen so
+abbrev pub block_choice : List ℕ → ℕ → Sight → Choice
+block_choice before b s = record { seen = of_blocks (record { first = b; count = 1; reply = reply_of b s }); text = before ++ sight_text s }
 
 -- a block: each of these sights
 abbrev pub block_choices : List ℕ → ℕ → List Sight → List Choice
-block_choices before b sights = map (λ s. record { seen = of_blocks (record { first = b; count = 1; reply = reply_of b s }); text = before ++ sight_text s }) sights
+block_choices before b sights = map (block_choice before b) sights
 
 -- a word of a file: also that there is no such file, or that it ends before the word
 abbrev pub file_choices : List ℕ → (PageReply → Seen) → ℕ → List ℕ → List Choice

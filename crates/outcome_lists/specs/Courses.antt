@@ -1,6 +1,6 @@
 -- A program that was performed, and what is looked at.
 use Rattle.std.specs.Prelude.{◌≡◌, ◌≤◌, ◌++◌, ◌∷◌, [], ℕ, All, true, List, length, take}
-use Rattle.std.specs.List.{list_all}
+use Rattle.std.specs.List.{AllByRecursion, list_all}
 use Rattle.word_tables.specs.Bounds.{IsValid}
 use Rattle.word_tables.specs.declared.geometry.Geometry.{Geometry}
 use Rattle.outcomes.specs.Blocks.{all_numbers_read}
@@ -57,14 +57,14 @@ pub record AreOf (sight : Sight) (geo : Geometry) (parts : List Read) (a : Asked
 
 -- with each of these choices they are of the first ones, or of these parts
 abbrev pub AllFirst : Sight → Asked → List Choice → Type 0
-AllFirst sight a choices = All (λ (c : Choice). AreFirst sight (and_seen a c.seen)) choices
+AllFirst sight a choices = AllByRecursion (λ (c : Choice). AreFirst sight (and_seen a c.seen)) choices
 
 abbrev pub AllWith : Sight → Geometry → List Read → Asked → List Choice → Type 0
-AllWith sight geo parts a choices = All (λ (c : Choice). AreOf sight geo parts (and_seen a c.seen)) choices
+AllWith sight geo parts a choices = AllByRecursion (λ (c : Choice). AreOf sight geo parts (and_seen a c.seen)) choices
 
 -- so are all these outcomes
 abbrev pub AllOf : Sight → Geometry → List Read → List Outcome → Type 0
-AllOf sight geo parts outcomes = All (λ (o : Outcome). AreOf sight geo parts (asked o.asked)) outcomes
+AllOf sight geo parts outcomes = AllByRecursion (λ (o : Outcome). AreOf sight geo parts (asked o.asked)) outcomes
 
 -- choices are of a part: behind those of others they are of those and of it
 abbrev pub AreWays : Sight → Geometry → Read → List Choice → Type 0

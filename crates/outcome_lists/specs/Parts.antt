@@ -1,6 +1,6 @@
 -- The reads of a look in parts: each is of one word, of the volume or of a file, or of one block.
-use Rattle.std.specs.Prelude.{◌≡◌, ◌==◌, ◌+◌, ◌-◌, ◌*◌, ◌%◌, ◌++◌, ◌&&◌, ℕ, Bool, false, All, List, [], ◌∷◌, Option, Some, None, map, nat_le, if◌then◌else◌}
-use Rattle.std.specs.List.{range_with_len}
+use Rattle.std.specs.Prelude.{◌≡◌, ◌==◌, ◌+◌, ◌-◌, ◌*◌, ◌%◌, ◌++◌, ◌&&◌, ℕ, Bool, false, List, [], ◌∷◌, Option, Some, None, map, nat_le, if◌then◌else◌}
+use Rattle.std.specs.List.{AllByRecursion, range_with_len}
 use Rattle.std.specs.Str.{bytes_eq}
 use Rattle.nvm_base.specs.Units.{units_of}
 use Rattle.nvm_base.specs.declared.units.Span.{Span}
@@ -67,4 +67,4 @@ pub record IsPart (geo : Geometry) (read : Read) : Type 0 where
   pub one : IsWordOrBlock read
 
 abbrev pub AreParts : Geometry → List Read → Type 0
-AreParts geo reads = All (IsPart geo) reads
+AreParts geo reads = AllByRecursion (IsPart geo) reads

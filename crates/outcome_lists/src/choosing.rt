@@ -1,15 +1,9 @@
 // The ways that a part of a look may be found.
-ghost use Rattle.std.specs.Prelude.{◌≡◌, ◌++◌, ◌∷◌, IfOk, OnOk, codes, map};
-ghost use Rattle.std.specs.Int.{to_le_bytes, w64};
-ghost use Rattle.nvm_base.specs.Data.{data_text};
-ghost use Rattle.outcomes.specs.Pages.PageReply.{Shows};
+ghost use Rattle.std.specs.Prelude.{◌≡◌, ◌++◌, IfOk, OnOk, map};
 ghost use Rattle.asked_reads.specs.Reads.{page_reply};
-ghost use Rattle.sights.specs.BlockTelling.{sight_text};
-ghost use Rattle.value_tables.specs.Listed.{reply_of};
-ghost use Rattle.outcomes.specs.Seen.Seen.{of_blocks};
 ghost use Rattle.asked_reads.specs.declared.read.Read.TheVariants.{Blocks as OfBlocks};
 ghost use Rattle.outcome_lists.specs.Asking.{choice_held, choices_held};
-ghost use Rattle.outcome_lists.specs.Choices.{block_choices, choices_from, file_choices, head, word_choices};
+ghost use Rattle.outcome_lists.specs.Choices.{block_choice, block_choices, choices_from, file_choices, head, value_choice, word_choices};
 ghost use Rattle.outcome_lists.specs.Words.{part_of_word, seen_of_word, start_of_word};
 
 use crate::choice::{Asks, Choice};
@@ -86,6 +80,18 @@ fn add_word(
 {
     let at = LINE * (word.start() / LINE);
     choices.push(choice(alloc, word, PageReply::Poison(at), b" poison")?)?;
+    add_values(alloc, word, values, choices)
+}
+
+fn add_values(
+    alloc: Global,
+    word: &Word<'_>,
+    values: &[u64],
+    choices: &mut Vec<Choice>,
+) -> Result<(), AllocError>
+    ensures { OnOk result (choices_held choices.new.items ≡ choices_held choices.old.items
+        ++ map (value_choice (head (part_of_word word.now)) (seen_of_word word.now)) values.now) }
+{
     for value in values {
         choices.push(value_choice(alloc, word, *value)?)?;
     }
@@ -93,10 +99,7 @@ fn add_word(
 }
 
 fn value_choice(alloc: Global, word: &Word<'_>, value: u64) -> Result<Choice, AllocError>
-    ensures { IfOk result (λ choice. choice_held choice ≡ record {
-      seen = seen_of_word word.now (Shows (to_le_bytes w64 value));
-      text = head (part_of_word word.now) ++ (32 ∷ data_text (to_le_bytes w64 value));
-    }) }
+    ensures { IfOk result (λ choice. choice_held choice ≡ value_choice (head (part_of_word word.now)) (seen_of_word word.now) value) }
 {
     let bytes = value.to_le_bytes();
     let mut text = Bytes::new(alloc);
@@ -138,10 +141,7 @@ fn of_block(alloc: Global, b: u32, blocks: &[HeldBlock]) -> Result<Vec<Choice>, 
 }
 
 fn block_choice(alloc: Global, b: u32, block: &HeldBlock) -> Result<Choice, AllocError>
-    ensures { IfOk result (λ choice. choice_held choice ≡ record {
-      seen = of_blocks (record { first = b; count = 1; reply = reply_of b block.now });
-      text = head (OfBlocks b 1) ++ sight_text block.now;
-    }) }
+    ensures { IfOk result (λ choice. choice_held choice ≡ block_choice (head (OfBlocks b 1)) b block.now) }
 {
     let first = u64::from(b);
     let reply = match block.read() {

@@ -1,5 +1,6 @@
 // The outcomes of a look, part by part.
-ghost use Rattle.std.specs.Prelude.{◌≡◌, ◌∷◌, [], All, IfOk, IfSome, List, None, option_map};
+ghost use Rattle.std.specs.Prelude.{◌≡◌, ◌∷◌, [], IfOk, IfSome, List, None, option_map};
+ghost use Rattle.std.specs.List.{AllByRecursion};
 ghost use Rattle.machine_host.specs.Machine.{Machine};
 ghost use Rattle.asked_reads.specs.Program.{inputs_of_lines};
 ghost use Rattle.cut_places.specs.Places.{cut_places};
@@ -60,10 +61,10 @@ fn grown(
     choices: &[Choice],
 ) -> Result<Option<Vec<Outcome>>, AllocError>
     requires course { IsCourse course.now }
-    requires first { All (λ (o : Held). AllFirst course.now.sight.now (asked o.asked) (choices_held choices.now)) found.now }
+    requires first { AllByRecursion (λ (o : Held). AllFirst course.now.sight.now (asked o.asked) (choices_held choices.now)) found.now }
     ensures grown { (h : Machine) → IsFrom course.now h → IfOk result (λ next. option_map (λ outcomes. outcomes_held outcomes.items) next
         ≡ capped (grown (place_of (cut_places 1 h (inputs_of_lines course.now.program.now))) (outcomes_held found.now) (choices_held choices.now))) }
-    ensures of { (parts : List Reading) → All (λ (o : Held). AllWith course.now.sight.now course.now.geometry parts (asked o.asked) (choices_held choices.now)) found.now
+    ensures of { (parts : List Reading) → AllByRecursion (λ (o : Held). AllWith course.now.sight.now course.now.geometry parts (asked o.asked) (choices_held choices.now)) found.now
         → IfOk result (λ next. IfSome next (λ outcomes. AllOf course.now.sight.now course.now.geometry parts outcomes.items)) }
 {
     let mut next = Vec::new(alloc);
@@ -105,7 +106,7 @@ fn choices_of(
     requires course { IsCourse course.now }
     requires part { IsPart course.now.geometry part.now }
     requires at { IsAt course.now.sight.now part.now passed.now.lines passed.now.blocks }
-    ensures choices { (h : Machine) → IsFrom course.now h → IfOk result (λ choices. choices_held choices.items ≡ choices (states h (inputs_of_lines course.now.program.now)) part.now) }
+    ensures choices { (h : Machine) → IsFrom course.now h → IfOk result (λ found. choices_held found.items ≡ choices (states h (inputs_of_lines course.now.program.now)) part.now) }
     ensures ways { IfOk result (λ choices. AreWays course.now.sight.now course.now.geometry part.now (choices_held choices.items)) }
 {
     let lines = &course.sight.lines;

@@ -8,11 +8,13 @@ mod course;
 mod gathered;
 mod gathering;
 mod growing;
+mod laws;
 mod listing;
 mod outcome;
 mod parts;
 mod printing;
 mod word;
 
+pub use laws::a_shorter_look_is_shown;
 pub use listing::list_outcomes;
 pub use printing::print_place;

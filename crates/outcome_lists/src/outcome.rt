@@ -3,9 +3,11 @@ ghost use Rattle.std.specs.Prelude.{◌≡◌, ◌++◌, IfOk, IfSome, List, OnO
 ghost use Rattle.machine_host.specs.Machine.{Machine};
 ghost use Rattle.asked_reads.specs.Program.{inputs_of_lines};
 ghost use Rattle.cut_places.specs.Places.{cut_places};
+ghost use Rattle.cut_places.specs.declared.sight.Sight.{Sight};
+ghost use Rattle.word_tables.specs.declared.geometry.Geometry.{Geometry as Sizes};
 ghost use Rattle.asked_reads.specs.declared.read.Read.{Read};
 ghost use Rattle.outcome_lists.specs.Asking.{asked, choice_held, choices_held, outcome_held, outcomes_held, some_held};
-ghost use Rattle.outcome_lists.specs.Courses.{AllFirst, AllOf, AllWith, AreFirst, IsCourse, IsFrom};
+ghost use Rattle.outcome_lists.specs.Courses.{AllFirst, AllOf, AllWith, AreFirst, AreOf, IsCourse, IsFrom};
 ghost use Rattle.outcome_lists.specs.Outcomes.{and_seen, begun, place_of, with_choice, with_choices};
 
 use crate::choice::Choice;
@@ -55,9 +57,8 @@ impl Outcome {
             → AllOf course.now.sight.now course.now.geometry parts grown.old.items → OnOk result (AllOf course.now.sight.now course.now.geometry parts grown.new.items) }
     {
         for choice in choices {
-            if let Some(outcome) = self.with(alloc, course, choice)? {
-                grown.push(outcome)?;
-            }
+            let longer = self.with(alloc, course, choice)?;
+            keep_found(longer, grown)?;
         }
         Ok(())
     }
@@ -88,4 +89,15 @@ impl Outcome {
             place: Some(place),
         }))
     }
+}
+
+fn keep_found(found: Option<Outcome>, kept: &mut Vec<Outcome>) -> Result<(), AllocError>
+    ensures kept { OnOk result (outcomes_held kept.new.items ≡ outcomes_held kept.old.items ++ some_held found) }
+    ensures of { (sight : Sight) (geo : Sizes) (parts : List Read) → IfSome found (λ o. AreOf sight geo parts (asked o.asked))
+        → AllOf sight geo parts kept.old.items → OnOk result (AllOf sight geo parts kept.new.items) }
+{
+    if let Some(outcome) = found {
+        kept.push(outcome)?;
+    }
+    Ok(())
 }

@@ -4,7 +4,7 @@ ghost use Rattle.word_tables.specs.Bounds.{IsValid};
 ghost use Rattle.nvm_base.specs.Units.{units_of};
 ghost use Rattle.value_tables.specs.Rows.{read_refusal};
 ghost use Rattle.value_tables.specs.Values.{with_all, with_one};
-ghost use Rattle.outcome_lists.specs.Parts.{AreParts, IsPart, part, parts_of, parts_read, reach, same_part};
+ghost use Rattle.outcome_lists.specs.Parts.{AreParts, IsPart, part, parts_of, parts_read, reach, same_part, unless_refused};
 
 use asked_reads::Read;
 use nvm_base::{Span, WORD};
@@ -23,17 +23,27 @@ pub fn parts_of(alloc: Global, geometry: Geometry, reads: &[Read]) -> Result<Vec
 {
     let mut parts = Vec::new(alloc);
     for read in reads {
-        if read_refusal(geometry, read).is_none() {
-            add_parts(geometry, *read, &mut parts)?;
-        }
+        add_read(geometry, read, &mut parts)?;
     }
     Ok(parts)
 }
 
-fn add_parts(geometry: Geometry, read: Read, parts: &mut Vec<Read>) -> Result<(), AllocError>
+// Those of one read.
+fn add_read(geometry: Geometry, read: &Read, parts: &mut Vec<Read>) -> Result<(), AllocError>
+    requires { IsValid geometry }
+    ensures parts { OnOk result (parts.new.items ≡ with_all same_part parts.old.items (unless_refused (read_refusal geometry read.now) (parts_read read.now))) }
+    ensures taken { AreParts geometry parts.old.items → OnOk result (AreParts geometry parts.new.items) }
+{
+    if read_refusal(geometry, read).is_some() {
+        return Ok(());
+    }
+    add_parts(geometry, read, parts)
+}
+
+fn add_parts(geometry: Geometry, read: &Read, parts: &mut Vec<Read>) -> Result<(), AllocError>
     requires valid { IsValid geometry }
-    requires taken { read_refusal geometry read ≡ None }
-    ensures parts { OnOk result (parts.new.items ≡ with_all same_part parts.old.items (parts_read read)) }
+    requires taken { read_refusal geometry read.now ≡ None }
+    ensures parts { OnOk result (parts.new.items ≡ with_all same_part parts.old.items (parts_read read.now)) }
     ensures taken { AreParts geometry parts.old.items → OnOk result (AreParts geometry parts.new.items) }
 {
     let reach = reach_of(geometry, read);
@@ -78,20 +88,20 @@ fn same_part(part: &Read, other: &Read) -> bool
 }
 
 // The words or the blocks that the read touches: the first, and how many.
-fn reach_of(geometry: Geometry, read: Read) -> Span
+fn reach_of(geometry: Geometry, read: &Read) -> Span
     requires valid { IsValid geometry }
-    requires taken { read_refusal geometry read ≡ None }
-    ensures { result ≡ reach read }
+    requires taken { read_refusal geometry read.now ≡ None }
+    ensures { result ≡ reach read.now }
 {
     match read {
-        Read::Volume { start, len } => words_of(start, len),
+        Read::Volume { start, len } => words_of(*start, *len),
         Read::Blocks { first, count } => Span {
-            start: u64::from(first),
-            len: count,
+            start: u64::from(*first),
+            len: *count,
         },
         Read::File { start, len, .. } => {
-            let start = u64::from(start);
-            words_of(start, len.min(FILE_END - start))
+            let start = u64::from(*start);
+            words_of(start, (*len).min(FILE_END - start))
         }
     }
 }
@@ -108,12 +118,12 @@ fn words_of(start: u64, len: u64) -> Span
     }
 }
 
-fn part(geometry: Geometry, read: Read, n: u64) -> Read
+fn part(geometry: Geometry, read: &Read, n: u64) -> Read
     requires valid { IsValid geometry }
-    requires taken { read_refusal geometry read ≡ None }
-    requires from { (reach read).start ≤ n }
-    requires below { n < (reach read).start + (reach read).len }
-    ensures part { result ≡ part read n }
+    requires taken { read_refusal geometry read.now ≡ None }
+    requires from { (reach read.now).start ≤ n }
+    requires below { n < (reach read.now).start + (reach read.now).len }
+    ensures part { result ≡ part read.now n }
     ensures is { IsPart geometry result }
 {
     match read {
@@ -126,7 +136,7 @@ fn part(geometry: Geometry, read: Read, n: u64) -> Read
             count: 1,
         },
         Read::File { name, .. } => Read::File {
-            name,
+            name: *name,
             start: (WORD * n) as u32,
             len: WORD,
         },

@@ -3,7 +3,7 @@ use Rattle.std.proofs.lemmas.Result.{err_from_is_err_and}
 use Rattle.exploration.specs.Exploration.{script_of}
 use Rattle.exploration.specs.Reading.{ReadsScript}
 use Rattle.program_base.specs.World.{world}
-use Rattle.nvmexplore.proofs.CallLemmas.{behind_table, halts_unread, halts_untaken, no_table, outcome_read}
+use Rattle.nvmexplore.proofs.CallLemmas.{behind_shown, halts_unread, halts_untaken, no_shown, outcome_read}
 use Rattle.nvmexplore.proofs.top.answer_script.Goals as goal
 
 pub returns-in_err-text : goal.returns-in_err-text
@@ -25,21 +25,21 @@ returns-in_err-exploration g c =
     c.in_err-exploration.field-0.0 c.in_ok-text.text.items text.0 text.1
     (subst (λ script. ReadsScript (script_of script) (Err c.in_err-exploration.field-0.0)) c.as_slice.ensures c.in_err-exploration.ensures.script) refl))
 
-pub returns-in_err-show_table : goal.returns-in_err-show_table
-returns-in_err-show_table g c =
-    let p = err_from_is_err_and c.from_residual-in_err-show_table.result c.from_residual-in_err-show_table.ensures.1 in
+pub returns-in_err-show : goal.returns-in_err-show
+returns-in_err-show g c =
+    let p = err_from_is_err_and c.from_residual-in_err-show.result c.from_residual-in_err-show.ensures.1 in
     let old = world (g.D.Lines.state c.args.device.now) (g.F.Images.held c.args.images.now) (g.F.Images.count c.args.images.now) (g.T.Source.left c.args.script.now) (g.T.Source.count c.args.script.now) (g.K.Sink.written c.args.answers.now) (g.K.Sink.count c.args.answers.now) in
-    let new = world (g.D.Lines.state c.show_table.new.device) (g.F.Images.held c.fetch.new.images) (g.F.Images.count c.fetch.new.images) (g.T.Source.left c.read_all.new.script) (g.T.Source.count c.read_all.new.script) (g.K.Sink.written c.show_table.new.answers) (g.K.Sink.count c.show_table.new.answers) in
+    let new = world (g.D.Lines.state c.show.new.device) (g.F.Images.held c.fetch.new.images) (g.F.Images.count c.fetch.new.images) (g.T.Source.left c.read_all.new.script) (g.T.Source.count c.read_all.new.script) (g.K.Sink.written c.show.new.answers) (g.K.Sink.count c.show.new.answers) in
     let fetched = c.in_ok-image.ensures in
     let text = c.in_ok-text.ensures in
     let lines = c.in_ok-image.image.lines.items in
     let right = c.in_ok-start.ensures.mounts.right in
     let opens = c.in_ok-start.ensures.opens in
-    rw (p.1, p.2) (outcome_read c.args.name.now lines old new fetched.there right (record { held = fetched.held; counts = fetched.counts }) c.in_ok-text.text.items c.in_ok-exploration.exploration (Err c.in_err-show_table.field-0.0)
+    rw (p.1, p.2) (outcome_read c.args.name.now lines old new fetched.there right (record { held = fetched.held; counts = fetched.counts }) c.in_ok-text.text.items c.in_ok-exploration.exploration (Err c.in_err-show.field-0.0)
     (g.D.Lines.state c.start.new.device).panel (record { setups = opens.setups; faults = opens.faults; cuts = opens.cuts }) text.0 text.1 text.2
     (subst (λ script. ReadsScript (script_of script) (Ok c.in_ok-exploration.exploration)) c.as_slice.ensures c.in_ok-exploration.ensures.script)
     c.in_ok-exploration.ensures.program (λ e is program. c.answers_are_theorems.ensures lines c.in_ok-text.text.items e right is program)
-    (λ looks ask. no_table _ _ looks c.in_err-show_table.field-0.0 _ _ _ _ _ _ c.in_err-show_table.ensures.tells))
+    (λ looks ask. no_shown _ _ looks c.in_err-show.field-0.0 _ _ _ _ _ _ c.in_err-show.ensures.tells))
 
 pub returns : goal.returns
 returns g c =
@@ -54,5 +54,5 @@ returns g c =
     (g.D.Lines.state c.start.new.device).panel (record { setups = opens.setups; faults = opens.faults; cuts = opens.cuts }) text.0 text.1 text.2
     (subst (λ script. ReadsScript (script_of script) (Ok c.in_ok-exploration.exploration)) c.as_slice.ensures c.in_ok-exploration.ensures.script)
     c.in_ok-exploration.ensures.program (λ e is program. c.answers_are_theorems.ensures lines c.in_ok-text.text.items e right is program)
-    (λ looks ask. behind_table _ _ looks c.answer_all.result _ (g.K.Sink.written c.show_table.new.answers) _ _ (g.K.Sink.count c.show_table.new.answers) _ _ (g.D.Lines.state c.show_table.new.device).panel _
-    c.in_ok-show_table.ensures.tells c.show_table.ensures.later c.in_ok-show_table.ensures.counts (c.answer_all.ensures looks ask))
+    (λ looks ask. behind_shown _ _ looks c.answer_all.result _ (g.K.Sink.written c.show.new.answers) _ _ (g.K.Sink.count c.show.new.answers) _ _ (g.D.Lines.state c.show.new.device).panel _
+    c.in_ok-show.ensures.tells c.show.ensures.later c.in_ok-show.ensures.counts (c.answer_all.ensures looks ask))
