@@ -1,9 +1,9 @@
 #!/usr/bin/env python3
 """tests/drawn_questions.py PROGRAM EXPLORER [SEED [COUNT]]: 500 scripts with questions, drawn from a seed, against a model and runs.
 
-The model (cut_model.py) tells the first place of a cut after which a look may be as it is asked, and a table (table_model.py). What
-PROGRAM, an nvmhost, shows after a cut somewhere in a script is asked too, and EXPLORER must answer that place or one before it. Prints
-what does not fit, and nothing else.
+The model (cut_model.py) tells the first place of a cut after which a look may be as it is asked, a table (table_model.py), and all outcomes
+(list_model.py), where they are few. What PROGRAM, an nvmhost, shows after a cut somewhere in a script is asked too, and EXPLORER must
+answer that place or one before it. Prints what does not fit, and nothing else.
 """
 import os
 import random
@@ -13,12 +13,14 @@ import sys
 import tempfile
 
 from cut_model import BLOCKS, PAGES, State, first_place, is_command, kept_text, outcome, places_of, shown
+from list_model import list_of, parts_of
 from script_draws import ALL, FEW, FIRST, HOMES, LEFT, MIXED, NAMES, OF_FILES
 from script_draws import altered, files_drawn, order, read_drawn, story, story_of_files
 from table_model import table_of
 
 BY_IMAGE = 20  # scripts: the first ones are of four commands alone, and they and the next ones begin on a fresh image
 ASKED, CUT = 12, 3  # questions drawn for each, and runs of it that are cut
+PARTS, LISTED = 12, 300  # the most of a list, and its outcomes at most
 AT_ONCE = 10  # seconds of a processor, for questions of many words
 
 
@@ -70,10 +72,13 @@ class Script:
         turns = [i for i, (name, _, _) in enumerate(self.places) if len(first) < int(name.split()[1]) <= len(first + told) + 1 and told]
         self.questions = {question(draw, self.places, turns, self.reads): None for _ in range(ASKED)}
         self.tables = draw.choice(([], [], ["# table"]))
+        parts = parts_of(self.reads)
+        self.listed = list_of(self.places, parts, LISTED) if len(parts) <= PARTS else None
 
     def text(self, questions):
         asked = [f"# never {asked}" for asked in questions]
-        return "".join(line + "\n" for line in [*self.program, "# look", *self.reads, *self.tables, *asked])
+        lists = ["# list"] if self.listed else []
+        return "".join(line + "\n" for line in [*self.program, "# look", *self.reads, *lists, *self.tables, *asked])
 
     def run_cut(self, draw):
         """Before which line a cut comes or is armed, the lines of such a run, and its look's."""
@@ -121,7 +126,7 @@ def run_all(program, room, draw, image, scripts):
 
 
 def explored(explorer, room, image, text, rows=0):
-    """So many lines of a table, the answers to a script's questions, and whether the status is that of these answers."""
+    """So many lines of a table and a list, the answers to a script's questions, and whether the status is that of these answers."""
     done = subprocess.run([explorer, image], cwd=room, input=text, capture_output=True, text=True)
     lines = done.stdout.splitlines()
     answers = lines[rows:]
@@ -129,11 +134,11 @@ def explored(explorer, room, image, text, rows=0):
 
 
 def compare(explorer, room, script):
-    table = table_of(script.places, script.reads) if script.tables else []
-    rows, answers, right = explored(explorer, room, script.image.name, script.text(script.questions), len(table))
-    for row, wanted in zip(rows, table):
+    told = (table_of(script.places, script.reads) if script.tables else []) + (script.listed or [])
+    rows, answers, right = explored(explorer, room, script.image.name, script.text(script.questions), len(told))
+    for row, wanted in zip(rows, told):
         if row != wanted:
-            sys.exit(f"{row} in a table, by the model {wanted}, on the image that {script.image.lines} leaves:\n{script.text([])}")
+            sys.exit(f"{row} of what is listed, by the model {wanted}, on the image that {script.image.lines} leaves:\n{script.text([])}")
     if not right or len(answers) != len(script.questions):
         sys.exit(f"the status or the number of these answers is wrong: {answers}\n{script.text(script.questions)}")
     for answer, (asked, shown_at) in zip(answers, script.questions.items()):

@@ -23,17 +23,19 @@ def words_of(read):
             if at < 64 * n + 8 * w + 8 and 64 * n + 8 * w < at + size]
 
 
+def sides_in(state, world, unit):
+    """What may be found of a unit in one world: no such file, the end of one, or what the unit holds."""
+    files = world.get("files", state.files)
+    if unit[0] == "file" and unit[1] not in files:
+        return ["missing"]
+    if unit[0] == "file" and ends_before(files[unit[1]], unit[2]):
+        return ["range"]
+    return world.get(unit) or [state.unit(unit, files)]
+
+
 def sides_of(state, worlds, unit):
-    """What may be found of a unit, the old one first: no such file, the end of one, or what the unit holds."""
-    sides = []
-    for files, world in [(state.files, {}), *((world.get("files", state.files), world) for world in worlds)]:
-        if unit[0] == "file" and unit[1] not in files:
-            sides.append("missing")
-        elif unit[0] == "file" and ends_before(files[unit[1]], unit[2]):
-            sides.append("range")
-        else:
-            sides += world.get(unit) or [state.unit(unit, files)]
-    return sides
+    """The same in several worlds, the old one first."""
+    return [side for world in ({}, *worlds) for side in sides_in(state, world, unit)]
 
 
 def values_of(sides, w):
@@ -48,6 +50,11 @@ def sights_of(unit, sides):
     return list(dict.fromkeys(spelled(what) if isinstance(what, bytes) else what if what == SCARRED else f"poison {what}" for what in seen))
 
 
+def texts_of(unit, sides, w):
+    """How a word of a unit, or a block, may be found, each once."""
+    return sights_of(unit, sides) if w is None else values_of(sides, w)
+
+
 def table_of(places, reads):
     """The lines of a table."""
     lines, before = [], None
@@ -56,8 +63,7 @@ def table_of(places, reads):
         for k, read in enumerate(reads, 1):
             fault = refusal(read)
             for begins, unit, w in [] if fault else words_of(read):
-                sides = sides_of(state, worlds, unit)
-                rows.append(" ".join([str(k), begins, *(sights_of(unit, sides) if w is None else values_of(sides, w))]))
+                rows.append(" ".join([str(k), begins, *texts_of(unit, sides_of(state, worlds, unit), w)]))
             rows += [f"{k} {fault}"] if fault else []
         new = [row for i, row in enumerate(rows) if before is None or row != before[i]]
         lines += [name, *new] if new else []

@@ -5,3 +5,4 @@ pub mod GrowLemmas
 pub mod OutcomeLemmas
 pub mod AddLemmas
 pub mod ShorterLemmas
+pub mod PartLemmas

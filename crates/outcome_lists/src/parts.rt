@@ -91,7 +91,8 @@ fn same_part(part: &Read, other: &Read) -> bool
 fn reach_of(geometry: Geometry, read: &Read) -> Span
     requires valid { IsValid geometry }
     requires taken { read_refusal geometry read.now ≡ None }
-    ensures { result ≡ reach read.now }
+    ensures reach { result ≡ reach read.now }
+    ensures few { result.start + result.len ≤ 2 ^ 29 }
 {
     match read {
         Read::Volume { start, len } => words_of(*start, *len),
@@ -123,6 +124,7 @@ fn part(geometry: Geometry, read: &Read, n: u64) -> Read
     requires taken { read_refusal geometry read.now ≡ None }
     requires from { (reach read.now).start ≤ n }
     requires below { n < (reach read.now).start + (reach read.now).len }
+    requires few { n < 2 ^ 29 }
     ensures part { result ≡ part read.now n }
     ensures is { IsPart geometry result }
 {
