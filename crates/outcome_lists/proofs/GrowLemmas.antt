@@ -1,10 +1,12 @@
 -- The reads of an outcome, part by part.
-use Rattle.std.proofs.Common.{◌≡◌, ◌+◌, ◌*◌, ◌/◌, ◌%◌, ◌≤◌, ◌<◌, ◌&&◌, ℕ, zero, suc, true, Option, Some, None, List, [], ◌∷◌, ◌++◌, drop, length, map, take, refl, sym, ap, ap₂, subst, ◌∙◌, append_assoc, append-nil, arith}
+use Rattle.std.proofs.Common.{◌≡◌, ◌+◌, ◌-◌, ◌*◌, ◌/◌, ◌%◌, ◌≤◌, ◌<◌, ◌&&◌, ℕ, zero, suc, true, Option, Some, None, List, [], ◌∷◌, ◌++◌, drop, length, map, take, refl, sym, ap, ap₂, subst, ◌∙◌, append_assoc, append-nil, arith}
+use Rattle.std.specs.Int.{to_le_bytes, w64}
 use Rattle.std.specs.List.{AllByRecursion, list_all, range_with_len}
 use Rattle.std.proofs.lemmas.Bool.{and_from}
 use Rattle.std.proofs.lemmas.List.Folds.{list_all-append}
 use Rattle.word_tables.specs.declared.geometry.Geometry.{Geometry}
 use Rattle.reply_text.specs.declared.reply.Why.{Why}
+use Rattle.reply_text.specs.declared.reply.Why.TheVariants.{Missing, Range}
 use Rattle.outcomes.specs.Blocks.{BlockRead, all_numbers_read}
 use Rattle.outcomes.specs.Files.{FileRead}
 use Rattle.outcomes.specs.Pages.{PageRead, PageReply, all_lines_read, lines_read}
@@ -45,7 +47,7 @@ blocks_join geo (x ∷ xs) ys =
     ∙ sym (append_assoc (none_refused (read_refusal geo x) (blocks_touched x)) (blocks_looked_at geo xs) (blocks_looked_at geo ys))
 
 -- the first ones of a list that are mapped
-map_take : {A B : Type 0} (f : A → B) (n : ℕ) (xs : List A) → map f (take n xs) ≡ take n (map f xs)
+pub map_take : {A B : Type 0} (f : A → B) (n : ℕ) (xs : List A) → map f (take n xs) ≡ take n (map f xs)
 map_take f zero xs = refl
 map_take f (suc n) [] = refl
 map_take f (suc n) (x ∷ xs) = ap (λ ys. f x ∷ ys) (map_take f n xs)
@@ -118,7 +120,7 @@ length_more [] x = refl
 length_more (y ∷ ys) x = let rest = length_more ys x in omega (arith, rest)
 
 length_both : {A : Type 0} (xs ys : List A) → length (xs ++ ys) ≡ length xs + length ys
-length_both [] ys = refl
+length_both [] ys = omega arith
 length_both (x ∷ xs) ys = let rest = length_both xs ys in omega (arith, rest)
 
 held_more : (numbers : List ℕ) (reads : List FileRead) (r : FileRead) → are_held numbers reads ≡ true → are_held numbers (r ∷ []) ≡ true → are_held numbers (reads ++ r ∷ []) ≡ true
@@ -127,7 +129,7 @@ held_more numbers reads r all one =
     ∙ and_from (are_held numbers reads) (are_held numbers (r ∷ [])) all one
 
 -- a word is in one line
-one_line_of : (start : ℕ) → start % 8 ≡ 0 → lines_touched (Volume start 8) ≡ start / 64 ∷ []
+pub one_line_of : (start : ℕ) → start % 8 ≡ 0 → lines_touched (Volume start 8) ≡ start / 64 ∷ []
 one_line_of start aligned = ap (range_with_len (start / 64)) count
   where
     count : (start + 8 - 1) / 64 + 1 - start / 64 ≡ 1
@@ -219,8 +221,25 @@ are_ways sight geo (Volume start len) values sights is held = λ before a are. (
 are_ways sight geo (Blocks first count) values sights is held = λ before a are.
     each_sight sight geo _ a _ (λ s. of_block sight geo before a are first count s is) sights
 are_ways sight geo (File name start len) values sights is held = λ before a are. (
-  of_file_word sight geo before a are name start len (Refuses _) is refl,
-  of_file_word sight geo before a are name start len (Refuses _) is refl,
-  of_file_word sight geo before a are name start len (Poison _) is held,
-  each_value sight geo _ a _ (λ v. of_file_word sight geo before a are name start len (Shows _) is held) values,
+  of_file_word sight geo before a are name start len (Refuses Missing) is refl,
+  (
+    of_file_word sight geo before a are name start len (Refuses Range) is refl,
+    (
+      of_file_word sight geo before a are name start len (Poison (64 * (start / 64))) is held,
+      each_value sight geo _ a _ (λ v. of_file_word sight geo before a are name start len (Shows (to_le_bytes w64 v)) is held) values,
+    ),
+  ),
 )
+
+-- the parts before one, it, and those behind it
+pub parted : {A : Type 0} (xs : List A) (i : ℕ) (x : A) (rest : List A) → drop i xs ≡ x ∷ rest → (take i xs ++ x ∷ []) ++ rest ≡ xs
+parted xs zero x rest is = sym is
+parted [] (suc i) x rest is = cc is
+parted (y ∷ ys) (suc i) x rest is = ap (λ zs. y ∷ zs) (parted ys i x rest is)
+
+pub taken_next : {A : Type 0} (xs : List A) (i : ℕ) (x : A) (rest : List A) → drop i xs ≡ x ∷ rest → take (i + 1) xs ≡ take i xs ++ x ∷ []
+taken_next xs zero x rest is = ap (take 1) is
+taken_next [] (suc i) x rest is = cc is
+taken_next (y ∷ ys) (suc i) x rest is =
+    let step : suc i + 1 ≡ suc (i + 1) = omega arith in
+    ap (λ n. take n (y ∷ ys)) step ∙ ap (λ zs. y ∷ zs) (taken_next ys i x rest is)

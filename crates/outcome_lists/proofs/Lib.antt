@@ -4,5 +4,6 @@ pub mod GatherLemmas
 pub mod GrowLemmas
 pub mod OutcomeLemmas
 pub mod AddLemmas
+pub mod StageLemmas
 pub mod ShorterLemmas
 pub mod PartLemmas

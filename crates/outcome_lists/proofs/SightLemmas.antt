@@ -86,3 +86,16 @@ room_of_lines all q first = subst (λ n. n ≤ length all.lines.items) (map_leng
 
 pub room_of_blocks : (all : Sight) (q : Question) → AreFirst all (asked q) → length q.blocks.items ≤ length all.blocks.items
 room_of_blocks all q first = subst (λ n. n ≤ length all.blocks.items) (map_length block_read q.blocks.items) first.blocks_there
+
+-- what is looked at for one word, or for one block, follows as all of it does
+pub word_follows : (all some : Sight) (geo : Geometry) (h : Machine) (at : ℕ) → some.lines.items ≡ take 1 (drop at all.lines.items) → some.blocks.items ≡ [] → some.files ≡ all.files
+    → Follows all geo h → Follows some geo h
+word_follows all some geo h at lines blocks files follows =
+    follows_part all some geo h (λ f are. subst (AreLines f) (sym lines) (lines_taken f 1 (drop at all.lines.items) (lines_left f at all.lines.items are)))
+    (λ f are. subst (AreBlocks f) (sym blocks) tt) files follows
+
+pub block_follows : (all some : Sight) (geo : Geometry) (h : Machine) (at : ℕ) → some.lines.items ≡ [] → some.blocks.items ≡ take 1 (drop at all.blocks.items) → some.files ≡ all.files
+    → Follows all geo h → Follows some geo h
+block_follows all some geo h at lines blocks files follows =
+    follows_part all some geo h (λ f are. subst (AreLines f) (sym lines) tt)
+    (λ f are. subst (AreBlocks f) (sym blocks) (blocks_taken f 1 (drop at all.blocks.items) (blocks_left f at all.blocks.items are))) files follows
