@@ -16,6 +16,6 @@ mod passed;
 mod printing;
 mod word;
 
-pub use laws::a_shorter_look_is_shown;
+pub use laws::{a_shorter_look_is_shown, each_listed_outcome_is_found, each_outcome_is_listed};
 pub use listing::list_outcomes;
 pub use printing::print_place;
