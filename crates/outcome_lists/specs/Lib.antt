@@ -5,3 +5,4 @@ pub mod Lists
 pub mod Words
 pub mod Asking
 pub mod Courses
+pub mod Worked
