@@ -14,8 +14,10 @@ mod outcome;
 mod parts;
 mod passed;
 mod printing;
+mod rows;
 mod word;
 
 pub use laws::{a_shorter_look_is_shown, each_listed_outcome_is_found, each_outcome_is_listed};
 pub use listing::list_outcomes;
 pub use printing::print_place;
+pub use rows::worked_lists;
