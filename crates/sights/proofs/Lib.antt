@@ -7,3 +7,4 @@ pub mod ShowLemmas
 pub mod InsideLemmas
 pub mod SizeLemmas
 pub mod FitLemmas
+mod ReachLemmas

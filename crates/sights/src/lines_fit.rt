@@ -1,9 +1,10 @@
 // Whether a line of the volume may be read as a question asks.
-ghost use Rattle.std.specs.Prelude.{◌≡◌, ◌-◌, ◌<◌, ◌^◌, ◌%◌, ◌==◌, ◌||◌, not, slice_index};
+ghost use Rattle.std.specs.Prelude.{◌≡◌, ◌+◌, ◌-◌, ◌*◌, ◌<◌, ◌^◌, ◌%◌, ◌==◌, ◌&&◌, ◌||◌, nat_lt, not, slice_index};
 ghost use Rattle.std.specs.Int.{byte_at};
 ghost use Rattle.nvm_model.specs.Cell.{touches};
 ghost use Rattle.nvm_model.specs.Numbered.{is_among};
 ghost use Rattle.outcomes.specs.Pages.{agrees, all_agree, all_allow_bad, all_allow_good, allows_bad, allows_good};
+ghost use Rattle.outcomes.specs.Pages.PageReply.{Shows};
 ghost use Rattle.asked_reads.specs.Reads.{page_reply, pages_asked};
 ghost use Rattle.asked_reads.specs.Fitting.{WordFits, WordsFit, cell_fits};
 
@@ -94,11 +95,27 @@ pub fn agrees(read: &PageRead, p: u64, value: u64) -> bool
 {
     match &read.reply {
         PageReply::Shows(bytes) => {
-            let bytes = bytes.as_slice();
-            (8 * p..8 * p + 8).all(|i| byte_agrees(read.start, read.len, bytes, i, value))
+            !reaches(read.start, read.len, p) || word_agrees(read, bytes.as_slice(), p, value)
         }
         PageReply::Poison(_) | PageReply::Refuses(_) => true,
     }
+}
+
+// Whether a span reaches word p. Most reads of a look don't reach most words.
+fn reaches(start: u64, len: u64, p: u64) -> bool
+    requires { p < 2 ^ 36 }
+    ensures { result ≡ (nat_lt start (8 * p + 8) && nat_lt (8 * p) (start + len)) }
+{
+    // The span may end past the last address.
+    start < 8 * p + 8 && (8 * p < start || 8 * p - start < len)
+}
+
+// Whether word p may have this value, where these bytes are shown of the read's span.
+fn word_agrees(read: &PageRead, bytes: &[u8], p: u64, value: u64) -> bool
+    requires { p < 2 ^ 36 }
+    ensures { result ≡ agrees p value read.now.start read.now.len (Shows bytes.now) }
+{
+    (8 * p..8 * p + 8).all(|i| byte_agrees(read.start, read.len, bytes, i, value))
 }
 
 // Whether byte i may be that of a word of this value, where these bytes are shown of a span.

@@ -1,19 +1,11 @@
--- The range of the bytes of a word is walked.
-use Rattle.std.proofs.Common.{◌||◌, ◌==◌, ◌-◌, ◌+◌, ◌*◌, ◌%◌, not, slice_index, refl, sym, ap, ◌∙◌, arith, rules, tests}
-use Rattle.std.specs.Int.{byte_at}
-use Rattle.std.proofs.lemmas.Iterator.{YieldsList-from_range}
-use Rattle.std.proofs.lemmas.Iterator.Search.{all_from_yields_List}
-use Rattle.nvm_model.specs.Numbered.{is_among}
+use Rattle.std.proofs.Common.{ap, not, sym, ◌∙◌}
 use Rattle.outcomes.specs.Pages.{agrees}
 use Rattle.asked_reads.specs.Reads.{page_reply}
+use Rattle.sights.proofs.ReachLemmas.{unreached}
 use Rattle.sights.proofs.lines_fit.agrees.Goals as goal
 
-pub returns-in-Shows : goal.returns-in-Shows
-returns-in-Shows c =
+pub returns-then-not-reaches : goal.returns-then-not-reaches
+returns-then-not-reaches c =
     let read = c.args.read.now in
-    let bytes = c.in-Shows.bytes.items in
-    let p = c.args.p in
-    let v = c.args.value in
-    all_from_yields_List (λ i. not (is_among read.start read.len i) || (slice_index bytes (i - read.start) == byte_at (i % 8) v)) _ _ _ c.all.ensures.ran
-    (YieldsList-from_range (8 * p) (8 * p + 8) 8 refl (omega arith)) (λ x b q k. search (rules, tests))
-    ∙ sym (ap (λ reply. agrees p v read.start read.len (page_reply reply)) c.in-Shows.is)
+    ap not c.if-not-reaches.true ∙ unreached read.start read.len c.args.p c.args.value c.in-Shows.bytes.items (sym c.reaches.ensures ∙ c.if-not-reaches.true)
+    ∙ sym (ap (λ reply. agrees c.args.p c.args.value read.start read.len (page_reply reply)) c.in-Shows.is)
