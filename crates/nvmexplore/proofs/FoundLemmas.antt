@@ -15,6 +15,7 @@ use Rattle.explorer.specs.Finding.{IsFound}
 use Rattle.explorer.specs.declared.found.Found.{Found}
 use Rattle.witnesses.specs.Telling.{told}
 use Rattle.nvmexplore.specs.Calls.{AreTheorems}
+use Rattle.nvmexplore.specs.Lists.{ListsRuns}
 use Rattle.nvmexplore.specs.Tables.{TellsRuns}
 
 module _ (test : Machine → Bool) where
@@ -66,9 +67,10 @@ kept_found h program look (Some stop) found at is =
 
 -- so each answer is a theorem about the machine's runs
 pub are_theorems : (h : Machine) (program : List Input) → ((look : List Seen) → (may_find h program look ≡ true → Finds h program look) × (Finds h program look → may_find h program look ≡ true))
-    → TellsRuns h program → AreTheorems h program
-are_theorems h program tells table = record {
+    → TellsRuns h program → ListsRuns h program → AreTheorems h program
+are_theorems h program tells table list = record {
   never = λ look none finds. true≢false (sym ((tells look).1 finds) ∙ sym (found_may h program look) ∙ ap is_some none);
   may = λ look found is. (tells (look ++ told found.kept)).0 (kept_found h program look (found_stop h program look) found refl is);
   table = table;
+  list = list;
 }

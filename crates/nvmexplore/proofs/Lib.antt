@@ -2,6 +2,7 @@ mod ReadingLemmas
 mod ProgramLemmas
 mod FoundLemmas
 mod TableLemmas
+mod ListLemmas
 mod BeginLemmas
 mod CauseLemmas
 mod AnswerLemmas

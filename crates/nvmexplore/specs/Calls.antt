@@ -29,6 +29,7 @@ use Rattle.program_base.specs.World.{World}
 use Rattle.program_base.specs.Writing.{WritesFront, WritesLine}
 use Rattle.program_base.specs.declared.ending.Ending.{Ending}
 use Rattle.program_base.specs.declared.ending.Ending.TheVariants as endings
+use Rattle.nvmexplore.specs.Lists.{ListsRuns}
 use Rattle.nvmexplore.specs.Showing.{shown}
 use Rattle.nvmexplore.specs.Stops.{stop_status, stop_text}
 use Rattle.nvmexplore.specs.Tables.{TellsRuns}
@@ -122,11 +123,12 @@ AnswersAll front tell looks result old new count_old count_new device_old device
     (λ stop. IsUnanswered stop count_old count_new device_old device_new × (text : List ℕ) × FirstAnswered tell looks text × WritesFront (front ++ text) old new)
 
 -- Each answer is a theorem: where it is never, no run of the machine from that state finds what was asked, and else some run does, which
--- keeps then what is told. A table lists at some place what runs find by a read of it alone.
+-- keeps then what is told. A table lists at some place what runs find by a read of it alone, and a list what they find together.
 pub record AreTheorems (h : Machine) (program : List Input) : Type 0 where
   pub never : (look : List Seen) → found_stop h program look ≡ None → Finds h program look → ⊥
   pub may : (look : List Seen) (found : Found) → IsFound look (found_stop h program look) (Some found) → Finds h program (look ++ told found.kept)
   pub table : TellsRuns h program
+  pub list : ListsRuns h program
 
 -- The script was read to its end, and is taken.
 pub record IsTaken (script : List ℕ) (e : Exploration) (old new : World) : Type 0 where

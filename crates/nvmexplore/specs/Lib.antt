@@ -3,3 +3,4 @@ pub mod Telling
 pub mod Tables
 pub mod Showing
 pub mod Calls
+pub mod Lists

@@ -14,7 +14,12 @@ abbrev pub form_text : Form → Machine → List Input → List Read → List �
 form_text forms.Table h program look = table_text look (cut_places 1 h program)
 form_text forms.List h program look = outcome_list h program look
 
--- if it is asked for
+-- whether it is asked for
+abbrev pub is_asked : Form → Bool → Bool → Bool
+is_asked forms.Table table list = table
+is_asked forms.List table list = list
+
+-- if it is
 abbrev pub if_asked : Bool → Form → Machine → List Input → List Read → List ℕ
 if_asked is form h program look = if is then form_text form h program look else []
 

@@ -10,11 +10,12 @@ ghost use Rattle.explorer.specs.Starting.{Begins};
 ghost use Rattle.explorer.specs.Stopping.{DeviceStopped, NoneFell};
 ghost use Rattle.program_base.specs.Opening.{opened};
 ghost use Rattle.nvmexplore.specs.Calls.{AreMountable, IsUnanswered};
-ghost use Rattle.nvmexplore.specs.Showing.{form_text};
+ghost use Rattle.nvmexplore.specs.Showing.{form_text, is_asked};
 
 use crate::laws::images_begin;
 use crate::stop::Stop;
 use asked_reads::Read;
+use exploration::Exploration;
 use explorer::{ExploreFault, tabulate};
 use image_file::Image;
 use line_device::LineDevice;
@@ -56,6 +57,15 @@ pub fn make<D: LineDevice>(
 }
 
 impl Form {
+    pub fn is_asked(self, exploration: &Exploration) -> bool
+        ensures { result ≡ is_asked self exploration.now.table exploration.now.list }
+    {
+        match self {
+            Form::Table => exploration.table,
+            Form::List => exploration.list,
+        }
+    }
+
     fn make<D: LineDevice>(
         self,
         alloc: Global,

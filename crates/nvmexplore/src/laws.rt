@@ -11,6 +11,7 @@ ghost use Rattle.explorer.specs.Starting.{Begins};
 ghost use Rattle.program_base.specs.Opening.{opened};
 ghost use Rattle.nvmexplore.specs.Calls.{AreMountable, AreTheorems};
 
+use outcome_lists::{each_listed_outcome_is_found, each_outcome_is_listed};
 use outcome_runs::{runs_keep_states, scripts_bring_right, the_test_tells_what_is_found};
 use value_tables::{a_value_is_listed_where_it_may_be_shown, each_place_is_sound};
 
@@ -21,7 +22,7 @@ pub fn images_begin()
     runs_keep_states();
 }
 
-/// Law: each answer about a script is a theorem about the machine's runs, and so is what its table lists.
+/// Law: each answer about a script is a theorem about the machine's runs, and so are its table and its list.
 pub fn answers_are_theorems()
     ensures { (lines : List LineState) (script : List ℕ) (e : Exploration) → first_finding (medium_of lines) ≡ None
         → script_of script ≡ Taken e → IsProgram (map asks_for e.program)
@@ -32,4 +33,6 @@ pub fn answers_are_theorems()
     the_test_tells_what_is_found();
     a_value_is_listed_where_it_may_be_shown();
     each_place_is_sound();
+    each_listed_outcome_is_found();
+    each_outcome_is_listed();
 }

@@ -6,7 +6,7 @@ ghost use Rattle.asked_reads.specs.Program.{IsBounded, inputs_of_lines};
 ghost use Rattle.explorer.specs.Stopping.{NoneFell};
 ghost use Rattle.program_base.specs.Opening.{opened};
 ghost use Rattle.nvmexplore.specs.Calls.{AreMountable, IsUnanswered, TellsShown};
-ghost use Rattle.nvmexplore.specs.Showing.{if_asked, shown};
+ghost use Rattle.nvmexplore.specs.Showing.{if_asked, is_asked, shown};
 
 use crate::form::{Form, make};
 use crate::stop::Stop;
@@ -57,25 +57,8 @@ fn asked<D: LineDevice>(
     ensures counts { OnOk result (NoneFell (D.state device.old).panel (D.state device.new).panel) }
 {
     let mut text = Bytes::new(alloc);
-    let (table, list) = (exploration.table, exploration.list);
-    add(
-        alloc,
-        image,
-        exploration,
-        table,
-        Form::Table,
-        device,
-        &mut text,
-    )?;
-    add(
-        alloc,
-        image,
-        exploration,
-        list,
-        Form::List,
-        device,
-        &mut text,
-    )?;
+    add(alloc, image, exploration, Form::Table, device, &mut text)?;
+    add(alloc, image, exploration, Form::List, device, &mut text)?;
     Ok(text)
 }
 
@@ -84,7 +67,6 @@ fn add<D: LineDevice>(
     alloc: Global,
     image: &Image,
     exploration: &Exploration,
-    is_asked: bool,
     form: Form,
     device: &mut D,
     text: &mut Bytes,
@@ -93,11 +75,11 @@ fn add<D: LineDevice>(
     requires program { IsProgram (inputs_of_lines exploration.now.program.items) }
     requires bounded { All IsBounded exploration.now.program.items }
     ensures text { OnOk result (text.new.items ≡ text.old.items
-        ++ if_asked is_asked form (armed (opened image.now.lines.items)) (inputs_of_lines exploration.now.program.items) exploration.now.reads.items) }
+        ++ if_asked (is_asked form exploration.now.table exploration.now.list) form (armed (opened image.now.lines.items)) (inputs_of_lines exploration.now.program.items) exploration.now.reads.items) }
     ensures cause { (counted counts : ℕ) → IfErr result (λ stop. IsUnanswered stop counted counts (D.state device.old).panel (D.state device.new).panel) }
     ensures counts { OnOk result (NoneFell (D.state device.old).panel (D.state device.new).panel) }
 {
-    if !is_asked {
+    if !form.is_asked(exploration) {
         return Ok(());
     }
     let program = &exploration.program;

@@ -5,4 +5,5 @@ pub mod Lists
 pub mod Words
 pub mod Asking
 pub mod Courses
+pub mod Listing
 pub mod Worked

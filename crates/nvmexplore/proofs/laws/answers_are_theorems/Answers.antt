@@ -6,6 +6,7 @@ use Rattle.explorer.proofs.PerformLemmas.{ready_armed}
 use Rattle.program_base.specs.Opening.{opened}
 use Rattle.nvmexplore.proofs.BeginLemmas.{kept_opened}
 use Rattle.nvmexplore.proofs.FoundLemmas.{are_theorems}
+use Rattle.nvmexplore.proofs.ListLemmas.{lists_runs}
 use Rattle.nvmexplore.proofs.ProgramLemmas.{taken_bring}
 use Rattle.nvmexplore.proofs.TableLemmas.{sound_armed, tells_runs}
 use Rattle.nvmexplore.proofs.laws.answers_are_theorems.Goals as goal
@@ -26,3 +27,4 @@ returns c = λ lines script e right is program.
       file_words = lists.file_words;
       file_poison = lists.file_poison;
     }))
+    (lists_runs (opened lines) (map asks_for e.program) tells (c.each_listed_outcome_is_found.ensures (armed (opened lines)) (map asks_for e.program)) (c.each_outcome_is_listed.ensures (armed (opened lines)) (map asks_for e.program)))

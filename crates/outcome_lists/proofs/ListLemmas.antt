@@ -1,0 +1,137 @@
+-- A list of outcomes has those that are found, and no other.
+use Rattle.std.proofs.Common.{◌≡◌, inl, inr, Bool, true, false, Option, Some, None, List, [], ◌∷◌, ◌++◌, length, refl, sym, ap, subst, ◌∙◌, append_assoc, append-nil, arith}
+use Rattle.std.specs.Prelude.{Contains, nat_lt, option_and_then, if◌then◌else◌}
+use Rattle.std.proofs.lemmas.List.Elements.{Contains-append_cases, Contains-append_left, Contains-append_right, Contains-push, Contains-push_cases}
+use Rattle.outcomes.specs.Seen.{Seen}
+use Rattle.asked_reads.specs.declared.read.Read.{Read}
+use Rattle.cut_places.specs.declared.place.CutPlace.{CutPlace}
+use Rattle.outcome_lists.specs.Choices.{Choice}
+use Rattle.outcome_lists.specs.Listing.{Picks, asked_with, text_of}
+use Rattle.outcome_lists.specs.Outcomes.{Outcome, and_seen, capped, grown, if_found, look_of, outcomes_from, with_choice, with_choices}
+
+-- what a list of one item has, and what the first item is among
+pub only_one : {A : Type 0} (x y : A) → Contains (x ∷ []) y → x ≡ y
+only_one x y has = elim (Contains-push_cases [] x y has) as (λ _. x ≡ y) [ inl none ↦ absurd (omega (arith, none.1)) | inr is ↦ is ]
+
+pub first_of : {A : Type 0} (x : A) (xs : List A) → Contains (x ∷ xs) x
+first_of x xs = Contains-append_left (x ∷ []) xs x (Contains-push [] x)
+
+-- An outcome that is found with a choice more.
+pub record IsGrown (at : List Seen → Option CutPlace) (o : Outcome) (c : Choice) (x : Outcome) : Type 0 where
+  pub place : CutPlace
+  pub first : at (look_of (and_seen o.asked c.seen)) ≡ Some place
+  pub is : x ≡ record { asked = and_seen o.asked c.seen; text = o.text ++ c.text; place = Some place }
+
+pub record IsOfChoice (at : List Seen → Option CutPlace) (o : Outcome) (cs : List Choice) (x : Outcome) : Type 0 where
+  pub choice : Choice
+  pub among : Contains cs choice
+  pub grown : IsGrown at o choice x
+
+pub record IsOfOutcome (at : List Seen → Option CutPlace) (os : List Outcome) (cs : List Choice) (x : Outcome) : Type 0 where
+  pub before : Outcome
+  pub among : Contains os before
+  pub with : IsOfChoice at before cs x
+
+-- A list that is grown by the choices of a part has those outcomes, and no other.
+module _ (at : List Seen → Option CutPlace) where
+  with_one : (o : Outcome) (c : Choice) (x : Outcome) → Contains (with_choice at o c) x → IsGrown at o c x
+  with_one o c x has = by_place (at (look_of (and_seen o.asked c.seen))) refl has
+    where
+      by_place : (place : Option CutPlace) → at (look_of (and_seen o.asked c.seen)) ≡ place → Contains (if_found (and_seen o.asked c.seen) (o.text ++ c.text) place) x → IsGrown at o c x
+      by_place None is there = absurd (omega (arith, there.1))
+      by_place (Some place) is there = record { place = place; first = is; is = sym (only_one _ x there) }
+
+  pub one_there : (o : Outcome) (c : Choice) (place : CutPlace) → at (look_of (and_seen o.asked c.seen)) ≡ Some place
+      → Contains (with_choice at o c) (record { asked = and_seen o.asked c.seen; text = o.text ++ c.text; place = Some place })
+  one_there o c place first =
+      let x : Outcome = record { asked = and_seen o.asked c.seen; text = o.text ++ c.text; place = Some place } in
+      subst (λ (at_place : Option CutPlace). Contains (if_found (and_seen o.asked c.seen) (o.text ++ c.text) at_place) x) (sym first) (first_of x [])
+
+  of_choices : (o : Outcome) (cs : List Choice) (x : Outcome) → Contains (with_choices at o cs) x → IsOfChoice at o cs x
+  of_choices o [] x has = absurd (omega (arith, has.1))
+  of_choices o (c ∷ cs) x has = elim (Contains-append_cases (with_choice at o c) (with_choices at o cs) x has) as (λ _. IsOfChoice at o (c ∷ cs) x) [
+    | inl here ↦ record { choice = c; among = first_of c cs; grown = with_one o c x here }
+    | inr later ↦ let of = of_choices o cs x later in record { choice = of.choice; among = Contains-append_right (c ∷ []) cs of.choice of.among; grown = of.grown }
+  ]
+
+  pub choices_there : (o : Outcome) (cs : List Choice) (c : Choice) (x : Outcome) → Contains cs c → Contains (with_choice at o c) x → Contains (with_choices at o cs) x
+  choices_there o [] c x among has = absurd (omega (arith, among.1))
+  choices_there o (d ∷ cs) c x among has = elim (Contains-append_cases (d ∷ []) cs c among) as (λ _. Contains (with_choices at o (d ∷ cs)) x) [
+    | inl here ↦ Contains-append_left (with_choice at o d) (with_choices at o cs) x (subst (λ e. Contains (with_choice at o e) x) (sym (only_one d c here)) has)
+    | inr later ↦ Contains-append_right (with_choice at o d) (with_choices at o cs) x (choices_there o cs c x later has)
+  ]
+
+  of_outcomes : (os : List Outcome) (cs : List Choice) (x : Outcome) → Contains (grown at os cs) x → IsOfOutcome at os cs x
+  of_outcomes [] cs x has = absurd (omega (arith, has.1))
+  of_outcomes (o ∷ os) cs x has = elim (Contains-append_cases (with_choices at o cs) (grown at os cs) x has) as (λ _. IsOfOutcome at (o ∷ os) cs x) [
+    | inl here ↦ record { before = o; among = first_of o os; with = of_choices o cs x here }
+    | inr later ↦ let of = of_outcomes os cs x later in record { before = of.before; among = Contains-append_right (o ∷ []) os of.before of.among; with = of.with }
+  ]
+
+  pub grown_there : (os : List Outcome) (cs : List Choice) (o x : Outcome) → Contains os o → Contains (with_choices at o cs) x → Contains (grown at os cs) x
+  grown_there [] cs o x among has = absurd (omega (arith, among.1))
+  grown_there (p ∷ os) cs o x among has = elim (Contains-append_cases (p ∷ []) os o among) as (λ _. Contains (grown at (p ∷ os) cs) x) [
+    | inl here ↦ Contains-append_left (with_choices at p cs) (grown at os cs) x (subst (λ q. Contains (with_choices at q cs) x) (sym (only_one p o here)) has)
+    | inr later ↦ Contains-append_right (with_choices at p cs) (grown at os cs) x (grown_there os cs o x later has)
+  ]
+
+-- outcomes that are listed are not too many
+pub kept : (next : List Outcome → Option (List Outcome)) (os all : List Outcome) → option_and_then next (capped os) ≡ Some all → next os ≡ Some all
+kept next os all is = by_number (nat_lt 65536 (length os)) is
+  where
+    by_number : (b : Bool) → option_and_then next (if b then None else Some os) ≡ Some all → next os ≡ Some all
+    by_number true are = cc are
+    by_number false are = are
+
+pub some_same : {A : Type 0} (x y : A) → Some x ≡ Some y → x ≡ y
+some_same x y is = cc is
+
+-- An outcome that came of another one by a choice of each part, and one that has its place.
+pub record IsMade (ways : Read → List Choice) (parts : List Read) (os : List Outcome) (x : Outcome) : Type 0 where
+  pub before : Outcome
+  pub among : Contains os before
+  pub picked : List Choice
+  pub each : Picks ways parts picked
+  pub asked : x.asked ≡ asked_with before.asked picked
+  pub text : x.text ≡ before.text ++ text_of picked
+
+pub record IsPlaced (at : List Seen → Option CutPlace) (x : Outcome) : Type 0 where
+  pub place : CutPlace
+  pub first : at (look_of x.asked) ≡ Some place
+  pub has : x.place ≡ Some place
+
+module _ (at : List Seen → Option CutPlace) (ways : Read → List Choice) where
+  pub made : (parts : List Read) (os all : List Outcome) (x : Outcome) → outcomes_from at ways os parts ≡ Some all → Contains all x → IsMade ways parts os x
+  made [] os all x are has = record {
+    before = x;
+    among = subst (λ xs. Contains xs x) (sym (some_same os all are)) has;
+    picked = [];
+    each = tt;
+    asked = refl;
+    text = sym (append-nil x.text);
+  }
+  made (part ∷ parts) os all x are has =
+      let later = made parts (grown at os (ways part)) all x (kept (λ next. outcomes_from at ways next parts) (grown at os (ways part)) all are) has in
+      let of = of_outcomes at os (ways part) later.before later.among in
+      let c = of.with.choice in
+      let one = of.with.grown in record {
+        before = of.before;
+        among = of.among;
+        picked = c ∷ later.picked;
+        each = (of.with.among, later.each);
+        asked = later.asked ∙ ap (λ (o : Outcome). asked_with o.asked later.picked) one.is;
+        text = later.text ∙ ap (λ (o : Outcome). o.text ++ text_of later.picked) one.is ∙ append_assoc of.before.text c.text (text_of later.picked);
+      }
+
+  pub grown_placed : (os : List Outcome) (part : Read) (x : Outcome) → Contains (grown at os (ways part)) x → IsPlaced at x
+  grown_placed os part x has =
+      let one = (of_outcomes at os (ways part) x has).with.grown in record {
+        place = one.place;
+        first = ap (λ (y : Outcome). at (look_of y.asked)) one.is ∙ one.first;
+        has = ap (λ (y : Outcome). y.place) one.is;
+      }
+
+  pub placed : (parts : List Read) (os all : List Outcome) (x : Outcome) → ((o : Outcome) → Contains os o → IsPlaced at o) → outcomes_from at ways os parts ≡ Some all → Contains all x → IsPlaced at x
+  placed [] os all x each are has = each x (subst (λ xs. Contains xs x) (sym (some_same os all are)) has)
+  placed (part ∷ parts) os all x each are has =
+      placed parts (grown at os (ways part)) all x (grown_placed os part) (kept (λ next. outcomes_from at ways next parts) (grown at os (ways part)) all are) has
