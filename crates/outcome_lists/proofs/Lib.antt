@@ -9,3 +9,5 @@ pub mod ShorterLemmas
 pub mod PartLemmas
 pub mod ListLemmas
 pub mod FoundLemmas
+pub mod WayLemmas
+pub mod ChoiceLemmas

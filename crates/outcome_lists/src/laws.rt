@@ -1,9 +1,17 @@
 // What a look's outcomes rest on. None of these functions does anything.
-ghost use Rattle.std.specs.Prelude.{◌≡◌, ◌<◌, true, Contains, List, Some, length};
+ghost use Rattle.std.specs.Prelude.{◌≡◌, ◌*◌, ◌<◌, ℕ, All, true, Contains, List, [], Some, length};
+ghost use Rattle.block_sights.specs.Sights.{Sight};
 ghost use Rattle.script_text.specs.Script.{Input};
 ghost use Rattle.machine_host.specs.Machine.{Machine};
+ghost use Rattle.outcomes.specs.Finds.{IsReady};
+ghost use Rattle.outcomes.specs.Pages.PageReply.{Shows};
 ghost use Rattle.outcomes.specs.Seen.{Seen, may_show};
+ghost use Rattle.outcomes.specs.Stops.{IsProgram};
 ghost use Rattle.asked_reads.specs.declared.read.Read.{Read};
+ghost use Rattle.asked_reads.specs.declared.read.Read.TheVariants.{Volume, Blocks, File};
+ghost use Rattle.cut_places.specs.Places.{Stop, cut_places};
+ghost use Rattle.value_tables.specs.Listed.{IsSized, IsSound, block_read, file_word_read, lists_bytes, lists_sight, reply_of, word_read};
+ghost use Rattle.outcome_lists.specs.Choices.{sights_through, states, values_through};
 ghost use Rattle.outcome_lists.specs.Listing.{IsFound};
 ghost use Rattle.outcome_lists.specs.Outcomes.{Asked, Outcome, and_seen, look_of, outcomes_of};
 
@@ -22,4 +30,21 @@ pub fn each_listed_outcome_is_found()
 pub fn each_outcome_is_listed()
     ensures { (h : Machine) (program : List Input) (parts : List Read) (os : List Outcome) (o : Outcome) → 0 < length parts
         → outcomes_of h program parts ≡ Some os → IsFound h program parts o → Contains os o }
+{}
+
+/// Whatever some place may show of a word or of a block alone is one of its choices: the word has that value, or the block is seen
+/// so, in some state of the program.
+pub fn each_way_is_a_choice()
+    ensures words { (h : Machine) (program : List Input) (p : ℕ) (bytes : List ℕ) → IsReady h → IsSound h → IsProgram program
+        → p < 512 * h.geometry.vpages → length bytes ≡ 8
+        → All (λ (stop : Stop). may_show (word_read p (Shows bytes)) stop.state ≡ true
+        → lists_bytes bytes (values_through (Volume (8 * p) 8) [] (states h program)) ≡ true) (cut_places 1 h program) }
+    ensures blocks { (h : Machine) (program : List Input) (b : ℕ) (sight : Sight) → IsReady h → IsSound h → IsProgram program
+        → b < h.geometry.blocks → IsSized sight
+        → All (λ (stop : Stop). may_show (block_read b (reply_of b sight)) stop.state ≡ true
+        → lists_sight sight (sights_through (Blocks b 1) [] (states h program)) ≡ true) (cut_places 1 h program) }
+    ensures file_words { (h : Machine) (program : List Input) (name : List ℕ) (p : ℕ) (bytes : List ℕ) → IsReady h → IsSound h
+        → IsProgram program → length bytes ≡ 8
+        → All (λ (stop : Stop). may_show (file_word_read name p (Shows bytes)) stop.state ≡ true
+        → lists_bytes bytes (values_through (File name (8 * p) 8) [] (states h program)) ≡ true) (cut_places 1 h program) }
 {}

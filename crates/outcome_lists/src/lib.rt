@@ -17,7 +17,10 @@ mod printing;
 mod rows;
 mod word;
 
-pub use laws::{a_shorter_look_is_shown, each_listed_outcome_is_found, each_outcome_is_listed};
+pub use laws::{
+    a_shorter_look_is_shown, each_listed_outcome_is_found, each_outcome_is_listed,
+    each_way_is_a_choice,
+};
 pub use listing::list_outcomes;
 pub use printing::print_place;
 pub use rows::worked_lists;
