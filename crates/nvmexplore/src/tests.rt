@@ -39,7 +39,7 @@ fn images(alloc: Global, fetch: u64) -> Result<MemImages, AllocError> {
 }
 
 // What is asked, what is answered, and the status.
-static STORIES: [(&str, &str, u8); 10] = [
+static STORIES: [(&str, &str, u8); 11] = [
     // A record is durable before its flag is stored.
     (
         "vstore 64 07*8\nvsync 64 8\nvstore 0 01\nvsync 0 1\n# look\nvload 0 1\nvload 64 8\n# never data 01 | data 00*8\n# never data 00 | _\n",
@@ -91,6 +91,12 @@ static STORIES: [(&str, &str, u8); 10] = [
     (
         "vstore 0 01\nvsync 0 1\n# look\nvload 0 1\n# table\n# never data 02\n",
         "before 1\n1 volume 0 00*8\ninside 1\n1 volume 0 00*8 01,00*7\nbefore 3\n1 volume 0 01,00*7\nnever\n",
+        0,
+    ),
+    // What two words may be together: the record comes with the flag, or before it.
+    (
+        "vstore 64 07*8\nvsync 64 8\nvstore 0 01\nvsync 0 1\n# look\nvload 0 1\nvload 64 8\n# list\n",
+        "before 1 | volume 0 00*8 | volume 64 00*8\ninside 1 | volume 0 00*8 | volume 64 07*8\ninside 3 | volume 0 01,00*7 | volume 64 07*8\noutcomes 3\n",
         0,
     ),
 ];
