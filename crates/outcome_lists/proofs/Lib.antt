@@ -7,3 +7,5 @@ pub mod AddLemmas
 pub mod StageLemmas
 pub mod ShorterLemmas
 pub mod PartLemmas
+pub mod ApartLemmas
+pub mod GroupLemmas

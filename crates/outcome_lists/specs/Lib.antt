@@ -6,3 +6,4 @@ pub mod Words
 pub mod Asking
 pub mod Courses
 pub mod Worked
+pub mod Apart
