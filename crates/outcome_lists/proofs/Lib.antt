@@ -11,3 +11,5 @@ pub mod ListLemmas
 pub mod FoundLemmas
 pub mod WayLemmas
 pub mod ChoiceLemmas
+pub mod ApartLemmas
+pub mod GroupLemmas

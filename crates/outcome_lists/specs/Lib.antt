@@ -7,3 +7,4 @@ pub mod Asking
 pub mod Courses
 pub mod Listing
 pub mod Worked
+pub mod Apart

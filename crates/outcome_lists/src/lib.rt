@@ -19,7 +19,7 @@ mod word;
 
 pub use laws::{
     a_shorter_look_is_shown, each_listed_outcome_is_found, each_outcome_is_listed,
-    each_way_is_a_choice,
+    each_way_is_a_choice, words_are_shown_each_for_itself,
 };
 pub use listing::list_outcomes;
 pub use printing::print_place;
