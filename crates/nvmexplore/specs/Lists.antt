@@ -1,11 +1,15 @@
 -- What a list says of the machine's runs: each outcome is what some run finds, and what a run finds of such choices is an outcome.
-use Rattle.std.specs.Prelude.{◌≡◌, ◌<◌, Contains, List, Some, length}
+use Rattle.std.specs.Prelude.{◌≡◌, ◌*◌, ◌<◌, ℕ, true, Contains, List, [], Some, length}
+use Rattle.block_sights.specs.Sights.{Sight}
 use Rattle.script_text.specs.Script.{Input}
 use Rattle.machine_host.specs.Machine.{Machine}
 use Rattle.outcomes.specs.Finds.{Finds, armed}
+use Rattle.outcomes.specs.Pages.PageReply.{Shows}
 use Rattle.asked_reads.specs.declared.read.Read.{Read}
+use Rattle.asked_reads.specs.declared.read.Read.TheVariants.{Volume, Blocks, File}
 use Rattle.cut_places.specs.declared.place.CutPlace.{CutPlace}
-use Rattle.outcome_lists.specs.Choices.{Choice, choices, states}
+use Rattle.value_tables.specs.Listed.{IsSized, block_read, file_word_read, lists_bytes, lists_sight, reply_of, word_read}
+use Rattle.outcome_lists.specs.Choices.{Choice, choices, sights_through, states, values_through}
 use Rattle.outcome_lists.specs.Listing.{Picks, asked_with, outcome_at}
 use Rattle.outcome_lists.specs.Outcomes.{Outcome, look_of, nothing, outcomes_of}
 
@@ -15,3 +19,10 @@ pub record ListsRuns (h : Machine) (program : List Input) : Type 0 where
       → Contains os o → Finds h program (look_of o.asked)
   pub every : (parts : List Read) (os : List Outcome) (picked : List Choice) → 0 < length parts → outcomes_of (armed h) program parts ≡ Some os
       → Picks (choices (states (armed h) program)) parts picked → Finds h program (look_of (asked_with nothing picked)) → (place : CutPlace) × Contains os (outcome_at place picked)
+  -- and what a run finds of one word or block alone is one of its choices
+  pub words : (p : ℕ) (bytes : List ℕ) → p < 512 * h.geometry.vpages → length bytes ≡ 8 → Finds h program (word_read p (Shows bytes))
+      → lists_bytes bytes (values_through (Volume (8 * p) 8) [] (states (armed h) program)) ≡ true
+  pub blocks : (b : ℕ) (sight : Sight) → b < h.geometry.blocks → IsSized sight → Finds h program (block_read b (reply_of b sight))
+      → lists_sight sight (sights_through (Blocks b 1) [] (states (armed h) program)) ≡ true
+  pub file_words : (name : List ℕ) (p : ℕ) (bytes : List ℕ) → length bytes ≡ 8 → Finds h program (file_word_read name p (Shows bytes))
+      → lists_bytes bytes (values_through (File name (8 * p) 8) [] (states (armed h) program)) ≡ true

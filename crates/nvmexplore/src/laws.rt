@@ -11,7 +11,7 @@ ghost use Rattle.explorer.specs.Starting.{Begins};
 ghost use Rattle.program_base.specs.Opening.{opened};
 ghost use Rattle.nvmexplore.specs.Calls.{AreMountable, AreTheorems};
 
-use outcome_lists::{each_listed_outcome_is_found, each_outcome_is_listed};
+use outcome_lists::{each_listed_outcome_is_found, each_outcome_is_listed, each_way_is_a_choice};
 use outcome_runs::{runs_keep_states, scripts_bring_right, the_test_tells_what_is_found};
 use value_tables::{a_value_is_listed_where_it_may_be_shown, each_place_is_sound};
 
@@ -35,4 +35,5 @@ pub fn answers_are_theorems()
     each_place_is_sound();
     each_listed_outcome_is_found();
     each_outcome_is_listed();
+    each_way_is_a_choice();
 }

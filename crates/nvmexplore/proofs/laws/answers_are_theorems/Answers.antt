@@ -27,4 +27,10 @@ returns c = λ lines script e right is program.
       file_words = lists.file_words;
       file_poison = lists.file_poison;
     }))
-    (lists_runs (opened lines) (map asks_for e.program) tells (c.each_listed_outcome_is_found.ensures (armed (opened lines)) (map asks_for e.program)) (c.each_outcome_is_listed.ensures (armed (opened lines)) (map asks_for e.program)))
+    (lists_runs (opened lines) (map asks_for e.program) tells (ready_armed (opened lines) kept.0) (sound_armed (opened lines) kept.0 kept.1) program (record {
+      listed = c.each_listed_outcome_is_found.ensures (armed (opened lines)) (map asks_for e.program);
+      every = c.each_outcome_is_listed.ensures (armed (opened lines)) (map asks_for e.program);
+      words = c.each_way_is_a_choice.ensures.words (armed (opened lines)) (map asks_for e.program);
+      blocks = c.each_way_is_a_choice.ensures.blocks (armed (opened lines)) (map asks_for e.program);
+      file_words = c.each_way_is_a_choice.ensures.file_words (armed (opened lines)) (map asks_for e.program);
+    }))
