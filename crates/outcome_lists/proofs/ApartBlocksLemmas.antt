@@ -34,6 +34,7 @@ pub then_so : (a b : Bool) → a ≡ true → (not a || b) ≡ true → b ≡ tr
 then_so true b is so = so
 then_so false b is so = cc is
 
+-- and where it follows
 pub where_so : (a b : Bool) → (a ≡ true → b ≡ true) → (not a || b) ≡ true
 where_so true b so = so refl
 where_so false b so = refl
@@ -72,6 +73,7 @@ among_one first n =
     eq-eqb n first (omega (arith, leb-true first n parts.0, ltb-true n (first + 1) parts.1)))
     (λ is. and_from (nat_le first n) (nat_lt n (first + 1)) (grind (arith, eqb-true n first is)) (grind (arith, eqb-true n first is)))
 
+-- a read of one block looks at that block
 one_number : (first count : ℕ) (reply : BlockReply) → count ≡ 1 → IsSight reply → numbers_read first count reply ≡ first ∷ []
 one_number first count (Shows bytes) one is = ap (range_with_len first) one
 one_number first count (Scar block) one is = ap (range_with_len first) one
@@ -85,6 +87,7 @@ numbers_apart f (r ∷ reads) are =
     ap (λ ns. list_all f (ns ++ all_numbers_read reads)) (one_number r.first r.count r.reply are.0.0 are.0.1)
     ∙ ap (λ b. f r.first && b) (numbers_apart f reads are.1)
 
+-- each of them is of one block
 each_is : (reads : List BlockRead) → AreOfOneBlock reads → (r : BlockRead) → IsAmong r reads → IsOfOneBlock r
 each_is [] are r is = absurd is
 each_is (q ∷ reads) are r (inl same) = subst IsOfOneBlock (sym same) are.0
@@ -114,11 +117,13 @@ module _ (blocks : List Block) where
       by_number true same = ap (λ m. allowed m r) (eqb-true n r.first same) ∙ sym (alone r is)
       by_number false other = refl
 
+  -- a block fits reads where each of them that is of it is shown alone
   block_apart : (reads : List BlockRead) → AreOfOneBlock reads → (n : ℕ) → block_fits reads n (nth blocks n) ≡ list_all (λ (r : BlockRead). not (n == r.first) || shows_block blocks r) reads
   block_apart reads are n =
       all_same (λ (r : BlockRead). not (is_among r.first r.count n) || allowed n r) (λ (r : BlockRead). not (n == r.first) || shows_block blocks r) reads
       (λ r is. asks n r (each_is reads are r is))
 
+-- each read goes together with itself
 own_block : (r : BlockRead) → is_same_block r r ≡ true
 own_block r = eq-eqb r.first r.first refl
 
@@ -148,6 +153,7 @@ module _ (reads : List BlockRead) (are : AreOfOneBlock reads) where
       ap (λ b. b || blocks_may_pass None (block_fits reads) new (all_numbers_read reads)) (whole_apart old) ∙ ap (λ b. list_all (shows_block old) reads || b) (whole_apart new)
   left_apart Mixed old new = mixed_apart old new
 
+  -- where such an action was interrupted, or none
   pub blocks_pass_apart : (o : Option Action) (blocks : List Block) → blocks_may_pass o (block_fits reads) blocks (all_numbers_read reads) ≡ blocks_shown_apart o blocks reads
   blocks_pass_apart None blocks = whole_apart blocks
   blocks_pass_apart (Some action) blocks = left_apart (meaning action).blocks_left blocks ((meaning action).blocks blocks)
@@ -157,6 +163,7 @@ module _ {A : Type 0} (together : A → A → Bool) (own : (x : A) → together 
   abbrev group : (A → Bool) → A → Bool
   group f x = list_all (λ y. not (together x y) || f y) xs
 
+  -- the group of one is that one
   only : (f : A → Bool) (x : A) → IsAmong x xs → group f x ≡ f x
   only f x is =
       same_test (group f x) (f x) (λ all. then_so (together x x) (f x) (own x) (all_of (λ y. not (together x y) || f y) x xs all is))
@@ -167,7 +174,7 @@ module _ {A : Type 0} (together : A → A → Bool) (own : (x : A) → together 
       all_same (λ x. group old x || group new x) (λ x. old x || new x) xs (λ x is. ap (λ b. b || group new x) (only old x is) ∙ ap (λ b. old x || b) (only new x is))
 
 -- a test that is passed and not
-pub both_ways : (b : Bool) → b ≡ true → not b ≡ true → ⊥
+both_ways : (b : Bool) → b ≡ true → not b ≡ true → ⊥
 both_ways true is not_so = cc not_so
 both_ways false is not_so = cc is
 
@@ -182,5 +189,6 @@ distinct_alone (q ∷ reads) are r s (inr one) (inl other) same =
     absurd (both_ways (is_same_block q r) (eq-eqb q.first r.first turned) (all_of (λ t. not (is_same_block q t)) r reads are.0 one))
 distinct_alone (q ∷ reads) are r s (inr one) (inr other) same = distinct_alone reads are.1 r s one other same
 
+-- so each of distinct blocks is old or new for itself
 pub distinct_blocks_apart : (reads : List BlockRead) → AreDistinctBlocks reads → (old new : BlockRead → Bool) → grouped is_same_block old new reads ≡ list_all (λ r. old r || new r) reads
 distinct_blocks_apart reads are old new = grouped_alone is_same_block own_block reads (distinct_alone reads are) old new
