@@ -14,7 +14,8 @@ use Rattle.outcomes.specs.Blocks.BlockReply.{Shows, Scar, BadLine, Refuses}
 use Rattle.outcomes.specs.Left.{blocks_may_pass, blocks_pass}
 use Rattle.file_sights.proofs.AllLemmas.{same_test}
 use Rattle.witnesses.proofs.ListLemmas.{IsAmong, all_from, all_of}
-use Rattle.outcome_lists.specs.ApartBlocks.{AreDistinctBlocks, AreOfOneBlock, IsOfOneBlock, IsSight, blocks_apart, blocks_shown_apart, grouped, is_same_block, shows_block}
+use Rattle.outcome_lists.specs.Apart.{grouped}
+use Rattle.outcome_lists.specs.ApartBlocks.{AreDistinctBlocks, AreOfOneBlock, IsOfOneBlock, IsSight, blocks_apart, blocks_shown_apart, is_same_block, shows_block}
 
 -- tests that each item passes alike
 pub all_same : {A : Type 0} (f g : A → Bool) (xs : List A) → ((x : A) → IsAmong x xs → f x ≡ g x) → list_all f xs ≡ list_all g xs

@@ -44,7 +44,7 @@ use Rattle.value_tables.specs.Listed.{HasWords}
 use Rattle.value_tables.proofs.FileValueLemmas.{seen_has}
 use Rattle.value_tables.proofs.HistoryLemmas.{word_has}
 use Rattle.witnesses.proofs.ListLemmas.{IsAmong, all_from, all_of, range_all, range_each}
-use Rattle.outcome_lists.specs.ApartBlocks.{grouped}
+use Rattle.outcome_lists.specs.Apart.{grouped}
 use Rattle.outcome_lists.specs.ApartFiles.{AreDistinctWords, IsOfOneWord, NamesItsLine, is_same_line, is_same_word, shows_word, words_apart, words_shown_apart}
 use Rattle.outcome_lists.proofs.ApartBlocksLemmas.{all_same, and_true, grouped_same, or_same, then_so, where_so}
 

@@ -13,3 +13,5 @@ pub mod WayLemmas
 pub mod ChoiceLemmas
 pub mod ApartLemmas
 pub mod GroupLemmas
+pub mod ApartBlocksLemmas
+pub mod ApartFilesLemmas

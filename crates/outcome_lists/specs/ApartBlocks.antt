@@ -9,10 +9,7 @@ use Rattle.machine_host.specs.Meaning.BlocksLeft.{Same, Either, Mixed}
 use Rattle.outcomes.specs.Blocks.{BlockRead, BlockReply, all_numbers_read, block_fits}
 use Rattle.outcomes.specs.Blocks.BlockReply.{Shows, Scar, BadLine, Refuses}
 use Rattle.outcomes.specs.Left.{blocks_may_pass}
-
--- for each x, all that go together with it are old, or all of them are new
-abbrev pub grouped : {A : Type 0} → (A → A → Bool) → (A → Bool) → (A → Bool) → List A → Bool
-grouped together old new xs = list_all (λ x. list_all (λ y. not (together x y) || old y) xs || list_all (λ y. not (together x y) || new y) xs) xs
+use Rattle.outcome_lists.specs.Apart.{grouped}
 
 -- the reply tells what is seen of a block
 abbrev pub IsSight : BlockReply → Type 0

@@ -10,7 +10,7 @@ use Rattle.machine_host.specs.Meaning.FilesLeft.{Unchanged, OldOrNew, StoredInPa
 use Rattle.outcomes.specs.Files.{FileRead, each_file, files_fit}
 use Rattle.outcomes.specs.Pages.{PageRead, PageReply}
 use Rattle.outcomes.specs.Pages.PageReply.{Shows, Poison, Refuses}
-use Rattle.outcome_lists.specs.ApartBlocks.{grouped}
+use Rattle.outcome_lists.specs.Apart.{grouped}
 
 -- the line that a reply names as bad, if it names one, is that of the word
 abbrev pub NamesItsLine : ℕ → PageReply → Type 0

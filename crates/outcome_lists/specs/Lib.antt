@@ -8,3 +8,5 @@ pub mod Courses
 pub mod Listing
 pub mod Worked
 pub mod Apart
+pub mod ApartBlocks
+pub mod ApartFiles

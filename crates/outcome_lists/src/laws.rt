@@ -11,7 +11,6 @@ ghost use Rattle.asked_reads.specs.declared.read.Read.{Read};
 ghost use Rattle.asked_reads.specs.declared.read.Read.TheVariants.{Volume, Blocks, File};
 ghost use Rattle.cut_places.specs.Places.{Stop, cut_places};
 ghost use Rattle.value_tables.specs.Listed.{IsSized, IsSound, block_read, file_word_read, lists_bytes, lists_sight, reply_of, word_read};
-ghost use Rattle.outcome_lists.specs.Apart.{EachAlone, GroupsAlone};
 ghost use Rattle.outcome_lists.specs.Choices.{sights_through, states, values_through};
 ghost use Rattle.outcome_lists.specs.Listing.{IsFound};
 ghost use Rattle.outcome_lists.specs.Outcomes.{Asked, Outcome, and_seen, look_of, outcomes_of};
@@ -48,11 +47,4 @@ pub fn each_way_is_a_choice()
         → IsProgram program → length bytes ≡ 8
         → All (λ (stop : Stop). may_show (file_word_read name p (Shows bytes)) stop.state ≡ true
         → lists_bytes bytes (values_through (File name (8 * p) 8) [] (states h program)) ≡ true) (cut_places 1 h program) }
-{}
-
-/// Words of the volume are shown each for itself: at rest all of them where each alone is, and inside a command where each line, each
-/// page, or all of them are as they were before it, or as it makes them.
-pub fn words_are_shown_each_for_itself()
-    ensures rest { EachAlone }
-    ensures groups { GroupsAlone }
 {}

@@ -1,6 +1,7 @@
 //! The outcomes of a look one by one: what its reads may find together once the power is back, and where a cut first leaves that.
 #![tactic(auto)]
 
+mod apart;
 mod choice;
 mod choosing;
 mod copies;
@@ -17,9 +18,13 @@ mod printing;
 mod rows;
 mod word;
 
+pub use apart::{
+    blocks_are_shown_each_for_itself, file_words_are_shown_each_for_itself,
+    words_are_shown_each_for_itself,
+};
 pub use laws::{
     a_shorter_look_is_shown, each_listed_outcome_is_found, each_outcome_is_listed,
-    each_way_is_a_choice, words_are_shown_each_for_itself,
+    each_way_is_a_choice,
 };
 pub use listing::list_outcomes;
 pub use printing::print_place;

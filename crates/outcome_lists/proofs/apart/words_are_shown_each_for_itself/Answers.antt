@@ -1,5 +1,5 @@
 use Rattle.outcome_lists.proofs.GroupLemmas.{each_alone, groups_apart}
-use Rattle.outcome_lists.proofs.laws.words_are_shown_each_for_itself.Goals as goal
+use Rattle.outcome_lists.proofs.apart.words_are_shown_each_for_itself.Goals as goal
 
 pub returns-clause-rest : goal.returns-clause-rest
 returns-clause-rest c = each_alone
