@@ -1,26 +1,21 @@
 -- What is looked at for one part: its line, its block, or its file.
-use Rattle.std.proofs.Common.{◌≡◌, ◌+◌, ◌-◌, ◌*◌, ◌/◌, ◌%◌, ◌≤◌, ◌&&◌, ℕ, zero, suc, true, Option, Some, None, Result, Ok, Err, Bor, List, [], ◌∷◌, ◌++◌, drop, map, refl, sym, take, ap, ap₂, subst, ◌∙◌, append-nil, arith}
+use Rattle.std.proofs.Common.{◌≡◌, ◌+◌, ◌-◌, ◌*◌, ◌/◌, ◌≤◌, ℕ, zero, suc, true, Option, Some, None, Result, Ok, Err, Bor, List, [], ◌∷◌, ◌++◌, drop, map, refl, sym, take, ap, ap₂, subst, ◌∙◌, append-nil, arith}
 use Rattle.std.specs.Option.{option_copied}
 use Rattle.std.specs.Prelude.{slice_get}
 use Rattle.std.specs.Result.{IfOk, OnOk}
 use Rattle.std.specs.List.{list_all, range_with_len}
 use Rattle.std.proofs.lemmas.Bool.{and_parts}
 use Rattle.word_tables.specs.declared.geometry.Geometry.{Geometry}
-use Rattle.block_sights.specs.Sights.{Sight as BlockSight, sight}
-use Rattle.nvm_model.specs.Blocks.{nth}
+use Rattle.block_sights.specs.Sights.{Sight as BlockSight}
 use Rattle.nvm_model.specs.Cell.{Cell}
-use Rattle.reply_text.specs.declared.reply.Why.{Why}
 use Rattle.machine_host.specs.Machine.{Machine}
 use Rattle.machine_host.proofs.RefusalLemmas.{read_within}
-use Rattle.asked_reads.specs.declared.read.Read.{Read}
 use Rattle.asked_reads.specs.declared.read.Read.TheVariants.{Volume, Blocks, File}
 use Rattle.cut_places.specs.declared.sight.Sight.{Sight}
 use Rattle.cut_places.specs.Following.{Follows}
 use Rattle.file_sights.specs.Sees.{is_held}
-use Rattle.file_sights.specs.State.{FilesState}
 use Rattle.sights.specs.declared.block_seen.BlockSeen.{BlockSeen}
 use Rattle.sights.specs.declared.line_seen.LineSeen.{LineSeen}
-use Rattle.sights.specs.Seeing.{seen}
 use Rattle.sights.specs.Units.{AreBlocks, AreLines, block_numbers, line_numbers}
 use Rattle.value_tables.specs.Left.{file_side, files_left}
 use Rattle.value_tables.specs.Looking.{IsOf, blocks_touched, file_lines_touched, lines_touched, none_refused}

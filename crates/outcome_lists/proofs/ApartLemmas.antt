@@ -48,12 +48,12 @@ range_same f g start (suc count) same =
     ap (λ b. b && list_all f (range_with_len (start + 1) count)) (same start (omega arith))
     ∙ ap (λ b. g start && b) (range_same f g (start + 1) count (λ k lt. same k (omega (arith, lt))))
 
-any_same : (f g : ℕ → Bool) (values : List ℕ) → ((v : ℕ) → f v ≡ g v) → list_any f values ≡ list_any g values
+pub any_same : (f g : ℕ → Bool) (values : List ℕ) → ((v : ℕ) → f v ≡ g v) → list_any f values ≡ list_any g values
 any_same f g [] same = refl
 any_same f g (v ∷ values) same = ap (λ b. b || list_any f values) (same v) ∙ ap (λ b. g v || b) (any_same f g values same)
 
 -- of some values that all pass some do
-some_value : (f : ℕ → Bool) (values : List ℕ) → 1 ≤ length values → ((v : ℕ) → f v ≡ true) → list_any f values ≡ true
+pub some_value : (f : ℕ → Bool) (values : List ℕ) → 1 ≤ length values → ((v : ℕ) → f v ≡ true) → list_any f values ≡ true
 some_value f [] some each = absurd (omega (arith, some))
 some_value f (v ∷ values) some each = ap (λ b. b || list_any f values) (each v)
 

@@ -3,8 +3,7 @@ use Rattle.std.proofs.Common.{◌≡◌, ◌==◌, ◌+◌, ◌<◌, ◌≤◌, 
 use Rattle.std.specs.Option.{is_none}
 use Rattle.std.proofs.lemmas.List.{drop_all}
 use Rattle.word_tables.specs.declared.geometry.Geometry.{Geometry}
-use Rattle.block_sights.specs.Sights.{Sight as BlockSight, sight}
-use Rattle.nvm_model.specs.Blocks.{nth}
+use Rattle.block_sights.specs.Sights.{Sight as BlockSight}
 use Rattle.nvm_model.specs.Cell.{Cell}
 use Rattle.script_text.specs.declared.command.Command.{Command}
 use Rattle.script_text.specs.Action.{Action, action_of}
@@ -26,8 +25,6 @@ use Rattle.value_tables.specs.Left.{FileSide, file_side}
 use Rattle.value_tables.specs.Left.FileSide.{NoFile, PastEnd, OfLine}
 use Rattle.value_tables.specs.Looking.{IsOf}
 use Rattle.value_tables.specs.Values.{cells_of, history_of, values_with, with_all}
-use Rattle.value_tables.proofs.PlaceLemmas.{of_after}
-use Rattle.value_tables.proofs.WithinLemmas.{is_within}
 use Rattle.outcome_lists.specs.Choices.{sights_through, states, values_through}
 
 -- values of lines behind one another

@@ -1,17 +1,15 @@
 -- The reads of an outcome, part by part.
-use Rattle.std.proofs.Common.{◌≡◌, ◌+◌, ◌-◌, ◌*◌, ◌/◌, ◌%◌, ◌≤◌, ◌<◌, ◌&&◌, ℕ, zero, suc, true, Option, Some, None, List, [], ◌∷◌, ◌++◌, drop, length, map, take, refl, sym, ap, ap₂, subst, ◌∙◌, append_assoc, append-nil, arith}
+use Rattle.std.proofs.Common.{◌≡◌, ◌+◌, ◌-◌, ◌*◌, ◌/◌, ◌%◌, ◌≤◌, ℕ, zero, suc, true, None, List, [], ◌∷◌, ◌++◌, drop, length, map, take, refl, sym, ap, ap₂, ◌∙◌, append_assoc, append-nil, arith}
 use Rattle.std.specs.Int.{to_le_bytes, w64}
 use Rattle.std.specs.List.{AllByRecursion, list_all, range_with_len}
 use Rattle.std.proofs.lemmas.Bool.{and_from}
 use Rattle.std.proofs.lemmas.List.Folds.{list_all-append}
 use Rattle.word_tables.specs.declared.geometry.Geometry.{Geometry}
-use Rattle.reply_text.specs.declared.reply.Why.{Why}
 use Rattle.reply_text.specs.declared.reply.Why.TheVariants.{Missing, Range}
 use Rattle.outcomes.specs.Blocks.{BlockRead, all_numbers_read}
 use Rattle.outcomes.specs.Files.{FileRead}
 use Rattle.outcomes.specs.Pages.{PageRead, PageReply, all_lines_read, lines_read}
 use Rattle.outcomes.specs.Pages.PageReply.{Poison, Refuses, Shows}
-use Rattle.outcomes.specs.Seen.{Seen}
 use Rattle.outcomes.specs.Seen.Seen.{of_blocks, of_file, of_volume}
 use Rattle.asked_reads.specs.declared.read.Read.{Read}
 use Rattle.asked_reads.specs.declared.read.Read.TheVariants.{Volume, Blocks, File}
@@ -21,17 +19,16 @@ use Rattle.cut_places.specs.declared.sight.Sight.{Sight}
 use Rattle.file_sights.specs.Sees.{are_held, is_held}
 use Rattle.sights.specs.declared.block_seen.BlockSeen.{BlockSeen}
 use Rattle.sights.specs.declared.line_seen.LineSeen.{LineSeen}
-use Rattle.sights.specs.Units.{block_numbers, line_numbers}
 use Rattle.witnesses.proofs.SeenLemmas.{all_lines_read-append, all_numbers_read-append}
 use Rattle.value_tables.specs.Listed.{reply_of}
 use Rattle.value_tables.specs.Looking.{IsOf, blocks_looked_at, blocks_touched, file_lines_touched, lines_looked_at, lines_touched, none_refused}
 use Rattle.value_tables.specs.Rows.{read_refusal}
 use Rattle.outcome_lists.specs.declared.outcome.Outcome.{Outcome as OutcomeHeld}
 use Rattle.outcome_lists.specs.Asking.{asked}
-use Rattle.outcome_lists.specs.Choices.{Choice, block_choices, choices_from, word_choices}
+use Rattle.outcome_lists.specs.Choices.{Choice, choices_from}
 use Rattle.outcome_lists.specs.Courses.{AllFirst, AllOf, AllWith, AreFirst, AreOf, AreWays}
 use Rattle.outcome_lists.specs.Outcomes.{Asked, and_seen}
-use Rattle.outcome_lists.specs.Parts.{IsPart, IsWordOrBlock}
+use Rattle.outcome_lists.specs.Parts.{IsPart}
 
 -- the lines and blocks of reads, and of others behind them
 lines_join : (geo : Geometry) (xs ys : List Read) → lines_looked_at geo (xs ++ ys) ≡ lines_looked_at geo xs ++ lines_looked_at geo ys

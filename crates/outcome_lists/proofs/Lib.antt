@@ -14,4 +14,6 @@ pub mod ChoiceLemmas
 pub mod ApartLemmas
 pub mod GroupLemmas
 pub mod ApartBlocksLemmas
+pub mod WordReadLemmas
+pub mod PagesApartLemmas
 pub mod ApartFilesLemmas

@@ -6,13 +6,11 @@ use Rattle.word_tables.specs.declared.geometry.Geometry.{Geometry}
 use Rattle.nvm_model.specs.Cell.{Cell}
 use Rattle.block_sights.specs.Sights.{Sight as BlockSight}
 use Rattle.machine_host.specs.Machine.{Machine}
-use Rattle.outcomes.specs.Blocks.{all_numbers_read, is_block_reply}
-use Rattle.outcomes.specs.Pages.{all_lines_read, is_reply}
+use Rattle.outcomes.specs.Blocks.{is_block_reply}
+use Rattle.outcomes.specs.Pages.{is_reply}
 use Rattle.asked_reads.specs.declared.question.Question.{Question}
 use Rattle.asked_reads.specs.Asking.{blocks_of, files_asked, may_be_file_reply, may_be_replies, volume_asked}
 use Rattle.asked_reads.specs.Reads.{block_read, page_read}
-use Rattle.asked_reads.specs.declared.reads.PageRead.{PageRead as PageAsked}
-use Rattle.asked_reads.specs.declared.reads.BlockRead.{BlockRead as BlockAsked}
 use Rattle.cut_places.specs.declared.sight.Sight.{Sight}
 use Rattle.cut_places.specs.Following.{Follows, IsWhole, IsWithin}
 use Rattle.cut_places.proofs.WithinLemmas.{blocks_within, lines_within}

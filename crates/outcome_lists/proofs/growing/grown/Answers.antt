@@ -1,4 +1,4 @@
-use Rattle.std.proofs.Common.{◌+◌, ◌≤◌, List, drop, subst, ◌∙◌}
+use Rattle.std.proofs.Common.{◌≤◌, List, subst, ◌∙◌}
 use Rattle.std.specs.List.{AllByRecursion}
 use Rattle.asked_reads.specs.declared.read.Read.{Read}
 use Rattle.asked_reads.specs.Program.{inputs_of_lines}
@@ -7,7 +7,7 @@ use Rattle.outcome_lists.specs.declared.outcome.Outcome.{Outcome}
 use Rattle.outcome_lists.specs.Asking.{asked, choices_held, outcomes_held}
 use Rattle.outcome_lists.specs.Courses.{AllFirst, AllWith}
 use Rattle.outcome_lists.specs.Outcomes.{place_of}
-use Rattle.outcome_lists.proofs.OutcomeLemmas.{capped_over, capped_within, next_item, outcome_more}
+use Rattle.outcome_lists.proofs.OutcomeLemmas.{next_item, outcome_more}
 use Rattle.outcome_lists.proofs.growing.grown.Goals as goal
 
 pub loop-outcome-preserved : goal.loop-outcome-preserved

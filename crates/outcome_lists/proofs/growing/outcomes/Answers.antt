@@ -1,4 +1,4 @@
-use Rattle.std.proofs.Common.{◌≡◌, [], ◌∷◌, ◌++◌, Global, Some, Vec, ap, drop, option_map, rules, subst, sym, take, ◌∙◌}
+use Rattle.std.proofs.Common.{[], ◌∷◌, ◌++◌, Global, Some, Vec, ap, drop, option_map, rules, subst, sym, take, ◌∙◌}
 use Rattle.asked_reads.specs.Program.{inputs_of_lines}
 use Rattle.cut_places.specs.Places.{cut_places}
 use Rattle.sights.specs.Units.{block_numbers, line_numbers}
@@ -7,7 +7,7 @@ use Rattle.outcome_lists.specs.Asking.{choices_held, outcomes_held}
 use Rattle.outcome_lists.specs.Choices.{choices, states}
 use Rattle.outcome_lists.specs.Courses.{AllOf, AreWays}
 use Rattle.outcome_lists.specs.Outcomes.{outcomes_from, place_of}
-use Rattle.outcome_lists.proofs.StageLemmas.{all_grown, begun_of, begun_from, blocks_later, files_later, grown_later, lines_later, of_later, part_here, parts_later, placed, ways_first, with_ways}
+use Rattle.outcome_lists.proofs.StageLemmas.{begun_of, begun_from, blocks_later, files_later, grown_later, lines_later, of_later, part_here, parts_later, placed, ways_first, with_ways}
 use Rattle.outcome_lists.proofs.growing.outcomes.Goals as goal
 
 pub loop-part-init : goal.loop-part-init

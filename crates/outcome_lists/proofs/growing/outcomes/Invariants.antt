@@ -1,4 +1,4 @@
-use Rattle.std.proofs.Common.{◌≡◌, ◌∷◌, [], true, drop, take}
+use Rattle.std.proofs.Common.{◌≡◌, true, drop, take}
 use Rattle.std.specs.List.{list_all}
 use Rattle.asked_reads.specs.Program.{inputs_of_lines}
 use Rattle.cut_places.specs.Places.{cut_places}
@@ -9,7 +9,7 @@ use Rattle.value_tables.specs.Looking.{blocks_looked_at, file_lines_looked_at, l
 use Rattle.outcome_lists.specs.Asking.{outcomes_held}
 use Rattle.outcome_lists.specs.Choices.{choices, states}
 use Rattle.outcome_lists.specs.Courses.{AllOf, IsFrom}
-use Rattle.outcome_lists.specs.Outcomes.{begun, outcomes_from, outcomes_of, place_of}
+use Rattle.outcome_lists.specs.Outcomes.{outcomes_from, outcomes_of, place_of}
 use Rattle.outcome_lists.specs.Parts.{AreParts}
 use Rattle.outcome_lists.proofs.growing.outcomes.Given as goal
 

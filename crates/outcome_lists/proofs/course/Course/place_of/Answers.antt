@@ -1,4 +1,4 @@
-use Rattle.std.proofs.Common.{◌≡◌, ℕ, length, take, refl, ap, ap₂, subst, sym, ◌∙◌}
+use Rattle.std.proofs.Common.{ℕ, length, take, refl, ap, ap₂, subst, sym, ◌∙◌}
 use Rattle.nvm_model.specs.Cell.{Cell}
 use Rattle.block_sights.specs.Sights.{Sight as BlockSight}
 use Rattle.asked_reads.specs.Asking.{may_be_replies}

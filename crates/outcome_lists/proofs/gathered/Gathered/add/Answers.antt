@@ -1,10 +1,8 @@
-use Rattle.std.proofs.Common.{◌≡◌, ◌/◌, ◌%◌, ◌==◌, [], ◌∷◌, ap, subst, sym, ◌∙◌}
-use Rattle.asked_reads.specs.declared.read.Read.{Read}
+use Rattle.std.proofs.Common.{◌/◌, ◌%◌, ◌==◌, [], ◌∷◌, ap, sym, ◌∙◌}
 use Rattle.block_sights.specs.Sights.{sight}
 use Rattle.nvm_model.specs.Blocks.{nth}
 use Rattle.sights.specs.BlockTelling.{same_sight}
 use Rattle.sights.specs.Seeing.{seen}
-use Rattle.value_tables.specs.Looking.{IsOf}
 use Rattle.value_tables.specs.Sides.{side_at}
 use Rattle.value_tables.specs.Values.{cells_of, history_of, values_with, with_all, with_one}
 use Rattle.outcome_lists.specs.Choices.{sights_through, values_through}

@@ -1,8 +1,7 @@
-use Rattle.std.proofs.Common.{◌++◌, ◌+◌, ◌∷◌, List, ap, drop, subst, ◌∙◌}
+use Rattle.std.proofs.Common.{◌++◌, List, ap, subst, ◌∙◌}
 use Rattle.asked_reads.specs.declared.read.Read.{Read}
 use Rattle.asked_reads.specs.Program.{inputs_of_lines}
 use Rattle.cut_places.specs.Places.{cut_places}
-use Rattle.outcome_lists.specs.declared.choice.Choice.{Choice}
 use Rattle.outcome_lists.specs.Asking.{asked, choice_held, choices_held, outcome_held, outcomes_held}
 use Rattle.outcome_lists.specs.Courses.{AllFirst, AllWith}
 use Rattle.outcome_lists.specs.Outcomes.{place_of}
