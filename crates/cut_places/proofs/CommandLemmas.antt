@@ -30,14 +30,14 @@ use Rattle.machine_host.specs.OnMedia.{line_answer}
 use Rattle.machine_host.specs.OnPages.{fread, fwrite, pages_named}
 use Rattle.outcomes.specs.Stops.{led_to}
 use Rattle.sights.proofs.VolumeChangeLemmas.{none_first, none_mapped, none_second, places_right}
-use Rattle.file_sights.specs.Changes.{FilesChange, LinesChange, files_changed}
-use Rattle.file_sights.specs.Changes.FilesChange.{Nothing, Makes, Removes, Renames, Resizes, Changes, Maps, Unmaps}
-use Rattle.file_sights.specs.Changes.LinesChange.{Puts, Persists, Rewrites, Zeroes, Loses, Weakens, Clears}
-use Rattle.file_sights.specs.Commands.{files_change, persisted_at, stored_at, through}
-use Rattle.file_sights.specs.Maps.{if_shared, shown, uncopied}
-use Rattle.file_sights.specs.State.{mappings_after}
-use Rattle.file_sights.proofs.HeldLemmas.{MayChange}
-use Rattle.file_sights.proofs.PageChangeLemmas.{IsThere}
+use Rattle.cut_places.specs.FileChanges.{FilesChange, LinesChange, files_changed}
+use Rattle.cut_places.specs.FileChanges.FilesChange.{Nothing, Makes, Removes, Renames, Resizes, Changes, Maps, Unmaps}
+use Rattle.cut_places.specs.FileChanges.LinesChange.{Puts, Persists, Rewrites, Zeroes, Loses, Weakens, Clears}
+use Rattle.cut_places.specs.FileCommands.{files_change, persisted_at, stored_at, through}
+use Rattle.cut_places.specs.Maps.{if_shared, shown, uncopied}
+use Rattle.cut_places.specs.FilesState.{mappings_after}
+use Rattle.cut_places.proofs.HeldLemmas.{MayChange}
+use Rattle.cut_places.proofs.PageChangeLemmas.{IsThere}
 
 -- mappings without their copies
 found_uncopied : (handle : ℕ) (ms : List Mapping) → mapping_of handle (map uncopied ms) ≡ option_map uncopied (mapping_of handle ms)

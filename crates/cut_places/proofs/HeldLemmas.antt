@@ -12,13 +12,13 @@ use Rattle.nvm_model.proofs.AlikeChangeLemmas.{alike-rename, alike-without}
 use Rattle.nvm_model.proofs.RiseLemmas.{rises-put}
 use Rattle.durable.specs.Durable.{AllHaveLines, HaveLines}
 use Rattle.sights.specs.Seeing.{seen}
-use Rattle.file_sights.specs.declared.line.FileLine.{FileLine}
-use Rattle.file_sights.specs.Changes.{FilesChange, LinesChange, files_changed, line_changed, pages_changed}
-use Rattle.file_sights.specs.Changes.FilesChange.{Nothing, Makes, Removes, Renames, Resizes, Changes, Maps, Unmaps}
-use Rattle.file_sights.specs.Sees.{AreLines, SeesFile, line_numbers}
-use Rattle.file_sights.specs.State.{FileState, files_after, hole_at, holes, line_after, line_of_after, line_within, lines_after, name_seen, with_name, with_pages}
-use Rattle.file_sights.proofs.PageChangeLemmas.{MarksThere, length_changed, length_resized, seen_changed, seen_hole, seen_past, seen_resized}
-use Rattle.file_sights.proofs.RisingLemmas.{alike_changed, rises_changed, rises_renamed, rises_without}
+use Rattle.cut_places.specs.declared.line.FileLine.{FileLine}
+use Rattle.cut_places.specs.FileChanges.{FilesChange, LinesChange, files_changed, line_changed, pages_changed}
+use Rattle.cut_places.specs.FileChanges.FilesChange.{Nothing, Makes, Removes, Renames, Resizes, Changes, Maps, Unmaps}
+use Rattle.cut_places.specs.SeesFiles.{AreLines, SeesFile, line_numbers}
+use Rattle.cut_places.specs.FilesState.{FileState, files_after, hole_at, holes, line_after, line_of_after, line_within, lines_after, name_seen, with_name, with_pages}
+use Rattle.cut_places.proofs.PageChangeLemmas.{MarksThere, length_changed, length_resized, seen_changed, seen_hole, seen_past, seen_resized}
+use Rattle.cut_places.proofs.RisingLemmas.{alike_changed, rises_changed, rises_renamed, rises_without}
 
 -- lines of other pages, each by what is made of it
 numbers_same : (f : FileLine → FileLine) (lines : List FileLine) → ((line : FileLine) → (f line).number ≡ line.number) → line_numbers (map f lines) ≡ line_numbers lines

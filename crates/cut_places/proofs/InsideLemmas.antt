@@ -21,21 +21,21 @@ use Rattle.sights.specs.Seeing.{seen}
 use Rattle.sights.proofs.PassLemmas.{one_of_two}
 use Rattle.sights.proofs.SeenLemmas.{seen-fill}
 use Rattle.sights.proofs.ShowLemmas.{fits_seen, tests_same}
-use Rattle.file_sights.specs.declared.line.FileLine.{FileLine}
-use Rattle.file_sights.specs.Changes.{FilesChange, LinesChange, files_changed, left_by, pages_changed}
-use Rattle.file_sights.specs.Changes.FilesChange.{Nothing, Makes, Removes, Renames, Resizes, Changes, Maps, Unmaps}
-use Rattle.file_sights.specs.Changes.LinesChange.{Puts, Persists, Rewrites, Zeroes, Loses, Weakens, Clears}
-use Rattle.file_sights.specs.Commands.{files_change}
-use Rattle.file_sights.specs.Fitting.{either_fits, fit_either, fit_inside, fit_now, now_fits, reads_pass}
-use Rattle.file_sights.specs.Maps.{uncopied}
-use Rattle.file_sights.specs.Sees.{AreLines, SeesFile, SeesFiles, are_held}
-use Rattle.file_sights.specs.State.{FileState, FilesState, files_after, line_of_after, name_seen}
-use Rattle.file_sights.proofs.AllLemmas.{IsOneOf, all_alike}
-use Rattle.file_sights.proofs.CommandLemmas.{command_follows}
-use Rattle.file_sights.proofs.HeldLemmas.{MayChange, SeesWhole, all_whole, files_follow, line_follows}
-use Rattle.file_sights.proofs.LeftLemmas.{left_by_command}
-use Rattle.file_sights.proofs.PageChangeLemmas.{MarksThere, seen_past}
-use Rattle.file_sights.proofs.ReadLemmas.{reads_same}
+use Rattle.cut_places.specs.declared.line.FileLine.{FileLine}
+use Rattle.cut_places.specs.FileChanges.{FilesChange, LinesChange, files_changed, left_by, pages_changed}
+use Rattle.cut_places.specs.FileChanges.FilesChange.{Nothing, Makes, Removes, Renames, Resizes, Changes, Maps, Unmaps}
+use Rattle.cut_places.specs.FileChanges.LinesChange.{Puts, Persists, Rewrites, Zeroes, Loses, Weakens, Clears}
+use Rattle.cut_places.specs.FileCommands.{files_change}
+use Rattle.cut_places.specs.FileFitting.{either_fits, fit_either, fit_inside, fit_now, now_fits, reads_pass}
+use Rattle.cut_places.specs.Maps.{uncopied}
+use Rattle.cut_places.specs.SeesFiles.{AreLines, SeesFile, SeesFiles, are_held}
+use Rattle.cut_places.specs.FilesState.{FileState, FilesState, files_after, line_of_after, name_seen}
+use Rattle.cut_places.proofs.AllLemmas.{IsOneOf, all_alike}
+use Rattle.cut_places.proofs.CommandLemmas.{command_follows}
+use Rattle.cut_places.proofs.HeldLemmas.{MayChange, SeesWhole, all_whole, files_follow, line_follows}
+use Rattle.cut_places.proofs.LeftLemmas.{left_by_command}
+use Rattle.cut_places.proofs.PageChangeLemmas.{MarksThere, seen_past}
+use Rattle.cut_places.proofs.ReadLemmas.{reads_same}
 
 line_is : (f : ℕ → Cell) (lines : List FileLine) (line : FileLine) → AreLines f lines → IsOneOf line lines → line.line ≡ f line.number
 line_is f [] line are is = absurd is

@@ -8,15 +8,15 @@ use Rattle.nvm_model.specs.Cell.{Cell}
 use Rattle.nvm_model.specs.Listing.{change_file, file_of, is_named}
 use Rattle.outcomes.specs.Files.{FileRead}
 use Rattle.outcomes.specs.Pages.{PageRead, is_reply}
-use Rattle.file_sights.specs.declared.line.FileLine.{FileLine}
-use Rattle.file_sights.specs.Changes.{FilesChange, LinesChange, line_changed}
-use Rattle.file_sights.specs.Changes.FilesChange.{Nothing, Makes, Removes, Renames, Resizes, Changes, Maps, Unmaps}
-use Rattle.file_sights.specs.Changes.LinesChange.{Puts, Persists, Rewrites, Zeroes, Loses, Weakens, Clears}
-use Rattle.file_sights.specs.Fitting.{either_fits, fit_by_line, fit_either, fit_now, looks_at, now_fits, read_passes, seen_pass}
-use Rattle.file_sights.specs.Leaving.{files_left, fit_there, left_by_line, left_either, left_of_lines, line_left, lines_left}
-use Rattle.file_sights.specs.Sees.{AreLines, line_numbers}
-use Rattle.file_sights.specs.State.{FileState, FilesState, after, line_of_after, name_seen}
-use Rattle.file_sights.proofs.AllLemmas.{all_so}
+use Rattle.cut_places.specs.declared.line.FileLine.{FileLine}
+use Rattle.cut_places.specs.FileChanges.{FilesChange, LinesChange, line_changed}
+use Rattle.cut_places.specs.FileChanges.FilesChange.{Nothing, Makes, Removes, Renames, Resizes, Changes, Maps, Unmaps}
+use Rattle.cut_places.specs.FileChanges.LinesChange.{Puts, Persists, Rewrites, Zeroes, Loses, Weakens, Clears}
+use Rattle.cut_places.specs.FileFitting.{either_fits, fit_by_line, fit_either, fit_now, looks_at, now_fits, read_passes, seen_pass}
+use Rattle.cut_places.specs.FileLeaving.{files_left, fit_there, left_by_line, left_either, left_of_lines, line_left, lines_left}
+use Rattle.cut_places.specs.SeesFiles.{AreLines, line_numbers}
+use Rattle.cut_places.specs.FilesState.{FileState, FilesState, after, line_of_after, name_seen}
+use Rattle.cut_places.proofs.AllLemmas.{all_so}
 
 -- what follows where one test does not pass
 or_then : (a b c : Bool) → (b ≡ true → c ≡ true) → (a || b) ≡ true → (a || c) ≡ true

@@ -17,10 +17,10 @@ use Rattle.machine_host.specs.OnMappings.{load_through, read_copy, store_through
 use Rattle.machine_host.specs.OnPages.{fread, fwrite}
 use Rattle.outcomes.specs.Files.{FileRead}
 use Rattle.outcomes.specs.Left.{files_pass}
-use Rattle.file_sights.specs.Changes.{FilesChange, LinesChange, files_changed, left_by}
-use Rattle.file_sights.specs.Commands.{files_change, persisted_at, stored_at, through}
-use Rattle.file_sights.specs.Maps.{if_shared, shown, uncopied}
-use Rattle.file_sights.proofs.CommandLemmas.{shown_by}
+use Rattle.cut_places.specs.FileChanges.{FilesChange, LinesChange, files_changed, left_by}
+use Rattle.cut_places.specs.FileCommands.{files_change, persisted_at, stored_at, through}
+use Rattle.cut_places.specs.Maps.{if_shared, shown, uncopied}
+use Rattle.cut_places.proofs.CommandLemmas.{shown_by}
 
 -- What is told of how files are left and of what they would be, which is the latter only where some may be new.
 module _ {A : Type 0} (F : FilesLeft → List File → A) (old : List File) (quiet : (to : List File) → F Unchanged to ≡ F Unchanged old) (mappings : List Mapping) where

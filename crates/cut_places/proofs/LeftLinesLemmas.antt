@@ -10,16 +10,16 @@ use Rattle.durable.specs.Durable.{IsComplete}
 use Rattle.outcomes.specs.Files.{FileRead}
 use Rattle.outcomes.specs.Stops.{led_to}
 use Rattle.sights.specs.Seeing.{seen}
-use Rattle.file_sights.specs.Changes.{FilesChange, LinesChange}
-use Rattle.file_sights.specs.Changes.FilesChange.{Nothing, Makes, Removes, Renames, Resizes, Changes, Maps, Unmaps}
-use Rattle.file_sights.specs.Changes.LinesChange.{Puts, Persists, Rewrites, Zeroes, Loses, Weakens, Clears}
-use Rattle.file_sights.specs.Commands.{files_change}
-use Rattle.file_sights.specs.Fitting.{fit_now}
-use Rattle.file_sights.specs.Leaving.{files_left, left_by_line, left_either, left_of_lines, line_left, lines_left}
-use Rattle.file_sights.specs.Sees.{AreLines, SeesFile, SeesFiles, line_numbers}
-use Rattle.file_sights.specs.State.{FileState, FilesState, after, name_seen}
-use Rattle.file_sights.proofs.LeavingLemmas.{found_changed, left_lines, left_numbers}
-use Rattle.file_sights.proofs.SeesLemmas.{sees_done}
+use Rattle.cut_places.specs.FileChanges.{FilesChange, LinesChange}
+use Rattle.cut_places.specs.FileChanges.FilesChange.{Nothing, Makes, Removes, Renames, Resizes, Changes, Maps, Unmaps}
+use Rattle.cut_places.specs.FileChanges.LinesChange.{Puts, Persists, Rewrites, Zeroes, Loses, Weakens, Clears}
+use Rattle.cut_places.specs.FileCommands.{files_change}
+use Rattle.cut_places.specs.FileFitting.{fit_now}
+use Rattle.cut_places.specs.FileLeaving.{files_left, left_by_line, left_either, left_of_lines, line_left, lines_left}
+use Rattle.cut_places.specs.SeesFiles.{AreLines, SeesFile, SeesFiles, line_numbers}
+use Rattle.cut_places.specs.FilesState.{FileState, FilesState, after, name_seen}
+use Rattle.cut_places.proofs.LeavingLemmas.{found_changed, left_lines, left_numbers}
+use Rattle.cut_places.proofs.SeesLemmas.{sees_done}
 
 -- a file has lines of these numbers, each told by its number
 abbrev pub HasLines : List ℕ → FileState → Type 0

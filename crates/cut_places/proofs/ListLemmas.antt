@@ -8,9 +8,9 @@ use Rattle.nvm_model.specs.Listing.{file_of, is_before, is_named, put_file, with
 use Rattle.nvm_model.specs.Mappings.{mapping_of, without_mapping}
 use Rattle.nvm_model.proofs.OrderLemmas.{put-first, put-later}
 use Rattle.file_journal.proofs.ListingLemmas.{position-or_len}
-use Rattle.file_sights.specs.declared.map.MapSeen.{MapSeen}
-use Rattle.file_sights.specs.Maps.{mapping_held}
-use Rattle.file_sights.specs.State.{FileState, name_seen}
+use Rattle.cut_places.specs.declared.map.MapSeen.{MapSeen}
+use Rattle.cut_places.specs.Maps.{mapping_held}
+use Rattle.cut_places.specs.FilesState.{FileState, name_seen}
 
 -- a file is put before the first that its name comes before, or at the end
 abbrev pub place : List ℕ → List FileState → ℕ

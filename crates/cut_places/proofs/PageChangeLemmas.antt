@@ -22,8 +22,8 @@ use Rattle.durable.proofs.PresenceLemmas.{line_in}
 use Rattle.durable.proofs.RewrittenLemmas.{byte_rewritten, length-rewritten, rewritten_line, untouched_page}
 use Rattle.sights.specs.Seeing.{or_zeros, seen}
 use Rattle.sights.proofs.SeenLemmas.{among_pages, seen-change, seen-discard, seen-put}
-use Rattle.file_sights.specs.Changes.{LinesChange, line_changed, pages_changed}
-use Rattle.file_sights.specs.Changes.LinesChange.{Puts, Persists, Rewrites, Zeroes, Loses, Weakens, Clears}
+use Rattle.cut_places.specs.FileChanges.{LinesChange, line_changed, pages_changed}
+use Rattle.cut_places.specs.FileChanges.LinesChange.{Puts, Persists, Rewrites, Zeroes, Loses, Weakens, Clears}
 
 -- a line that is marked is there
 abbrev pub IsThere : List Page → ℕ → Type 0

@@ -18,11 +18,11 @@ use Rattle.machine_host.specs.OnPages.{pages_named}
 use Rattle.outcomes.specs.Files.{FileRead, is_file_reply, is_reply_of, reads_of}
 use Rattle.outcomes.specs.Pages.{PageRead, PageReply, all_lines_read, is_refused_for, is_reply, is_reply_by, lines_read}
 use Rattle.outcomes.specs.Pages.PageReply.{Shows, Poison, Refuses}
-use Rattle.file_sights.specs.declared.line.FileLine.{FileLine}
-use Rattle.file_sights.specs.Fitting.{looks_at, read_passes, reads_pass, seen_pass}
-use Rattle.file_sights.specs.Sees.{SeesFile, are_held, is_held, line_numbers}
-use Rattle.file_sights.specs.State.{FileState, name_seen}
-use Rattle.file_sights.proofs.AllLemmas.{IsOneOf, all_alike, all_append, all_of, all_so, one_of_range, range_so, same_test, same_where}
+use Rattle.cut_places.specs.declared.line.FileLine.{FileLine}
+use Rattle.cut_places.specs.FileFitting.{looks_at, read_passes, reads_pass, seen_pass}
+use Rattle.cut_places.specs.SeesFiles.{SeesFile, are_held, is_held, line_numbers}
+use Rattle.cut_places.specs.FilesState.{FileState, name_seen}
+use Rattle.cut_places.proofs.AllLemmas.{IsOneOf, all_alike, all_append, all_of, all_so, one_of_range, range_so, same_test, same_where}
 
 -- the lines that a read looks at
 abbrev pub lines_of_read : PageRead → List ℕ

@@ -7,13 +7,13 @@ use Rattle.machine_host.specs.Commands.{meaning, refusal}
 use Rattle.machine_host.specs.Machine.{Machine}
 use Rattle.durable.specs.Durable.{IsComplete}
 use Rattle.outcomes.specs.Stops.{led_to}
-use Rattle.file_sights.specs.Changes.{FilesChange}
-use Rattle.file_sights.specs.Commands.{files_change}
-use Rattle.file_sights.specs.Maps.{uncopied}
-use Rattle.file_sights.specs.Sees.{SeesFile, SeesFiles}
-use Rattle.file_sights.specs.State.{FilesState, after, files_after, mappings_after, name_seen}
-use Rattle.file_sights.proofs.CommandLemmas.{Follows, command_follows, maps_of}
-use Rattle.file_sights.proofs.HeldLemmas.{files_follow, files_rise}
+use Rattle.cut_places.specs.FileChanges.{FilesChange}
+use Rattle.cut_places.specs.FileCommands.{files_change}
+use Rattle.cut_places.specs.Maps.{uncopied}
+use Rattle.cut_places.specs.SeesFiles.{SeesFile, SeesFiles}
+use Rattle.cut_places.specs.FilesState.{FilesState, after, files_after, mappings_after, name_seen}
+use Rattle.cut_places.proofs.CommandLemmas.{Follows, command_follows, maps_of}
+use Rattle.cut_places.proofs.HeldLemmas.{files_follow, files_rise}
 
 pub same_maps : (held : FilesState) (h : Machine) → SeesFiles held h → held.mappings ≡ maps_of h
 same_maps held h sees = ap (λ ms. record { mappings = ms; next = held.mappings.next }) sees.mappings ∙ ap (λ n. record { mappings = map uncopied h.mappings; next = n }) sees.next

@@ -12,10 +12,10 @@ use Rattle.nvm_model.specs.Touched.{persist_spans, persist_touched}
 use Rattle.file_actions.specs.Rewriting.{byte_laid, durable_line, rewritten, touches_any_page}
 use Rattle.machine_host.specs.Meaning.{FilesLeft}
 use Rattle.machine_host.specs.Meaning.FilesLeft.{Unchanged, OldOrNew, StoredInPart, SyncedInPart}
-use Rattle.file_sights.specs.declared.change.FilesChange.{FilesChange as HeldFilesChange}
-use Rattle.file_sights.specs.declared.change.FilesChange.TheVariants as held_files
-use Rattle.file_sights.specs.declared.change.LinesChange.{LinesChange as HeldLinesChange}
-use Rattle.file_sights.specs.declared.change.LinesChange.TheVariants as held_lines
+use Rattle.cut_places.specs.declared.change.FilesChange.{FilesChange as HeldFilesChange}
+use Rattle.cut_places.specs.declared.change.FilesChange.TheVariants as held_files
+use Rattle.cut_places.specs.declared.change.LinesChange.{LinesChange as HeldLinesChange}
+use Rattle.cut_places.specs.declared.change.LinesChange.TheVariants as held_lines
 
 -- Of one file: bytes put at an offset; spans made durable; pages that ranges touch written anew; pages made holes, so many from one
 -- on; or a line lost, made weak, or cleared.

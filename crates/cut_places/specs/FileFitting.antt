@@ -9,11 +9,11 @@ use Rattle.outcomes.specs.Files.{FileRead, reads_of}
 use Rattle.outcomes.specs.Pages.{PageRead, PageReply, is_refused_for, is_reply}
 use Rattle.outcomes.specs.Pages.PageReply.{Shows, Poison, Refuses}
 use Rattle.asked_reads.specs.Fitting.{cell_fits}
-use Rattle.file_sights.specs.declared.line.FileLine.{FileLine}
-use Rattle.file_sights.specs.Changes.{FilesChange, LinesChange}
-use Rattle.file_sights.specs.Changes.FilesChange.{Nothing, Makes, Removes, Renames, Resizes, Changes, Maps, Unmaps}
-use Rattle.file_sights.specs.Changes.LinesChange.{Puts, Persists, Rewrites, Zeroes, Loses, Weakens, Clears}
-use Rattle.file_sights.specs.State.{FileState, FilesState, after, line_of_after, name_seen}
+use Rattle.cut_places.specs.declared.line.FileLine.{FileLine}
+use Rattle.cut_places.specs.FileChanges.{FilesChange, LinesChange}
+use Rattle.cut_places.specs.FileChanges.FilesChange.{Nothing, Makes, Removes, Renames, Resizes, Changes, Maps, Unmaps}
+use Rattle.cut_places.specs.FileChanges.LinesChange.{Puts, Persists, Rewrites, Zeroes, Loses, Weakens, Clears}
+use Rattle.cut_places.specs.FilesState.{FileState, FilesState, after, line_of_after, name_seen}
 
 -- a read that is answered so looks at line n
 abbrev pub looks_at : ℕ → ℕ → PageReply → ℕ → Bool

@@ -2,12 +2,12 @@
 use Rattle.std.specs.Prelude.{ℕ, Bool, List, map, Option, Some, None, if◌then◌else◌}
 use Rattle.nvm_model.specs.Listing.{change_file}
 use Rattle.outcomes.specs.Files.{FileRead}
-use Rattle.file_sights.specs.declared.line.FileLine.{FileLine}
-use Rattle.file_sights.specs.Changes.{FilesChange, LinesChange}
-use Rattle.file_sights.specs.Changes.FilesChange.{Nothing, Makes, Removes, Renames, Resizes, Changes, Maps, Unmaps}
-use Rattle.file_sights.specs.Changes.LinesChange.{Puts, Persists, Rewrites, Zeroes, Loses, Weakens, Clears}
-use Rattle.file_sights.specs.Fitting.{fit_inside, fit_now, now_fits}
-use Rattle.file_sights.specs.State.{FileState, FilesState, after, line_of_after, name_seen}
+use Rattle.cut_places.specs.declared.line.FileLine.{FileLine}
+use Rattle.cut_places.specs.FileChanges.{FilesChange, LinesChange}
+use Rattle.cut_places.specs.FileChanges.FilesChange.{Nothing, Makes, Removes, Renames, Resizes, Changes, Maps, Unmaps}
+use Rattle.cut_places.specs.FileChanges.LinesChange.{Puts, Persists, Rewrites, Zeroes, Loses, Weakens, Clears}
+use Rattle.cut_places.specs.FileFitting.{fit_inside, fit_now, now_fits}
+use Rattle.cut_places.specs.FilesState.{FileState, FilesState, after, line_of_after, name_seen}
 
 -- a line of a file of so many pages: as it is where it fits so, else changed
 abbrev pub line_left : List FileRead → List ℕ → LinesChange → ℕ → FileLine → FileLine

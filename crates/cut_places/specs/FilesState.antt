@@ -4,10 +4,10 @@ use Rattle.nvm_model.specs.Cell.{zero_cell}
 use Rattle.nvm_model.specs.Listing.{change_file, put_file, rename_file, without_file}
 use Rattle.nvm_model.specs.Mappings.{without_mapping}
 use Rattle.mappings.specs.Object.{MappingsState}
-use Rattle.file_sights.specs.declared.line.FileLine.{FileLine}
-use Rattle.file_sights.specs.Maps.{mapped}
-use Rattle.file_sights.specs.Changes.{FilesChange, LinesChange, line_changed}
-use Rattle.file_sights.specs.Changes.FilesChange.{Nothing, Makes, Removes, Renames, Resizes, Changes, Maps, Unmaps}
+use Rattle.cut_places.specs.declared.line.FileLine.{FileLine}
+use Rattle.cut_places.specs.Maps.{mapped}
+use Rattle.cut_places.specs.FileChanges.{FilesChange, LinesChange, line_changed}
+use Rattle.cut_places.specs.FileChanges.FilesChange.{Nothing, Makes, Removes, Renames, Resizes, Changes, Maps, Unmaps}
 
 -- a file: its name, how many pages it has, and its lines that reads look at
 pub record FileState : Type 0 where

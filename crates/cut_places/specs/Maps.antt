@@ -4,8 +4,8 @@ use Rattle.nvm_model.specs.Mappings.{is_shared, mapping_of}
 use Rattle.nvm_model.specs.Storage.{Mapping}
 use Rattle.mappings.specs.declared.info.MapInfo.{MapInfo}
 use Rattle.mappings.specs.Object.{MappingsState, info_of, with_mapping}
-use Rattle.file_sights.specs.declared.map.MapSeen.{MapSeen}
-use Rattle.file_sights.specs.declared.map.Stretch.{Stretch}
+use Rattle.cut_places.specs.declared.map.MapSeen.{MapSeen}
+use Rattle.cut_places.specs.declared.map.Stretch.{Stretch}
 
 -- a mapping of a handle
 abbrev pub mapping_under : ℕ → MapInfo → Mapping

@@ -8,9 +8,9 @@ use Rattle.machine_host.specs.Machine.{Machine}
 use Rattle.outcomes.specs.Files.{FileRead}
 use Rattle.outcomes.specs.Pages.{lines_read}
 use Rattle.sights.specs.Seeing.{seen}
-use Rattle.file_sights.specs.declared.line.FileLine.{FileLine}
-use Rattle.file_sights.specs.Maps.{uncopied}
-use Rattle.file_sights.specs.State.{FileState, FilesState, name_seen}
+use Rattle.cut_places.specs.declared.line.FileLine.{FileLine}
+use Rattle.cut_places.specs.Maps.{uncopied}
+use Rattle.cut_places.specs.FilesState.{FileState, FilesState, name_seen}
 
 -- these are the lines of f
 abbrev pub AreLines : (ℕ → Cell) → List FileLine → Type 0

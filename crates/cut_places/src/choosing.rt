@@ -4,9 +4,9 @@ ghost use Rattle.std.specs.List.{All};
 ghost use Rattle.machine_host.specs.OnFlushes.{all_moved};
 ghost use Rattle.script_text.specs.Action.{action_of};
 ghost use Rattle.script_text.specs.Parsing.{InBounds, IsSmall};
-ghost use Rattle.file_sights.specs.Changes.{change_of};
-ghost use Rattle.file_sights.specs.Commands.{files_change, persisted_at, stored_at, through};
-ghost use Rattle.file_sights.specs.Maps.{shown};
+ghost use Rattle.cut_places.specs.FileChanges.{change_of};
+ghost use Rattle.cut_places.specs.FileCommands.{files_change, persisted_at, stored_at, through};
+ghost use Rattle.cut_places.specs.Maps.{shown};
 
 use crate::change::{FilesChange, LinesChange};
 use crate::map::Stretch;

@@ -1,9 +1,9 @@
 // A file as reads see it.
 ghost use Rattle.std.specs.Prelude.{◌≡◌, ◌++◌, ◌∷◌, [], IfOk, OnOk, map};
 ghost use Rattle.std.specs.Option.{option_copied};
-ghost use Rattle.file_sights.specs.Changes.{lines_of};
-ghost use Rattle.file_sights.specs.Finding.{line_held};
-ghost use Rattle.file_sights.specs.State.{hole_at, lines_after, with_lines, with_name, with_pages};
+ghost use Rattle.cut_places.specs.FileChanges.{lines_of};
+ghost use Rattle.cut_places.specs.FileLines.{line_held};
+ghost use Rattle.cut_places.specs.FilesState.{hole_at, lines_after, with_lines, with_name, with_pages};
 
 use crate::change::LinesChange;
 use crate::line::FileLine;
@@ -23,7 +23,7 @@ pub struct FileSeen {
 }
 
 impl Model for FileSeen {
-    ghost use Rattle.file_sights.specs.State.{FileState};
+    ghost use Rattle.cut_places.specs.FilesState.{FileState};
 
     ghost Value = { FileState };
 

@@ -8,10 +8,10 @@ ghost use Rattle.machine_host.specs.Commands.{meaning, refusal};
 ghost use Rattle.machine_host.specs.Machine.{Machine};
 ghost use Rattle.durable.specs.Durable.{IsComplete};
 ghost use Rattle.outcomes.specs.Stops.{led_to};
-ghost use Rattle.file_sights.specs.Changes.{change_of};
-ghost use Rattle.file_sights.specs.Commands.{files_change};
-ghost use Rattle.file_sights.specs.Sees.{SeesFiles};
-ghost use Rattle.file_sights.specs.State.{after, name_seen};
+ghost use Rattle.cut_places.specs.FileChanges.{change_of};
+ghost use Rattle.cut_places.specs.FileCommands.{files_change};
+ghost use Rattle.cut_places.specs.SeesFiles.{SeesFiles};
+ghost use Rattle.cut_places.specs.FilesState.{after, name_seen};
 
 use crate::change::FilesChange;
 use crate::choosing::change_of;
@@ -34,7 +34,7 @@ pub struct FilesSeen {
 }
 
 impl Model for FilesSeen {
-    ghost use Rattle.file_sights.specs.State.{FilesState};
+    ghost use Rattle.cut_places.specs.FilesState.{FilesState};
 
     ghost Value = { FilesState };
 

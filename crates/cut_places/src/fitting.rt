@@ -8,10 +8,10 @@ ghost use Rattle.durable.specs.Durable.{IsComplete};
 ghost use Rattle.outcomes.specs.Files.{each_file, files_fit};
 ghost use Rattle.outcomes.specs.Left.{files_may_pass};
 ghost use Rattle.asked_reads.specs.Reads.{file_reads_asked};
-ghost use Rattle.file_sights.specs.Changes.{change_of, lines_of};
-ghost use Rattle.file_sights.specs.Commands.{files_change};
-ghost use Rattle.file_sights.specs.Fitting.{fit_by_line, fit_either, fit_inside, fit_now, now_fits, reads_pass};
-ghost use Rattle.file_sights.specs.Sees.{SeesFiles, are_held};
+ghost use Rattle.cut_places.specs.FileChanges.{change_of, lines_of};
+ghost use Rattle.cut_places.specs.FileCommands.{files_change};
+ghost use Rattle.cut_places.specs.FileFitting.{fit_by_line, fit_either, fit_inside, fit_now, now_fits, reads_pass};
+ghost use Rattle.cut_places.specs.SeesFiles.{SeesFiles, are_held};
 
 use crate::change::{FilesChange, LinesChange};
 use crate::choosing::change_of;

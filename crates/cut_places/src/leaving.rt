@@ -4,10 +4,10 @@ ghost use Rattle.std.specs.Option.{option_copied};
 ghost use Rattle.script_text.specs.Action.{action_of};
 ghost use Rattle.asked_reads.specs.Program.{IsBounded};
 ghost use Rattle.asked_reads.specs.Reads.{file_reads_asked};
-ghost use Rattle.file_sights.specs.Changes.{change_of, lines_of};
-ghost use Rattle.file_sights.specs.Commands.{files_change};
-ghost use Rattle.file_sights.specs.Fitting.{fit_now};
-ghost use Rattle.file_sights.specs.Leaving.{files_left, fit_there, left_by_line, left_either, left_inside};
+ghost use Rattle.cut_places.specs.FileChanges.{change_of, lines_of};
+ghost use Rattle.cut_places.specs.FileCommands.{files_change};
+ghost use Rattle.cut_places.specs.FileFitting.{fit_now};
+ghost use Rattle.cut_places.specs.FileLeaving.{files_left, fit_there, left_by_line, left_either, left_inside};
 
 use crate::change::{FilesChange, LinesChange};
 use crate::choosing::change_of;

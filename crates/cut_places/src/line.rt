@@ -1,8 +1,8 @@
 // A line of a file that reads look at.
 ghost use Rattle.std.specs.Prelude.{◌≡◌, ◌/◌, IfOk, OnOk, nat_lt};
 ghost use Rattle.nvm_model.specs.Cell.{zero_cell};
-ghost use Rattle.file_sights.specs.Changes.{lines_of};
-ghost use Rattle.file_sights.specs.State.{line_after, line_of_after, line_within};
+ghost use Rattle.cut_places.specs.FileChanges.{lines_of};
+ghost use Rattle.cut_places.specs.FilesState.{line_after, line_of_after, line_within};
 
 use crate::change::LinesChange;
 use crate::rewriting::{rewritten, touches_any, touches_any_page};

@@ -2,9 +2,9 @@
 ghost use Rattle.std.specs.Prelude.{◌≡◌, OnOk, if◌then◌else◌, map};
 ghost use Rattle.nvm_model.specs.Listing.{change_file, is_named};
 ghost use Rattle.asked_reads.specs.Reads.{file_reads_asked};
-ghost use Rattle.file_sights.specs.Changes.{lines_of};
-ghost use Rattle.file_sights.specs.Leaving.{line_left, lines_left};
-ghost use Rattle.file_sights.specs.State.{name_seen};
+ghost use Rattle.cut_places.specs.FileChanges.{lines_of};
+ghost use Rattle.cut_places.specs.FileLeaving.{line_left, lines_left};
+ghost use Rattle.cut_places.specs.FilesState.{name_seen};
 
 use crate::change::LinesChange;
 use crate::file::FileSeen;

@@ -1,7 +1,7 @@
 // The lines of a file, one after the other.
 ghost use Rattle.std.specs.Prelude.{◌≡◌, IfOk, OnOk, map};
-ghost use Rattle.file_sights.specs.Changes.{lines_of};
-ghost use Rattle.file_sights.specs.State.{hole_at, line_of_after, line_within};
+ghost use Rattle.cut_places.specs.FileChanges.{lines_of};
+ghost use Rattle.cut_places.specs.FilesState.{hole_at, line_of_after, line_within};
 
 use crate::change::LinesChange;
 use crate::line::FileLine;

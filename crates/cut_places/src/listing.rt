@@ -2,8 +2,8 @@
 ghost use Rattle.std.specs.Prelude.{◌≡◌, IfOk, OnOk, if◌then◌else◌, position};
 ghost use Rattle.nvm_model.specs.Listing.{change_file, file_of, is_before, is_named, put_file, rename_file, without_file};
 ghost use Rattle.std.specs.Option.{option_copied};
-ghost use Rattle.file_sights.specs.Changes.{lines_of};
-ghost use Rattle.file_sights.specs.State.{lines_after, name_seen, with_name, with_pages};
+ghost use Rattle.cut_places.specs.FileChanges.{lines_of};
+ghost use Rattle.cut_places.specs.FilesState.{lines_after, name_seen, with_name, with_pages};
 
 use crate::change::LinesChange;
 use crate::file::FileSeen;

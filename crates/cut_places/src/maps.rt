@@ -1,7 +1,7 @@
 // The mappings that a program made, as far as they tell of which file a command by handle is.
 ghost use Rattle.std.specs.Prelude.{◌≡◌, IfOk, OnOk, [], map, option_map};
 ghost use Rattle.nvm_model.specs.Mappings.{mapping_of, without_mapping};
-ghost use Rattle.file_sights.specs.Maps.{mapped, mapping_held, shown, stretch_held};
+ghost use Rattle.cut_places.specs.Maps.{mapped, mapping_held, shown, stretch_held};
 
 use crate::map::{MapSeen, Stretch};
 use nvm_base::Kind;
@@ -21,7 +21,7 @@ pub(crate) struct MapsSeen {
 impl Model for MapsSeen {
     ghost use Rattle.std.specs.Prelude.{map};
     ghost use Rattle.mappings.specs.Object.{MappingsState};
-    ghost use Rattle.file_sights.specs.Maps.{mapping_held};
+    ghost use Rattle.cut_places.specs.Maps.{mapping_held};
 
     ghost Value = { MappingsState };
 

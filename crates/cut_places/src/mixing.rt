@@ -1,8 +1,8 @@
 ghost use Rattle.std.specs.Prelude.{◌≡◌};
 ghost use Rattle.script_text.specs.Action.{action_of};
-ghost use Rattle.file_sights.specs.Changes.{left_by};
-ghost use Rattle.file_sights.specs.Commands.{files_change};
-ghost use Rattle.file_sights.specs.Mixing.{is_mixed};
+ghost use Rattle.cut_places.specs.FileChanges.{left_by};
+ghost use Rattle.cut_places.specs.FileCommands.{files_change};
+ghost use Rattle.cut_places.specs.FileMixing.{is_mixed};
 
 use crate::files::FilesSeen;
 use script_text::Command;

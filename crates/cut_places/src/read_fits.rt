@@ -6,11 +6,11 @@ ghost use Rattle.reply_text.specs.declared.reply.Why.TheVariants.{Missing};
 ghost use Rattle.outcomes.specs.Files.{reads_of};
 ghost use Rattle.outcomes.specs.Pages.{is_refused_for};
 ghost use Rattle.asked_reads.specs.Fitting.{cell_fits};
-ghost use Rattle.file_sights.specs.declared.line.FileLine.{FileLine as LineHeld};
+ghost use Rattle.cut_places.specs.declared.line.FileLine.{FileLine as LineHeld};
 ghost use Rattle.asked_reads.specs.Reads.{file_reads_asked, page_read, page_reply};
-ghost use Rattle.file_sights.specs.Changes.{lines_of};
-ghost use Rattle.file_sights.specs.Fitting.{either_fits, looks_at, now_fits, read_passes, seen_pass};
-ghost use Rattle.file_sights.specs.State.{name_seen};
+ghost use Rattle.cut_places.specs.FileChanges.{lines_of};
+ghost use Rattle.cut_places.specs.FileFitting.{either_fits, looks_at, now_fits, read_passes, seen_pass};
+ghost use Rattle.cut_places.specs.FilesState.{name_seen};
 
 use crate::change::LinesChange;
 use crate::file::FileSeen;

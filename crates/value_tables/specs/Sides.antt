@@ -9,10 +9,10 @@ use Rattle.sights.specs.declared.line_seen.LineSeen.{LineSeen}
 use Rattle.sights.specs.declared.block_seen.BlockSeen.{BlockSeen}
 use Rattle.sights.specs.declared.way.Way.{Way}
 use Rattle.machine_host.specs.Meaning.{FilesLeft}
-use Rattle.file_sights.specs.Finding.{line_held}
-use Rattle.file_sights.specs.Mixing.{is_mixed}
-use Rattle.file_sights.specs.Sees.{is_held}
-use Rattle.file_sights.specs.State.{FileState, FilesState, name_seen}
+use Rattle.cut_places.specs.FileLines.{line_held}
+use Rattle.cut_places.specs.FileMixing.{is_mixed}
+use Rattle.cut_places.specs.SeesFiles.{is_held}
+use Rattle.cut_places.specs.FilesState.{FileState, FilesState, name_seen}
 use Rattle.value_tables.specs.Left.{FileSide}
 use Rattle.value_tables.specs.Left.FileSide.{NoFile, PastEnd, OfLine}
 

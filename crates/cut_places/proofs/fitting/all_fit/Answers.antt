@@ -8,9 +8,9 @@ use Rattle.asked_reads.specs.Reads.{page_read}
 use Rattle.outcomes.specs.Files.{FileRead}
 use Rattle.asked_reads.specs.declared.reads.FileRead.{FileRead as Asked}
 use Rattle.asked_reads.specs.Reads.{file_read, file_reads_asked}
-use Rattle.file_sights.specs.Fitting.{now_fits, read_passes}
-use Rattle.file_sights.specs.State.{name_seen}
-use Rattle.file_sights.proofs.fitting.all_fit.Goals as goal
+use Rattle.cut_places.specs.FileFitting.{now_fits, read_passes}
+use Rattle.cut_places.specs.FilesState.{name_seen}
+use Rattle.cut_places.proofs.fitting.all_fit.Goals as goal
 
 pub returns : goal.returns
 returns c =

@@ -4,7 +4,7 @@ use Rattle.outcomes.specs.Pages.{all_allow_good}
 use Rattle.outcomes.specs.Files.{reads_of}
 use Rattle.asked_reads.specs.Reads.{file_reads_asked}
 use Rattle.sights.proofs.FitLemmas.{bad_fits, good_fits, no_good_fits}
-use Rattle.file_sights.proofs.line_fits.line_fits.Goals as goal
+use Rattle.cut_places.proofs.line_fits.line_fits.Goals as goal
 
 pub returns-then-is_bad : goal.returns-then-is_bad
 returns-then-is_bad c =

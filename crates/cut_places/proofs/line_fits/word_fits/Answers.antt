@@ -8,7 +8,7 @@ use Rattle.outcomes.specs.Pages.{all_agree}
 use Rattle.outcomes.specs.Files.{reads_of}
 use Rattle.asked_reads.specs.Reads.{file_reads_asked}
 use Rattle.sights.proofs.FitLemmas.{word_fits_by}
-use Rattle.file_sights.proofs.line_fits.word_fits.Goals as goal
+use Rattle.cut_places.proofs.line_fits.word_fits.Goals as goal
 
 pub returns-else-agree : goal.returns-else-agree
 returns-else-agree c =

@@ -9,7 +9,7 @@ use Rattle.outcomes.specs.Pages.{all_agree}
 use Rattle.outcomes.specs.Files.{reads_of}
 use Rattle.asked_reads.specs.Reads.{file_reads_asked}
 use Rattle.asked_reads.specs.Fitting.{WordFits, WordsFit}
-use Rattle.file_sights.proofs.line_fits.words_fit.Goals as goal
+use Rattle.cut_places.proofs.line_fits.words_fit.Goals as goal
 
 pub returns : goal.returns
 returns c =

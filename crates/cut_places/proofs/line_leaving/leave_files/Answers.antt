@@ -1,11 +1,11 @@
 use Rattle.std.proofs.Common.{if◌then◌else◌, length, ap, arith}
 use Rattle.nvm_model.specs.Listing.{is_named}
 use Rattle.asked_reads.specs.Reads.{file_reads_asked}
-use Rattle.file_sights.specs.Changes.{lines_of}
-use Rattle.file_sights.specs.Leaving.{lines_left}
-use Rattle.file_sights.specs.State.{name_seen}
-use Rattle.file_sights.proofs.EachLemmas.{one_more}
-use Rattle.file_sights.proofs.line_leaving.leave_files.Goals as goal
+use Rattle.cut_places.specs.FileChanges.{lines_of}
+use Rattle.cut_places.specs.FileLeaving.{lines_left}
+use Rattle.cut_places.specs.FilesState.{name_seen}
+use Rattle.cut_places.proofs.EachLemmas.{one_more}
+use Rattle.cut_places.proofs.line_leaving.leave_files.Goals as goal
 
 pub loop-file-preserved : goal.loop-file-preserved
 loop-file-preserved c =

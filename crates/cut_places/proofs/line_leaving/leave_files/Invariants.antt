@@ -1,10 +1,10 @@
 use Rattle.std.proofs.Common.{◌≡◌, ◌++◌, drop, take}
 use Rattle.nvm_model.specs.Listing.{change_file}
 use Rattle.asked_reads.specs.Reads.{file_reads_asked}
-use Rattle.file_sights.specs.Changes.{lines_of}
-use Rattle.file_sights.specs.Leaving.{lines_left}
-use Rattle.file_sights.specs.State.{name_seen}
-use Rattle.file_sights.proofs.line_leaving.leave_files.Given as goal
+use Rattle.cut_places.specs.FileChanges.{lines_of}
+use Rattle.cut_places.specs.FileLeaving.{lines_left}
+use Rattle.cut_places.specs.FilesState.{name_seen}
+use Rattle.cut_places.proofs.line_leaving.leave_files.Given as goal
 
 abbrev pub invariant-loop-file : goal.invariant-loop-file
 invariant-loop-file l =

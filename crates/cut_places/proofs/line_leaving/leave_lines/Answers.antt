@@ -1,9 +1,9 @@
 use Rattle.std.proofs.Common.{length, ap, arith}
 use Rattle.asked_reads.specs.Reads.{file_reads_asked}
-use Rattle.file_sights.specs.Changes.{lines_of}
-use Rattle.file_sights.specs.Leaving.{line_left}
-use Rattle.file_sights.proofs.EachLemmas.{one_more}
-use Rattle.file_sights.proofs.line_leaving.leave_lines.Goals as goal
+use Rattle.cut_places.specs.FileChanges.{lines_of}
+use Rattle.cut_places.specs.FileLeaving.{line_left}
+use Rattle.cut_places.proofs.EachLemmas.{one_more}
+use Rattle.cut_places.proofs.line_leaving.leave_lines.Goals as goal
 
 pub loop-line-preserved : goal.loop-line-preserved
 loop-line-preserved c =

@@ -1,8 +1,8 @@
 use Rattle.std.proofs.Common.{length, ap, arith}
-use Rattle.file_sights.specs.Changes.{lines_of}
-use Rattle.file_sights.specs.State.{line_of_after}
-use Rattle.file_sights.proofs.EachLemmas.{one_more}
-use Rattle.file_sights.proofs.lines.change_all.Goals as goal
+use Rattle.cut_places.specs.FileChanges.{lines_of}
+use Rattle.cut_places.specs.FilesState.{line_of_after}
+use Rattle.cut_places.proofs.EachLemmas.{one_more}
+use Rattle.cut_places.proofs.lines.change_all.Goals as goal
 
 pub loop-line-preserved : goal.loop-line-preserved
 loop-line-preserved c =

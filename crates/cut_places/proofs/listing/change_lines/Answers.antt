@@ -1,9 +1,9 @@
 use Rattle.std.proofs.Common.{if◌then◌else◌, length, ap, arith}
 use Rattle.nvm_model.specs.Listing.{is_named}
-use Rattle.file_sights.specs.Changes.{lines_of}
-use Rattle.file_sights.specs.State.{lines_after, name_seen}
-use Rattle.file_sights.proofs.EachLemmas.{one_more}
-use Rattle.file_sights.proofs.listing.change_lines.Goals as goal
+use Rattle.cut_places.specs.FileChanges.{lines_of}
+use Rattle.cut_places.specs.FilesState.{lines_after, name_seen}
+use Rattle.cut_places.proofs.EachLemmas.{one_more}
+use Rattle.cut_places.proofs.listing.change_lines.Goals as goal
 
 pub loop-file-preserved : goal.loop-file-preserved
 loop-file-preserved c =

@@ -2,9 +2,9 @@ use Rattle.std.proofs.Common.{◌≡◌, ℕ, List, length, position, Option, sy
 use Rattle.std.specs.List.{insert}
 use Rattle.std.specs.Option.{unwrap_or}
 use Rattle.nvm_model.specs.Listing.{is_before}
-use Rattle.file_sights.specs.State.{FileState, name_seen}
-use Rattle.file_sights.proofs.ListLemmas.{place, put_at}
-use Rattle.file_sights.proofs.listing.put.Goals as goal
+use Rattle.cut_places.specs.FilesState.{FileState, name_seen}
+use Rattle.cut_places.proofs.ListLemmas.{place, put_at}
+use Rattle.cut_places.proofs.listing.put.Goals as goal
 
 placed : (files shown : List FileState) (own name : List ℕ) (o : Option ℕ) (count k : ℕ) → shown ≡ files → own ≡ name → o ≡ position (λ (file : FileState). is_before own (name_seen file)) shown
     → count ≡ length files → k ≡ unwrap_or o count → k ≡ place name files

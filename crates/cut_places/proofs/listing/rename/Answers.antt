@@ -1,9 +1,9 @@
 use Rattle.std.proofs.Common.{option_map, sym, ap, ◌∙◌}
 use Rattle.std.specs.Option.{option_copied}
 use Rattle.nvm_model.specs.Listing.{file_of, put_some, without_file}
-use Rattle.file_sights.specs.State.{name_seen, with_name}
-use Rattle.file_sights.proofs.ListLemmas.{without_missing}
-use Rattle.file_sights.proofs.listing.rename.Goals as goal
+use Rattle.cut_places.specs.FilesState.{name_seen, with_name}
+use Rattle.cut_places.proofs.ListLemmas.{without_missing}
+use Rattle.cut_places.proofs.listing.rename.Goals as goal
 
 pub returns-in-None : goal.returns-in-None
 returns-in-None c =

@@ -1,8 +1,8 @@
 use Rattle.std.proofs.Common.{if◌then◌else◌, length, ap, arith}
 use Rattle.nvm_model.specs.Listing.{is_named}
-use Rattle.file_sights.specs.State.{name_seen, with_pages}
-use Rattle.file_sights.proofs.EachLemmas.{one_more}
-use Rattle.file_sights.proofs.listing.resize.Goals as goal
+use Rattle.cut_places.specs.FilesState.{name_seen, with_pages}
+use Rattle.cut_places.proofs.EachLemmas.{one_more}
+use Rattle.cut_places.proofs.listing.resize.Goals as goal
 
 pub loop-file-preserved : goal.loop-file-preserved
 loop-file-preserved c =

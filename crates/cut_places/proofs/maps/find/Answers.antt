@@ -1,9 +1,9 @@
 use Rattle.std.proofs.Common.{map, sym, ap, ◌∙◌}
 use Rattle.std.proofs.lemmas.List.{drop_all}
 use Rattle.nvm_model.specs.Mappings.{mapping_of}
-use Rattle.file_sights.specs.Maps.{mapping_held}
-use Rattle.file_sights.proofs.ListLemmas.{found_here, found_later}
-use Rattle.file_sights.proofs.maps.find.Goals as goal
+use Rattle.cut_places.specs.Maps.{mapping_held}
+use Rattle.cut_places.proofs.ListLemmas.{found_here, found_later}
+use Rattle.cut_places.proofs.maps.find.Goals as goal
 
 pub returns-then-map-handle : goal.returns-then-map-handle
 returns-then-map-handle c =

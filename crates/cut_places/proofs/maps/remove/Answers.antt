@@ -1,9 +1,9 @@
 use Rattle.std.proofs.Common.{◌==◌, not, map, ap, ◌∙◌, rules, tests}
 use Rattle.std.proofs.lemmas.Fn.{filter_same}
-use Rattle.file_sights.specs.declared.map.MapSeen.{MapSeen}
-use Rattle.file_sights.specs.Maps.{mapping_held}
-use Rattle.file_sights.proofs.ListLemmas.{maps_left}
-use Rattle.file_sights.proofs.maps.remove.Goals as goal
+use Rattle.cut_places.specs.declared.map.MapSeen.{MapSeen}
+use Rattle.cut_places.specs.Maps.{mapping_held}
+use Rattle.cut_places.proofs.ListLemmas.{maps_left}
+use Rattle.cut_places.proofs.maps.remove.Goals as goal
 
 pub returns : goal.returns
 returns c =

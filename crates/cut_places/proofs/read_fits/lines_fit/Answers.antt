@@ -5,10 +5,10 @@ use Rattle.std.proofs.lemmas.Iterator.Search.{all_from_yields_List}
 use Rattle.asked_reads.specs.Fitting.{cell_fits}
 use Rattle.asked_reads.specs.Reads.{page_reply}
 use Rattle.outcomes.specs.Files.{reads_of}
-use Rattle.file_sights.specs.declared.line.FileLine.{FileLine}
+use Rattle.cut_places.specs.declared.line.FileLine.{FileLine}
 use Rattle.asked_reads.specs.Reads.{file_reads_asked}
-use Rattle.file_sights.specs.Fitting.{looks_at}
-use Rattle.file_sights.proofs.read_fits.lines_fit.Goals as goal
+use Rattle.cut_places.specs.FileFitting.{looks_at}
+use Rattle.cut_places.proofs.read_fits.lines_fit.Goals as goal
 
 pub returns : goal.returns
 returns c =

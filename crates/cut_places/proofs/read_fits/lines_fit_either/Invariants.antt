@@ -1,9 +1,9 @@
 use Rattle.std.proofs.Common.{◌≡◌, true, take}
 use Rattle.asked_reads.specs.Reads.{page_read}
 use Rattle.asked_reads.specs.Reads.{file_reads_asked}
-use Rattle.file_sights.specs.Changes.{lines_of}
-use Rattle.file_sights.specs.Fitting.{either_fits, seen_pass}
-use Rattle.file_sights.proofs.read_fits.lines_fit_either.Given as goal
+use Rattle.cut_places.specs.FileChanges.{lines_of}
+use Rattle.cut_places.specs.FileFitting.{either_fits, seen_pass}
+use Rattle.cut_places.proofs.read_fits.lines_fit_either.Given as goal
 
 abbrev pub invariant-loop-line : goal.invariant-loop-line
 invariant-loop-line l =

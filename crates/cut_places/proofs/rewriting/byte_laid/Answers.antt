@@ -4,7 +4,7 @@ use Rattle.std.proofs.lemmas.List.{drop_all, drop_more}
 use Rattle.nvm_base.specs.declared.units.Span.{Span}
 use Rattle.nvm_model.specs.Numbered.{is_among}
 use Rattle.file_actions.specs.Rewriting.{byte_laid}
-use Rattle.file_sights.proofs.rewriting.byte_laid.Goals as goal
+use Rattle.cut_places.proofs.rewriting.byte_laid.Goals as goal
 
 here : (ranges : List Span) (i : ℕ) (d : Span) (rest : List ℕ) (at old : ℕ) → i < length ranges → is_among (slice_index_or ranges i d).start (slice_index_or ranges i d).len at ≡ true
     → byte_laid (drop i ranges) rest at old ≡ slice_index rest (at - (slice_index_or ranges i d).start)

@@ -3,7 +3,7 @@ use Rattle.nvm_model.specs.Cell.{cell_byte}
 use Rattle.nvm_model.specs.Numbered.{list_from}
 use Rattle.nvm_model.proofs.NumberedLemmas.{list_from-is}
 use Rattle.file_actions.specs.Rewriting.{byte_laid}
-use Rattle.file_sights.proofs.rewriting.new_bytes.Goals as goal
+use Rattle.cut_places.proofs.rewriting.new_bytes.Goals as goal
 
 pub returns : goal.returns
 returns c =

@@ -1,7 +1,7 @@
 use Rattle.std.proofs.Common.{◌≡◌, ℕ, ◌+◌, ◌*◌, ◌<◌, get_or, length}
 use Rattle.nvm_model.specs.Cell.{cell_byte}
 use Rattle.file_actions.specs.Rewriting.{byte_laid}
-use Rattle.file_sights.proofs.rewriting.new_bytes.Given as goal
+use Rattle.cut_places.proofs.rewriting.new_bytes.Given as goal
 
 abbrev pub invariant-loop-i : goal.invariant-loop-i
 invariant-loop-i l = record {

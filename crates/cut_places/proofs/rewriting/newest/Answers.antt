@@ -1,7 +1,7 @@
 use Rattle.std.proofs.Common.{◌∙◌}
 use Rattle.line_histories.proofs.LogLemmas.{newest-more_same, newest-more_other}
-use Rattle.file_sights.proofs.rewriting.newest.Goals as goal
-use Rattle.file_sights.proofs.rewriting.newest.Goals.{then-stored-w, else-stored-w}
+use Rattle.cut_places.proofs.rewriting.newest.Goals as goal
+use Rattle.cut_places.proofs.rewriting.newest.Goals.{then-stored-w, else-stored-w}
 
 pub loop-stored-preserved : goal.loop-stored-preserved
 loop-stored-preserved c =

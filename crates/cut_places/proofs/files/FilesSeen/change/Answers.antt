@@ -1,10 +1,10 @@
 use Rattle.std.proofs.Common.{Result, Ok, Err, OnOk, ap, ◌∙◌}
 use Rattle.mappings.specs.Object.{MappingsState}
 use Rattle.script_text.specs.Action.{action_of}
-use Rattle.file_sights.specs.Commands.{files_change}
-use Rattle.file_sights.specs.State.{FilesState, after}
-use Rattle.file_sights.proofs.SeesLemmas.{sees_done}
-use Rattle.file_sights.proofs.files.FilesSeen.change.Goals as goal
+use Rattle.cut_places.specs.FileCommands.{files_change}
+use Rattle.cut_places.specs.FilesState.{FilesState, after}
+use Rattle.cut_places.proofs.SeesLemmas.{sees_done}
+use Rattle.cut_places.proofs.files.FilesSeen.change.Goals as goal
 
 then_so : {T E P Q : Type 0} (r : Result T E) → OnOk r P → (P → Q) → OnOk r Q
 then_so (Ok x) so next = next so

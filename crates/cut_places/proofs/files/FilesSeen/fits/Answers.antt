@@ -1,9 +1,9 @@
 use Rattle.std.proofs.Common.{sym, ap, ◌∙◌}
 use Rattle.asked_reads.specs.Reads.{file_reads_asked}
-use Rattle.file_sights.specs.Fitting.{now_fits, reads_pass}
-use Rattle.file_sights.specs.State.{FilesState}
-use Rattle.file_sights.proofs.InsideLemmas.{now_same}
-use Rattle.file_sights.proofs.files.FilesSeen.fits.Goals as goal
+use Rattle.cut_places.specs.FileFitting.{now_fits, reads_pass}
+use Rattle.cut_places.specs.FilesState.{FilesState}
+use Rattle.cut_places.proofs.InsideLemmas.{now_same}
+use Rattle.cut_places.proofs.files.FilesSeen.fits.Goals as goal
 
 pub returns-clause-fits : goal.returns-clause-fits
 returns-clause-fits c =

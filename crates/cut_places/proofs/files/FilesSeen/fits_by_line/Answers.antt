@@ -9,10 +9,10 @@ use Rattle.asked_reads.specs.Reads.{page_read}
 use Rattle.outcomes.specs.Files.{FileRead}
 use Rattle.asked_reads.specs.declared.reads.FileRead.{FileRead as Asked}
 use Rattle.asked_reads.specs.Reads.{file_read, file_reads_asked}
-use Rattle.file_sights.specs.Changes.{LinesChange, lines_of}
-use Rattle.file_sights.specs.Fitting.{either_fits, fit_by_line, read_passes}
-use Rattle.file_sights.specs.State.{FileState, FilesState, name_seen}
-use Rattle.file_sights.proofs.files.FilesSeen.fits_by_line.Goals as goal
+use Rattle.cut_places.specs.FileChanges.{LinesChange, lines_of}
+use Rattle.cut_places.specs.FileFitting.{either_fits, fit_by_line, read_passes}
+use Rattle.cut_places.specs.FilesState.{FileState, FilesState, name_seen}
+use Rattle.cut_places.proofs.files.FilesSeen.fits_by_line.Goals as goal
 
 module _ (asked : List Asked) (name : List ℕ) (c : LinesChange) where
   abbrev passes : List FileState → Asked → Bool

@@ -4,10 +4,10 @@ use Rattle.nvm_model.specs.Listing.{file_of}
 use Rattle.asked_reads.specs.Reads.{page_read}
 use Rattle.asked_reads.specs.declared.reads.FileRead.{FileRead as Asked}
 use Rattle.asked_reads.specs.Reads.{file_reads_asked}
-use Rattle.file_sights.specs.Changes.{lines_of}
-use Rattle.file_sights.specs.Fitting.{either_fits, read_passes}
-use Rattle.file_sights.specs.State.{name_seen}
-use Rattle.file_sights.proofs.files.FilesSeen.fits_by_line.Given as goal
+use Rattle.cut_places.specs.FileChanges.{lines_of}
+use Rattle.cut_places.specs.FileFitting.{either_fits, read_passes}
+use Rattle.cut_places.specs.FilesState.{name_seen}
+use Rattle.cut_places.proofs.files.FilesSeen.fits_by_line.Given as goal
 
 abbrev pub invariant-loop-read : goal.invariant-loop-read
 invariant-loop-read l =

@@ -2,11 +2,11 @@ use Rattle.std.proofs.Common.{Result, Ok, Err, IfOk, ap, ◌∙◌}
 use Rattle.mappings.specs.Object.{MappingsState}
 use Rattle.script_text.specs.Action.{action_of}
 use Rattle.asked_reads.specs.Reads.{file_reads_asked}
-use Rattle.file_sights.specs.Commands.{files_change}
-use Rattle.file_sights.specs.Fitting.{fit_inside}
-use Rattle.file_sights.specs.State.{FilesState}
-use Rattle.file_sights.proofs.InsideLemmas.{command_inside}
-use Rattle.file_sights.proofs.files.FilesSeen.fits_inside.Goals as goal
+use Rattle.cut_places.specs.FileCommands.{files_change}
+use Rattle.cut_places.specs.FileFitting.{fit_inside}
+use Rattle.cut_places.specs.FilesState.{FilesState}
+use Rattle.cut_places.proofs.InsideLemmas.{command_inside}
+use Rattle.cut_places.proofs.files.FilesSeen.fits_inside.Goals as goal
 
 then_if : {T E : Type 0} {P Q : T → Type 0} (r : Result T E) → IfOk r P → ((x : T) → P x → Q x) → IfOk r Q
 then_if (Ok x) so next = next x so

@@ -3,12 +3,12 @@ use Rattle.std.proofs.Common.{◌≡◌, Result, Ok, Err, IfOk, Option, ap, opti
 use Rattle.std.specs.Option.{option_copied}
 use Rattle.script_text.specs.Action.{action_of}
 use Rattle.asked_reads.specs.Reads.{file_reads_asked}
-use Rattle.file_sights.specs.Changes.{FilesChange}
-use Rattle.file_sights.specs.Commands.{files_change}
-use Rattle.file_sights.specs.Fitting.{fit_now}
-use Rattle.file_sights.specs.Leaving.{files_left}
-use Rattle.file_sights.proofs.LeavingLemmas.{left_fits}
-use Rattle.file_sights.proofs.files.FilesSeen.leave.Goals as goal
+use Rattle.cut_places.specs.FileChanges.{FilesChange}
+use Rattle.cut_places.specs.FileCommands.{files_change}
+use Rattle.cut_places.specs.FileFitting.{fit_now}
+use Rattle.cut_places.specs.FileLeaving.{files_left}
+use Rattle.cut_places.proofs.LeavingLemmas.{left_fits}
+use Rattle.cut_places.proofs.files.FilesSeen.leave.Goals as goal
 
 then_if : {T E : Type 0} {P Q : T → Type 0} (r : Result T E) → IfOk r P → ((x : T) → P x → Q x) → IfOk r Q
 then_if (Ok x) so next = next x so

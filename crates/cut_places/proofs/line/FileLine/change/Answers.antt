@@ -3,11 +3,11 @@ use Rattle.std.proofs.Common.{◌≡◌, ℕ, ◌/◌, ◌%◌, Bool, true, cond
 use Rattle.nvm_base.specs.declared.units.Span.{Span}
 use Rattle.nvm_model.specs.Cell.{Cell, cell_byte}
 use Rattle.file_actions.specs.Rewriting.{byte_laid, durable_line, touches_any_page}
-use Rattle.file_sights.specs.declared.line.FileLine.{FileLine}
-use Rattle.file_sights.specs.Changes.{lines_of}
-use Rattle.file_sights.specs.Changes.LinesChange.{Rewrites}
-use Rattle.file_sights.specs.State.{line_after}
-use Rattle.file_sights.proofs.line.FileLine.change.Goals as goal
+use Rattle.cut_places.specs.declared.line.FileLine.{FileLine}
+use Rattle.cut_places.specs.FileChanges.{lines_of}
+use Rattle.cut_places.specs.FileChanges.LinesChange.{Rewrites}
+use Rattle.cut_places.specs.FilesState.{line_after}
+use Rattle.cut_places.proofs.line.FileLine.change.Goals as goal
 
 written : (line : FileLine) (ranges tested over : List Span) (bytes : List ℕ) (n : ℕ) (touched : Bool) (new : Cell) → n ≡ line.number → tested ≡ ranges → over ≡ ranges
     → touched ≡ touches_any_page tested (n / 64) → touched ≡ true → new ≡ durable_line (λ at. byte_laid over bytes at (cell_byte line.line (at % 64))) n
