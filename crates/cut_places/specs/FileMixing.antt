@@ -1,11 +1,13 @@
--- Whether a cut may leave files otherwise than they were.
-use Rattle.std.specs.Prelude.{Bool, true, false}
+-- How a cut mixes old files with new ones.
+use Rattle.std.specs.Prelude.{Option, Some, None}
 use Rattle.machine_host.specs.Meaning.{FilesLeft}
 use Rattle.machine_host.specs.Meaning.FilesLeft.{Unchanged, OldOrNew, StoredInPart, SyncedInPart}
+use Rattle.sights.specs.declared.way.Way.{Way}
+use Rattle.sights.specs.declared.way.Way.TheVariants.{Each, Together}
 
--- some may be new, in whole or in part
-abbrev pub is_mixed : FilesLeft → Bool
-is_mixed Unchanged = false
-is_mixed OldOrNew = true
-is_mixed (StoredInPart name offset bytes) = true
-is_mixed (SyncedInPart name spans) = true
+-- None where all are as they were
+abbrev pub way_left : FilesLeft → Option Way
+way_left Unchanged = None
+way_left OldOrNew = Some Together
+way_left (StoredInPart name offset bytes) = Some Each
+way_left (SyncedInPart name spans) = Some Each

@@ -93,5 +93,9 @@ fn mixed_blocks<'a>(command: &Command, new: &'a [BlockSeen]) -> &'a [BlockSeen]
 fn mixed_files<'a>(command: &Command, now: &FilesSeen, new: &'a FilesSeen) -> Option<&'a FilesSeen>
     ensures { option_copied result ≡ where_files_mixed (left_by (files_change now.now.mappings.mappings (action_of command.now))) new.now }
 {
-    if now.mixes(command) { Some(new) } else { None }
+    if now.way_inside(command).is_some() {
+        Some(new)
+    } else {
+        None
+    }
 }
