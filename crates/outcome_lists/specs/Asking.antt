@@ -1,16 +1,15 @@
--- Outcomes and choices as they are held.
-use Rattle.std.specs.Prelude.{List, [], ◌∷◌, map, Option, Some, None}
+-- Choices as they are held.
+use Rattle.std.specs.Prelude.{List, map}
 use Rattle.outcomes.specs.Seen.{Seen}
 use Rattle.outcomes.specs.Seen.Seen.{of_blocks, of_file, of_volume}
 use Rattle.asked_reads.specs.declared.question.Question.{Question}
 use Rattle.asked_reads.specs.Asking.{blocks_of, files_asked, volume_asked}
 use Rattle.asked_reads.specs.Reads.{block_read, file_read, page_read}
 use Rattle.outcome_lists.specs.Choices.{Choice}
-use Rattle.outcome_lists.specs.Outcomes.{Asked, Outcome}
+use Rattle.outcome_lists.specs.Outcomes.{Asked}
 use Rattle.outcome_lists.specs.declared.choice.Asks.{Asks}
 use Rattle.outcome_lists.specs.declared.choice.Asks.TheVariants as asks
 use Rattle.outcome_lists.specs.declared.choice.Choice.{Choice as ChoiceHeld}
-use Rattle.outcome_lists.specs.declared.outcome.Outcome.{Outcome as OutcomeHeld}
 
 -- what a question asks
 abbrev pub asked : Question → Asked
@@ -27,14 +26,3 @@ choice_held c = record { seen = seen_asked c.asks; text = c.text.items }
 
 abbrev pub choices_held : List ChoiceHeld → List Choice
 choices_held cs = map choice_held cs
-
-abbrev pub outcome_held : OutcomeHeld → Outcome
-outcome_held o = record { asked = asked o.asked; text = o.text.items; place = o.place }
-
-abbrev pub outcomes_held : List OutcomeHeld → List Outcome
-outcomes_held os = map outcome_held os
-
--- if there is one
-abbrev pub some_held : Option OutcomeHeld → List Outcome
-some_held None = []
-some_held (Some o) = outcome_held o ∷ []

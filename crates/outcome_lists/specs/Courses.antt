@@ -1,5 +1,5 @@
 -- A program that was performed, and what is looked at.
-use Rattle.std.specs.Prelude.{◌≡◌, ◌≤◌, ◌++◌, ◌∷◌, [], ℕ, All, true, List, length, take}
+use Rattle.std.specs.Prelude.{◌≡◌, ◌++◌, ◌∷◌, [], ℕ, All, true, List, length}
 use Rattle.std.specs.List.{AllByRecursion, list_all}
 use Rattle.word_tables.specs.Bounds.{IsValid}
 use Rattle.word_tables.specs.declared.geometry.Geometry.{Geometry}
@@ -15,11 +15,9 @@ use Rattle.cut_places.specs.SeesFiles.{are_held, is_held}
 use Rattle.sights.specs.Units.{block_numbers, line_numbers}
 use Rattle.value_tables.specs.Looking.{blocks_looked_at, blocks_touched, file_lines_touched, lines_looked_at, lines_touched}
 use Rattle.value_tables.specs.Sides.{HasRun}
-use Rattle.outcome_lists.specs.Asking.{asked}
 use Rattle.outcome_lists.specs.Choices.{Choice}
 use Rattle.outcome_lists.specs.Outcomes.{Asked, and_seen}
 use Rattle.outcome_lists.specs.declared.course.Course.{Course}
-use Rattle.outcome_lists.specs.declared.outcome.Outcome.{Outcome}
 
 -- its commands are such, and it is told of each whether it is done
 pub record IsCourse (course : Course) : Type 0 where
@@ -39,14 +37,6 @@ pub record IsAt (sight : Sight) (part : Read) (lines_before blocks_before : ℕ)
   pub blocks : HasRun (block_numbers sight.blocks.items) blocks_before (blocks_touched part)
   pub files : list_all (is_held sight.files.numbers) (file_lines_touched part) ≡ true
 
--- reads are of the first lines and blocks that are looked at, and of files that are
-pub record AreFirst (sight : Sight) (a : Asked) : Type 0 where
-  pub lines_there : length a.volume ≤ length sight.lines.items
-  pub lines : line_numbers (take (length a.volume) sight.lines.items) ≡ all_lines_read a.volume
-  pub blocks_there : length a.blocks ≤ length sight.blocks.items
-  pub blocks : block_numbers (take (length a.blocks) sight.blocks.items) ≡ all_numbers_read a.blocks
-  pub files : are_held sight.files.numbers a.files ≡ true
-
 -- they are of these parts, a line or a block each, or of a file that is looked at
 pub record AreOf (sight : Sight) (geo : Geometry) (parts : List Read) (a : Asked) : Type 0 where
   pub lines : all_lines_read a.volume ≡ lines_looked_at geo parts
@@ -55,16 +45,9 @@ pub record AreOf (sight : Sight) (geo : Geometry) (parts : List Read) (a : Asked
   pub one_block : length a.blocks ≡ length (blocks_looked_at geo parts)
   pub files : are_held sight.files.numbers a.files ≡ true
 
--- with each of these choices they are of the first ones, or of these parts
-abbrev pub AllFirst : Sight → Asked → List Choice → Type 0
-AllFirst sight a choices = AllByRecursion (λ (c : Choice). AreFirst sight (and_seen a c.seen)) choices
-
+-- with each of these choices they are of these parts
 abbrev pub AllWith : Sight → Geometry → List Read → Asked → List Choice → Type 0
 AllWith sight geo parts a choices = AllByRecursion (λ (c : Choice). AreOf sight geo parts (and_seen a c.seen)) choices
-
--- so are all these outcomes
-abbrev pub AllOf : Sight → Geometry → List Read → List Outcome → Type 0
-AllOf sight geo parts outcomes = AllByRecursion (λ (o : Outcome). AreOf sight geo parts (asked o.asked)) outcomes
 
 -- choices are of a part: behind those of others they are of those and of it
 abbrev pub AreWays : Sight → Geometry → Read → List Choice → Type 0

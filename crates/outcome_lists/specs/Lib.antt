@@ -6,7 +6,11 @@ pub mod Words
 pub mod Asking
 pub mod Courses
 pub mod Listing
+pub mod Mixing
+pub mod Levels
 pub mod Worked
 pub mod Apart
 pub mod ApartBlocks
 pub mod ApartFiles
+pub mod Together
+pub mod Walks

@@ -23,7 +23,7 @@ text_of cs = flat_map (λ (c : Choice). c.text) cs
 
 -- these choices together, found at that place
 abbrev pub outcome_at : CutPlace → List Choice → Outcome
-outcome_at place cs = record { asked = asked_with nothing cs; text = text_of cs; place = Some place }
+outcome_at place cs = record { asked = asked_with nothing cs; text = text_of cs; place = place }
 
 -- It is of one choice of each part, and its place is the first of a cut that may show them together.
 pub record IsFound (h : Machine) (program : List Input) (parts : List Read) (o : Outcome) : Type 0 where

@@ -1,8 +1,9 @@
 -- A list of outcomes, as it is printed.
-use Rattle.std.specs.Prelude.{ℕ, List, [], ◌∷◌, ◌++◌, codes, decimal, flat_map, length, Option, Some, None}
+use Rattle.std.specs.Prelude.{ℕ, List, [], ◌∷◌, ◌++◌, codes, decimal, flat_map, length, nat_lt, if◌then◌else◌}
 use Rattle.script_text.specs.Script.{Input}
 use Rattle.machine_host.specs.Machine.{Machine}
 use Rattle.asked_reads.specs.declared.read.Read.{Read}
+use Rattle.outcome_walk.specs.Numbers.{numeral}
 use Rattle.cut_places.specs.declared.place.CutPlace.{CutPlace}
 use Rattle.cut_places.specs.declared.place.CutPlace.TheVariants.{Before, Inside}
 use Rattle.outcome_lists.specs.Outcomes.{Outcome, outcomes}
@@ -12,18 +13,16 @@ abbrev pub place_text : CutPlace → List ℕ
 place_text (Before n) = codes "before " ++ decimal n
 place_text (Inside n) = codes "inside " ++ decimal n
 
--- a line, where a place leaves it
-abbrev pub line_at : List ℕ → Option CutPlace → List ℕ
-line_at text None = []
-line_at text (Some place) = place_text place ++ (text ++ 10 ∷ [])
-
 abbrev pub outcome_line : Outcome → List ℕ
-outcome_line o = line_at o.text o.place
+outcome_line o = place_text o.place ++ (o.text ++ 10 ∷ [])
 
--- all of them and their number, or that they are too many
-abbrev pub list_text : Option (List Outcome) → List ℕ
-list_text None = codes "outcomes more than 65536" ++ 10 ∷ []
-list_text (Some os) = flat_map outcome_line os ++ (codes "outcomes " ++ (decimal (length os) ++ 10 ∷ []))
+-- a line for each, where they are few enough
+abbrev pub lines_of : List Outcome → List ℕ
+lines_of os = if nat_lt 65536 (length os) then [] else flat_map outcome_line os
+
+-- those lines, and how many outcomes there are
+abbrev pub list_text : List Outcome → List ℕ
+list_text os = lines_of os ++ (codes "outcomes " ++ (numeral (length os) ++ 10 ∷ []))
 
 -- the list of a look's reads
 abbrev pub outcome_list : Machine → List Input → List Read → List ℕ

@@ -1,5 +1,5 @@
 -- The outcomes of a look: what its parts may be found to be together.
-use Rattle.std.specs.Prelude.{◌++◌, ℕ, List, [], ◌∷◌, length, map, nat_lt, Option, Some, None, option_and_then, option_map, if◌then◌else◌}
+use Rattle.std.specs.Prelude.{◌++◌, ℕ, List, [], ◌∷◌, map, Option, Some, None, option_map}
 use Rattle.script_text.specs.Script.{Input}
 use Rattle.machine_host.specs.Machine.{Machine}
 use Rattle.outcomes.specs.Blocks.{BlockRead}
@@ -36,15 +36,12 @@ look_of a = map of_volume a.volume ++ (map of_blocks a.blocks ++ map of_file a.f
 pub record Outcome : Type 0 where
   pub asked : Asked
   pub text : List ℕ
-  pub place : Option CutPlace
-
-abbrev pub begun : Outcome
-begun = record { asked = nothing; text = []; place = None }
+  pub place : CutPlace
 
 -- where some place leaves it
 abbrev pub if_found : Asked → List ℕ → Option CutPlace → List Outcome
 if_found asked text None = []
-if_found asked text (Some place) = record { asked = asked; text = text; place = Some place } ∷ []
+if_found asked text (Some place) = record { asked = asked; text = text; place = place } ∷ []
 
 -- one outcome with one choice more, if that may be found, with each of some, and each outcome with each
 abbrev pub with_choice : (List Seen → Option CutPlace) → Outcome → Choice → List Outcome
@@ -58,23 +55,23 @@ abbrev pub grown : (List Seen → Option CutPlace) → List Outcome → List Cho
 grown at [] cs = []
 grown at (o ∷ os) cs = with_choices at o cs ++ grown at os cs
 
--- at most 65,536
-abbrev pub capped : List Outcome → Option (List Outcome)
-capped os = if nat_lt 65536 (length os) then None else Some os
-
 -- those of all parts, where these are those of the parts before
-abbrev pub outcomes_from : (List Seen → Option CutPlace) → (Read → List Choice) → List Outcome → List Read → Option (List Outcome)
-outcomes_from at ways os [] = Some os
-outcomes_from at ways os (part ∷ parts) = option_and_then (λ next. outcomes_from at ways next parts) (capped (grown at os (ways part)))
+abbrev pub outcomes_from : (List Seen → Option CutPlace) → (Read → List Choice) → List Outcome → List Read → List Outcome
+outcomes_from at ways os [] = os
+outcomes_from at ways os (part ∷ parts) = outcomes_from at ways (grown at os (ways part)) parts
+
+-- of no part: nothing is asked
+abbrev pub begun : (List Seen → Option CutPlace) → List Outcome
+begun at = if_found nothing [] (at (look_of nothing))
 
 -- the first place of a cut that may show a look
 abbrev pub place_of : List Stop → List Seen → Option CutPlace
 place_of stops look = option_map (λ stop. stop.place) (first_stop (may_show look) stops)
 
 -- the outcomes of parts, through a program from that state on
-abbrev pub outcomes_of : Machine → List Input → List Read → Option (List Outcome)
-outcomes_of h program parts = outcomes_from (place_of (cut_places 1 h program)) (choices (states h program)) (begun ∷ []) parts
+abbrev pub outcomes_of : Machine → List Input → List Read → List Outcome
+outcomes_of h program parts = let at = place_of (cut_places 1 h program) in outcomes_from at (choices (states h program)) (begun at) parts
 
 -- those of a look's reads
-abbrev pub outcomes : Machine → List Input → List Read → Option (List Outcome)
+abbrev pub outcomes : Machine → List Input → List Read → List Outcome
 outcomes h program look = outcomes_of h program (parts_of h.geometry look)

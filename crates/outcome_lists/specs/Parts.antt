@@ -1,15 +1,15 @@
 -- The reads of a look in parts: each is of one word, of the volume or of a file, or of one block.
-use Rattle.std.specs.Prelude.{◌≡◌, ◌==◌, ◌+◌, ◌-◌, ◌*◌, ◌%◌, ◌++◌, ◌&&◌, ℕ, Bool, false, List, [], ◌∷◌, Option, Some, None, map, nat_le, if◌then◌else◌}
+use Rattle.std.specs.Prelude.{◌≡◌, ◌==◌, ◌+◌, ◌-◌, ◌*◌, ◌%◌, ◌++◌, ◌&&◌, ◌||◌, ℕ, Bool, true, false, List, [], ◌∷◌, Option, Some, None, map, nat_le, nat_lt, if◌then◌else◌}
 use Rattle.std.specs.List.{AllByRecursion, range_with_len}
 use Rattle.std.specs.Str.{bytes_eq}
 use Rattle.nvm_base.specs.Units.{units_of}
 use Rattle.nvm_base.specs.declared.units.Span.{Span}
+use Rattle.nvm_model.specs.Listing.{is_before}
 use Rattle.word_tables.specs.declared.geometry.Geometry.{Geometry}
 use Rattle.reply_text.specs.declared.reply.Why.{Why}
 use Rattle.asked_reads.specs.declared.read.Read.{Read}
 use Rattle.asked_reads.specs.declared.read.Read.TheVariants.{Volume, Blocks, File}
 use Rattle.value_tables.specs.Rows.{read_refusal}
-use Rattle.value_tables.specs.Values.{with_all}
 
 -- of so many bytes of a file those that some file may have: none is longer than 4 GiB
 abbrev pub len_in_files : ℕ → ℕ → ℕ
@@ -52,9 +52,35 @@ same_part (File name start len) (Volume other others) = false
 same_part (File name start len) (Blocks first count) = false
 same_part (File name start len) (File text other others) = bytes_eq name text && (start == other)
 
+-- in which order parts stand: words of the volume, blocks, then words of files by their names, each by its address
+abbrev pub comes_before : Read → Read → Bool
+comes_before (Volume start len) (Volume other others) = nat_lt start other
+comes_before (Volume start len) (Blocks first count) = true
+comes_before (Volume start len) (File name other others) = true
+comes_before (Blocks first count) (Volume start len) = false
+comes_before (Blocks first count) (Blocks other others) = nat_lt first other
+comes_before (Blocks first count) (File name start len) = true
+comes_before (File name start len) (Volume other others) = false
+comes_before (File name start len) (Blocks first count) = false
+comes_before (File name start len) (File text other others) = is_before name text || (bytes_eq name text && nat_lt start other)
+
+-- one part more, in that order, unless it is there
+abbrev pub with_part : List Read → Read → List Read
+with_part [] p = p ∷ []
+with_part (q ∷ qs) p = if comes_before q p then q ∷ with_part qs p else if same_part q p then q ∷ qs else p ∷ q ∷ qs
+
+abbrev pub with_parts : List Read → List Read → List Read
+with_parts parts [] = parts
+with_parts parts (p ∷ ps) = with_parts (with_part parts p) ps
+
 -- those of a look, each once
 abbrev pub parts_of : Geometry → List Read → List Read
-parts_of geo look = with_all same_part [] (parts_of_reads geo look)
+parts_of geo look = with_parts [] (parts_of_reads geo look)
+
+-- each comes before all that stand behind it
+abbrev pub AreInOrder : List Read → Type 0
+AreInOrder [] = Unit {0}
+AreInOrder (p ∷ ps) = AllByRecursion (λ q. comes_before p q ≡ true) ps × AreInOrder ps
 
 -- a read is of one word or one block, and is not refused
 abbrev pub IsWordOrBlock : Read → Type 0

@@ -1,5 +1,5 @@
 // What a look's outcomes rest on. None of these functions does anything.
-ghost use Rattle.std.specs.Prelude.{◌≡◌, ◌*◌, ◌<◌, ℕ, All, true, Contains, List, [], Some, length};
+ghost use Rattle.std.specs.Prelude.{◌≡◌, ◌*◌, ◌<◌, ℕ, All, true, Contains, List, [], length};
 ghost use Rattle.block_sights.specs.Sights.{Sight};
 ghost use Rattle.script_text.specs.Script.{Input};
 ghost use Rattle.machine_host.specs.Machine.{Machine};
@@ -22,14 +22,12 @@ pub fn a_shorter_look_is_shown()
 
 /// Each outcome of a list is of one choice of each part, and its place is the first that may show them together.
 pub fn each_listed_outcome_is_found()
-    ensures { (h : Machine) (program : List Input) (parts : List Read) (os : List Outcome) (o : Outcome) → 0 < length parts
-        → outcomes_of h program parts ≡ Some os → Contains os o → IsFound h program parts o }
+    ensures { (h : Machine) (program : List Input) (parts : List Read) (o : Outcome) → Contains (outcomes_of h program parts) o → IsFound h program parts o }
 {}
 
 /// And whatever choices are found together, one of each part, are an outcome of the list.
 pub fn each_outcome_is_listed()
-    ensures { (h : Machine) (program : List Input) (parts : List Read) (os : List Outcome) (o : Outcome) → 0 < length parts
-        → outcomes_of h program parts ≡ Some os → IsFound h program parts o → Contains os o }
+    ensures { (h : Machine) (program : List Input) (parts : List Read) (o : Outcome) → IsFound h program parts o → Contains (outcomes_of h program parts) o }
 {}
 
 /// Whatever some place may show of a word or of a block alone is one of its choices: the word has that value, or the block is seen

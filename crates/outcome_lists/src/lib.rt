@@ -7,15 +7,19 @@ mod choosing;
 mod copies;
 mod course;
 mod gathered;
+mod fitting;
 mod gathering;
-mod growing;
 mod laws;
+mod levels;
 mod listing;
-mod outcome;
 mod parts;
 mod passed;
+mod place;
+mod places;
 mod printing;
 mod rows;
+mod storage;
+mod ways;
 mod word;
 
 pub use apart::{

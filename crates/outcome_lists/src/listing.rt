@@ -8,19 +8,28 @@ ghost use Rattle.outcomes.specs.Stops.{IsProgram};
 ghost use Rattle.asked_reads.specs.Program.{IsBounded, inputs_of_lines};
 ghost use Rattle.explorer.specs.Starting.{Begins};
 ghost use Rattle.explorer.specs.Stopping.{DeviceStopped, NoneFell};
-ghost use Rattle.outcome_lists.specs.Lists.{outcome_list};
+ghost use Rattle.value_tables.specs.Listed.{IsSound};
+ghost use Rattle.value_tables.specs.Looking.{IsOf};
+ghost use Rattle.outcome_lists.specs.Courses.{IsCourse, IsFrom};
+ghost use Rattle.outcome_lists.specs.Lists.{list_text, outcome_list};
+ghost use Rattle.outcome_lists.specs.Outcomes.{outcomes_of};
+ghost use Rattle.outcome_lists.specs.Parts.{AreInOrder, AreParts};
+ghost use Rattle.outcome_lists.specs.Walks.{rows_of};
 
 use crate::course::Course;
-use crate::growing::outcomes;
+use crate::levels::levels;
 use crate::parts::parts_of;
-use crate::printing::list_text;
+use crate::place::Place;
+use crate::places::places;
+use crate::printing::{print_count, print_lines};
 use asked_reads::Read;
 use explorer::{ExploreFault, Watched, look_at, watch};
 use line_device::LineDevice;
 use machine_host::Host;
 use nvm_base::Bytes;
+use outcome_walk::{Rows, count, walk};
 use script_text::Command;
-use std::alloc::Global;
+use std::alloc::{AllocError, Global};
 
 /// The list of what the reads may find, as it is printed.
 pub fn list_outcomes<D: LineDevice>(
@@ -49,6 +58,38 @@ pub fn list_outcomes<D: LineDevice>(
         geometry,
         sight: &sight,
     };
-    let found = outcomes(alloc, &course, &parts)?;
-    Ok(list_text(alloc, &found)?)
+    Ok(list_text(alloc, &course, &parts)?)
+}
+
+/// The most outcomes that are listed.
+const MOST: u32 = 65_536;
+
+// A line for each outcome of these parts, where they are few enough, and their number.
+fn list_text(alloc: Global, course: &Course<'_>, parts: &[Read]) -> Result<Bytes, AllocError>
+    requires course { IsCourse course.now }
+    requires parts { AreParts course.now.geometry parts.now }
+    requires order { AreInOrder parts.now }
+    requires looks { IsOf course.now.sight.now course.now.geometry parts.now }
+    ensures { (h : Machine) → IsFrom course.now h → IsSound h → IfOk result (λ text. text.items ≡ list_text (outcomes_of h (inputs_of_lines course.now.program.now) parts.now)) }
+{
+    let places = places(alloc, course)?;
+    let levels = levels(alloc, course, &places, parts)?;
+    let rows = rows_of(alloc, &places)?;
+    let number = count(alloc, &rows, &levels)?;
+    let mut text = Bytes::new(alloc);
+    if number.is_at_most(MOST) {
+        print_lines(&places, &walk(alloc, &rows, &levels)?, &mut text)?;
+    }
+    print_count(&number, &mut text)?;
+    Ok(text)
+}
+
+fn rows_of(alloc: Global, places: &[Place]) -> Result<Vec<Rows>, AllocError>
+    ensures { IfOk result (λ rows. rows.items ≡ rows_of places.now) }
+{
+    let mut rows = Vec::new(alloc);
+    for place in places {
+        rows.push(place.rows)?;
+    }
+    Ok(rows)
 }

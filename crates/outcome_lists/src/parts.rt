@@ -3,8 +3,7 @@ ghost use Rattle.std.specs.Prelude.{◌≡◌, ◌+◌, ◌*◌, ◌≤◌, ◌<
 ghost use Rattle.word_tables.specs.Bounds.{IsValid};
 ghost use Rattle.nvm_base.specs.Units.{units_of};
 ghost use Rattle.value_tables.specs.Rows.{read_refusal};
-ghost use Rattle.value_tables.specs.Values.{with_all, with_one};
-ghost use Rattle.outcome_lists.specs.Parts.{AreParts, IsPart, part, parts_of, parts_read, reach, same_part, unless_refused};
+ghost use Rattle.outcome_lists.specs.Parts.{AreInOrder, AreParts, IsPart, comes_before, part, parts_of, parts_read, reach, same_part, unless_refused, with_part, with_parts};
 
 use asked_reads::Read;
 use nvm_base::{Span, WORD};
@@ -15,11 +14,13 @@ use word_tables::Geometry;
 /// No file has a byte from here on.
 const FILE_END: u64 = 4_294_967_296;
 
-/// The parts of the reads that are not refused, each once, in the order in which they come.
+/// The parts of the reads that are not refused, each once, in order: words of the volume, blocks, words of files by name, each by
+/// address.
 pub fn parts_of(alloc: Global, geometry: Geometry, reads: &[Read]) -> Result<Vec<Read>, AllocError>
     requires { IsValid geometry }
     ensures parts { IfOk result (λ parts. parts.items ≡ parts_of geometry reads.now) }
     ensures taken { IfOk result (λ parts. AreParts geometry parts.items) }
+    ensures order { IfOk result (λ parts. AreInOrder parts.items) }
 {
     let mut parts = Vec::new(alloc);
     for read in reads {
@@ -31,8 +32,9 @@ pub fn parts_of(alloc: Global, geometry: Geometry, reads: &[Read]) -> Result<Vec
 // Those of one read.
 fn add_read(geometry: Geometry, read: &Read, parts: &mut Vec<Read>) -> Result<(), AllocError>
     requires { IsValid geometry }
-    ensures parts { OnOk result (parts.new.items ≡ with_all same_part parts.old.items (unless_refused (read_refusal geometry read.now) (parts_read read.now))) }
+    ensures parts { OnOk result (parts.new.items ≡ with_parts parts.old.items (unless_refused (read_refusal geometry read.now) (parts_read read.now))) }
     ensures taken { AreParts geometry parts.old.items → OnOk result (AreParts geometry parts.new.items) }
+    ensures order { AreInOrder parts.old.items → OnOk result (AreInOrder parts.new.items) }
 {
     if read_refusal(geometry, read).is_some() {
         return Ok(());
@@ -43,8 +45,9 @@ fn add_read(geometry: Geometry, read: &Read, parts: &mut Vec<Read>) -> Result<()
 fn add_parts(geometry: Geometry, read: &Read, parts: &mut Vec<Read>) -> Result<(), AllocError>
     requires valid { IsValid geometry }
     requires taken { read_refusal geometry read.now ≡ None }
-    ensures parts { OnOk result (parts.new.items ≡ with_all same_part parts.old.items (parts_read read.now)) }
+    ensures parts { OnOk result (parts.new.items ≡ with_parts parts.old.items (parts_read read.now)) }
     ensures taken { AreParts geometry parts.old.items → OnOk result (AreParts geometry parts.new.items) }
+    ensures order { AreInOrder parts.old.items → OnOk result (AreInOrder parts.new.items) }
 {
     let reach = reach_of(geometry, read);
     for n in reach.start..reach.start + reach.len {
@@ -53,14 +56,43 @@ fn add_parts(geometry: Geometry, read: &Read, parts: &mut Vec<Read>) -> Result<(
     Ok(())
 }
 
-// One more, unless it is there.
+// One more, in its place, unless it is there.
 fn add_part(part: Read, parts: &mut Vec<Read>) -> Result<(), AllocError>
-    ensures parts { OnOk result (parts.new.items ≡ with_one same_part parts.old.items part) }
+    ensures parts { OnOk result (parts.new.items ≡ with_part parts.old.items part) }
 {
-    if !parts.iter().any(|other| same_part(&part, other)) {
-        parts.push(part)?;
+    let at = parts
+        .iter()
+        .position(|other| !comes_before(other, &part))
+        .unwrap_or(parts.len());
+    match parts.get(at) {
+        Some(other) if same_part(other, &part) => Ok(()),
+        _ => Ok(parts.insert(at, part)?),
     }
-    Ok(())
+}
+
+fn comes_before(part: &Read, other: &Read) -> bool
+    ensures { result ≡ comes_before part.now other.now }
+{
+    match (part, other) {
+        (Read::Volume { start: a, .. }, Read::Volume { start: b, .. }) => a < b,
+        (Read::Blocks { first: a, .. }, Read::Blocks { first: b, .. }) => a < b,
+        (
+            Read::File {
+                name: x,
+                start: a,
+                ..
+            },
+            Read::File {
+                name: y,
+                start: b,
+                ..
+            },
+        ) => x < y || (x == y && a < b),
+        (Read::Volume { .. }, Read::Blocks { .. } | Read::File { .. })
+        | (Read::Blocks { .. }, Read::File { .. }) => true,
+        (Read::Blocks { .. }, Read::Volume { .. })
+        | (Read::File { .. }, Read::Volume { .. } | Read::Blocks { .. }) => false,
+    }
 }
 
 fn same_part(part: &Read, other: &Read) -> bool

@@ -1,46 +1,54 @@
 // A list of outcomes as text.
-ghost use Rattle.std.specs.Prelude.{◌≡◌, ◌++◌, IfOk, OnOk, flat_map, option_map};
-ghost use Rattle.outcome_lists.specs.Asking.{outcome_held, outcomes_held};
-ghost use Rattle.outcome_lists.specs.Lists.{list_text, outcome_line, place_text};
+ghost use Rattle.std.specs.Prelude.{◌≡◌, ◌++◌, ◌∷◌, [], OnOk, codes};
+ghost use Rattle.outcome_walk.specs.Holding.{trail_held, trails_held};
+ghost use Rattle.outcome_walk.specs.Numbers.{numeral};
+ghost use Rattle.outcome_lists.specs.Lists.{place_text};
+ghost use Rattle.outcome_lists.specs.Walks.{first_place, trail_line, trail_lines};
 
-use crate::outcome::Outcome;
+use crate::place::Place;
 use cut_places::CutPlace;
 use nvm_base::{Bytes, print_number};
-use std::alloc::{AllocError, Global};
+use outcome_walk::{Found, Sides, Tally};
+use std::alloc::AllocError;
 
-/// A line for each, and one with their number; or that they are too many.
-pub fn list_text(alloc: Global, outcomes: &Option<Vec<Outcome>>) -> Result<Bytes, AllocError>
-    ensures { IfOk result (λ text. text.items ≡ list_text (option_map (λ found. outcomes_held found.items) outcomes.now)) }
-{
-    let mut text = Bytes::new(alloc);
-    let Some(outcomes) = outcomes else {
-        text.extend(b"outcomes more than 65536\n")?;
-        return Ok(text);
-    };
-    print_lines(outcomes, &mut text)?;
-    text.extend(b"outcomes ")?;
-    print_number(outcomes.len() as u64, &mut text)?;
-    text.push(b'\n')?;
-    Ok(text)
-}
-
-fn print_lines(outcomes: &[Outcome], out: &mut Bytes) -> Result<(), AllocError>
-    ensures { OnOk result (out.new.items ≡ out.old.items ++ flat_map outcome_line (outcomes_held outcomes.now)) }
+/// Appends a line for each.
+pub fn print_lines(places: &[Place], outcomes: &[Found], out: &mut Bytes) -> Result<(), AllocError>
+    ensures { OnOk result (out.new.items ≡ out.old.items ++ trail_lines places.now (trails_held outcomes.now)) }
 {
     for outcome in outcomes {
-        print_line(outcome, out)?;
+        print_line(places, outcome, out)?;
     }
     Ok(())
 }
 
-fn print_line(outcome: &Outcome, out: &mut Bytes) -> Result<(), AllocError>
-    ensures { OnOk result (out.new.items ≡ out.old.items ++ outcome_line (outcome_held outcome.now)) }
+fn print_line(places: &[Place], outcome: &Found, out: &mut Bytes) -> Result<(), AllocError>
+    ensures { OnOk result (out.new.items ≡ out.old.items ++ trail_line places.now (trail_held outcome.now)) }
 {
-    let Some(place) = outcome.place else {
+    let Some(place) = first_place(places, &outcome.sides) else {
         return Ok(());
     };
     print_place(place, out)?;
     out.extend(outcome.text.as_slice())?;
+    out.push(b'\n')
+}
+
+fn first_place(places: &[Place], sides: &[Sides]) -> Option<CutPlace>
+    ensures { result ≡ first_place places.now sides.now }
+{
+    for (place, sides) in places.iter().zip(sides) {
+        if sides.stands() {
+            return Some(place.at);
+        }
+    }
+    None
+}
+
+/// Appends how many outcomes there are.
+pub fn print_count(number: &Tally, out: &mut Bytes) -> Result<(), AllocError>
+    ensures { OnOk result (out.new.items ≡ out.old.items ++ (codes "outcomes " ++ (numeral number.now ++ 10 ∷ []))) }
+{
+    out.extend(b"outcomes ")?;
+    number.print(out)?;
     out.push(b'\n')
 }
 

@@ -1,0 +1,73 @@
+-- What choices of several parts are together, told place by place: at rest each alone; inside a command group by group.
+use Rattle.std.specs.Prelude.{◌≡◌, Bool, true, IsTrue, List, [], ◌∷◌, map, Option, Some, None}
+use Rattle.std.specs.List.{list_all}
+use Rattle.script_text.specs.Action.{Action}
+use Rattle.script_text.specs.Script.{Input}
+use Rattle.machine_host.specs.Machine.{Machine}
+use Rattle.machine_host.specs.Machine.Fate.{Works}
+use Rattle.machine_host.specs.Commands.{fate, refusal, while_interrupted}
+use Rattle.reply_text.specs.Answer.{Answer}
+use Rattle.outcomes.specs.Finds.{IsReady}
+use Rattle.outcomes.specs.Seen.{may_show}
+use Rattle.outcomes.specs.Stops.{IsProgram, is_of_program}
+use Rattle.asked_reads.specs.declared.read.Read.{Read}
+use Rattle.cut_places.specs.declared.place.CutPlace.{CutPlace}
+use Rattle.cut_places.specs.Places.{cut_places}
+use Rattle.sights.specs.declared.way.Way.{Way}
+use Rattle.outcome_walk.specs.declared.level.Rows.{Rows}
+use Rattle.outcome_walk.specs.declared.sides.Sides.{Sides}
+use Rattle.outcome_walk.specs.Walking.{both, is_shown, moved, stands}
+use Rattle.value_tables.specs.Listed.{IsSound}
+use Rattle.outcome_lists.specs.declared.place.Place.{Place}
+use Rattle.outcome_lists.specs.declared.ways.Ways.{Ways}
+use Rattle.outcome_lists.specs.Apart.{grouped}
+use Rattle.outcome_lists.specs.Choices.{Choice, choices, states}
+use Rattle.outcome_lists.specs.Levels.{places, shows_alone}
+use Rattle.outcome_lists.specs.Listing.{Picks, asked_with}
+use Rattle.outcome_lists.specs.Mixing.{go_together, link, way_of, ways_inside}
+use Rattle.outcome_lists.specs.Outcomes.{look_of, nothing, place_of}
+use Rattle.outcome_lists.specs.Parts.{AreInOrder, AreParts, same_part}
+
+-- two parts are old or new together; where their kind is not mixed, each stands alone
+abbrev pub goes_by : Option Way → Read → Read → Bool
+goes_by None p q = same_part p q
+goes_by (Some way) p q = go_together way p q
+
+abbrev pub goes_with : Ways → Read → Read → Bool
+goes_with ways p q = goes_by (way_of ways p) p q
+
+-- of two that a part may be, the new one where its kind is mixed
+abbrev pub new_by : {A : Type 0} → Option Way → A → A → A
+new_by None old new = old
+new_by (Some way) old new = new
+
+-- which sides of a place stand, part by part
+abbrev pub stood : Rows → Ways → Option Read → Sides → List (Read × List Bool) → Sides
+stood rows ways before s [] = s
+stood rows ways before s (x ∷ xs) = stood rows ways (Some x.0) (moved rows (link ways before x.0) s x.1) xs
+
+-- Parts in order: some side stands where all of each group are shown by the old state, or all by the new one.
+abbrev pub StandsByGroups : Type 0
+StandsByGroups = (rows : Rows) (ways : Ways) (xs : List (Read × List Bool)) → AreInOrder (map (λ (x : Read × List Bool). x.0) xs)
+    → stands (stood rows ways None (both true) xs)
+    ≡ grouped (λ (x y : Read × List Bool). goes_with ways x.0 y.0) (λ (x : Read × List Bool). is_shown x.1 rows.old)
+      (λ (x : Read × List Bool). is_shown x.1 (new_by (way_of ways x.0) rows.old rows.new)) xs
+
+-- choices of parts with their parts
+abbrev pub paired : List Read → List Choice → List (Read × Choice)
+paired [] cs = []
+paired (p ∷ ps) [] = []
+paired (p ∷ ps) (c ∷ cs) = (p, c) ∷ paired ps cs
+
+-- A state at rest shows choices together where it shows each alone.
+abbrev pub EachAtRest : Type 0
+EachAtRest = (hs : List Machine) (parts : List Read) (cs : List Choice) (h : Machine) → IsReady h → IsSound h → AreParts h.geometry parts → AreInOrder parts
+    → Picks (choices hs) parts cs → may_show (look_of (asked_with nothing cs)) h ≡ list_all (λ c. shows_alone c h) cs
+
+-- One in which a command is cut shows them where it shows each group alone, as it was or as the command makes it.
+abbrev pub GroupsInside : Type 0
+GroupsInside = (hs : List Machine) (parts : List Read) (cs : List Choice) (h : Machine) (action : Action) (answer : Answer) (to : Machine)
+    → IsReady h → IsSound h → IsTrue (is_of_program action) → AreParts h.geometry parts → AreInOrder parts → Picks (choices hs) parts cs → refusal h action ≡ None → fate h action ≡ Works answer to
+    → may_show (look_of (asked_with nothing cs)) (while_interrupted h action)
+    ≡ grouped (λ (x y : Read × Choice). goes_with (ways_inside h.mappings action) x.0 y.0) (λ (x : Read × Choice). shows_alone x.1 h)
+      (λ (x : Read × Choice). shows_alone x.1 (new_by (way_of (ways_inside h.mappings action) x.0) h to)) (paired parts cs)
