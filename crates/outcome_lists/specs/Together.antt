@@ -51,7 +51,7 @@ abbrev pub StandsByGroups : Type 0
 StandsByGroups = (rows : Rows) (ways : Ways) (xs : List (Read × List Bool)) → AreInOrder (map (λ (x : Read × List Bool). x.0) xs)
     → stands (stood rows ways None (both true) xs)
     ≡ grouped (λ (x y : Read × List Bool). goes_with ways x.0 y.0) (λ (x : Read × List Bool). is_shown x.1 rows.old)
-      (λ (x : Read × List Bool). is_shown x.1 (new_by (way_of ways x.0) rows.old rows.new)) xs
+    (λ (x : Read × List Bool). is_shown x.1 (new_by (way_of ways x.0) rows.old rows.new)) xs
 
 -- choices of parts with their parts
 abbrev pub paired : List Read → List Choice → List (Read × Choice)
@@ -70,4 +70,4 @@ GroupsInside = (hs : List Machine) (parts : List Read) (cs : List Choice) (h : M
     → IsReady h → IsSound h → IsTrue (is_of_program action) → AreParts h.geometry parts → AreInOrder parts → Picks (choices hs) parts cs → refusal h action ≡ None → fate h action ≡ Works answer to
     → may_show (look_of (asked_with nothing cs)) (while_interrupted h action)
     ≡ grouped (λ (x y : Read × Choice). goes_with (ways_inside h.mappings action) x.0 y.0) (λ (x : Read × Choice). shows_alone x.1 h)
-      (λ (x : Read × Choice). shows_alone x.1 (new_by (way_of (ways_inside h.mappings action) x.0) h to)) (paired parts cs)
+    (λ (x : Read × Choice). shows_alone x.1 (new_by (way_of (ways_inside h.mappings action) x.0) h to)) (paired parts cs)

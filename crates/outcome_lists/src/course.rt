@@ -1,20 +1,16 @@
 // A program that was performed, with what is looked at as it was before.
 ghost use Rattle.std.specs.Prelude.{◌≡◌, ◌∷◌, [], IfOk};
 ghost use Rattle.machine_host.specs.Machine.{Machine};
-ghost use Rattle.asked_reads.specs.Program.{inputs_of_lines};
 ghost use Rattle.cut_places.specs.Following.{Follows};
-ghost use Rattle.cut_places.specs.Places.{cut_places};
 ghost use Rattle.value_tables.specs.Looking.{IsOf};
-ghost use Rattle.outcome_lists.specs.Asking.{asked};
-ghost use Rattle.outcome_lists.specs.Courses.{AreFirst, IsAt, IsCourse, IsFrom};
-ghost use Rattle.outcome_lists.specs.Outcomes.{look_of, place_of};
+ghost use Rattle.outcome_lists.specs.Courses.{IsAt};
 ghost use Rattle.outcome_lists.specs.Parts.{IsPart};
 
 use crate::passed::Passed;
-use asked_reads::{Question, Read};
-use cut_places::{CutPlace, FilesSeen, Sight, find};
+use asked_reads::Read;
+use cut_places::{FilesSeen, Sight};
 use script_text::Command;
-use sights::{BlockSeen, LineSeen, may_be_replies};
+use sights::{BlockSeen, LineSeen};
 use std::alloc::{AllocError, Global};
 use value_tables::copied;
 use word_tables::Geometry;
@@ -30,26 +26,6 @@ pub struct Course<'a> {
 }
 
 impl Course<'_> {
-    /// The first place of a cut that may leave what the question asks for, which is of the first parts.
-    pub fn place_of(
-        &self,
-        alloc: Global,
-        question: &Question,
-    ) -> Result<Option<CutPlace>, AllocError>
-        requires course { IsCourse self.now }
-        requires first { AreFirst self.now.sight.now (asked question.now) }
-        ensures { (h : Machine) → IsFrom self.now h
-            → IfOk result (λ place. place ≡ place_of (cut_places 1 h (inputs_of_lines self.now.program.now)) (look_of (asked question.now))) }
-    {
-        if !may_be_replies(question, self.geometry) {
-            return Ok(None);
-        }
-        let lines = &self.sight.lines[..question.volume.len()];
-        let blocks = &self.sight.blocks[..question.blocks.len()];
-        let mut seen = sight_of(alloc, lines, blocks, &self.sight.files)?;
-        find(self.program, self.done, self.geometry, question, &mut seen)
-    }
-
     /// What is looked at for one part.
     pub fn sight_of_part(
         &self,

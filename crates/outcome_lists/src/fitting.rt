@@ -15,8 +15,9 @@ use crate::choice::Choice;
 use crate::copies::bytes_copy;
 use crate::course::Course;
 use crate::passed::Passed;
-use asked_reads::{Question, Read, may_be_replies};
+use asked_reads::{Question, Read};
 use outcome_walk::Choice as Fitted;
+use sights::may_be_replies;
 use std::alloc::{AllocError, Global};
 
 /// The choices of a part, each with the states that show it.
