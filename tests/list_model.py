@@ -37,9 +37,15 @@ def outcomes_of(places, parts, texts, most):
     return first
 
 
+def in_order(part):
+    """Words of the volume stand before blocks, and these before words of files, which stand by name; each by its address."""
+    _, (kind, *where), w = part
+    return ("line", "block", "file").index(kind), where, w or 0
+
+
 def parts_of(reads):
     """What the parts begin with, the unit of each, and the number of a word in it, None of a block."""
-    return list(dict.fromkeys(part for read in reads if not refusal(read) for part in words_of(read) if part[1][-1] < LINES))
+    return sorted({part for read in reads if not refusal(read) for part in words_of(read) if part[1][-1] < LINES}, key=in_order)
 
 
 def list_of(places, parts, most):
@@ -50,4 +56,4 @@ def list_of(places, parts, most):
     if first is None:
         return None
     told = [first[some] + "".join(f" | {parts[i][0]} {texts[i][n]}" for i, n in enumerate(some)) for some in sorted(first)]
-    return [*(told if parts else []), f"outcomes {len(first)}"]
+    return [*told, f"outcomes {len(first)}"]

@@ -37,9 +37,9 @@ pub record WorkedLists : Type 0 where
       ∷ codes "inside 3 | block 3 scarred"
       ∷ codes "outcomes 4" ∷ [])
   pub block_behind_a_flag : Lists (codes "vstore 0 01" ∷ codes "vsync 0 1" ∷ codes "bwrite 0 02*512" ∷ []) (Blocks 0 1 ∷ Volume 0 1 ∷ [])
-      (codes "before 1 | block 0 00*512 | volume 0 00*8"
-      ∷ codes "inside 1 | block 0 00*512 | volume 0 01,00*7"
-      ∷ codes "inside 3 | block 0 02*512 | volume 0 01,00*7"
+      (codes "before 1 | volume 0 00*8 | block 0 00*512"
+      ∷ codes "inside 1 | volume 0 01,00*7 | block 0 00*512"
+      ∷ codes "inside 3 | volume 0 01,00*7 | block 0 02*512"
       ∷ codes "outcomes 3" ∷ [])
   pub weak_line_synced : Lists (codes "vstore 0 07*8" ∷ codes "weaken volume 0" ∷ codes "vsync 0 8" ∷ []) (Volume 0 9 ∷ [])
       (codes "inside 3 | volume 0 poison | volume 8 poison"
@@ -61,7 +61,7 @@ pub record WorkedLists : Type 0 where
       (codes "before 1 | volume 0 00*8"
       ∷ codes "inside 1 | volume 0 01,00*7"
       ∷ codes "outcomes 2" ∷ [])
-  pub nothing_looked_at : Lists (codes "vstore 0 01" ∷ []) [] (codes "outcomes 1" ∷ [])
+  pub nothing_looked_at : Lists (codes "vstore 0 01" ∷ []) [] (codes "before 1" ∷ codes "outcomes 1" ∷ [])
   pub file_that_grows : Lists (codes "create f 1" ∷ codes "resize f 2" ∷ []) (File (codes "f") 4088 16 ∷ [])
       (codes "before 1 | file f 4088 missing | file f 4096 missing"
       ∷ codes "inside 1 | file f 4088 00*8 | file f 4096 range"
@@ -69,10 +69,10 @@ pub record WorkedLists : Type 0 where
       ∷ codes "outcomes 3" ∷ [])
   pub file_written_and_renamed : Lists (codes "create t 1" ∷ codes "fwrite t 0 07*8" ∷ codes "fsync t" ∷ codes "rename t f" ∷ [])
       (File (codes "t") 0 8 ∷ File (codes "f") 0 8 ∷ [])
-      (codes "before 1 | file t 0 missing | file f 0 missing"
-      ∷ codes "inside 4 | file t 0 missing | file f 0 07*8"
-      ∷ codes "inside 1 | file t 0 00*8 | file f 0 missing"
-      ∷ codes "inside 2 | file t 0 07*8 | file f 0 missing"
+      (codes "before 1 | file f 0 missing | file t 0 missing"
+      ∷ codes "inside 1 | file f 0 missing | file t 0 00*8"
+      ∷ codes "inside 2 | file f 0 missing | file t 0 07*8"
+      ∷ codes "inside 4 | file f 0 07*8 | file t 0 missing"
       ∷ codes "outcomes 4" ∷ [])
   pub file_renamed_before_it_is_synced : Lists (codes "create t 1" ∷ codes "fwrite t 0 07*8" ∷ codes "rename t f" ∷ []) (File (codes "f") 0 8 ∷ [])
       (codes "before 1 | file f 0 missing"
