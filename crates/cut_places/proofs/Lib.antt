@@ -1,3 +1,17 @@
+pub mod EachLemmas
+pub mod ListLemmas
+pub mod RisingLemmas
+pub mod PageChangeLemmas
+pub mod HeldLemmas
+pub mod CommandLemmas
+pub mod LeftLemmas
+pub mod SeesLemmas
+pub mod AskedLemmas
+pub mod AllLemmas
+pub mod ReadLemmas
+pub mod InsideLemmas
+pub mod LeavingLemmas
+pub mod LeftLinesLemmas
 pub mod ReplyLemmas
 pub mod MayShowLemmas
 pub mod StopLemmas

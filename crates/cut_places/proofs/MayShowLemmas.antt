@@ -23,8 +23,8 @@ use Rattle.sights.specs.Units.{block_may_fit, line_may_fit}
 use Rattle.sights.proofs.InsideLemmas.{AreThere, HaveLine, blocks_inside, volume_inside}
 use Rattle.sights.proofs.PassLemmas.{all_same}
 use Rattle.sights.proofs.ShowLemmas.{blocks_now, lines_now}
-use Rattle.file_sights.specs.Fitting.{fit_now}
-use Rattle.file_sights.proofs.InsideLemmas.{command_inside, now_same}
+use Rattle.cut_places.specs.FileFitting.{fit_now}
+use Rattle.cut_places.proofs.InsideLemmas.{command_inside, now_same}
 use Rattle.cut_places.proofs.ReplyLemmas.{may_pass_some}
 
 -- nothing is asked of files

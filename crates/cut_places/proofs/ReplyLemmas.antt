@@ -17,7 +17,7 @@ use Rattle.outcomes.specs.Left.{files_may_pass, files_pass, stored_file, synced_
 use Rattle.outcomes.specs.Pages.{PageRead, PageReply, is_given, is_reply_by}
 use Rattle.outcomes.specs.Pages.PageReply.{Shows, Poison, Refuses}
 use Rattle.asked_reads.specs.Asking.{is_given_by_some, may_be_file_reply}
-use Rattle.file_sights.proofs.AllLemmas.{all_so}
+use Rattle.cut_places.proofs.AllLemmas.{all_so}
 
 -- a read that is not refused has bytes, and not too many
 limits : (size start len : ℕ) → most_refusal 65536 size start len ≡ None → (b : Bool) → b ≡ true → (nat_lt 0 len && (nat_le len 65536 && b)) ≡ true

@@ -44,12 +44,12 @@ use Rattle.cut_places.proofs.MayShowLemmas.{shows_now, shows_within}
 use Rattle.sights.proofs.SizeLemmas.{geometry_stays}
 use Rattle.sights.proofs.VolumeChangeLemmas.{volume_changed}
 use Rattle.cut_places.proofs.WorkLemmas.{ChangesNone, IsWork, unchanged_fits, works_or_none}
-use Rattle.file_sights.specs.Changes.{left_by}
-use Rattle.file_sights.specs.Commands.{files_change}
-use Rattle.file_sights.specs.Fitting.{fit_inside}
-use Rattle.file_sights.specs.Sees.{are_held}
-use Rattle.file_sights.specs.State.{FilesState}
-use Rattle.file_sights.proofs.SeesLemmas.{sees_done}
+use Rattle.cut_places.specs.FileChanges.{left_by}
+use Rattle.cut_places.specs.FileCommands.{files_change}
+use Rattle.cut_places.specs.FileFitting.{fit_inside}
+use Rattle.cut_places.specs.SeesFiles.{are_held}
+use Rattle.cut_places.specs.FilesState.{FilesState}
+use Rattle.cut_places.proofs.SeesLemmas.{sees_done}
 
 -- the storage of a state that is ready is counted
 counted : (h : Machine) → IsReady h → IsCounted h

@@ -21,14 +21,14 @@ use Rattle.machine_host.specs.OnMappings.{store_through, write_copy}
 use Rattle.machine_host.specs.OnPages.{fwrite}
 use Rattle.outcomes.specs.Files.{FileRead}
 use Rattle.sights.specs.Ways.{blocks_way, lines_way}
-use Rattle.file_sights.specs.Changes.{FilesChange, LinesChange, left_by}
-use Rattle.file_sights.specs.Changes.FilesChange.{Nothing, Makes, Removes, Renames, Resizes, Changes, Maps, Unmaps}
-use Rattle.file_sights.specs.Changes.LinesChange.{Puts, Persists, Rewrites, Zeroes, Loses, Weakens, Clears}
-use Rattle.file_sights.specs.Commands.{files_change, persisted_at, stored_at, through}
-use Rattle.file_sights.specs.Fitting.{fit_inside, fit_now}
-use Rattle.file_sights.specs.Maps.{if_shared, shown, uncopied}
-use Rattle.file_sights.specs.State.{FilesState}
-use Rattle.file_sights.proofs.CommandLemmas.{shown_by}
+use Rattle.cut_places.specs.FileChanges.{FilesChange, LinesChange, left_by}
+use Rattle.cut_places.specs.FileChanges.FilesChange.{Nothing, Makes, Removes, Renames, Resizes, Changes, Maps, Unmaps}
+use Rattle.cut_places.specs.FileChanges.LinesChange.{Puts, Persists, Rewrites, Zeroes, Loses, Weakens, Clears}
+use Rattle.cut_places.specs.FileCommands.{files_change, persisted_at, stored_at, through}
+use Rattle.cut_places.specs.FileFitting.{fit_inside, fit_now}
+use Rattle.cut_places.specs.Maps.{if_shared, shown, uncopied}
+use Rattle.cut_places.specs.FilesState.{FilesState}
+use Rattle.cut_places.proofs.CommandLemmas.{shown_by}
 
 pub record IsWorkAs (came : Fate) : Type 0 where
   pub answer : Answer

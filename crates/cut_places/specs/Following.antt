@@ -14,7 +14,7 @@ use Rattle.outcomes.specs.Seen.{Seen, may_show}
 use Rattle.outcomes.specs.Stops.{inside, led_to}
 use Rattle.asked_reads.specs.declared.question.Question.{Question}
 use Rattle.asked_reads.specs.Asking.{blocks_of, files_asked, volume_asked}
-use Rattle.file_sights.specs.Sees.{SeesFiles, are_held}
+use Rattle.cut_places.specs.SeesFiles.{SeesFiles, are_held}
 use Rattle.cut_places.specs.declared.sight.Sight.{Sight}
 use Rattle.cut_places.specs.declared.place.CutPlace.{CutPlace}
 use Rattle.cut_places.specs.declared.place.CutPlace.TheVariants.{Before, Inside}

@@ -1,3 +1,12 @@
+pub mod FileChanges
+pub mod Maps
+pub mod FilesState
+pub mod FileCommands
+pub mod FileFitting
+pub mod SeesFiles
+pub mod FileLines
+pub mod FileLeaving
+pub mod FileMixing
 pub mod Sights
 pub mod Places
 pub mod Following

@@ -5,9 +5,9 @@ use Rattle.word_tables.specs.declared.geometry.Geometry.{Geometry}
 use Rattle.script_text.specs.Action.{Action}
 use Rattle.asked_reads.specs.declared.question.Question.{Question}
 use Rattle.asked_reads.specs.Asking.{files_asked}
-use Rattle.file_sights.specs.Commands.{files_change}
-use Rattle.file_sights.specs.Fitting.{fit_inside, fit_now}
-use Rattle.file_sights.specs.State.{FilesState, after}
+use Rattle.cut_places.specs.FileCommands.{files_change}
+use Rattle.cut_places.specs.FileFitting.{fit_inside, fit_now}
+use Rattle.cut_places.specs.FilesState.{FilesState, after}
 use Rattle.cut_places.specs.declared.sight.Sight.{Sight}
 use Rattle.sights.specs.declared.line_seen.LineSeen.{LineSeen}
 use Rattle.sights.specs.declared.block_seen.BlockSeen.{BlockSeen}

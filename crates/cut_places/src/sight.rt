@@ -7,8 +7,8 @@ ghost use Rattle.word_tables.specs.Bounds.{IsValid};
 ghost use Rattle.cut_places.specs.Sights.{files_once_done, shows, shows_inside};
 ghost use Rattle.sights.specs.Units.{block_once_done, line_once_done};
 
+use crate::files::FilesSeen;
 use asked_reads::Question;
-use file_sights::FilesSeen;
 use script_text::Command;
 use sights::{BlockSeen, LineSeen, Way, all_fit, change_all, fit_inside};
 use std::alloc::AllocError;

@@ -15,10 +15,10 @@ use Rattle.nvm_model.specs.Cell.{Cell}
 use Rattle.mappings.specs.Object.{MappingsState}
 use Rattle.machine_host.specs.Machine.{Machine}
 use Rattle.outcomes.specs.Finds.{armed}
-use Rattle.file_sights.specs.declared.line.FileLine.{FileLine}
-use Rattle.file_sights.specs.Maps.{uncopied}
-use Rattle.file_sights.specs.Sees.{AreLines, SeesFile, SeesFiles, line_numbers}
-use Rattle.file_sights.specs.State.{FileState, FilesState, name_seen}
+use Rattle.cut_places.specs.declared.line.FileLine.{FileLine}
+use Rattle.cut_places.specs.Maps.{uncopied}
+use Rattle.cut_places.specs.SeesFiles.{AreLines, SeesFile, SeesFiles, line_numbers}
+use Rattle.cut_places.specs.FilesState.{FileState, FilesState, name_seen}
 use Rattle.explorer.specs.Files.{HasFewPages, IsListed}
 use Rattle.explorer.specs.Starting.{Begins}
 

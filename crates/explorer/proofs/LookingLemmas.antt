@@ -24,7 +24,7 @@ use Rattle.asked_reads.specs.declared.read.Read.TheVariants as reads
 use Rattle.asked_reads.specs.declared.reads.PageRead.{PageRead as PageAsked}
 use Rattle.asked_reads.specs.declared.reads.BlockRead.{BlockRead as BlockAsked}
 use Rattle.asked_reads.specs.declared.reads.FileRead.{FileRead as FileAsked}
-use Rattle.file_sights.specs.Sees.{are_held, is_held}
+use Rattle.cut_places.specs.SeesFiles.{are_held, is_held}
 use Rattle.value_tables.specs.Looking.{blocks_looked_at, blocks_touched, file_lines_looked_at, file_lines_touched, lines_looked_at, lines_touched, none_refused}
 use Rattle.value_tables.specs.Rows.{read_refusal}
 use Rattle.witnesses.proofs.SeenLemmas.{all_lines_read-append, all_numbers_read-append}

@@ -13,8 +13,8 @@ use Rattle.outcomes.specs.Files.{FileRead}
 use Rattle.outcomes.specs.Pages.{lines_read}
 use Rattle.asked_reads.specs.declared.reads.FileRead.{FileRead as Asked}
 use Rattle.asked_reads.specs.Reads.{file_read, file_reads_asked}
-use Rattle.file_sights.specs.Sees.{are_held, is_held}
-use Rattle.file_sights.proofs.AllLemmas.{range_so}
+use Rattle.cut_places.specs.SeesFiles.{are_held, is_held}
+use Rattle.cut_places.proofs.AllLemmas.{range_so}
 
 -- the first of them, and a later one
 held_first : (x n : ℕ) (xs : List ℕ) → x ≡ n → is_held (x ∷ xs) n ≡ true

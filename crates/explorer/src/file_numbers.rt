@@ -4,7 +4,7 @@ ghost use Rattle.std.specs.List.{list_all, range_with_len};
 ghost use Rattle.outcomes.specs.Pages.{lines_read};
 ghost use Rattle.asked_reads.specs.Asking.{may_be_file_reply};
 ghost use Rattle.asked_reads.specs.Reads.{file_read, file_reads_asked, page_reply};
-ghost use Rattle.file_sights.specs.Sees.{are_held, is_held};
+ghost use Rattle.cut_places.specs.SeesFiles.{are_held, is_held};
 
 use asked_reads::{FileRead, PageReply};
 use nvm_base::{Span, lines_of};

@@ -13,7 +13,7 @@ use Rattle.machine_host.proofs.RefusalLemmas.{read_within}
 use Rattle.asked_reads.specs.declared.read.Read.TheVariants.{Volume, Blocks, File}
 use Rattle.cut_places.specs.declared.sight.Sight.{Sight}
 use Rattle.cut_places.specs.Following.{Follows}
-use Rattle.file_sights.specs.Sees.{is_held}
+use Rattle.cut_places.specs.SeesFiles.{is_held}
 use Rattle.sights.specs.declared.block_seen.BlockSeen.{BlockSeen}
 use Rattle.sights.specs.declared.line_seen.LineSeen.{LineSeen}
 use Rattle.sights.specs.Units.{AreBlocks, AreLines, block_numbers, line_numbers}

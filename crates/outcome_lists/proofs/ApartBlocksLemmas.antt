@@ -12,7 +12,7 @@ use Rattle.machine_host.specs.Meaning.BlocksLeft.{Same, Either, Mixed}
 use Rattle.outcomes.specs.Blocks.{BlockRead, BlockReply, all_numbers_read, allows, block_fits, numbers_read}
 use Rattle.outcomes.specs.Blocks.BlockReply.{Shows, Scar, BadLine, Refuses}
 use Rattle.outcomes.specs.Left.{blocks_may_pass, blocks_pass}
-use Rattle.file_sights.proofs.AllLemmas.{same_test}
+use Rattle.cut_places.proofs.AllLemmas.{same_test}
 use Rattle.witnesses.proofs.ListLemmas.{IsAmong, all_from, all_of}
 use Rattle.outcome_lists.specs.Apart.{grouped}
 use Rattle.outcome_lists.specs.ApartBlocks.{AreDistinctBlocks, AreOfOneBlock, IsOfOneBlock, IsSight, blocks_apart, blocks_shown_apart, is_same_block, shows_block}

@@ -23,15 +23,15 @@ use Rattle.outcomes.specs.Outcome.{AllHaveValues, HaveValues}
 use Rattle.outcomes.specs.Pages.{PageRead, all_lines_read, line_fits}
 use Rattle.outcome_runs.proofs.FileValueLemmas.{files_made_have}
 use Rattle.sights.specs.Seeing.{seen}
-use Rattle.file_sights.specs.Changes.{FilesChange, LinesChange, files_changed, left_by, pages_changed}
-use Rattle.file_sights.specs.Changes.FilesChange.{Nothing, Makes, Removes, Renames, Resizes, Changes, Maps, Unmaps}
-use Rattle.file_sights.specs.Changes.LinesChange.{Puts, Persists, Rewrites, Zeroes, Loses, Weakens, Clears}
-use Rattle.file_sights.specs.Commands.{files_change}
-use Rattle.file_sights.specs.Maps.{uncopied}
-use Rattle.file_sights.proofs.AllLemmas.{same_test}
-use Rattle.file_sights.proofs.InsideLemmas.{stored}
-use Rattle.file_sights.proofs.LeftLemmas.{left_by_command, left_same}
-use Rattle.file_sights.proofs.PageChangeLemmas.{length_changed}
+use Rattle.cut_places.specs.FileChanges.{FilesChange, LinesChange, files_changed, left_by, pages_changed}
+use Rattle.cut_places.specs.FileChanges.FilesChange.{Nothing, Makes, Removes, Renames, Resizes, Changes, Maps, Unmaps}
+use Rattle.cut_places.specs.FileChanges.LinesChange.{Puts, Persists, Rewrites, Zeroes, Loses, Weakens, Clears}
+use Rattle.cut_places.specs.FileCommands.{files_change}
+use Rattle.cut_places.specs.Maps.{uncopied}
+use Rattle.cut_places.proofs.AllLemmas.{same_test}
+use Rattle.cut_places.proofs.InsideLemmas.{stored}
+use Rattle.cut_places.proofs.LeftLemmas.{left_by_command, left_same}
+use Rattle.cut_places.proofs.PageChangeLemmas.{length_changed}
 use Rattle.value_tables.specs.Listed.{HasWords}
 use Rattle.value_tables.proofs.FileValueLemmas.{seen_has}
 use Rattle.witnesses.proofs.ListLemmas.{IsAmong, all_from, all_of}

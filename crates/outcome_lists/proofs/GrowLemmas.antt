@@ -16,7 +16,7 @@ use Rattle.asked_reads.specs.declared.read.Read.TheVariants.{Volume, Blocks, Fil
 use Rattle.block_sights.specs.Sights.{Sight as BlockSight}
 use Rattle.block_sights.specs.Sights.Sight.{Whole, Scar, BadLine}
 use Rattle.cut_places.specs.declared.sight.Sight.{Sight}
-use Rattle.file_sights.specs.Sees.{are_held, is_held}
+use Rattle.cut_places.specs.SeesFiles.{are_held, is_held}
 use Rattle.sights.specs.declared.block_seen.BlockSeen.{BlockSeen}
 use Rattle.sights.specs.declared.line_seen.LineSeen.{LineSeen}
 use Rattle.witnesses.proofs.SeenLemmas.{all_lines_read-append, all_numbers_read-append}

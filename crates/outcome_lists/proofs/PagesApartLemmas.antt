@@ -7,7 +7,7 @@ use Rattle.outcomes.specs.Files.{file_fits}
 use Rattle.outcomes.specs.Pages.{PageRead, all_lines_read, line_fits}
 use Rattle.sights.specs.Seeing.{seen}
 use Rattle.sights.proofs.ShowLemmas.{fits_seen}
-use Rattle.file_sights.proofs.AllLemmas.{same_test}
+use Rattle.cut_places.proofs.AllLemmas.{same_test}
 use Rattle.value_tables.specs.Listed.{HasWords}
 use Rattle.witnesses.proofs.ListLemmas.{IsAmong, all_from, all_of}
 use Rattle.outcome_lists.specs.ApartFiles.{IsOfOneWord}

@@ -28,7 +28,7 @@ use Rattle.outcomes.specs.Pages.{PageRead, agrees, all_agree, all_allow_good, al
 use Rattle.outcomes.specs.Seen.{Seen, block_reads, blocks_may_show, file_reads, files_may_show, may_show, volume_may_show}
 use Rattle.outcomes.specs.Seen.Seen.{of_blocks, of_file, of_volume}
 use Rattle.outcomes.specs.Ways.{all_pass, each_passes, group_passes, groups_pass}
-use Rattle.file_sights.proofs.AllLemmas.{all_so}
+use Rattle.cut_places.proofs.AllLemmas.{all_so}
 use Rattle.witnesses.proofs.ListLemmas.{any_more}
 use Rattle.witnesses.proofs.SeenLemmas.{all_lines_read-append, all_numbers_read-append}
 use Rattle.outcome_lists.specs.Outcomes.{Asked, and_seen, look_of}

@@ -14,8 +14,8 @@ use Rattle.asked_reads.specs.Reads.{block_read, page_read}
 use Rattle.cut_places.specs.declared.sight.Sight.{Sight}
 use Rattle.cut_places.specs.Following.{Follows, IsWhole, IsWithin}
 use Rattle.cut_places.proofs.WithinLemmas.{blocks_within, lines_within}
-use Rattle.file_sights.specs.Sees.{SeesFiles, are_held}
-use Rattle.file_sights.specs.State.{FilesState}
+use Rattle.cut_places.specs.SeesFiles.{SeesFiles, are_held}
+use Rattle.cut_places.specs.FilesState.{FilesState}
 use Rattle.sights.specs.declared.block_seen.BlockSeen.{BlockSeen}
 use Rattle.sights.specs.declared.line_seen.LineSeen.{LineSeen}
 use Rattle.sights.specs.Units.{AreBlocks, AreLines, block_numbers, line_numbers}

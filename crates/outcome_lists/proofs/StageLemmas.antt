@@ -8,7 +8,7 @@ use Rattle.outcomes.specs.Seen.{Seen}
 use Rattle.asked_reads.specs.declared.read.Read.{Read}
 use Rattle.cut_places.specs.declared.place.CutPlace.{CutPlace}
 use Rattle.cut_places.specs.declared.sight.Sight.{Sight}
-use Rattle.file_sights.specs.Sees.{is_held}
+use Rattle.cut_places.specs.SeesFiles.{is_held}
 use Rattle.sights.specs.Units.{block_numbers, line_numbers}
 use Rattle.value_tables.specs.Looking.{IsOf, blocks_looked_at, blocks_touched, file_lines_looked_at, file_lines_touched, lines_looked_at, lines_touched, none_refused}
 use Rattle.value_tables.specs.Rows.{read_refusal}

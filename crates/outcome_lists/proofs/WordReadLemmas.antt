@@ -10,7 +10,7 @@ use Rattle.nvm_model.specs.Cell.Cell.{Bad, Kept}
 use Rattle.nvm_model.specs.Numbered.{is_among}
 use Rattle.outcomes.specs.Pages.{PageRead, PageReply, agrees, all_agree, all_allow_good, all_lines_read, allows_bad, allows_good, line_fits, lines_read, words_fit}
 use Rattle.outcomes.specs.Pages.PageReply.{Shows, Poison, Refuses}
-use Rattle.file_sights.proofs.AllLemmas.{same_test}
+use Rattle.cut_places.proofs.AllLemmas.{same_test}
 use Rattle.value_tables.specs.Listed.{HasWords}
 use Rattle.value_tables.proofs.HistoryLemmas.{word_has}
 use Rattle.witnesses.proofs.ListLemmas.{IsAmong, all_from, all_of, range_all, range_each}

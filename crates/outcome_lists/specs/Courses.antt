@@ -11,7 +11,7 @@ use Rattle.asked_reads.specs.declared.read.Read.{Read}
 use Rattle.asked_reads.specs.Program.{IsBounded, inputs_of_lines}
 use Rattle.cut_places.specs.declared.sight.Sight.{Sight}
 use Rattle.cut_places.specs.Following.{AreDone, Follows}
-use Rattle.file_sights.specs.Sees.{are_held, is_held}
+use Rattle.cut_places.specs.SeesFiles.{are_held, is_held}
 use Rattle.sights.specs.Units.{block_numbers, line_numbers}
 use Rattle.value_tables.specs.Looking.{blocks_looked_at, blocks_touched, file_lines_touched, lines_looked_at, lines_touched}
 use Rattle.value_tables.specs.Sides.{HasRun}

@@ -12,8 +12,7 @@ ghost use Rattle.outcome_lists.specs.Parts.{IsPart};
 
 use crate::passed::Passed;
 use asked_reads::{Question, Read};
-use cut_places::{CutPlace, Sight, find};
-use file_sights::FilesSeen;
+use cut_places::{CutPlace, FilesSeen, Sight, find};
 use script_text::Command;
 use sights::{BlockSeen, LineSeen, may_be_replies};
 use std::alloc::{AllocError, Global};

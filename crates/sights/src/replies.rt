@@ -14,10 +14,11 @@ use nvm_base::{BLOCK, LINE, PAGE};
 use reply_text::Why;
 use word_tables::Geometry;
 
-/// Most bytes of a volume that are read at once, and most blocks.
+/// Most bytes of a volume that are read at once.
 const MOST_BYTES: u64 = 65536;
 
-const MOST_BLOCKS: u64 = 128;
+/// Most blocks that are read at once.
+pub const MOST_BLOCKS: u64 = 128;
 
 /// Whether each read may have its reply on some device of these sizes.
 pub fn may_be_replies(question: &Question, geometry: Geometry) -> bool

@@ -29,14 +29,14 @@ use Rattle.asked_reads.specs.Fitting.{cell_fits}
 use Rattle.sights.specs.Seeing.{seen}
 use Rattle.sights.proofs.PassLemmas.{EachUnit}
 use Rattle.sights.proofs.ShowLemmas.{fits_seen}
-use Rattle.file_sights.specs.Changes.{FilesChange, LinesChange, files_changed, left_by, pages_changed}
-use Rattle.file_sights.specs.Changes.FilesChange.{Nothing, Makes, Removes, Renames, Resizes, Changes, Maps, Unmaps}
-use Rattle.file_sights.specs.Changes.LinesChange.{Puts, Persists, Rewrites, Zeroes, Loses, Weakens, Clears}
-use Rattle.file_sights.specs.Commands.{files_change}
-use Rattle.file_sights.specs.Maps.{uncopied}
-use Rattle.file_sights.proofs.InsideLemmas.{stored}
-use Rattle.file_sights.proofs.LeftLemmas.{left_by_command, left_same}
-use Rattle.file_sights.proofs.PageChangeLemmas.{length_changed}
+use Rattle.cut_places.specs.FileChanges.{FilesChange, LinesChange, files_changed, left_by, pages_changed}
+use Rattle.cut_places.specs.FileChanges.FilesChange.{Nothing, Makes, Removes, Renames, Resizes, Changes, Maps, Unmaps}
+use Rattle.cut_places.specs.FileChanges.LinesChange.{Puts, Persists, Rewrites, Zeroes, Loses, Weakens, Clears}
+use Rattle.cut_places.specs.FileCommands.{files_change}
+use Rattle.cut_places.specs.Maps.{uncopied}
+use Rattle.cut_places.proofs.InsideLemmas.{stored}
+use Rattle.cut_places.proofs.LeftLemmas.{left_by_command, left_same}
+use Rattle.cut_places.proofs.PageChangeLemmas.{length_changed}
 use Rattle.value_tables.specs.Left.{FileSide, file_left, file_side, files_left, of_files, side_of}
 use Rattle.value_tables.specs.Left.FileSide.{NoFile, PastEnd, OfLine}
 use Rattle.value_tables.specs.Listed.{HasWords, file_word_read, has_bytes, lists_bytes}

@@ -14,16 +14,16 @@ use Rattle.machine_host.specs.Meaning.FilesLeft.{Unchanged, OldOrNew, StoredInPa
 use Rattle.durable.specs.Durable.{IsComplete}
 use Rattle.sights.specs.Seeing.{seen}
 use Rattle.cut_places.specs.Sights.{files_once_done}
-use Rattle.file_sights.specs.declared.line.FileLine.{FileLine}
-use Rattle.file_sights.specs.Changes.{FilesChange, files_changed, left_by}
-use Rattle.file_sights.specs.Commands.{files_change}
-use Rattle.file_sights.specs.Finding.{line_held}
-use Rattle.file_sights.specs.Maps.{uncopied}
-use Rattle.file_sights.specs.Sees.{AreLines, SeesFile, SeesFiles, is_held, line_numbers}
-use Rattle.file_sights.specs.State.{FileState, FilesState, files_after, name_seen}
-use Rattle.file_sights.proofs.CommandLemmas.{command_follows}
-use Rattle.file_sights.proofs.HeldLemmas.{files_follow}
-use Rattle.file_sights.proofs.LeftLemmas.{left_same}
+use Rattle.cut_places.specs.declared.line.FileLine.{FileLine}
+use Rattle.cut_places.specs.FileChanges.{FilesChange, files_changed, left_by}
+use Rattle.cut_places.specs.FileCommands.{files_change}
+use Rattle.cut_places.specs.FileLines.{line_held}
+use Rattle.cut_places.specs.Maps.{uncopied}
+use Rattle.cut_places.specs.SeesFiles.{AreLines, SeesFile, SeesFiles, is_held, line_numbers}
+use Rattle.cut_places.specs.FilesState.{FileState, FilesState, files_after, name_seen}
+use Rattle.cut_places.proofs.CommandLemmas.{command_follows}
+use Rattle.cut_places.proofs.HeldLemmas.{files_follow}
+use Rattle.cut_places.proofs.LeftLemmas.{left_same}
 use Rattle.value_tables.specs.Left.{file_left, file_side, files_left, of_files, side_of}
 use Rattle.value_tables.specs.Left.FileSide.{PastEnd, OfLine}
 use Rattle.value_tables.specs.Sides.{AreFilesLeft, new_side, side_at, side_held, side_in, where_files_mixed}

@@ -4,8 +4,8 @@ use Rattle.std.specs.List.{list_all}
 use Rattle.std.proofs.lemmas.Bool.{and_parts}
 use Rattle.word_tables.specs.declared.geometry.Geometry.{Geometry}
 use Rattle.asked_reads.specs.declared.read.Read.{Read}
-use Rattle.file_sights.specs.Sees.{is_held}
-use Rattle.file_sights.proofs.AllLemmas.{all_append}
+use Rattle.cut_places.specs.SeesFiles.{is_held}
+use Rattle.cut_places.proofs.AllLemmas.{all_append}
 use Rattle.value_tables.specs.Left.{Found}
 use Rattle.value_tables.specs.Looking.{blocks_looked_at, blocks_touched, file_lines_looked_at, file_lines_touched, lines_looked_at, lines_touched, none_refused}
 use Rattle.value_tables.specs.Rows.{read_refusal, row_text, rows_of_read, rows_text}

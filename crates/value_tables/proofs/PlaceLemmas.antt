@@ -4,10 +4,10 @@ use Rattle.std.specs.List.{list_all}
 use Rattle.std.specs.Option.{is_none}
 use Rattle.std.proofs.lemmas.List.{append-nil}
 use Rattle.word_tables.specs.declared.geometry.Geometry.{Geometry}
-use Rattle.file_sights.specs.Changes.{left_by}
-use Rattle.file_sights.specs.Commands.{files_change}
-use Rattle.file_sights.specs.Sees.{is_held}
-use Rattle.file_sights.specs.State.{FilesState}
+use Rattle.cut_places.specs.FileChanges.{left_by}
+use Rattle.cut_places.specs.FileCommands.{files_change}
+use Rattle.cut_places.specs.SeesFiles.{is_held}
+use Rattle.cut_places.specs.FilesState.{FilesState}
 use Rattle.reply_text.specs.Answer.{Answer}
 use Rattle.script_text.specs.Action.{Action}
 use Rattle.machine_host.specs.Machine.{Machine, Fate}

@@ -13,8 +13,8 @@ use Rattle.sights.specs.declared.block_seen.BlockSeen.{BlockSeen}
 use Rattle.sights.specs.Units.{block_numbers, line_numbers}
 use Rattle.value_tables.specs.declared.shown.Shown.{Shown}
 use Rattle.value_tables.specs.declared.shown.Shown.TheVariants.{Block, FileWord, Word}
-use Rattle.file_sights.specs.Sees.{is_held}
-use Rattle.file_sights.specs.State.{FilesState}
+use Rattle.cut_places.specs.SeesFiles.{is_held}
+use Rattle.cut_places.specs.FilesState.{FilesState}
 use Rattle.value_tables.specs.Left.{Found}
 use Rattle.value_tables.specs.Looking.{lines_spanned}
 use Rattle.value_tables.specs.Rows.{row_text, sides_text, sights_text, word_text}

@@ -8,7 +8,7 @@ use Rattle.cut_places.specs.declared.sight.Sight.{Sight}
 use Rattle.sights.specs.Units.{block_numbers, line_numbers}
 use Rattle.asked_reads.specs.declared.read.Read.{Read}
 use Rattle.asked_reads.specs.declared.read.Read.TheVariants as reads
-use Rattle.file_sights.specs.Sees.{is_held}
+use Rattle.cut_places.specs.SeesFiles.{is_held}
 use Rattle.value_tables.specs.Rows.{read_refusal}
 
 -- none, where a read is refused

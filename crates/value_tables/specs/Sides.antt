@@ -1,5 +1,5 @@
 -- What is looked at where a cut falls: as it is, and as the command that is cut makes it, where some of it may be new.
-use Rattle.std.specs.Prelude.{◌≡◌, ◌++◌, ◌/◌, ℕ, Bool, true, false, List, [], ◌∷◌, drop, map, nat_lt, Option, Some, None, slice_get, if◌then◌else◌}
+use Rattle.std.specs.Prelude.{◌≡◌, ◌++◌, ◌/◌, ℕ, Bool, true, false, List, [], ◌∷◌, drop, map, nat_lt, Option, Some, None, slice_get, is_some, if◌then◌else◌}
 use Rattle.std.specs.Str.{bytes_eq}
 use Rattle.nvm_base.specs.Stock.{Stock}
 use Rattle.nvm_model.specs.Cell.{Cell}
@@ -9,10 +9,10 @@ use Rattle.sights.specs.declared.line_seen.LineSeen.{LineSeen}
 use Rattle.sights.specs.declared.block_seen.BlockSeen.{BlockSeen}
 use Rattle.sights.specs.declared.way.Way.{Way}
 use Rattle.machine_host.specs.Meaning.{FilesLeft}
-use Rattle.file_sights.specs.Finding.{line_held}
-use Rattle.file_sights.specs.Mixing.{is_mixed}
-use Rattle.file_sights.specs.Sees.{is_held}
-use Rattle.file_sights.specs.State.{FileState, FilesState, name_seen}
+use Rattle.cut_places.specs.FileLines.{line_held}
+use Rattle.cut_places.specs.FileMixing.{way_left}
+use Rattle.cut_places.specs.SeesFiles.{is_held}
+use Rattle.cut_places.specs.FilesState.{FileState, FilesState, name_seen}
 use Rattle.value_tables.specs.Left.{FileSide}
 use Rattle.value_tables.specs.Left.FileSide.{NoFile, PastEnd, OfLine}
 
@@ -50,7 +50,7 @@ AreFilesLeft f now new = (name : List ℕ) (p : ℕ) → is_held now.numbers (p 
 
 -- the new files, where a cut may leave some of them
 abbrev pub where_files_mixed : FilesLeft → FilesState → Option FilesState
-where_files_mixed left new = if is_mixed left then Some new else None
+where_files_mixed left new = if is_some (way_left left) then Some new else None
 
 -- the new ones, where a cut may leave some of them
 abbrev pub where_mixed : {A : Type 0} → Option Way → List A → List A

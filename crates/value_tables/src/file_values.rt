@@ -6,7 +6,7 @@ ghost use Rattle.value_tables.specs.Adding.{Adds};
 
 use crate::row::WORDS;
 use crate::values::WordValues;
-use file_sights::{FileSeen, FilesSeen};
+use cut_places::{FileSeen, FilesSeen};
 use nvm_base::{Bytes, Name, PAGE, WORD};
 use std::alloc::{AllocError, Global};
 

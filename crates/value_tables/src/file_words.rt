@@ -3,7 +3,7 @@ ghost use Rattle.std.specs.Prelude.{◌≡◌, ◌+◌, ◌*◌, ◌%◌, ◌≤
 ghost use Rattle.std.specs.List.{list_all, range_with_len};
 ghost use Rattle.std.specs.Option.{option_copied};
 ghost use Rattle.nvm_base.specs.Units.{units_of};
-ghost use Rattle.file_sights.specs.Sees.{is_held};
+ghost use Rattle.cut_places.specs.SeesFiles.{is_held};
 ghost use Rattle.value_tables.specs.declared.shown.Shown.TheVariants.{FileWord};
 ghost use Rattle.value_tables.specs.Adding.{Adds};
 ghost use Rattle.value_tables.specs.Left.{Found};
@@ -14,7 +14,7 @@ ghost use Rattle.value_tables.specs.Sides.{AreFilesLeft, new_side, side_at, text
 use crate::file_values::FileValues;
 use crate::keeping::keep;
 use crate::sides::Sides;
-use file_sights::FilesSeen;
+use cut_places::FilesSeen;
 use nvm_base::{Bytes, Name, Span, WORD, print_number};
 use std::alloc::{AllocError, Global};
 

@@ -3,8 +3,8 @@ ghost use Rattle.std.specs.Prelude.{◌≡◌, [], IfOk, None};
 ghost use Rattle.std.specs.Option.{option_copied};
 ghost use Rattle.script_text.specs.Action.{action_of};
 ghost use Rattle.word_tables.specs.Bounds.{IsValid};
-ghost use Rattle.file_sights.specs.Changes.{left_by};
-ghost use Rattle.file_sights.specs.Commands.{files_change};
+ghost use Rattle.cut_places.specs.FileChanges.{left_by};
+ghost use Rattle.cut_places.specs.FileCommands.{files_change};
 ghost use Rattle.sights.specs.Ways.{blocks_way, lines_way};
 ghost use Rattle.value_tables.specs.Left.{Found};
 ghost use Rattle.value_tables.specs.Looking.{IsOf};
@@ -14,8 +14,7 @@ ghost use Rattle.value_tables.specs.Sides.{AreBlocksLeft, AreFilesLeft, AreLeft,
 use crate::rows::rows_of;
 use crate::sides::Sides;
 use asked_reads::Read;
-use cut_places::Sight;
-use file_sights::FilesSeen;
+use cut_places::{FilesSeen, Sight};
 use nvm_base::Bytes;
 use script_text::Command;
 use sights::{BlockSeen, LineSeen, Way};
@@ -94,5 +93,9 @@ fn mixed_blocks<'a>(command: &Command, new: &'a [BlockSeen]) -> &'a [BlockSeen]
 fn mixed_files<'a>(command: &Command, now: &FilesSeen, new: &'a FilesSeen) -> Option<&'a FilesSeen>
     ensures { option_copied result ≡ where_files_mixed (left_by (files_change now.now.mappings.mappings (action_of command.now))) new.now }
 {
-    if now.mixes(command) { Some(new) } else { None }
+    if now.way_inside(command).is_some() {
+        Some(new)
+    } else {
+        None
+    }
 }

@@ -6,11 +6,8 @@ ghost use Rattle.value_tables.specs.Rows.{read_refusal};
 use asked_reads::Read;
 use nvm_base::{MOST, PAGE};
 use reply_text::Why;
-use sights::most_refusal;
+use sights::{MOST_BLOCKS, most_refusal};
 use word_tables::Geometry;
-
-/// Most blocks that are read at once.
-const MOST_BLOCKS: u64 = 128;
 
 /// Why a read is refused, whatever is stored.
 pub fn read_refusal(geometry: Geometry, read: &Read) -> Option<Why>

@@ -3,7 +3,7 @@ ghost use Rattle.std.specs.Prelude.{◌≡◌, ◌+◌, ◌<◌, ◌^◌, ◌++�
 ghost use Rattle.std.specs.List.{list_all};
 ghost use Rattle.std.specs.Option.{option_copied};
 ghost use Rattle.word_tables.specs.Bounds.{IsValid};
-ghost use Rattle.file_sights.specs.Sees.{is_held};
+ghost use Rattle.cut_places.specs.SeesFiles.{is_held};
 ghost use Rattle.sights.specs.Units.{block_numbers, line_numbers};
 ghost use Rattle.value_tables.specs.Left.{Found};
 ghost use Rattle.value_tables.specs.Looking.{blocks_looked_at, blocks_touched, file_lines_looked_at, file_lines_touched, lines_looked_at, lines_touched, none_refused};

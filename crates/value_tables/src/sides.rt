@@ -1,5 +1,5 @@
 // What is looked at where a cut falls.
-use file_sights::FilesSeen;
+use cut_places::FilesSeen;
 use sights::{BlockSeen, LineSeen};
 
 /// The lines, blocks and files as they are; and the new ones that the command makes of them, where a cut inside it may leave some of

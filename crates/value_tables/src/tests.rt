@@ -2,8 +2,7 @@
 use crate::table_of;
 use asked_reads::Read;
 use block_sights::HeldBlock;
-use cut_places::Sight;
-use file_sights::FilesSeen;
+use cut_places::{FilesSeen, Sight};
 use line_histories::HeldLine;
 use script_text::Command;
 use sights::{BlockSeen, LineSeen};

@@ -4,7 +4,7 @@ ghost use Rattle.std.specs.List.{list_all, range_with_len};
 ghost use Rattle.std.specs.Option.{option_copied};
 ghost use Rattle.nvm_base.specs.Units.{units_of};
 ghost use Rattle.word_tables.specs.Bounds.{IsValid};
-ghost use Rattle.file_sights.specs.Sees.{is_held};
+ghost use Rattle.cut_places.specs.SeesFiles.{is_held};
 ghost use Rattle.sights.specs.Units.{block_numbers, line_numbers};
 ghost use Rattle.value_tables.specs.declared.shown.Shown.TheVariants.{Block, Word};
 ghost use Rattle.value_tables.specs.Left.{Found};

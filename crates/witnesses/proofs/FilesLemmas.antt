@@ -10,16 +10,16 @@ use Rattle.outcomes.specs.Left.{files_may_pass}
 use Rattle.outcomes.specs.Pages.{lines_read}
 use Rattle.outcomes.specs.Seen.{files_may_show}
 use Rattle.outcomes.specs.Seen.Seen.{of_file}
-use Rattle.file_sights.specs.Changes.{FilesChange}
-use Rattle.file_sights.specs.Changes.FilesChange.{Nothing, Makes, Removes, Renames, Resizes, Changes, Maps, Unmaps}
-use Rattle.file_sights.specs.Changes.LinesChange.{Puts, Persists, Rewrites, Zeroes, Loses, Weakens, Clears}
-use Rattle.file_sights.specs.Commands.{files_change}
-use Rattle.file_sights.specs.Leaving.{fit_there}
-use Rattle.file_sights.specs.Sees.{SeesFiles, are_held}
-use Rattle.file_sights.specs.State.{FileState, FilesState, name_seen}
-use Rattle.file_sights.proofs.InsideLemmas.{command_inside, now_same}
-use Rattle.file_sights.proofs.LeavingLemmas.{left_fits, left_passes}
-use Rattle.file_sights.proofs.LeftLinesLemmas.{AllHaveLines, left_have}
+use Rattle.cut_places.specs.FileChanges.{FilesChange}
+use Rattle.cut_places.specs.FileChanges.FilesChange.{Nothing, Makes, Removes, Renames, Resizes, Changes, Maps, Unmaps}
+use Rattle.cut_places.specs.FileChanges.LinesChange.{Puts, Persists, Rewrites, Zeroes, Loses, Weakens, Clears}
+use Rattle.cut_places.specs.FileCommands.{files_change}
+use Rattle.cut_places.specs.FileLeaving.{fit_there}
+use Rattle.cut_places.specs.SeesFiles.{SeesFiles, are_held}
+use Rattle.cut_places.specs.FilesState.{FileState, FilesState, name_seen}
+use Rattle.cut_places.proofs.InsideLemmas.{command_inside, now_same}
+use Rattle.cut_places.proofs.LeavingLemmas.{left_fits, left_passes}
+use Rattle.cut_places.proofs.LeftLinesLemmas.{AllHaveLines, left_have}
 use Rattle.witnesses.specs.declared.file_kept.FileLineKept.{FileLineKept}
 use Rattle.witnesses.specs.Files.{left_there, line_kept_of, place_of, places_of, places_read, read_kept}
 use Rattle.witnesses.specs.Places.{IsReached, state_at}

@@ -15,14 +15,14 @@ use Rattle.outcomes.specs.Files.{FileRead, reads_of}
 use Rattle.outcomes.specs.Pages.{PageRead, PageReply, all_lines_read, is_refused_for, is_reply, is_reply_by, lines_read}
 use Rattle.outcomes.specs.Pages.PageReply.{Shows, Poison, Refuses}
 use Rattle.asked_reads.specs.Fitting.{cell_fits}
-use Rattle.file_sights.specs.declared.line.FileLine.{FileLine}
-use Rattle.file_sights.specs.Finding.{line_held}
-use Rattle.file_sights.specs.Fitting.{now_fits, read_passes, reads_pass, seen_pass}
-use Rattle.file_sights.specs.Sees.{AreLines, are_held, is_held, line_numbers}
-use Rattle.file_sights.specs.State.{FileState, name_seen}
-use Rattle.file_sights.proofs.AllLemmas.{IsOneOf}
-use Rattle.file_sights.proofs.LeftLinesLemmas.{AllHaveLines, HasLines}
-use Rattle.file_sights.proofs.ReadLemmas.{lines_by_read, lines_of_read, lines_same}
+use Rattle.cut_places.specs.declared.line.FileLine.{FileLine}
+use Rattle.cut_places.specs.FileLines.{line_held}
+use Rattle.cut_places.specs.FileFitting.{now_fits, read_passes, reads_pass, seen_pass}
+use Rattle.cut_places.specs.SeesFiles.{AreLines, are_held, is_held, line_numbers}
+use Rattle.cut_places.specs.FilesState.{FileState, name_seen}
+use Rattle.cut_places.proofs.AllLemmas.{IsOneOf}
+use Rattle.cut_places.proofs.LeftLinesLemmas.{AllHaveLines, HasLines}
+use Rattle.cut_places.proofs.ReadLemmas.{lines_by_read, lines_of_read, lines_same}
 use Rattle.witnesses.specs.Files.{left_at, line_there}
 use Rattle.witnesses.specs.Telling.{line_reply}
 use Rattle.witnesses.proofs.AskedLemmas.{line_reply_is, lines_at}

@@ -22,8 +22,8 @@ use Rattle.asked_reads.specs.Asking.{IsLook, blocks_of, files_asked, may_be_file
 use Rattle.asked_reads.specs.Fitting.{cell_fits, sight_fits}
 use Rattle.sights.specs.declared.line_seen.LineSeen.{LineSeen}
 use Rattle.sights.specs.declared.block_seen.BlockSeen.{BlockSeen}
-use Rattle.file_sights.specs.Leaving.{fit_there}
-use Rattle.file_sights.specs.Sees.{are_held}
+use Rattle.cut_places.specs.FileLeaving.{fit_there}
+use Rattle.cut_places.specs.SeesFiles.{are_held}
 use Rattle.cut_places.specs.declared.sight.Sight.{Sight}
 use Rattle.cut_places.specs.Following.{Follows, IsWhole, IsWithin}
 use Rattle.sights.specs.Seeing.{seen}

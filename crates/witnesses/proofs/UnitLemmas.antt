@@ -20,9 +20,9 @@ use Rattle.asked_reads.specs.Asking.{IsLook, files_asked, may_be_replies}
 use Rattle.sights.specs.declared.line_seen.LineSeen.{LineSeen}
 use Rattle.sights.specs.declared.block_seen.BlockSeen.{BlockSeen}
 use Rattle.cut_places.specs.declared.sight.Sight.{Sight}
-use Rattle.file_sights.specs.Changes.{FilesChange}
-use Rattle.file_sights.specs.Commands.{files_change}
-use Rattle.file_sights.specs.Leaving.{fit_there}
+use Rattle.cut_places.specs.FileChanges.{FilesChange}
+use Rattle.cut_places.specs.FileCommands.{files_change}
+use Rattle.cut_places.specs.FileLeaving.{fit_there}
 use Rattle.sights.specs.Changing.{line_changed, volume_change}
 use Rattle.sights.specs.ChangingBlocks.{block_changed}
 use Rattle.cut_places.specs.Following.{Follows, IsWhole, IsWithin}

@@ -7,7 +7,7 @@ use Rattle.script_text.specs.Action.Action.{Create, Delete, FAtomic, FSync, FWri
 use Rattle.outcomes.specs.Files.{FileRead}
 use Rattle.outcomes.specs.Pages.{PageReply}
 use Rattle.outcomes.specs.Pages.PageReply.{Shows, Poison}
-use Rattle.file_sights.specs.State.{FileState}
+use Rattle.cut_places.specs.FilesState.{FileState}
 use Rattle.witnesses.specs.Files.{files_kept}
 use Rattle.witnesses.specs.Rows.{read_of, word_with}
 use Rattle.witnesses.specs.Texts.{files_text}

@@ -5,10 +5,10 @@ use Rattle.nvm_model.specs.Listing.{file_of}
 use Rattle.script_text.specs.Action.{Action}
 use Rattle.outcomes.specs.Files.{FileRead, reads_of}
 use Rattle.outcomes.specs.Pages.{PageRead, lines_read}
-use Rattle.file_sights.specs.Commands.{files_change}
-use Rattle.file_sights.specs.Finding.{line_held}
-use Rattle.file_sights.specs.Leaving.{files_left}
-use Rattle.file_sights.specs.State.{FileState, FilesState, name_seen}
+use Rattle.cut_places.specs.FileCommands.{files_change}
+use Rattle.cut_places.specs.FileLines.{line_held}
+use Rattle.cut_places.specs.FileLeaving.{files_left}
+use Rattle.cut_places.specs.FilesState.{FileState, FilesState, name_seen}
 use Rattle.cut_places.specs.Sights.{files_once_done}
 use Rattle.witnesses.specs.declared.file_kept.FileLineKept.{FileLineKept}
 use Rattle.witnesses.specs.declared.line_kept.LineLeft.{LineLeft}

@@ -11,7 +11,7 @@ ghost use Rattle.witnesses.specs.Files.{files_kept, files_made, read_kept};
 use crate::file_kept::FileLineKept;
 use crate::file_lines::keep_lines;
 use asked_reads::{FileRead, PageReply};
-use file_sights::FilesSeen;
+use cut_places::FilesSeen;
 use nvm_base::Span;
 use script_text::Command;
 use std::alloc::{AllocError, Global};

@@ -12,7 +12,7 @@ use crate::file_kept::FileLineKept;
 use crate::line_kept::LineLeft;
 use crate::words::{free_words, line_left};
 use asked_reads::FileRead;
-use file_sights::FileSeen;
+use cut_places::FileSeen;
 use line_histories::HeldLine;
 use nvm_base::{LINE, Name, PAGE, Span, lines_of};
 use std::alloc::AllocError;

@@ -1,7 +1,7 @@
 use Rattle.std.proofs.Common.{◌+◌, refl, sym, ap, ◌∙◌}
 use Rattle.std.proofs.lemmas.Bool.{and_from}
 use Rattle.std.specs.Result.{is_ok}
-use Rattle.file_sights.specs.Sees.{is_held}
+use Rattle.cut_places.specs.SeesFiles.{is_held}
 use Rattle.explorer.proofs.NumberLemmas.{all_read, held_still, held_up_to, was_ok}
 use Rattle.explorer.proofs.file_numbers.add_lines.Goals as goal
 

@@ -2,7 +2,7 @@ use Rattle.std.proofs.Common.{◌≡◌, ◌-◌, ◌≤◌, ◌<◌, ◌^◌, �
 use Rattle.std.specs.List.{range_with_len}
 use Rattle.outcomes.specs.Pages.{lines_read}
 use Rattle.asked_reads.specs.Reads.{page_reply}
-use Rattle.file_sights.specs.Sees.{is_held}
+use Rattle.cut_places.specs.SeesFiles.{is_held}
 use Rattle.explorer.proofs.file_numbers.add_lines.Given as goal
 
 abbrev pub invariant-loop-n : goal.invariant-loop-n

@@ -1,6 +1,6 @@
 use Rattle.std.proofs.Common.{◌≡◌, take, true}
 use Rattle.asked_reads.specs.Reads.{file_reads_asked}
-use Rattle.file_sights.specs.Sees.{are_held}
+use Rattle.cut_places.specs.SeesFiles.{are_held}
 use Rattle.explorer.proofs.file_numbers.file_numbers.Given as goal
 
 abbrev pub invariant-loop-read : goal.invariant-loop-read

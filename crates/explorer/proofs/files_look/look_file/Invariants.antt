@@ -4,7 +4,7 @@ use Rattle.machine_host.specs.Machine.{Machine}
 use Rattle.machine_host.specs.Settling.{GoesOn}
 use Rattle.machine_host.specs.Stands.{Stands}
 use Rattle.sights.specs.Seeing.{seen}
-use Rattle.file_sights.specs.Sees.{AreLines, line_numbers}
+use Rattle.cut_places.specs.SeesFiles.{AreLines, line_numbers}
 use Rattle.explorer.specs.Files.{IsListed}
 use Rattle.explorer.specs.Starting.{Begins}
 use Rattle.explorer.specs.Stopping.{NoneFell}

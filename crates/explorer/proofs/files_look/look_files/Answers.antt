@@ -3,8 +3,8 @@ use Rattle.std.proofs.lemmas.List.{length-map}
 use Rattle.nvm_base.specs.declared.files.FileEntry.{FileEntry}
 use Rattle.nvm_model.specs.Files.{entry_of_file}
 use Rattle.nvm_model.specs.Listing.{AreAlike, file_name}
-use Rattle.file_sights.specs.Sees.{SeesFile}
-use Rattle.file_sights.specs.State.{FilesState, name_seen}
+use Rattle.cut_places.specs.SeesFiles.{SeesFile}
+use Rattle.cut_places.specs.FilesState.{FilesState, name_seen}
 use Rattle.explorer.specs.Stopping.{DeviceStopped}
 use Rattle.explorer.proofs.CauseLemmas.{fell_later, handed_on, stopped_later}
 use Rattle.explorer.proofs.FileListLemmas.{files_more, listed_at, sees_all}

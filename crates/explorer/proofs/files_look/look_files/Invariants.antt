@@ -5,8 +5,8 @@ use Rattle.nvm_model.specs.Listing.{AreAlike, file_name}
 use Rattle.machine_host.specs.Machine.{Machine}
 use Rattle.machine_host.specs.Settling.{GoesOn}
 use Rattle.machine_host.specs.Stands.{Stands}
-use Rattle.file_sights.specs.Sees.{SeesFile}
-use Rattle.file_sights.specs.State.{name_seen}
+use Rattle.cut_places.specs.SeesFiles.{SeesFile}
+use Rattle.cut_places.specs.FilesState.{name_seen}
 use Rattle.explorer.specs.Files.{HasFewPages}
 use Rattle.explorer.specs.Starting.{Begins}
 use Rattle.explorer.specs.Stopping.{NoneFell}

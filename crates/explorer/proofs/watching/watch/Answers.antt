@@ -6,7 +6,7 @@ use Rattle.outcomes.specs.Finds.{armed}
 use Rattle.outcomes.specs.Pages.{all_lines_read, is_reply}
 use Rattle.asked_reads.specs.Asking.{blocks_of, may_be_file_reply, may_be_replies, volume_asked}
 use Rattle.asked_reads.specs.Reads.{blocks_asked, file_reads_asked, pages_asked}
-use Rattle.file_sights.specs.Sees.{are_held}
+use Rattle.cut_places.specs.SeesFiles.{are_held}
 use Rattle.explorer.specs.Stopping.{DeviceStopped}
 use Rattle.explorer.proofs.CauseLemmas.{fell_later, handed_on, stopped_later}
 use Rattle.explorer.proofs.FileListLemmas.{sees_armed}

@@ -2,7 +2,7 @@ use Rattle.std.proofs.Common.{◌≡◌, true, drop, take}
 use Rattle.std.specs.List.{list_all}
 use Rattle.asked_reads.specs.Program.{inputs_of_lines}
 use Rattle.cut_places.specs.Places.{cut_places}
-use Rattle.file_sights.specs.Sees.{is_held}
+use Rattle.cut_places.specs.SeesFiles.{is_held}
 use Rattle.machine_host.specs.Machine.{Machine}
 use Rattle.sights.specs.Units.{block_numbers, line_numbers}
 use Rattle.value_tables.specs.Looking.{blocks_looked_at, file_lines_looked_at, lines_looked_at}

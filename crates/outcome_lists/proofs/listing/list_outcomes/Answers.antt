@@ -1,7 +1,7 @@
 use Rattle.std.proofs.Common.{ap, sym, ◌∙◌}
 use Rattle.std.specs.List.{list_all}
 use Rattle.asked_reads.specs.Asking.{files_asked}
-use Rattle.file_sights.specs.Sees.{is_held}
+use Rattle.cut_places.specs.SeesFiles.{is_held}
 use Rattle.value_tables.specs.Looking.{blocks_looked_at, file_lines_looked_at, lines_looked_at}
 use Rattle.explorer.proofs.LookingLemmas.{held_read}
 use Rattle.outcome_lists.proofs.listing.list_outcomes.Goals as goal

@@ -6,7 +6,7 @@ use Rattle.std.proofs.lemmas.Iterator.Search.{all_from_yields_List}
 use Rattle.asked_reads.specs.Reads.{page_reply}
 use Rattle.outcomes.specs.Pages.{PageRead, agrees}
 use Rattle.asked_reads.specs.declared.reads.FileRead.{FileRead as Asked}
-use Rattle.file_sights.proofs.AskedLemmas.{all_of_file}
+use Rattle.cut_places.proofs.AskedLemmas.{all_of_file}
 use Rattle.witnesses.proofs.asked.agree_in_file.Goals as goal
 
 pub returns : goal.returns

@@ -1,6 +1,0 @@
-use Rattle.std.proofs.Common.{◌≡◌, take}
-use Rattle.machine_host.specs.OnFlushes.{all_moved}
-use Rattle.file_sights.proofs.choosing.moved.Given as goal
-
-abbrev pub invariant-loop-span : goal.invariant-loop-span
-invariant-loop-span l = l.moved.items ≡ all_moved l.by (take l.span-index l.spans)

@@ -1,9 +1,0 @@
-use Rattle.std.proofs.Common.{◌≡◌, ◌++◌, drop, map, take}
-use Rattle.asked_reads.specs.Reads.{file_reads_asked}
-use Rattle.file_sights.specs.Changes.{lines_of}
-use Rattle.file_sights.specs.Leaving.{line_left}
-use Rattle.file_sights.proofs.line_leaving.leave_lines.Given as goal
-
-abbrev pub invariant-loop-line : goal.invariant-loop-line
-invariant-loop-line l =
-    l.line-items ≡ map (line_left (file_reads_asked l.reads) l.name (lines_of l.change) l.pages) (take l.line-index l.fn.lines.items) ++ drop l.line-index l.fn.lines.items

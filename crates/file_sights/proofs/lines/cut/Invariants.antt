@@ -1,6 +1,0 @@
-use Rattle.std.proofs.Common.{◌≡◌, ◌++◌, drop, map, take}
-use Rattle.file_sights.specs.State.{line_within}
-use Rattle.file_sights.proofs.lines.cut.Given as goal
-
-abbrev pub invariant-loop-line : goal.invariant-loop-line
-invariant-loop-line l = l.line-items ≡ map (line_within l.pages) (take l.line-index l.fn.lines.items) ++ drop l.line-index l.fn.lines.items

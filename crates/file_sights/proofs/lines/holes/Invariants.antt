@@ -1,6 +1,0 @@
-use Rattle.std.proofs.Common.{◌≡◌, map, take}
-use Rattle.file_sights.specs.State.{hole_at}
-use Rattle.file_sights.proofs.lines.holes.Given as goal
-
-abbrev pub invariant-loop-number : goal.invariant-loop-number
-invariant-loop-number l = l.lines.items ≡ map hole_at (take l.number-index l.numbers)
