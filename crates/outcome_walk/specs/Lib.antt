@@ -1,0 +1,5 @@
+pub mod Walking
+pub mod Holding
+pub mod Counting
+pub mod Crowds
+pub mod Numbers

@@ -1,0 +1,84 @@
+// Outcomes that stand alike: only their number matters.
+ghost use Rattle.std.specs.Prelude.{◌≡◌, ◌+◌, ◌*◌, ℕ, IfSome, List, OnOk, Some, option_map, slice_get};
+ghost use Rattle.outcome_walk.specs.declared.sides.Sides.{Sides as Standing};
+ghost use Rattle.outcome_walk.specs.Holding.{ways_held};
+ghost use Rattle.outcome_walk.specs.Counting.{below, some_counted, weighed};
+ghost use Rattle.outcome_walk.specs.Crowds.{sides_at};
+
+use crate::level::{Choice, Link, Rows};
+use crate::moving::all_moved;
+use crate::sides::Sides;
+use crate::tally::Tally;
+use std::alloc::{AllocError, Global};
+
+/// What stands at each place, and how many outcomes stand so.
+#[derive(Drop)]
+pub struct Crowd {
+    pub sides: Vec<Sides>,
+    pub number: Tally,
+}
+
+impl Crowd {
+    /// Adds what they grow to with one of these choices of the next part.
+    pub fn grow(
+        &self,
+        alloc: Global,
+        places: &[Rows],
+        links: &[Link],
+        choices: &[Choice],
+        grown: &mut Vec<Crowd>,
+    ) -> Result<(), AllocError>
+        ensures { (f : List Standing → ℕ) → OnOk result (weighed f grown.new.items ≡ weighed f grown.old.items
+            + self.now.number * below places.now links.now f (ways_held choices.now) self.now.sides.items) }
+    {
+        for choice in choices {
+            let sides = all_moved(alloc, places, links, &self.sides, &choice.fits)?;
+            add_some(alloc, sides, &self.number, grown)?;
+        }
+        Ok(())
+    }
+}
+
+fn add_some(
+    alloc: Global,
+    sides: Option<Vec<Sides>>,
+    number: &Tally,
+    crowds: &mut Vec<Crowd>,
+) -> Result<(), AllocError>
+    ensures { (f : List Standing → ℕ) → OnOk result (weighed f crowds.new.items ≡ weighed f crowds.old.items + number.now * some_counted f (option_map (λ s. s.items) sides)) }
+{
+    match sides {
+        Some(sides) => add(alloc, sides, number, crowds),
+        None => Ok(()),
+    }
+}
+
+// So many more that stand so: with those that do already, if there are any.
+fn add(
+    alloc: Global,
+    sides: Vec<Sides>,
+    number: &Tally,
+    crowds: &mut Vec<Crowd>,
+) -> Result<(), AllocError>
+    ensures { (f : List Standing → ℕ) → OnOk result (weighed f crowds.new.items ≡ weighed f crowds.old.items + number.now * f sides.items) }
+{
+    match place_of(&sides, crowds) {
+        Some(k) => crowds[k].number.add(number),
+        None => {
+            let number = number.copy(alloc)?;
+            crowds.push(Crowd { sides, number })?;
+            Ok(())
+        }
+    }
+}
+
+fn place_of(sides: &[Sides], crowds: &[Crowd]) -> Option<usize>
+    ensures { IfSome result (λ k. sides_at k crowds.now ≡ Some sides.now) }
+{
+    for (k, crowd) in crowds.iter().enumerate() {
+        if crowd.sides.as_slice() == sides {
+            return Some(k);
+        }
+    }
+    None
+}

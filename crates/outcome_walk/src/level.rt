@@ -1,0 +1,35 @@
+// The parts of a look.
+use crate::sides::Sides;
+use nvm_base::Bytes;
+
+/// The numbers of the states of a place: before a command both are the same, inside it the one before and the one after.
+#[derive(Clone, Copy, PartialEq, Eq, Debug)]
+pub struct Rows {
+    pub old: usize,
+    pub new: usize,
+}
+
+/// How a part stands at a place to the part before it.
+#[derive(Clone, Copy, PartialEq, Eq, Debug)]
+pub enum Link {
+    /// What is interrupted there does not change its kind of storage.
+    Alone,
+    /// It begins a group, which is wholly old or wholly new.
+    Opens,
+    /// It is of the group of the part before it.
+    Joins,
+}
+
+/// One way that a part may be found: its text, and for each state whether it alone is shown there at rest.
+#[derive(Drop)]
+pub struct Choice {
+    pub text: Bytes,
+    pub fits: Vec<bool>,
+}
+
+/// A part: its link at each place, and the ways that it may be found.
+#[derive(Drop)]
+pub struct Level {
+    pub links: Vec<Link>,
+    pub choices: Vec<Choice>,
+}
