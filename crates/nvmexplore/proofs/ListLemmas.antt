@@ -42,8 +42,8 @@ first_so test is (stop ∷ stops) some all =
 
 -- the laws of a list, from one state on
 pub record Lists (h : Machine) (program : List Input) : Type 0 where
-  pub listed : (parts : List Read) (os : List Outcome) (o : Outcome) → 0 < length parts → outcomes_of h program parts ≡ Some os → Contains os o → IsFound h program parts o
-  pub every : (parts : List Read) (os : List Outcome) (o : Outcome) → 0 < length parts → outcomes_of h program parts ≡ Some os → IsFound h program parts o → Contains os o
+  pub listed : (parts : List Read) (o : Outcome) → Contains (outcomes_of h program parts) o → IsFound h program parts o
+  pub every : (parts : List Read) (o : Outcome) → IsFound h program parts o → Contains (outcomes_of h program parts) o
   pub words : (p : ℕ) (bytes : List ℕ) → IsReady h → IsSound h → IsProgram program → p < 512 * h.geometry.vpages → length bytes ≡ 8
       → All (λ (stop : Stop). may_show (word_read p (Shows bytes)) stop.state ≡ true → lists_bytes bytes (values_through (Volume (8 * p) 8) [] (states h program)) ≡ true) (cut_places 1 h program)
   pub blocks : (b : ℕ) (sight : Sight) → IsReady h → IsSound h → IsProgram program → b < h.geometry.blocks → IsSized sight
@@ -62,13 +62,13 @@ module _ (h : Machine) (program : List Input) (tells : (look : List Seen) → (m
   module _ (ready : IsReady (armed h)) (sound : IsSound (armed h)) (is_program : IsProgram program) where
     pub lists_runs : Lists (armed h) program → ListsRuns h program
     lists_runs list = record {
-      found = λ parts os o some are has.
-          let is = list.listed parts os o some are has in
+      found = λ parts o has.
+          let is = list.listed parts o has in
           subst (λ (o : Outcome). Finds h program (look_of o.asked)) (sym is.is) (finds_there (look_of (asked_with nothing is.picked)) is.place is.first);
-      every = λ parts os picked some are ways finds.
+      every = λ parts picked ways finds.
           let look = look_of (asked_with nothing picked) in
           let there = place_there (found_stop h program look) (found_may h program look ∙ (tells look).1 finds) in
-          (there.0, list.every parts os (outcome_at there.0 picked) some are (record { picked = picked; ways = ways; place = there.0; first = there.1; is = refl }));
+          (there.0, list.every parts (outcome_at there.0 picked) (record { picked = picked; ways = ways; place = there.0; first = there.1; is = refl }));
       words = λ p bytes within long finds. finds_so (word_read p (Shows bytes)) _ finds (list.words p bytes ready sound is_program within long);
       blocks = λ b sight within sized finds. finds_so (block_read b (reply_of b sight)) _ finds (list.blocks b sight ready sound is_program within sized);
       file_words = λ name p bytes long finds. finds_so (file_word_read name p (Shows bytes)) _ finds (list.file_words name p bytes ready sound is_program long);

@@ -1,5 +1,5 @@
 -- What a list says of the machine's runs: each outcome is what some run finds, and what a run finds of such choices is an outcome.
-use Rattle.std.specs.Prelude.{◌≡◌, ◌*◌, ◌<◌, ℕ, true, Contains, List, [], Some, length}
+use Rattle.std.specs.Prelude.{◌≡◌, ◌*◌, ◌<◌, ℕ, true, Contains, List, [], length}
 use Rattle.block_sights.specs.Sights.{Sight}
 use Rattle.script_text.specs.Script.{Input}
 use Rattle.machine_host.specs.Machine.{Machine}
@@ -13,12 +13,11 @@ use Rattle.outcome_lists.specs.Choices.{Choice, choices, sights_through, states,
 use Rattle.outcome_lists.specs.Listing.{Picks, asked_with, outcome_at}
 use Rattle.outcome_lists.specs.Outcomes.{Outcome, look_of, nothing, outcomes_of}
 
--- So it is of the outcomes of any parts, where they are not too many.
+-- So it is of the outcomes of any parts.
 pub record ListsRuns (h : Machine) (program : List Input) : Type 0 where
-  pub found : (parts : List Read) (os : List Outcome) (o : Outcome) → 0 < length parts → outcomes_of (armed h) program parts ≡ Some os
-      → Contains os o → Finds h program (look_of o.asked)
-  pub every : (parts : List Read) (os : List Outcome) (picked : List Choice) → 0 < length parts → outcomes_of (armed h) program parts ≡ Some os
-      → Picks (choices (states (armed h) program)) parts picked → Finds h program (look_of (asked_with nothing picked)) → (place : CutPlace) × Contains os (outcome_at place picked)
+  pub found : (parts : List Read) (o : Outcome) → Contains (outcomes_of (armed h) program parts) o → Finds h program (look_of o.asked)
+  pub every : (parts : List Read) (picked : List Choice) → Picks (choices (states (armed h) program)) parts picked → Finds h program (look_of (asked_with nothing picked))
+      → (place : CutPlace) × Contains (outcomes_of (armed h) program parts) (outcome_at place picked)
   -- and what a run finds of one word or block alone is one of its choices
   pub words : (p : ℕ) (bytes : List ℕ) → p < 512 * h.geometry.vpages → length bytes ≡ 8 → Finds h program (word_read p (Shows bytes))
       → lists_bytes bytes (values_through (Volume (8 * p) 8) [] (states (armed h) program)) ≡ true

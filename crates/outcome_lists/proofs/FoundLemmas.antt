@@ -1,5 +1,5 @@
 -- What is listed is found, and what is found is listed.
-use Rattle.std.proofs.Common.{◌≡◌, ◌<◌, ℕ, Bool, true, false, Option, Some, None, List, [], ◌∷◌, ◌++◌, length, is_some, refl, sym, ap, subst, ◌∙◌, append_assoc, append-nil, arith}
+use Rattle.std.proofs.Common.{◌≡◌, ℕ, Bool, true, false, Option, Some, None, List, [], ◌∷◌, ◌++◌, is_some, refl, sym, ap, subst, ◌∙◌, append_assoc, append-nil}
 use Rattle.std.specs.Prelude.{Contains, option_map, if◌then◌else◌}
 use Rattle.script_text.specs.Script.{Input}
 use Rattle.machine_host.specs.Machine.{Machine}
@@ -10,7 +10,7 @@ use Rattle.cut_places.specs.Places.{Stop, cut_places, first_stop}
 use Rattle.outcome_lists.specs.Choices.{Choice, choices, states}
 use Rattle.outcome_lists.specs.Listing.{IsFound, Picks, asked_with, text_of}
 use Rattle.outcome_lists.specs.Outcomes.{Asked, Outcome, and_seen, begun, grown, look_of, nothing, outcomes_from, outcomes_of, place_of}
-use Rattle.outcome_lists.proofs.ListLemmas.{choices_there, first_of, grown_placed, grown_there, kept, made, one_there, only_one, placed, some_same}
+use Rattle.outcome_lists.proofs.ListLemmas.{IsPlaced, choices_there, found_is, found_there, grown_there, made, one_there, placed}
 use Rattle.outcome_lists.proofs.ShorterLemmas.{shorter_shown}
 
 -- where a test passes somewhere, one that follows from it does
@@ -42,29 +42,24 @@ module _ (stops : List Stop) where
   without_all (c ∷ cs) a place is = let later = without_all cs (and_seen a c.seen) place is in without a c later.0 later.1
 
   module _ (ways : Read → List Choice) where
-    -- What is found of an outcome that is listed and choices is listed with them. Where there are none it has its place.
-    there : (parts : List Read) (os all : List Outcome) (o : Outcome) (cs : List Choice) (place : CutPlace) → outcomes_from (place_of stops) ways os parts ≡ Some all → Contains os o
-        → (parts ≡ [] → o.place ≡ Some place) → Picks ways parts cs → place_of stops (look_of (asked_with o.asked cs)) ≡ Some place
-        → Contains all (record { asked = asked_with o.asked cs; text = o.text ++ text_of cs; place = Some place })
-    there [] os all o [] place are among here picks is =
-        subst (λ (x : Outcome). Contains all x) (ap (λ (p : Option CutPlace). record { asked = o.asked; text = o.text; place = p }) (here refl)
-        ∙ ap (λ (t : List ℕ). record { asked = o.asked; text = t; place = Some place }) (sym (append-nil o.text)))
-        (subst (λ xs. Contains xs o) (some_same os all are) among)
-    there [] os all o (c ∷ cs) place are among here picks is = absurd picks
-    there (part ∷ parts) os all o [] place are among here picks is = absurd picks
-    there (part ∷ parts) os all o (c ∷ cs) place are among here picks is =
+    -- what is found of an outcome that is listed and choices is listed with them
+    there : (parts : List Read) (os : List Outcome) (o : Outcome) (cs : List Choice) (place : CutPlace) → Contains os o → IsPlaced (place_of stops) o → Picks ways parts cs
+        → place_of stops (look_of (asked_with o.asked cs)) ≡ Some place
+        → Contains (outcomes_from (place_of stops) ways os parts) (record { asked = asked_with o.asked cs; text = o.text ++ text_of cs; place = place })
+    there [] os o [] place among here picks is =
+        subst (λ (x : Outcome). Contains os x) (ap (λ (p : CutPlace). record { asked = o.asked; text = o.text; place = p }) (cc (sym here ∙ is))
+        ∙ ap (λ (t : List ℕ). record { asked = o.asked; text = t; place = place }) (sym (append-nil o.text))) among
+    there [] os o (c ∷ cs) place among here picks is = absurd picks
+    there (part ∷ parts) os o [] place among here picks is = absurd picks
+    there (part ∷ parts) os o (c ∷ cs) place among here picks is =
         let a = and_seen o.asked c.seen in
         let before = without_all cs a place is in
-        let next : Outcome = record { asked = a; text = o.text ++ c.text; place = Some before.0 } in
-        subst (λ (t : List ℕ). Contains all (record { asked = asked_with a cs; text = t; place = Some place })) (append_assoc o.text c.text (text_of cs))
-        (there parts (grown (place_of stops) os (ways part)) all next cs place (kept (λ list. outcomes_from (place_of stops) ways list parts) (grown (place_of stops) os (ways part)) all are)
+        let next : Outcome = record { asked = a; text = o.text ++ c.text; place = before.0 } in
+        subst (λ (t : List ℕ). Contains (outcomes_from (place_of stops) ways (grown (place_of stops) os (ways part)) parts) (record { asked = asked_with a cs; text = t; place = place }))
+        (append_assoc o.text c.text (text_of cs))
+        (there parts (grown (place_of stops) os (ways part)) next cs place
         (grown_there (place_of stops) os (ways part) o next among (choices_there (place_of stops) o (ways part) c next picks.0 (one_there (place_of stops) o c before.0 before.1)))
-        (λ none. sym before.1 ∙ ap (λ qs. place_of stops (look_of (asked_with a qs))) (none_picked parts cs none picks.1) ∙ is) picks.1 is)
-      where
-        none_picked : (later : List Read) (qs : List Choice) → later ≡ [] → Picks ways later qs → [] ≡ qs
-        none_picked [] [] none more = refl
-        none_picked [] (q ∷ qs) none more = absurd more
-        none_picked (p ∷ later) qs none more = cc none
+        before.1 picks.1 is)
 
 module _ (h : Machine) (program : List Input) where
   abbrev at : List Seen → Option CutPlace
@@ -73,27 +68,32 @@ module _ (h : Machine) (program : List Input) where
   abbrev ways : Read → List Choice
   ways = choices (states h program)
 
-  pub found : (parts : List Read) (os : List Outcome) (o : Outcome) → 0 < length parts → outcomes_of h program parts ≡ Some os → Contains os o → IsFound h program parts o
-  found [] os o some are has = absurd (omega (arith, some))
-  found (part ∷ parts) os o some are has =
-      let of = made at ways (part ∷ parts) (begun ∷ []) os o are has in
-      let here = placed at ways parts (grown at (begun ∷ []) (ways part)) os o (grown_placed at ways (begun ∷ []) part)
-      (kept (λ next. outcomes_from at ways next parts) (grown at (begun ∷ []) (ways part)) os are) has in
-      let is = only_one begun of.before of.among in
-      let asked : o.asked ≡ asked_with nothing of.picked = of.asked ∙ sym (ap (λ (x : Outcome). asked_with x.asked of.picked) is) in
-      let text : o.text ≡ text_of of.picked = of.text ∙ sym (ap (λ (x : Outcome). x.text ++ text_of of.picked) is) in record {
+  -- the outcome of no part
+  begun_is : (x : Outcome) → Contains (begun at) x → (place : CutPlace) × (at (look_of nothing) ≡ Some place) × (x ≡ record { asked = nothing; text = []; place = place })
+  begun_is x has = found_is nothing [] (at (look_of nothing)) x has
+
+  begun_placed : (x : Outcome) → Contains (begun at) x → IsPlaced at x
+  begun_placed x has =
+      let of = begun_is x has in ap (λ (y : Outcome). at (look_of y.asked)) of.1.1 ∙ of.1.0 ∙ sym (ap (λ (y : Outcome). Some y.place) of.1.1)
+
+  pub found : (parts : List Read) (o : Outcome) → Contains (outcomes_of h program parts) o → IsFound h program parts o
+  found parts o has =
+      let of = made at ways parts (begun at) o has in
+      let is = (begun_is of.before of.among).1.1 in
+      let asked : o.asked ≡ asked_with nothing of.picked = of.asked ∙ ap (λ (x : Outcome). asked_with x.asked of.picked) is in
+      let text : o.text ≡ text_of of.picked = of.text ∙ ap (λ (x : Outcome). x.text ++ text_of of.picked) is in record {
         picked = of.picked;
         ways = of.each;
-        place = here.place;
-        first = ap (λ (a : Asked). at (look_of a)) (sym asked) ∙ here.first;
+        place = o.place;
+        first = ap (λ (a : Asked). at (look_of a)) (sym asked) ∙ placed at ways parts (begun at) o begun_placed has;
         is =
             ap (λ (a : Asked). record { asked = a; text = o.text; place = o.place }) asked
-            ∙ ap (λ (t : List ℕ). record { asked = asked_with nothing of.picked; text = t; place = o.place }) text
-            ∙ ap (λ (p : Option CutPlace). record { asked = asked_with nothing of.picked; text = text_of of.picked; place = p }) here.has;
+            ∙ ap (λ (t : List ℕ). record { asked = asked_with nothing of.picked; text = t; place = o.place }) text;
       }
 
-  pub listed : (parts : List Read) (os : List Outcome) (o : Outcome) → 0 < length parts → outcomes_of h program parts ≡ Some os → IsFound h program parts o → Contains os o
-  listed [] os o some are is = absurd (omega (arith, some))
-  listed (part ∷ parts) os o some are is =
-      subst (λ (x : Outcome). Contains os x) (sym is.is)
-      (there (cut_places 1 h program) ways (part ∷ parts) (begun ∷ []) os begun is.picked is.place are (first_of begun []) (λ none. cc none) is.ways is.first)
+  pub listed : (parts : List Read) (o : Outcome) → IsFound h program parts o → Contains (outcomes_of h program parts) o
+  listed parts o is =
+      let first = without_all (cut_places 1 h program) is.picked nothing is.place is.first in
+      let none : Outcome = record { asked = nothing; text = []; place = first.0 } in
+      subst (λ (x : Outcome). Contains (outcomes_of h program parts) x) (sym is.is)
+      (there (cut_places 1 h program) ways parts (begun at) none is.picked is.place (found_there nothing [] (at (look_of nothing)) first.0 first.1) first.1 is.ways is.first)

@@ -1,13 +1,13 @@
 -- A list of outcomes has those that are found, and no other.
-use Rattle.std.proofs.Common.{◌≡◌, inl, inr, Bool, true, false, Option, Some, None, List, [], ◌∷◌, ◌++◌, length, refl, sym, ap, subst, ◌∙◌, append_assoc, append-nil, arith}
-use Rattle.std.specs.Prelude.{Contains, nat_lt, option_and_then, if◌then◌else◌}
+use Rattle.std.proofs.Common.{◌≡◌, inl, inr, ℕ, Option, Some, None, List, [], ◌∷◌, ◌++◌, refl, sym, ap, subst, ◌∙◌, append_assoc, append-nil, arith}
+use Rattle.std.specs.Prelude.{Contains}
 use Rattle.std.proofs.lemmas.List.Elements.{Contains-append_cases, Contains-append_left, Contains-append_right, Contains-push, Contains-push_cases}
 use Rattle.outcomes.specs.Seen.{Seen}
 use Rattle.asked_reads.specs.declared.read.Read.{Read}
 use Rattle.cut_places.specs.declared.place.CutPlace.{CutPlace}
 use Rattle.outcome_lists.specs.Choices.{Choice}
 use Rattle.outcome_lists.specs.Listing.{Picks, asked_with, text_of}
-use Rattle.outcome_lists.specs.Outcomes.{Outcome, and_seen, capped, grown, if_found, look_of, outcomes_from, with_choice, with_choices}
+use Rattle.outcome_lists.specs.Outcomes.{Asked, Outcome, and_seen, grown, if_found, look_of, outcomes_from, with_choice, with_choices}
 
 -- what a list of one item has, and what the first item is among
 pub only_one : {A : Type 0} (x y : A) → Contains (x ∷ []) y → x ≡ y
@@ -20,7 +20,7 @@ first_of x xs = Contains-append_left (x ∷ []) xs x (Contains-push [] x)
 pub record IsGrown (at : List Seen → Option CutPlace) (o : Outcome) (c : Choice) (x : Outcome) : Type 0 where
   pub place : CutPlace
   pub first : at (look_of (and_seen o.asked c.seen)) ≡ Some place
-  pub is : x ≡ record { asked = and_seen o.asked c.seen; text = o.text ++ c.text; place = Some place }
+  pub is : x ≡ record { asked = and_seen o.asked c.seen; text = o.text ++ c.text; place = place }
 
 pub record IsOfChoice (at : List Seen → Option CutPlace) (o : Outcome) (cs : List Choice) (x : Outcome) : Type 0 where
   pub choice : Choice
@@ -32,20 +32,27 @@ pub record IsOfOutcome (at : List Seen → Option CutPlace) (os : List Outcome) 
   pub among : Contains os before
   pub with : IsOfChoice at before cs x
 
+-- what is found where some place leaves it
+pub found_is : (asked : Asked) (text : List ℕ) (found : Option CutPlace) (x : Outcome) → Contains (if_found asked text found) x
+    → (place : CutPlace) × (found ≡ Some place) × (x ≡ record { asked = asked; text = text; place = place })
+found_is asked text None x has = absurd (omega (arith, has.1))
+found_is asked text (Some place) x has = (place, refl, sym (only_one _ x has))
+
+pub found_there : (asked : Asked) (text : List ℕ) (found : Option CutPlace) (place : CutPlace) → found ≡ Some place
+    → Contains (if_found asked text found) (record { asked = asked; text = text; place = place })
+found_there asked text found place is =
+    let x : Outcome = record { asked = asked; text = text; place = place } in
+    subst (λ (p : Option CutPlace). Contains (if_found asked text p) x) (sym is) (first_of x [])
+
 -- A list that is grown by the choices of a part has those outcomes, and no other.
 module _ (at : List Seen → Option CutPlace) where
   with_one : (o : Outcome) (c : Choice) (x : Outcome) → Contains (with_choice at o c) x → IsGrown at o c x
-  with_one o c x has = by_place (at (look_of (and_seen o.asked c.seen))) refl has
-    where
-      by_place : (place : Option CutPlace) → at (look_of (and_seen o.asked c.seen)) ≡ place → Contains (if_found (and_seen o.asked c.seen) (o.text ++ c.text) place) x → IsGrown at o c x
-      by_place None is there = absurd (omega (arith, there.1))
-      by_place (Some place) is there = record { place = place; first = is; is = sym (only_one _ x there) }
+  with_one o c x has =
+      let of = found_is (and_seen o.asked c.seen) (o.text ++ c.text) (at (look_of (and_seen o.asked c.seen))) x has in record { place = of.0; first = of.1.0; is = of.1.1 }
 
   pub one_there : (o : Outcome) (c : Choice) (place : CutPlace) → at (look_of (and_seen o.asked c.seen)) ≡ Some place
-      → Contains (with_choice at o c) (record { asked = and_seen o.asked c.seen; text = o.text ++ c.text; place = Some place })
-  one_there o c place first =
-      let x : Outcome = record { asked = and_seen o.asked c.seen; text = o.text ++ c.text; place = Some place } in
-      subst (λ (at_place : Option CutPlace). Contains (if_found (and_seen o.asked c.seen) (o.text ++ c.text) at_place) x) (sym first) (first_of x [])
+      → Contains (with_choice at o c) (record { asked = and_seen o.asked c.seen; text = o.text ++ c.text; place = place })
+  one_there o c place first = found_there (and_seen o.asked c.seen) (o.text ++ c.text) (at (look_of (and_seen o.asked c.seen))) place first
 
   of_choices : (o : Outcome) (cs : List Choice) (x : Outcome) → Contains (with_choices at o cs) x → IsOfChoice at o cs x
   of_choices o [] x has = absurd (omega (arith, has.1))
@@ -75,17 +82,6 @@ module _ (at : List Seen → Option CutPlace) where
     | inr later ↦ Contains-append_right (with_choices at p cs) (grown at os cs) x (grown_there os cs o x later has)
   ]
 
--- outcomes that are listed are not too many
-pub kept : (next : List Outcome → Option (List Outcome)) (os all : List Outcome) → option_and_then next (capped os) ≡ Some all → next os ≡ Some all
-kept next os all is = by_number (nat_lt 65536 (length os)) is
-  where
-    by_number : (b : Bool) → option_and_then next (if b then None else Some os) ≡ Some all → next os ≡ Some all
-    by_number true are = cc are
-    by_number false are = are
-
-pub some_same : {A : Type 0} (x y : A) → Some x ≡ Some y → x ≡ y
-some_same x y is = cc is
-
 -- An outcome that came of another one by a choice of each part, and one that has its place.
 pub record IsMade (ways : Read → List Choice) (parts : List Read) (os : List Outcome) (x : Outcome) : Type 0 where
   pub before : Outcome
@@ -95,23 +91,14 @@ pub record IsMade (ways : Read → List Choice) (parts : List Read) (os : List O
   pub asked : x.asked ≡ asked_with before.asked picked
   pub text : x.text ≡ before.text ++ text_of picked
 
-pub record IsPlaced (at : List Seen → Option CutPlace) (x : Outcome) : Type 0 where
-  pub place : CutPlace
-  pub first : at (look_of x.asked) ≡ Some place
-  pub has : x.place ≡ Some place
+abbrev pub IsPlaced : (List Seen → Option CutPlace) → Outcome → Type 0
+IsPlaced at x = at (look_of x.asked) ≡ Some x.place
 
 module _ (at : List Seen → Option CutPlace) (ways : Read → List Choice) where
-  pub made : (parts : List Read) (os all : List Outcome) (x : Outcome) → outcomes_from at ways os parts ≡ Some all → Contains all x → IsMade ways parts os x
-  made [] os all x are has = record {
-    before = x;
-    among = subst (λ xs. Contains xs x) (sym (some_same os all are)) has;
-    picked = [];
-    each = tt;
-    asked = refl;
-    text = sym (append-nil x.text);
-  }
-  made (part ∷ parts) os all x are has =
-      let later = made parts (grown at os (ways part)) all x (kept (λ next. outcomes_from at ways next parts) (grown at os (ways part)) all are) has in
+  pub made : (parts : List Read) (os : List Outcome) (x : Outcome) → Contains (outcomes_from at ways os parts) x → IsMade ways parts os x
+  made [] os x has = record { before = x; among = has; picked = []; each = tt; asked = refl; text = sym (append-nil x.text) }
+  made (part ∷ parts) os x has =
+      let later = made parts (grown at os (ways part)) x has in
       let of = of_outcomes at os (ways part) later.before later.among in
       let c = of.with.choice in
       let one = of.with.grown in record {
@@ -123,15 +110,11 @@ module _ (at : List Seen → Option CutPlace) (ways : Read → List Choice) wher
         text = later.text ∙ ap (λ (o : Outcome). o.text ++ text_of later.picked) one.is ∙ append_assoc of.before.text c.text (text_of later.picked);
       }
 
-  pub grown_placed : (os : List Outcome) (part : Read) (x : Outcome) → Contains (grown at os (ways part)) x → IsPlaced at x
+  grown_placed : (os : List Outcome) (part : Read) (x : Outcome) → Contains (grown at os (ways part)) x → IsPlaced at x
   grown_placed os part x has =
-      let one = (of_outcomes at os (ways part) x has).with.grown in record {
-        place = one.place;
-        first = ap (λ (y : Outcome). at (look_of y.asked)) one.is ∙ one.first;
-        has = ap (λ (y : Outcome). y.place) one.is;
-      }
+      let one = (of_outcomes at os (ways part) x has).with.grown in
+      ap (λ (y : Outcome). at (look_of y.asked)) one.is ∙ one.first ∙ sym (ap (λ (y : Outcome). Some y.place) one.is)
 
-  pub placed : (parts : List Read) (os all : List Outcome) (x : Outcome) → ((o : Outcome) → Contains os o → IsPlaced at o) → outcomes_from at ways os parts ≡ Some all → Contains all x → IsPlaced at x
-  placed [] os all x each are has = each x (subst (λ xs. Contains xs x) (sym (some_same os all are)) has)
-  placed (part ∷ parts) os all x each are has =
-      placed parts (grown at os (ways part)) all x (grown_placed os part) (kept (λ next. outcomes_from at ways next parts) (grown at os (ways part)) all are) has
+  pub placed : (parts : List Read) (os : List Outcome) (x : Outcome) → ((o : Outcome) → Contains os o → IsPlaced at o) → Contains (outcomes_from at ways os parts) x → IsPlaced at x
+  placed [] os x each has = each x has
+  placed (part ∷ parts) os x each has = placed parts (grown at os (ways part)) x (grown_placed os part) has
