@@ -17,3 +17,6 @@ pub mod ApartBlocksLemmas
 pub mod WordReadLemmas
 pub mod PagesApartLemmas
 pub mod ApartFilesLemmas
+pub mod OpenGroupLemmas
+pub mod GoingLemmas
+pub mod RunLemmas

@@ -23,7 +23,7 @@ mod ways;
 mod word;
 
 pub use apart::{
-    blocks_are_shown_each_for_itself, file_words_are_shown_each_for_itself,
+    blocks_are_shown_each_for_itself, file_words_are_shown_each_for_itself, sides_stand_by_groups,
     words_are_shown_each_for_itself,
 };
 pub use laws::{
