@@ -20,3 +20,6 @@ pub mod ApartFilesLemmas
 pub mod OpenGroupLemmas
 pub mod GoingLemmas
 pub mod RunLemmas
+pub mod StoodLemmas
+pub mod WalkLemmas
+pub mod SomePlaceLemmas
