@@ -20,3 +20,4 @@ pub mod ApartFilesLemmas
 pub mod StoodLemmas
 pub mod WalkLemmas
 pub mod SomePlaceLemmas
+pub mod FirstLemmas
