@@ -18,3 +18,6 @@ pub mod ApartBlocksLemmas
 pub mod WordReadLemmas
 pub mod PagesApartLemmas
 pub mod ApartFilesLemmas
+pub mod StoodLemmas
+pub mod WalkLemmas
+pub mod SomePlaceLemmas

@@ -1,5 +1,5 @@
 -- What choices of several parts are together, told place by place: at rest each alone; inside a command group by group.
-use Rattle.std.specs.Prelude.{◌≡◌, Bool, true, IsTrue, List, [], ◌∷◌, map, Option, Some, None}
+use Rattle.std.specs.Prelude.{◌≡◌, ◌++◌, Bool, true, IsTrue, List, [], ◌∷◌, map, Option, Some, None}
 use Rattle.std.specs.List.{list_all}
 use Rattle.script_text.specs.Action.{Action}
 use Rattle.script_text.specs.Script.{Input}
@@ -8,7 +8,7 @@ use Rattle.machine_host.specs.Machine.Fate.{Works}
 use Rattle.machine_host.specs.Commands.{fate, refusal, while_interrupted}
 use Rattle.reply_text.specs.Answer.{Answer}
 use Rattle.outcomes.specs.Finds.{IsReady}
-use Rattle.outcomes.specs.Seen.{may_show}
+use Rattle.outcomes.specs.Seen.{Seen, may_show}
 use Rattle.outcomes.specs.Stops.{IsProgram, is_of_program}
 use Rattle.asked_reads.specs.declared.read.Read.{Read}
 use Rattle.cut_places.specs.declared.place.CutPlace.{CutPlace}
@@ -27,6 +27,7 @@ use Rattle.outcome_lists.specs.Listing.{Picks, asked_with}
 use Rattle.outcome_lists.specs.Mixing.{go_together, link, way_of, ways_inside}
 use Rattle.outcome_lists.specs.Outcomes.{look_of, nothing, place_of}
 use Rattle.outcome_lists.specs.Parts.{AreInOrder, AreParts, same_part}
+use Rattle.outcome_lists.specs.Walks.{first_place}
 
 -- two parts are old or new together; where their kind is not mixed, each stands alone
 abbrev pub goes_by : Option Way → Read → Read → Bool
@@ -59,6 +60,16 @@ paired [] cs = []
 paired (p ∷ ps) [] = []
 paired (p ∷ ps) (c ∷ cs) = (p, c) ∷ paired ps cs
 
+-- parts, with which of these states show each of their choices alone
+abbrev pub fitted_pairs : List Machine → List Read → List Choice → List (Read × List Bool)
+fitted_pairs hs [] cs = []
+fitted_pairs hs (p ∷ ps) [] = []
+fitted_pairs hs (p ∷ ps) (c ∷ cs) = (p, map (shows_alone c) hs) ∷ fitted_pairs hs ps cs
+
+-- which sides of each place stand, once all of these parts are found so
+abbrev pub stood_at : List Place → List (Read × List Bool) → List Sides
+stood_at places xs = map (λ (place : Place). stood place.rows place.ways None (both true) xs) places
+
 -- A state at rest shows choices together where it shows each alone.
 abbrev pub EachAtRest : Type 0
 EachAtRest = (hs : List Machine) (parts : List Read) (cs : List Choice) (h : Machine) → IsReady h → IsSound h → AreParts h.geometry parts → AreInOrder parts
@@ -71,3 +82,8 @@ GroupsInside = (hs : List Machine) (parts : List Read) (cs : List Choice) (h : M
     → may_show (look_of (asked_with nothing cs)) (while_interrupted h action)
     ≡ grouped (λ (x y : Read × Choice). goes_with (ways_inside h.mappings action) x.0 y.0) (λ (x : Read × Choice). shows_alone x.1 h)
     (λ (x : Read × Choice). shows_alone x.1 (new_by (way_of (ways_inside h.mappings action) x.0) h to)) (paired parts cs)
+
+-- Of choices of the first parts, whichever they are, the first place is the first one of which a side stands.
+abbrev pub FirstStands : (List Seen → Option CutPlace) → List Machine → List Place → List Read → Type 0
+FirstStands at hs places parts = (before after : List Read) (cs : List Choice) → parts ≡ before ++ after → Picks (choices hs) before cs
+    → at (look_of (asked_with nothing cs)) ≡ first_place places (stood_at places (fitted_pairs hs before cs))

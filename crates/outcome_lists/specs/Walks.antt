@@ -6,6 +6,7 @@ use Rattle.outcome_walk.specs.Walking.{Part, Trail, begun, stands, walked}
 use Rattle.cut_places.specs.declared.place.CutPlace.{CutPlace}
 use Rattle.outcome_lists.specs.declared.place.Place.{Place}
 use Rattle.outcome_lists.specs.Lists.{place_text}
+use Rattle.outcome_lists.specs.Outcomes.{Outcome}
 
 -- the first place of which a side stands
 abbrev pub first_place : List Place → List Sides → Option CutPlace
@@ -31,3 +32,10 @@ trail_line places t = line_at (first_place places t.sides) t.text
 
 abbrev pub trail_lines : List Place → List Trail → List ℕ
 trail_lines places ts = flat_map (trail_line places) ts
+
+-- what an outcome tells, as it is walked and as it is found: its text and its place
+abbrev pub trail_told : List Place → Trail → List ℕ × Option CutPlace
+trail_told places t = (t.text, first_place places t.sides)
+
+abbrev pub outcome_told : Outcome → List ℕ × Option CutPlace
+outcome_told o = (o.text, Some o.place)
