@@ -7,6 +7,7 @@ pub mod AddLemmas
 pub mod StageLemmas
 pub mod ShorterLemmas
 pub mod PartLemmas
+pub mod PartOrderLemmas
 pub mod ListLemmas
 pub mod FoundLemmas
 pub mod WayLemmas
@@ -23,3 +24,4 @@ pub mod RunLemmas
 pub mod StoodLemmas
 pub mod WalkLemmas
 pub mod SomePlaceLemmas
+pub mod FirstLemmas

@@ -1,5 +1,6 @@
 // The reads of a look, parted: each is of one word, of the volume or of a file, or of one block.
-ghost use Rattle.std.specs.Prelude.{◌≡◌, ◌+◌, ◌*◌, ◌≤◌, ◌<◌, ◌^◌, ◌++◌, IfOk, None, OnOk};
+ghost use Rattle.std.specs.Prelude.{◌≡◌, ◌+◌, ◌*◌, ◌≤◌, ◌<◌, ◌^◌, ◌++◌, IfOk, None, OnOk, not, position};
+ghost use Rattle.std.specs.List.{position_or_len};
 ghost use Rattle.word_tables.specs.Bounds.{IsValid};
 ghost use Rattle.nvm_base.specs.Units.{units_of};
 ghost use Rattle.value_tables.specs.Rows.{read_refusal};
@@ -60,14 +61,25 @@ fn add_parts(geometry: Geometry, read: &Read, parts: &mut Vec<Read>) -> Result<(
 fn add_part(part: Read, parts: &mut Vec<Read>) -> Result<(), AllocError>
     ensures parts { OnOk result (parts.new.items ≡ with_part parts.old.items part) }
 {
-    let at = parts
-        .iter()
-        .position(|other| !comes_before(other, &part))
-        .unwrap_or(parts.len());
-    match parts.get(at) {
-        Some(other) if same_part(other, &part) => Ok(()),
-        _ => Ok(parts.insert(at, part)?),
+    let place = place_of(parts, &part);
+    match parts.get(place) {
+        Some(other) if same_part(other, &part) => {}
+        _ => parts.insert(place, part)?,
     }
+    Ok(())
+}
+
+// Behind those that come before it.
+fn place_of(parts: &[Read], part: &Read) -> usize
+    ensures { result ≡ position_or_len (λ other. not (comes_before other part.now)) parts.now }
+{
+    first_behind(parts, part).unwrap_or(parts.len())
+}
+
+fn first_behind(parts: &[Read], part: &Read) -> Option<usize>
+    ensures { result ≡ position (λ other. not (comes_before other part.now)) parts.now }
+{
+    parts.iter().position(|other| !comes_before(other, part))
 }
 
 fn comes_before(part: &Read, other: &Read) -> bool

@@ -1,7 +1,7 @@
 use Rattle.std.proofs.Common.{◌≤◌, ap, sym, subst, ◌∙◌, arith}
-use Rattle.value_tables.specs.Values.{with_one}
-use Rattle.outcome_lists.specs.Parts.{AreParts, IsPart, part, reach, same_part}
-use Rattle.outcome_lists.proofs.PartLemmas.{all_with_one, next_of_run}
+use Rattle.outcome_lists.specs.Parts.{AreInOrder, AreParts, IsPart, part, reach, with_part}
+use Rattle.outcome_lists.proofs.PartLemmas.{next_of_run}
+use Rattle.outcome_lists.proofs.PartOrderLemmas.{all-with_part, order-with_part}
 use Rattle.outcome_lists.proofs.parts.add_parts.Goals as goal
 
 pub loop-n-preserved : goal.loop-n-preserved
@@ -18,6 +18,7 @@ loop-n-preserved c =
       ordered = omega (arith, ordered);
       begins = begins;
       ends = i.ends;
-      parts = more ∙ ap (with_one same_part old) c.part.ensures.part ∙ next_of_run same_part (part read) first c.loop-n.n c.args.parts.now.items old from i.parts;
-      taken = λ were. subst (AreParts c.args.geometry) (sym more) (all_with_one (IsPart c.args.geometry) same_part old c.part.result (i.taken were) c.part.ensures.is);
+      parts = more ∙ ap (with_part old) c.part.ensures.part ∙ next_of_run (part read) first c.loop-n.n c.args.parts.now.items old from i.parts;
+      taken = λ were. subst (AreParts c.args.geometry) (sym more) (all-with_part (IsPart c.args.geometry) old c.part.result (i.taken were) c.part.ensures.is);
+      order = λ were. subst AreInOrder (sym more) (order-with_part old c.part.result (i.order were));
     }
