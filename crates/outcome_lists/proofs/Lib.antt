@@ -1,5 +1,6 @@
 pub mod LookLemmas
 pub mod SightLemmas
+pub mod CourseLemmas
 pub mod GatherLemmas
 pub mod GrowLemmas
 pub mod OutcomeLemmas
