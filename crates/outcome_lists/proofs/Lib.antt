@@ -21,3 +21,9 @@ pub mod ApartFilesLemmas
 pub mod StoodLemmas
 pub mod WalkLemmas
 pub mod SomePlaceLemmas
+pub mod PickedLemmas
+pub mod KindLemmas
+pub mod SplitLemmas
+pub mod GoesLemmas
+pub mod RestLemmas
+pub mod InsideLemmas
