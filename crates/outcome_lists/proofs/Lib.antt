@@ -26,3 +26,5 @@ pub mod StoodLemmas
 pub mod WalkLemmas
 pub mod SomePlaceLemmas
 pub mod FirstLemmas
+pub mod BeginLemmas
+pub mod ListingLemmas
