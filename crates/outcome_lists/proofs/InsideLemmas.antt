@@ -31,9 +31,10 @@ use Rattle.outcome_lists.specs.Parts.{AreInOrder, AreParts}
 use Rattle.outcome_lists.specs.Together.{GroupsInside, goes_by, goes_with, new_by, paired}
 use Rattle.outcome_lists.proofs.ApartBlocksLemmas.{blocks_pass_apart}
 use Rattle.outcome_lists.proofs.ApartFilesLemmas.{files_pass_apart}
-use Rattle.outcome_lists.proofs.GoesLemmas.{blocks_go, blocks_way_is, file_words_go, goes_beside, goes_itself, lines_way_is, words_go}
+use Rattle.outcome_lists.proofs.GoingLemmas.{goes_itself}
 use Rattle.outcome_lists.proofs.GroupLemmas.{each_of, groups_apart, one_alone}
 use Rattle.outcome_lists.proofs.KindLemmas.{are_blocks, are_file_words, are_words}
+use Rattle.outcome_lists.proofs.LeftGroupLemmas.{blocks_in_groups, blocks_way_is, file_words_in_groups, goes_beside, lines_way_is, words_in_groups}
 use Rattle.outcome_lists.proofs.PickedLemmas.{IsTold, all_seen, part_of, picked, shown_as_seen}
 use Rattle.outcome_lists.proofs.RestLemmas.{alone_at, alone_is, lines_there, shown_alone}
 use Rattle.outcome_lists.proofs.SplitLemmas.{both_same, grouped_alike, grouped_both, grouped_by_kinds, grouped_map, three_same}
@@ -103,9 +104,9 @@ module _ (h to : Machine) (action : Action) where
           let new : PageRead → Bool = fits_alone pages_made in
           both_same refl
           (groups_apart h.geometry action words h.volume (are_words h.geometry ss are order told) sound.lines (lines_there h sound ss are order told)
-          ∙ words_go old new words ((meaning action).volume_left h.geometry)
+          ∙ words_in_groups old new words ((meaning action).volume_left h.geometry)
           ∙ ap (λ o. grouped (λ r q. goes_by o (part_of (of_volume r)) (part_of (of_volume q))) old (new_by o old new) words) (sym (lines_way_is h.geometry action)))
-          ∙ grouped_both (λ r q. goes (of_volume r) (of_volume q)) (λ r. goes_itself way (part_of (of_volume r))) replied words old (new_by way old new)
+          ∙ grouped_both (λ r q. goes (of_volume r) (of_volume q)) (λ r. goes_itself (ways_inside h.mappings action) (part_of (of_volume r))) replied words old (new_by way old new)
           ∙ grouped_alike (λ r q. goes (of_volume r) (of_volume q)) (λ r q. goes (of_volume r) (of_volume q)) (λ r. replied r && old r) (λ r. replied r && new_by way old new r)
           (λ r. alone_at h (of_volume r)) (λ r. alone_at (new_of (of_volume r)) (of_volume r)) words (λ r q. refl) word_old (word_new way refl)
 
@@ -128,9 +129,9 @@ module _ (h to : Machine) (action : Action) where
           let new : BlockRead → Bool = shows_block ((meaning action).blocks h.blocks) in
           both_same refl
           (blocks_pass_apart (block_reads ss) (are_blocks h.geometry ss are told) (Some action) h.blocks
-          ∙ blocks_go old new (block_reads ss) (meaning action).blocks_left
+          ∙ blocks_in_groups old new (block_reads ss) (meaning action).blocks_left
           ∙ ap (λ o. grouped (λ r q. goes_by o (part_of (of_blocks r)) (part_of (of_blocks q))) old (new_by o old new) (block_reads ss)) (sym (blocks_way_is action)))
-          ∙ grouped_both (λ r q. goes (of_blocks r) (of_blocks q)) (λ r. goes_itself way (part_of (of_blocks r))) block_replied (block_reads ss) old (new_by way old new)
+          ∙ grouped_both (λ r q. goes (of_blocks r) (of_blocks q)) (λ r. goes_itself (ways_inside h.mappings action) (part_of (of_blocks r))) block_replied (block_reads ss) old (new_by way old new)
           ∙ grouped_alike (λ r q. goes (of_blocks r) (of_blocks q)) (λ r q. goes (of_blocks r) (of_blocks q)) (λ r. block_replied r && old r)
           (λ r. block_replied r && new_by way old new r) (λ r. alone_at h (of_blocks r)) (λ r. alone_at (new_of (of_blocks r)) (of_blocks r)) (block_reads ss)
           (λ r q. refl) (λ r is. refl) (λ r is. block_new way refl r)
@@ -148,7 +149,7 @@ module _ (h to : Machine) (action : Action) where
           let old : FileRead → Bool = shows_word h.files in
           let new : FileRead → Bool = shows_word ((meaning action).files h.mappings h.files) in
           files_pass_apart (file_reads ss) (are_file_words h.geometry ss are order told) h.files sound.file_lines sound.file_values h.mappings (Some action)
-          ∙ file_words_go old new (file_reads ss) left
+          ∙ file_words_in_groups old new (file_reads ss) left
           ∙ grouped_alike (λ r q. goes (of_file r) (of_file q)) (λ r q. goes (of_file r) (of_file q)) old (new_by (way_left left) old new)
           (λ r. alone_at h (of_file r)) (λ r. alone_at (new_of (of_file r)) (of_file r)) (file_reads ss) (λ r q. refl) (λ r is. refl) (λ r is. file_word_new (way_left left) refl r)
 
@@ -156,7 +157,7 @@ module _ (h to : Machine) (action : Action) where
       reads_inside : may_show ss (while_interrupted h action) ≡ grouped goes (shown_alone h) (λ s. shown_alone (new_of s) s) ss
       reads_inside =
           three_same words_inside blocks_inside file_words_inside
-          ∙ sym (grouped_by_kinds goes (λ s t. goes_beside (way_of (ways_inside h.mappings action) (part_of s)) (part_of s) (part_of t)) ss (alone_at h)
+          ∙ sym (grouped_by_kinds goes (λ s t. goes_beside (ways_inside h.mappings action) (part_of s) (part_of t)) ss (alone_at h)
           (λ s. alone_at (new_of s) s))
           ∙ grouped_alike goes goes (alone_at h) (λ s. alone_at (new_of s) s) (shown_alone h) (λ s. shown_alone (new_of s) s) ss (λ s t. refl) (λ s is. sym (alone_is h rests s))
           (λ s is. sym (alone_is (new_of s) (new_rests (way_of (ways_inside h.mappings action) (part_of s))) s))

@@ -1,5 +1,6 @@
 pub mod LookLemmas
 pub mod SightLemmas
+pub mod CourseLemmas
 pub mod GatherLemmas
 pub mod GrowLemmas
 pub mod OutcomeLemmas
@@ -18,12 +19,18 @@ pub mod ApartBlocksLemmas
 pub mod WordReadLemmas
 pub mod PagesApartLemmas
 pub mod ApartFilesLemmas
+pub mod OpenGroupLemmas
+pub mod GoingLemmas
+pub mod RunLemmas
 pub mod StoodLemmas
 pub mod WalkLemmas
 pub mod SomePlaceLemmas
 pub mod PickedLemmas
 pub mod KindLemmas
 pub mod SplitLemmas
-pub mod GoesLemmas
+pub mod LeftGroupLemmas
 pub mod RestLemmas
 pub mod InsideLemmas
+pub mod FirstLemmas
+pub mod BeginLemmas
+pub mod ListingLemmas

@@ -99,7 +99,7 @@ works_so h action answer to is = by_refusal (refusal h action) is
     by_refusal None comes = (subst (Suits h action) comes (suits h action)).1
     by_refusal (Some why) comes = cc comes
 
-sizes_led : (h : Machine) (action : Action) (o : Option Answer) → (led_to h (unless_refused h o ((meaning action).comes h))).geometry ≡ h.geometry
+pub sizes_led : (h : Machine) (action : Action) (o : Option Answer) → (led_to h (unless_refused h o ((meaning action).comes h))).geometry ≡ h.geometry
 sizes_led h action None = geometry_stays h action
 sizes_led h action (Some why) = refl
 

@@ -1,5 +1,5 @@
 -- How the parts of a look go together where a cut falls inside a command.
-use Rattle.std.specs.Prelude.{◌≡◌, ◌/◌, ◌==◌, ◌&&◌, ℕ, Bool, true, false, List, [], Option, Some, None, if◌then◌else◌}
+use Rattle.std.specs.Prelude.{◌/◌, ◌==◌, ◌&&◌, ℕ, Bool, true, false, List, [], Option, Some, None, if◌then◌else◌}
 use Rattle.std.specs.Str.{bytes_eq}
 use Rattle.nvm_model.specs.Storage.{Mapping}
 use Rattle.script_text.specs.Action.{Action}

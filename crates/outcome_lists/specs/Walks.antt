@@ -1,7 +1,8 @@
 -- What is walked, as it is printed: each outcome with the first place that leaves it.
-use Rattle.std.specs.Prelude.{◌++◌, ℕ, List, [], ◌∷◌, codes, flat_map, map, Option, Some, None, if◌then◌else◌}
+use Rattle.std.specs.Prelude.{◌++◌, ℕ, List, [], ◌∷◌, codes, flat_map, length, map, nat_lt, Option, Some, None, if◌then◌else◌}
 use Rattle.outcome_walk.specs.declared.level.Rows.{Rows}
 use Rattle.outcome_walk.specs.declared.sides.Sides.{Sides}
+use Rattle.outcome_walk.specs.Numbers.{numeral}
 use Rattle.outcome_walk.specs.Walking.{Part, Trail, begun, stands, walked}
 use Rattle.cut_places.specs.declared.place.CutPlace.{CutPlace}
 use Rattle.outcome_lists.specs.declared.place.Place.{Place}
@@ -39,3 +40,11 @@ trail_told places t = (t.text, first_place places t.sides)
 
 abbrev pub outcome_told : Outcome → List ℕ × Option CutPlace
 outcome_told o = (o.text, Some o.place)
+
+-- those lines, where they are few enough, and the number of outcomes
+abbrev pub few_lines : List Place → List Trail → List ℕ
+few_lines places ts = if nat_lt 65536 (length ts) then [] else trail_lines places ts
+
+abbrev pub walk_text : List Place → List Part → List ℕ
+walk_text places parts =
+    let ts = walk_of places parts in few_lines places ts ++ (codes "outcomes " ++ (numeral (length ts) ++ 10 ∷ []))

@@ -14,20 +14,17 @@ ghost use Rattle.outcome_lists.specs.Courses.{IsCourse, IsFrom};
 ghost use Rattle.outcome_lists.specs.Lists.{list_text, outcome_list};
 ghost use Rattle.outcome_lists.specs.Outcomes.{outcomes_of};
 ghost use Rattle.outcome_lists.specs.Parts.{AreInOrder, AreParts};
-ghost use Rattle.outcome_lists.specs.Walks.{rows_of};
 
 use crate::course::Course;
 use crate::levels::levels;
 use crate::parts::parts_of;
-use crate::place::Place;
 use crate::places::places;
-use crate::printing::{print_count, print_lines};
+use crate::printing::print_outcomes;
 use asked_reads::Read;
 use explorer::{ExploreFault, Watched, look_at, watch};
 use line_device::LineDevice;
 use machine_host::Host;
 use nvm_base::Bytes;
-use outcome_walk::{Rows, count, walk};
 use script_text::Command;
 use std::alloc::{AllocError, Global};
 
@@ -61,10 +58,7 @@ pub fn list_outcomes<D: LineDevice>(
     Ok(list_text(alloc, &course, &parts)?)
 }
 
-/// The most outcomes that are listed.
-const MOST: u32 = 65_536;
-
-// A line for each outcome of these parts, where they are few enough, and their number.
+// That of parts, of which the course looks at the lines, blocks and files.
 fn list_text(alloc: Global, course: &Course<'_>, parts: &[Read]) -> Result<Bytes, AllocError>
     requires course { IsCourse course.now }
     requires parts { AreParts course.now.geometry parts.now }
@@ -74,22 +68,7 @@ fn list_text(alloc: Global, course: &Course<'_>, parts: &[Read]) -> Result<Bytes
 {
     let places = places(alloc, course)?;
     let levels = levels(alloc, course, &places, parts)?;
-    let rows = rows_of(alloc, &places)?;
-    let number = count(alloc, &rows, &levels)?;
     let mut text = Bytes::new(alloc);
-    if number.is_at_most(MOST) {
-        print_lines(&places, &walk(alloc, &rows, &levels)?, &mut text)?;
-    }
-    print_count(&number, &mut text)?;
+    print_outcomes(alloc, &places, &levels, &mut text)?;
     Ok(text)
-}
-
-fn rows_of(alloc: Global, places: &[Place]) -> Result<Vec<Rows>, AllocError>
-    ensures { IfOk result (λ rows. rows.items ≡ rows_of places.now) }
-{
-    let mut rows = Vec::new(alloc);
-    for place in places {
-        rows.push(place.rows)?;
-    }
-    Ok(rows)
 }

@@ -3,8 +3,9 @@ ghost use Rattle.std.specs.Prelude.{◌≡◌, option_map};
 ghost use Rattle.script_text.specs.Action.{action_of};
 ghost use Rattle.machine_host.specs.Machine.{Machine};
 ghost use Rattle.cut_places.specs.SeesFiles.{SeesFiles};
-ghost use Rattle.outcome_lists.specs.Mixing.{file_of_part, go_together, link, link_to, page_of, same_kind, same_storage, still, unit_of, way_of, ways_inside};
+ghost use Rattle.outcome_lists.specs.Mixing.{go_together, link, link_to, still, ways_inside};
 
+use crate::storage::{page_of, same_kind, same_storage, unit_of};
 use asked_reads::Read;
 use cut_places::FilesSeen;
 use outcome_walk::Link;

@@ -1,0 +1,5 @@
+pub mod ValueLemmas
+pub mod NumberLemmas
+pub mod SpellLemmas
+pub mod WalkLemmas
+pub mod CountLemmas

@@ -1,5 +1,5 @@
 -- The number of outcomes, from what stands alone.
-use Rattle.std.specs.Prelude.{◌+◌, ◌*◌, ℕ, List, [], ◌∷◌, Option, Some, None}
+use Rattle.std.specs.Prelude.{◌+◌, ◌*◌, ℕ, List, [], ◌∷◌, Option, Some, None, option_map, slice_get}
 use Rattle.outcome_walk.specs.declared.crowd.Crowd.{Crowd}
 use Rattle.outcome_walk.specs.declared.level.Link.{Link}
 use Rattle.outcome_walk.specs.declared.level.Rows.{Rows}
@@ -25,3 +25,7 @@ completions places (part ∷ parts) sides = below places part.links (completions
 abbrev pub weighed : (List Sides → ℕ) → List Crowd → ℕ
 weighed f [] = 0
 weighed f (c ∷ crowds) = c.number * f c.sides.items + weighed f crowds
+
+-- the sides of the crowd of that number
+abbrev pub sides_at : ℕ → List Crowd → Option (List Sides)
+sides_at k crowds = option_map (λ (c : Crowd). c.sides.items) (slice_get crowds k)

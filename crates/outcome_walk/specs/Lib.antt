@@ -1,5 +1,4 @@
 pub mod Walking
 pub mod Holding
 pub mod Counting
-pub mod Crowds
 pub mod Numbers

@@ -1,9 +1,8 @@
 // Outcomes that stand alike: only their number matters.
-ghost use Rattle.std.specs.Prelude.{◌≡◌, ◌+◌, ◌*◌, ℕ, IfSome, List, OnOk, Some, option_map, slice_get};
+ghost use Rattle.std.specs.Prelude.{◌≡◌, ◌+◌, ◌*◌, ℕ, IfSome, List, OnOk, Some, option_map};
 ghost use Rattle.outcome_walk.specs.declared.sides.Sides.{Sides as Standing};
 ghost use Rattle.outcome_walk.specs.Holding.{ways_held};
-ghost use Rattle.outcome_walk.specs.Counting.{below, some_counted, weighed};
-ghost use Rattle.outcome_walk.specs.Crowds.{sides_at};
+ghost use Rattle.outcome_walk.specs.Counting.{below, sides_at, some_counted, weighed};
 
 use crate::level::{Choice, Link, Rows};
 use crate::moving::all_moved;

@@ -1,5 +1,5 @@
 // Numbers as decimal digits, the least first.
-ghost use Rattle.std.specs.Prelude.{◌≡◌, ◌+◌, ◌^◌, ◌<◌, ◌++◌, IfOk, OnOk, nat_le, slice_index};
+ghost use Rattle.std.specs.Prelude.{◌≡◌, ◌+◌, ◌^◌, ◌<◌, ◌++◌, ◌∷◌, [], ◌||◌, if◌then◌else◌, IfOk, OnOk, nat_le, nat_lt, slice_index};
 ghost use Rattle.outcome_walk.specs.Numbers.{AreDigits, numeral, value_of};
 
 use nvm_base::Bytes;
@@ -59,14 +59,23 @@ pub fn print_digits(digits: &[u8], out: &mut Bytes) -> Result<(), AllocError>
 {
     let mut any = false;
     for n in 0..digits.len() {
-        let digit = digit_at(digits, digits.len() - 1 - n);
-        any = any || digit > 0;
-        if any {
-            out.push(b'0' + digit)?;
-        }
+        any = print_digit(digit_at(digits, digits.len() - 1 - n), any, out)?;
     }
     if !any {
         out.push(b'0')?;
     }
     Ok(())
+}
+
+// Appends it, unless it is a zero with nothing before it; whether there is anything before the next.
+fn print_digit(digit: u8, any: bool, out: &mut Bytes) -> Result<bool, AllocError>
+    requires { digit < 10 }
+    ensures text { OnOk result (out.new.items ≡ out.old.items ++ (if any || nat_lt 0 digit then (48 + digit) ∷ [] else [])) }
+    ensures any { IfOk result (λ later. later ≡ (any || nat_lt 0 digit)) }
+{
+    let any = any || digit > 0;
+    if any {
+        out.push(b'0' + digit)?;
+    }
+    Ok(any)
 }

@@ -1,5 +1,5 @@
 // An outcome of a look, or of its first parts.
-ghost use Rattle.std.specs.Prelude.{◌≡◌, ◌++◌, IfOk, OnOk, flat_map, map};
+ghost use Rattle.std.specs.Prelude.{◌≡◌, ◌++◌, IfOk, OnOk, flat_map};
 ghost use Rattle.outcome_walk.specs.Walking.{begun, first_standing, with_way};
 ghost use Rattle.outcome_walk.specs.Holding.{some_held, trail_held, trails_held, way_held, ways_held};
 
@@ -25,7 +25,7 @@ impl Found {
     }
 
     /// That of no part.
-    pub fn begun(alloc: Global, places: &[Rows]) -> Result<Self, AllocError>
+    pub(crate) fn begun(alloc: Global, places: &[Rows]) -> Result<Self, AllocError>
         ensures { IfOk result (λ found. trail_held found ≡ begun places.now) }
     {
         Ok(Found {
@@ -35,7 +35,7 @@ impl Found {
     }
 
     /// Adds those that it grows to with one of these choices of the next part.
-    pub fn grow(
+    pub(crate) fn grow(
         &self,
         alloc: Global,
         places: &[Rows],

@@ -1,5 +1,4 @@
 // The parts of a look.
-use crate::sides::Sides;
 use nvm_base::Bytes;
 
 /// The numbers of the states of a place: before a command both are the same, inside it the one before and the one after.

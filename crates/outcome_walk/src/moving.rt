@@ -1,5 +1,5 @@
 // What stands at each place once one part more is found.
-ghost use Rattle.std.specs.Prelude.{◌≡◌, IfOk, option_map, replicate, length, map, true};
+ghost use Rattle.std.specs.Prelude.{◌≡◌, IfOk, option_map, map, true};
 ghost use Rattle.outcome_walk.specs.Walking.{all_moved, both, if_standing, is_shown, moved, stands};
 
 use crate::level::{Link, Rows};

@@ -1,5 +1,5 @@
 // What still stands at a place of a cut.
-ghost use Rattle.std.specs.Prelude.{◌≡◌, IfOk, List, OnOk};
+ghost use Rattle.std.specs.Prelude.{◌≡◌};
 ghost use Rattle.outcome_walk.specs.Walking.{first_standing, stands};
 
 /// Which sides of the group that is open at a place still stand: whether all that was found in it may be old, and whether it may be new.

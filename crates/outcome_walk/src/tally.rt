@@ -1,5 +1,5 @@
 // An exact number of any size.
-ghost use Rattle.std.specs.Prelude.{◌≡◌, ◌+◌, ◌^◌, ◌<◌, ◌++◌, IfOk, OnOk, decimal, nat_le};
+ghost use Rattle.std.specs.Prelude.{◌≡◌, ◌+◌, ◌^◌, ◌<◌, ◌++◌, IfOk, OnErr, OnOk, decimal, nat_le};
 ghost use Rattle.outcome_walk.specs.Numbers.{numeral};
 
 use crate::digits::{at_most, print_digits, sum_of};
@@ -50,7 +50,8 @@ impl Tally {
     }
 
     pub fn add(&mut self, other: &Tally) -> Result<(), AllocError>
-        ensures { OnOk result (self.new ≡ self.old + other.now) }
+        ensures sum { OnOk result (self.new ≡ self.old + other.now) }
+        ensures err { OnErr result (self.new ≡ self.old) }
     {
         let alloc = *self.digits.allocator();
         self.digits = sum_of(alloc, &self.digits, &other.digits)?;

@@ -1,5 +1,5 @@
--- Which parts go together inside a command, kind by kind, as what it may leave has it.
-use Rattle.std.proofs.Common.{◌≡◌, ℕ, ◌/◌, ◌==◌, ◌&&◌, Bool, true, false, Option, Some, None, List, refl, sym, ap}
+-- What a command that is cut may leave, kind by kind, is told by groups of parts that go together.
+use Rattle.std.proofs.Common.{◌≡◌, ℕ, ◌/◌, ◌==◌, Bool, true, false, Option, Some, None, List, refl, sym}
 use Rattle.std.specs.Str.{bytes_eq}
 use Rattle.std.proofs.lemmas.Bool.{and_from, eq-eqb, eqb-true}
 use Rattle.std.proofs.lemmas.Slice.Eq.{bytes_eq-Decides}
@@ -27,57 +27,33 @@ use Rattle.cut_places.proofs.AllLemmas.{same_test}
 use Rattle.outcome_lists.specs.Apart.{grouped, groups_left, line_of, same_line, same_page}
 use Rattle.outcome_lists.specs.ApartBlocks.{blocks_apart, is_same_block}
 use Rattle.outcome_lists.specs.ApartFiles.{is_same_word, words_apart}
-use Rattle.outcome_lists.specs.Mixing.{file_of_part, page_of, same_kind, same_storage, unit_of}
+use Rattle.outcome_lists.specs.declared.ways.Ways.{Ways}
+use Rattle.outcome_lists.specs.Mixing.{same_kind, way_of}
 use Rattle.outcome_lists.specs.Parts.{same_part}
-use Rattle.outcome_lists.specs.Together.{goes_by, new_by}
+use Rattle.outcome_lists.specs.Together.{goes_by, goes_with, new_by}
 use Rattle.outcome_lists.proofs.ApartBlocksLemmas.{grouped_same, grouped_whole}
+use Rattle.outcome_lists.proofs.GoingLemmas.{other_kind}
 use Rattle.outcome_lists.proofs.PickedLemmas.{part_of}
 use Rattle.outcome_lists.proofs.SplitLemmas.{grouped_alike}
 
--- names and numbers, either way round
-same_name : (a : List ℕ) → bytes_eq a a ≡ true
-same_name a = (bytes_eq-Decides a a).1 refl
-
+-- numbers that are the same, either way round
 turned : (a b : ℕ) → (a == b) ≡ (b == a)
 turned a b = same_test (a == b) (b == a) (λ is. eq-eqb b a (sym (eqb-true a b is))) (λ is. eq-eqb a b (sym (eqb-true b a is)))
 
--- each part goes together with itself
-kind_itself : (p : Read) → same_kind p p ≡ true
-kind_itself (Volume start len) = refl
-kind_itself (Blocks first count) = refl
-kind_itself (File name start len) = refl
+-- a part goes together with none of another kind
+unlike_part : (p q : Read) → same_kind p q ≡ false → same_part p q ≡ false
+unlike_part (Volume start len) (Volume other others) unlike = cc unlike
+unlike_part (Volume start len) (Blocks first count) unlike = refl
+unlike_part (Volume start len) (File name other others) unlike = refl
+unlike_part (Blocks first count) (Volume start len) unlike = refl
+unlike_part (Blocks first count) (Blocks other others) unlike = cc unlike
+unlike_part (Blocks first count) (File name start len) unlike = refl
+unlike_part (File name start len) (Volume other others) unlike = refl
+unlike_part (File name start len) (Blocks first count) unlike = refl
+unlike_part (File name start len) (File text other others) unlike = cc unlike
 
-storage_itself : (p : Read) → same_storage p p ≡ true
-storage_itself p = and_from (same_kind p p) (bytes_eq (file_of_part p) (file_of_part p)) (kind_itself p) (same_name (file_of_part p))
-
-part_itself : (p : Read) → same_part p p ≡ true
-part_itself (Volume start len) = eq-eqb start start refl
-part_itself (Blocks first count) = eq-eqb first first refl
-part_itself (File name start len) = and_from (bytes_eq name name) (start == start) (same_name name) (eq-eqb start start refl)
-
-pub goes_itself : (way : Option Way) (p : Read) → goes_by way p p ≡ true
-goes_itself None p = part_itself p
-goes_itself (Some Each) p = and_from (same_storage p p) (unit_of p == unit_of p) (storage_itself p) (eq-eqb (unit_of p) (unit_of p) refl)
-goes_itself (Some ByPage) p = and_from (same_storage p p) (page_of p == page_of p) (storage_itself p) (eq-eqb (page_of p) (page_of p) refl)
-goes_itself (Some Together) p = kind_itself p
-
--- and none with one of another kind
-other_part : (p q : Read) → same_kind p q ≡ false → same_part p q ≡ false
-other_part (Volume start len) (Volume other others) unlike = cc unlike
-other_part (Volume start len) (Blocks first count) unlike = refl
-other_part (Volume start len) (File name other others) unlike = refl
-other_part (Blocks first count) (Volume start len) unlike = refl
-other_part (Blocks first count) (Blocks other others) unlike = cc unlike
-other_part (Blocks first count) (File name start len) unlike = refl
-other_part (File name start len) (Volume other others) unlike = refl
-other_part (File name start len) (Blocks first count) unlike = refl
-other_part (File name start len) (File text other others) unlike = cc unlike
-
-pub goes_beside : (way : Option Way) (p q : Read) → same_kind p q ≡ false → goes_by way p q ≡ false
-goes_beside None p q unlike = other_part p q unlike
-goes_beside (Some Each) p q unlike = ap (λ b. (b && bytes_eq (file_of_part p) (file_of_part q)) && (unit_of p == unit_of q)) unlike
-goes_beside (Some ByPage) p q unlike = ap (λ b. (b && bytes_eq (file_of_part p) (file_of_part q)) && (page_of p == page_of q)) unlike
-goes_beside (Some Together) p q unlike = unlike
+pub goes_beside : (ways : Ways) (p q : Read) → same_kind p q ≡ false → goes_with ways p q ≡ false
+goes_beside ways p q unlike = other_kind (way_of ways p) p q (unlike_part p q unlike) unlike
 
 -- How what may be left mixes old and new.
 abbrev pub volume_way : VolumeLeft → Option Way
@@ -104,27 +80,31 @@ pub blocks_way_is : (action : Action) → blocks_way action ≡ each_way (meanin
 blocks_way_is (BWrite block bytes) = refl
 blocks_way_is action = refl
 
+-- a word of a file is one with itself
+own_word : (r : FileRead) → is_same_word r r ≡ true
+own_word r = and_from (bytes_eq r.name r.name) (r.pages.start == r.pages.start) ((bytes_eq-Decides r.name r.name).1 refl) (eq-eqb r.pages.start r.pages.start refl)
+
 -- Groups of what may be left are those of parts that go together.
-pub words_go : (old new : PageRead → Bool) (rs : List PageRead) (left : VolumeLeft)
+pub words_in_groups : (old new : PageRead → Bool) (rs : List PageRead) (left : VolumeLeft)
     → groups_left left old new rs ≡ grouped (λ r q. goes_by (volume_way left) (part_of (of_volume r)) (part_of (of_volume q))) old (new_by (volume_way left) old new) rs
-words_go old new rs Kept = sym (grouped_same (λ r q. r.start == q.start) (λ r. eq-eqb r.start r.start refl) old rs)
-words_go old new rs (PartStored offset bytes) =
+words_in_groups old new rs Kept = sym (grouped_same (λ r q. r.start == q.start) (λ r. eq-eqb r.start r.start refl) old rs)
+words_in_groups old new rs (PartStored offset bytes) =
     grouped_alike same_line (λ r q. line_of r == line_of q) old new old new rs (λ r q. turned (line_of q) (line_of r)) (λ r is. refl) (λ r is. refl)
-words_go old new rs (PartSynced offset len) =
+words_in_groups old new rs (PartSynced offset len) =
     grouped_alike same_line (λ r q. line_of r == line_of q) old new old new rs (λ r q. turned (line_of q) (line_of r)) (λ r is. refl) (λ r is. refl)
-words_go old new rs AllOrNone = refl
-words_go old new rs PageByPage =
+words_in_groups old new rs AllOrNone = refl
+words_in_groups old new rs PageByPage =
     grouped_alike same_page (λ r q. line_of r / 64 == line_of q / 64) old new old new rs (λ r q. turned (line_of q / 64) (line_of r / 64)) (λ r is. refl) (λ r is. refl)
 
-pub blocks_go : (old new : BlockRead → Bool) (rs : List BlockRead) (left : BlocksLeft)
+pub blocks_in_groups : (old new : BlockRead → Bool) (rs : List BlockRead) (left : BlocksLeft)
     → blocks_apart left old new rs ≡ grouped (λ r q. goes_by (each_way left) (part_of (of_blocks r)) (part_of (of_blocks q))) old (new_by (each_way left) old new) rs
-blocks_go old new rs Same = sym (grouped_same is_same_block (λ r. eq-eqb r.first r.first refl) old rs)
-blocks_go old new rs Either = sym (grouped_whole old new rs)
-blocks_go old new rs Mixed = refl
+blocks_in_groups old new rs Same = sym (grouped_same is_same_block (λ r. eq-eqb r.first r.first refl) old rs)
+blocks_in_groups old new rs Either = sym (grouped_whole old new rs)
+blocks_in_groups old new rs Mixed = refl
 
-pub file_words_go : (old new : FileRead → Bool) (rs : List FileRead) (left : FilesLeft)
+pub file_words_in_groups : (old new : FileRead → Bool) (rs : List FileRead) (left : FilesLeft)
     → words_apart left old new rs ≡ grouped (λ r q. goes_by (way_left left) (part_of (of_file r)) (part_of (of_file q))) old (new_by (way_left left) old new) rs
-file_words_go old new rs Unchanged = sym (grouped_same is_same_word (λ r. part_itself (part_of (of_file r))) old rs)
-file_words_go old new rs OldOrNew = sym (grouped_whole old new rs)
-file_words_go old new rs (StoredInPart name offset bytes) = refl
-file_words_go old new rs (SyncedInPart name spans) = refl
+file_words_in_groups old new rs Unchanged = sym (grouped_same is_same_word own_word old rs)
+file_words_in_groups old new rs OldOrNew = sym (grouped_whole old new rs)
+file_words_in_groups old new rs (StoredInPart name offset bytes) = refl
+file_words_in_groups old new rs (SyncedInPart name spans) = refl

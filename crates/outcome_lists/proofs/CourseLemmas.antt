@@ -1,0 +1,109 @@
+-- A program is followed, line by line, with what is looked at.
+use Rattle.std.proofs.Common.{◌≡◌, ◌+◌, ◌<◌, ◌≤◌, ℕ, suc, Bool, false, IsTrue, true, Option, Some, None, List, [], ◌∷◌, ◌++◌, length, drop, drop-cons, get_or, map, refl, sym, ap, subst, ◌∙◌, append_assoc, arith}
+use Rattle.std.specs.Option.{is_none}
+use Rattle.std.proofs.lemmas.List.{drop_all}
+use Rattle.word_tables.specs.declared.geometry.Geometry.{Geometry}
+use Rattle.script_text.specs.declared.command.Command.{Command}
+use Rattle.script_text.specs.Action.{Action, action_of}
+use Rattle.reply_text.specs.Answer.{Answer}
+use Rattle.machine_host.specs.Machine.{Machine}
+use Rattle.machine_host.specs.Commands.{fate, meaning, refusal, unless_refused}
+use Rattle.outcomes.specs.Stops.{is_of_program, led_to}
+use Rattle.cut_places.specs.declared.sight.Sight.{Sight}
+use Rattle.cut_places.specs.Following.{AreDone, Follows, IsWithin}
+use Rattle.cut_places.specs.Sights.{files_once_done}
+use Rattle.cut_places.proofs.GoingLemmas.{at_line}
+use Rattle.cut_places.proofs.StepLemmas.{ready_after, sees_after}
+use Rattle.sights.specs.Units.{block_once_done, line_once_done}
+use Rattle.sights.proofs.SizeLemmas.{geometry_stays}
+
+-- what is looked at once a command is done, or refused
+pub follows_done : (now after : Sight) (geo : Geometry) (h : Machine) (action : Action) → Follows now geo h → IsWithin now geo → is_none (refusal h action) ≡ true → IsTrue (is_of_program action)
+    → after.lines.items ≡ map (line_once_done geo action) now.lines.items → after.blocks.items ≡ map (block_once_done geo action) now.blocks.items
+    → after.files ≡ files_once_done action now.files → Follows after geo (led_to h (fate h action))
+follows_done now after geo h action follows within done program lines blocks files =
+    subst (Follows after geo) (sym (ap (λ o. led_to h (unless_refused h o ((meaning action).comes h))) allowed)) (record {
+      ready = ready_after h action follows.ready program allowed;
+      sizes = geometry_stays h action ∙ follows.sizes;
+      sees = sees_after h action now after allowed follows.ready follows.sees (subst (IsWithin now) (sym follows.sizes) within)
+          (lines ∙ ap (λ sizes. map (line_once_done sizes action) now.lines.items) (sym follows.sizes))
+          (blocks ∙ ap (λ sizes. map (block_once_done sizes action) now.blocks.items) (sym follows.sizes)) files;
+    })
+  where
+    none_is : (o : Option Answer) → is_none o ≡ true → o ≡ None
+    none_is None none = refl
+    none_is (Some why) none = cc none
+
+    allowed : refusal h action ≡ None
+    allowed = none_is (refusal h action) done
+
+pub follows_refused : (now : Sight) (geo : Geometry) (h : Machine) (action : Action) → Follows now geo h → is_none (refusal h action) ≡ false → Follows now geo (led_to h (fate h action))
+follows_refused now geo h action follows refused = by_refusal (refusal h action) refused
+  where
+    by_refusal : (o : Option Answer) → is_none o ≡ false → Follows now geo (led_to h (unless_refused h o ((meaning action).comes h)))
+    by_refusal None none = cc none
+    by_refusal (Some why) none = follows
+
+-- The state before a line, which is followed; so much is told of it and of the lines from this one on.
+pub record Reaches (program : List (Option Command)) (done : List Bool) (geo : Geometry) (i : ℕ) (now : Sight) (Told : Machine → List (Option Command) → Type 0) : Type 0 where
+  pub to : Machine
+  pub follows : Follows now geo to
+  pub done : AreDone to (drop i program) (drop i done)
+  pub told : Told to (drop i program)
+
+suc_is : (n : ℕ) → suc n ≡ n + 1
+suc_is n = omega arith
+
+pub reaches_first : (program : List (Option Command)) (done : List Bool) (geo : Geometry) (now : Sight) (Told : Machine → List (Option Command) → Type 0) (h : Machine)
+    → Follows now geo h → AreDone h program done → Told h program → Reaches program done geo 0 now Told
+reaches_first program done geo now Told h follows all told = record { to = h; follows = follows; done = all; told = told }
+
+module _ (program : List (Option Command)) (done : List Bool) (geo : Geometry) (i : ℕ) (now : Sight) (Told : Machine → List (Option Command) → Type 0)
+    (reaches : Reaches program done geo i now Told) where
+  module _ (line : Option Command) (is_done : Bool) (lt : i < length program) (same : length done ≡ length program) (is : line ≡ get_or program i line) (told : is_done ≡ get_or done i false)
+      (Later : Machine → List (Option Command) → Type 0) where
+    lines_next : drop i program ≡ line ∷ drop (i + 1) program
+    lines_next = at_line program i line lt is
+
+    done_next : drop i done ≡ is_done ∷ drop (i + 1) done
+    done_next =
+        drop-cons done i false (omega (arith, lt, same)) ∙ ap (λ b. b ∷ drop (suc i) done) (sym told) ∙ ap (λ n. is_done ∷ drop n done) (suc_is i)
+
+    done_from : AreDone reaches.to (line ∷ drop (i + 1) program) (is_done ∷ drop (i + 1) done)
+    done_from = subst (λ lines. AreDone reaches.to lines (is_done ∷ drop (i + 1) done)) lines_next (subst (AreDone reaches.to (drop i program)) done_next reaches.done)
+
+    told_from : Told reaches.to (line ∷ drop (i + 1) program)
+    told_from = subst (Told reaches.to) lines_next reaches.told
+
+    -- a line without a command
+    pub reaches_past : line ≡ None → ((to : Machine) (lines : List (Option Command)) → Told to (None ∷ lines) → Later to lines) → Reaches program done geo (i + 1) now Later
+    reaches_past none later = record {
+      to = reaches.to;
+      follows = reaches.follows;
+      done = subst (λ l. AreDone reaches.to (l ∷ drop (i + 1) program) (is_done ∷ drop (i + 1) done)) none done_from;
+      told = later reaches.to (drop (i + 1) program) (subst (λ l. Told reaches.to (l ∷ drop (i + 1) program)) none told_from);
+    }
+
+    -- a command
+    pub reaches_on : (command : Command) → line ≡ Some command → (after : Sight)
+        → ((h : Machine) → Follows now geo h → is_none (refusal h (action_of command)) ≡ is_done → Follows after geo (led_to h (fate h (action_of command))))
+        → ((to : Machine) (lines : List (Option Command)) → Follows now geo to → is_none (refusal to (action_of command)) ≡ is_done
+        → Told to (Some command ∷ lines) → Later (led_to to (fate to (action_of command))) lines)
+        → Reaches program done geo (i + 1) after Later
+    reaches_on command some after leads later =
+        let of : AreDone reaches.to (Some command ∷ drop (i + 1) program) (is_done ∷ drop (i + 1) done) =
+        subst (λ l. AreDone reaches.to (l ∷ drop (i + 1) program) (is_done ∷ drop (i + 1) done)) some done_from in
+        record {
+          to = led_to reaches.to (fate reaches.to (action_of command));
+          follows = leads reaches.to reaches.follows of.0;
+          done = of.1;
+          told = later reaches.to (drop (i + 1) program) reaches.follows of.0 (subst (λ l. Told reaches.to (l ∷ drop (i + 1) program)) some told_from);
+        }
+
+  -- behind the last line
+  pub told_last : length program ≤ i → Told reaches.to []
+  told_last ends = subst (Told reaches.to) (drop_all i program ends) reaches.told
+
+-- what was found grows by what is here, before what is behind it
+pub grown_by : {A : Type 0} (found grown here later all : List A) → grown ≡ found ++ here → found ++ (here ++ later) ≡ all → grown ++ later ≡ all
+grown_by found grown here later all more were = ap (λ xs. xs ++ later) more ∙ append_assoc found here later ∙ were
