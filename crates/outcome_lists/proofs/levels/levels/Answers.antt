@@ -1,6 +1,8 @@
-use Rattle.std.proofs.Common.{None, Some, ap, drop, option_map, refl, rules, ◌∙◌}
+use Rattle.std.proofs.Common.{◌++◌, [], ◌∷◌, Bor, None, ap, drop, option_map, rules, ◌∙◌}
 use Rattle.std.proofs.lemmas.List.{map-append}
+use Rattle.asked_reads.specs.declared.read.Read.{Read}
 use Rattle.asked_reads.specs.Program.{inputs_of_lines}
+use Rattle.outcome_walk.specs.declared.level.Level.{Level}
 use Rattle.outcome_walk.specs.Holding.{part_held, parts_held}
 use Rattle.sights.specs.Units.{block_numbers, line_numbers}
 use Rattle.outcome_lists.specs.Asking.{choices_held}
@@ -17,7 +19,8 @@ loop-part-init c =
       blocks = ap (λ n. drop n (block_numbers sight.blocks.items)) c.none-passed.ensures.blocks ∙ c.requires.looks.blocks;
       files = c.requires.looks.files;
       parts = c.requires.parts;
-      found = λ h from. ?;
+      found = λ h from.
+          ap (λ ls. parts_held ls ++ levels c.args.places.now (states h (inputs_of_lines c.args.course.now.program.now)) None c.args.parts.now) c.new-found.ensures.items;
     }
 
 pub choices_of-requires-clause-part : goal.choices_of-requires-clause-part
@@ -49,3 +52,36 @@ pass-requires-clause-at c =
       search rules,
       search rules,
     )
+
+pub loop-part-preserved : goal.loop-part-preserved
+loop-part-preserved c =
+    let sight = c.args.course.now.sight.now in
+    let geo = c.args.course.now.geometry in
+    let parts = c.args.parts.now in
+    let places = c.args.places.now in
+    let i = c.loop-part.part-index in
+    let lt = c.loop-part-test.true in
+    let part = c.part-item.result in
+    let at = c.part-item.is in
+    let were = c.loop-part.invariant in
+    let is = part_here sight geo parts i lt part at were.parts in
+    record {
+      lines = lines_later sight geo parts i lt part at is.taken c.loop-part.passed.lines c.pass.new.self.lines were.lines c.pass.ensures.lines;
+      blocks = blocks_later sight geo parts i lt part at is.taken c.loop-part.passed.blocks c.pass.new.self.blocks were.blocks c.pass.ensures.blocks;
+      files = files_later sight geo parts i lt part at were.files;
+      parts = parts_later sight geo parts i lt part at were.parts;
+      found = λ h from.
+          let hs = states h (inputs_of_lines c.args.course.now.program.now) in
+          let before = option_map (λ (read : Bor Read). read.now) c.loop-part.before in
+          let one : Level = record { links = c.in_ok-links.field-0; choices = c.in_ok-fitted.field-0 } in
+          levels_next sight geo parts i lt part at places hs before (parts_held c.loop-part.found.items) (parts_held c.push.new.self.items) _ (part_held one)
+          (ap parts_held c.in_ok-push.ensures.items ∙ map-append part_held c.loop-part.found.items (one ∷ []))
+          (level_held sight geo parts i lt part at places hs before one (choices_held c.deref.result.now) c.in_ok-links.ensures (c.in_ok-fitted.ensures h from)
+          (ap choices_held c.deref.ensures.value ∙ c.in_ok-choices.ensures.choices h from))
+          (were.found h from);
+    }
+
+pub returns : goal.returns
+returns c = λ h from.
+    levels_last c.args.places.now (states h (inputs_of_lines c.args.course.now.program.now)) (option_map (λ read. read.now) c.loop-part.before) c.args.parts.now c.loop-part.part-index
+    (parts_held c.loop-part.found.items) _ c.loop-part-test.false (c.loop-part.invariant.found h from)
