@@ -1,11 +1,13 @@
+pub mod MappedLemmas
+pub mod ResultLemmas
 pub mod LookLemmas
 pub mod SightLemmas
+pub mod PartSeenLemmas
+pub mod PartAskedLemmas
 pub mod CourseLemmas
+pub mod FitLemmas
 pub mod GatherLemmas
-pub mod GrowLemmas
-pub mod OutcomeLemmas
-pub mod AddLemmas
-pub mod StageLemmas
+pub mod LevelLemmas
 pub mod ShorterLemmas
 pub mod PartLemmas
 pub mod PartOrderLemmas
