@@ -1,6 +1,7 @@
 pub mod LookLemmas
 pub mod SightLemmas
 pub mod CourseLemmas
+pub mod PlaceLemmas
 pub mod GatherLemmas
 pub mod GrowLemmas
 pub mod OutcomeLemmas
