@@ -68,7 +68,7 @@ file_words_go (Some ByPage) name start len text other others = refl
 file_words_go (Some Together) name start len text other others = refl
 
 -- parts of two kinds do not go together
-other_kind : (o : Option Way) (p q : Read) → same_part p q ≡ false → same_kind p q ≡ false → goes_by o p q ≡ false
+pub other_kind : (o : Option Way) (p q : Read) → same_part p q ≡ false → same_kind p q ≡ false → goes_by o p q ≡ false
 other_kind None p q other apart = other
 other_kind (Some Each) p q other apart = and_left _ _ (and_left (same_kind p q) _ apart)
 other_kind (Some ByPage) p q other apart = and_left _ _ (and_left (same_kind p q) _ apart)

@@ -26,6 +26,12 @@ pub mod RunLemmas
 pub mod StoodLemmas
 pub mod WalkLemmas
 pub mod SomePlaceLemmas
+pub mod PickedLemmas
+pub mod KindLemmas
+pub mod SplitLemmas
+pub mod LeftGroupLemmas
+pub mod RestLemmas
+pub mod InsideLemmas
 pub mod FirstLemmas
 pub mod BeginLemmas
 pub mod ListingLemmas

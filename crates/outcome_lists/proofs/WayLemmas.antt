@@ -92,7 +92,7 @@ module _ (test : FileSide → Bool) where
       old_or_new_side ((meaning action).files_left mappings) (file_side name p files) (file_side name p ((meaning action).files mappings files)) some
 
 -- what a command that is work leads to
-works_so : (h : Machine) (action : Action) (answer : Answer) (to : Machine) → fate h action ≡ Works answer to → Alters h action to
+pub works_so : (h : Machine) (action : Action) (answer : Answer) (to : Machine) → fate h action ≡ Works answer to → Alters h action to
 works_so h action answer to is = by_refusal (refusal h action) is
   where
     by_refusal : (o : Option Answer) → unless_refused h o ((meaning action).comes h) ≡ Works answer to → Alters h action to

@@ -11,7 +11,7 @@ ghost use Rattle.outcomes.specs.Outcome.{AllHaveValues};
 ghost use Rattle.outcome_lists.specs.Apart.{EachAlone, GroupsAlone, grouped};
 ghost use Rattle.outcome_lists.specs.ApartBlocks.{AreDistinctBlocks, AreOfOneBlock, blocks_shown_apart, is_same_block};
 ghost use Rattle.outcome_lists.specs.ApartFiles.{AreDistinctWords, words_shown_apart};
-ghost use Rattle.outcome_lists.specs.Together.{StandsByGroups};
+ghost use Rattle.outcome_lists.specs.Together.{EachAtRest, GroupsInside, StandsByGroups};
 
 /// Words of the volume are shown each for itself: at rest all of them where each alone is, and inside a command where each line, each
 /// page, or all of them are as they were before it, or as it makes them.
@@ -32,6 +32,13 @@ pub fn blocks_are_shown_each_for_itself()
 pub fn file_words_are_shown_each_for_itself()
     ensures { (reads : List FileRead) (files : List File) → AreDistinctWords reads → AllHaveLines files → AllHaveValues files
         → (mappings : List Mapping) (o : Option Action) → files_may_pass mappings o reads files ≡ words_shown_apart mappings o reads files }
+{}
+
+/// So one choice of each of several parts is shown together at rest where each is shown alone, and inside a command where each group of
+/// them is, as it was or as the command makes it.
+pub fn looks_are_shown_group_by_group()
+    ensures rest { EachAtRest }
+    ensures inside { GroupsInside }
 {}
 
 /// The sides that are kept part by part, in order, stand where each group of parts is shown all by the old state or all by the new one.

@@ -23,8 +23,8 @@ mod ways;
 mod word;
 
 pub use apart::{
-    blocks_are_shown_each_for_itself, file_words_are_shown_each_for_itself, sides_stand_by_groups,
-    words_are_shown_each_for_itself,
+    blocks_are_shown_each_for_itself, file_words_are_shown_each_for_itself,
+    looks_are_shown_group_by_group, sides_stand_by_groups, words_are_shown_each_for_itself,
 };
 pub use laws::{
     a_shorter_look_is_shown, each_listed_outcome_is_found, each_outcome_is_listed,
