@@ -2,6 +2,7 @@ pub mod LookLemmas
 pub mod SightLemmas
 pub mod CourseLemmas
 pub mod PlaceLemmas
+pub mod PrintLemmas
 pub mod GatherLemmas
 pub mod GrowLemmas
 pub mod OutcomeLemmas
