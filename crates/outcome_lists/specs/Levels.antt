@@ -1,5 +1,5 @@
 -- What a list is made from: the places of a cut, and of each part its choices, with the states that show them.
-use Rattle.std.specs.Prelude.{◌∷◌, ◌++◌, ℕ, suc, Bool, true, false, List, [], map, Option, Some, None, is_none, if◌then◌else◌}
+use Rattle.std.specs.Prelude.{◌∷◌, ◌++◌, ℕ, suc, Bool, List, [], map, Option, Some, is_none, if◌then◌else◌}
 use Rattle.script_text.specs.Script.{Input}
 use Rattle.script_text.specs.Script.Input.{Skipped, Malformed, Overlong, Asked}
 use Rattle.machine_host.specs.Machine.{Machine}
@@ -7,13 +7,11 @@ use Rattle.machine_host.specs.Commands.{fate, refusal}
 use Rattle.outcomes.specs.Seen.{may_show}
 use Rattle.outcomes.specs.Stops.{led_to}
 use Rattle.asked_reads.specs.declared.read.Read.{Read}
-use Rattle.cut_places.specs.declared.place.CutPlace.{CutPlace}
 use Rattle.cut_places.specs.declared.place.CutPlace.TheVariants.{Before, Inside}
-use Rattle.outcome_walk.specs.declared.level.Rows.{Rows}
 use Rattle.outcome_walk.specs.Walking.{Part, Way}
 use Rattle.outcome_lists.specs.declared.place.Place.{Place}
 use Rattle.outcome_lists.specs.declared.ways.Ways.{Ways}
-use Rattle.outcome_lists.specs.Choices.{Choice, choices, states}
+use Rattle.outcome_lists.specs.Choices.{Choice, choices}
 use Rattle.outcome_lists.specs.Mixing.{link, still, ways_inside}
 use Rattle.outcome_lists.specs.Outcomes.{and_seen, look_of, nothing}
 

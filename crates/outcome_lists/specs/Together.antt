@@ -2,17 +2,15 @@
 use Rattle.std.specs.Prelude.{◌≡◌, ◌++◌, Bool, true, IsTrue, List, [], ◌∷◌, map, Option, Some, None}
 use Rattle.std.specs.List.{list_all}
 use Rattle.script_text.specs.Action.{Action}
-use Rattle.script_text.specs.Script.{Input}
 use Rattle.machine_host.specs.Machine.{Machine}
 use Rattle.machine_host.specs.Machine.Fate.{Works}
 use Rattle.machine_host.specs.Commands.{fate, refusal, while_interrupted}
 use Rattle.reply_text.specs.Answer.{Answer}
 use Rattle.outcomes.specs.Finds.{IsReady}
 use Rattle.outcomes.specs.Seen.{Seen, may_show}
-use Rattle.outcomes.specs.Stops.{IsProgram, is_of_program}
+use Rattle.outcomes.specs.Stops.{is_of_program}
 use Rattle.asked_reads.specs.declared.read.Read.{Read}
 use Rattle.cut_places.specs.declared.place.CutPlace.{CutPlace}
-use Rattle.cut_places.specs.Places.{cut_places}
 use Rattle.sights.specs.declared.way.Way.{Way}
 use Rattle.outcome_walk.specs.declared.level.Rows.{Rows}
 use Rattle.outcome_walk.specs.declared.sides.Sides.{Sides}
@@ -21,11 +19,11 @@ use Rattle.value_tables.specs.Listed.{IsSound}
 use Rattle.outcome_lists.specs.declared.place.Place.{Place}
 use Rattle.outcome_lists.specs.declared.ways.Ways.{Ways}
 use Rattle.outcome_lists.specs.Apart.{grouped}
-use Rattle.outcome_lists.specs.Choices.{Choice, choices, states}
+use Rattle.outcome_lists.specs.Choices.{Choice, choices}
 use Rattle.outcome_lists.specs.Levels.{places, shows_alone}
 use Rattle.outcome_lists.specs.Listing.{Picks, asked_with}
 use Rattle.outcome_lists.specs.Mixing.{go_together, link, way_of, ways_inside}
-use Rattle.outcome_lists.specs.Outcomes.{look_of, nothing, place_of}
+use Rattle.outcome_lists.specs.Outcomes.{look_of, nothing}
 use Rattle.outcome_lists.specs.Parts.{AreInOrder, AreParts, same_part}
 use Rattle.outcome_lists.specs.Walks.{first_place}
 

@@ -4,15 +4,17 @@ use Rattle.std.specs.List.{flat_map, list_any}
 use mathlib.Core.Bool.{beq}
 use Rattle.std.specs.Bool.{Decides}
 use Rattle.outcome_walk.specs.declared.crowd.Crowd.{Crowd}
-use Rattle.outcome_walk.specs.declared.level.Choice.{Choice}
 use Rattle.outcome_walk.specs.declared.level.Level.{Level}
 use Rattle.outcome_walk.specs.declared.level.Link.{Link}
 use Rattle.outcome_walk.specs.declared.level.Rows.{Rows}
 use Rattle.outcome_walk.specs.declared.sides.Sides.{Sides}
+use Rattle.outcome_walk.specs.declared.steps.Move.{Move as MoveHeld}
 use Rattle.outcome_walk.specs.Counting.{below, completions, sides_at, some_counted, weighed}
 use Rattle.outcome_walk.specs.Holding.{parts_held, ways_held}
+use Rattle.outcome_walk.specs.Steps.{Move, all_stepped, if_standing, moves, moves_held, with_move}
+use Rattle.outcome_walk.specs.Walking.{Part, Trail, Way, begun, both, grown, stands, walked, with_way}
+use Rattle.outcome_walk.proofs.StepLemmas.{ways_moved}
 use Rattle.outcome_walk.proofs.WalkLemmas.{next_item}
-use Rattle.outcome_walk.specs.Walking.{Part, Trail, Way, all_moved, begun, both, grown, if_standing, stands, walked, with_way}
 
 -- what a function gives of the sides of outcomes, together
 abbrev pub summed : (List Sides → ℕ) → List Trail → ℕ
@@ -24,25 +26,24 @@ summed_both f [] ys = omega arith
 summed_both f (x ∷ xs) ys = let rest = summed_both f xs ys in omega (arith, rest)
 
 -- one way
-module _ (places : List Rows) (links : List Link) (f : List Sides → ℕ) where
-  of_test : (b : Bool) (text : List ℕ) (sides : List Sides) → summed f (cond b (record { text = text; sides = sides } ∷ []) []) ≡ some_counted f (cond b (Some sides) None)
-  of_test true text sides = omega arith
-  of_test false text sides = refl
+of_test : (f : List Sides → ℕ) (b : Bool) (text : List ℕ) (sides : List Sides) → summed f (cond b (record { text = text; sides = sides } ∷ []) []) ≡ some_counted f (cond b (Some sides) None)
+of_test f true text sides = omega arith
+of_test f false text sides = refl
 
-  of_way : (t : Trail) (way : Way) → summed f (with_way places links t way) ≡ some_counted f (if_standing (all_moved places links t.sides way.fits))
-  of_way t way = of_test (list_any stands (all_moved places links t.sides way.fits)) (t.text ++ way.text) (all_moved places links t.sides way.fits)
+-- each of some moves
+of_moves : (f : List Sides → ℕ) (t : Trail) (ms : List Move) → summed f (flat_map (with_move t) ms) ≡ below f ms t.sides
+of_moves f t [] = refl
+of_moves f t (m ∷ ms) =
+    summed_both f (with_move t m) (flat_map (with_move t) ms)
+    ∙ ap₂ (λ k n. k + n) (of_test f (list_any stands (all_stepped m.steps t.sides)) (t.text ++ m.text) (all_stepped m.steps t.sides)) (of_moves f t ms)
 
-  -- each way
-  of_ways : (t : Trail) (ways : List Way) → summed f (flat_map (with_way places links t) ways) ≡ below places links f ways t.sides
-  of_ways t [] = refl
-  of_ways t (way ∷ ways) =
-      summed_both f (with_way places links t way) (flat_map (with_way places links t) ways) ∙ ap₂ (λ m n. m + n) (of_way t way) (of_ways t ways)
-
-  -- of each outcome
-  of_grown : (ways : List Way) (trails : List Trail) → summed f (grown places links ways trails) ≡ summed (below places links f ways) trails
-  of_grown ways [] = refl
-  of_grown ways (t ∷ trails) =
-      summed_both f (flat_map (with_way places links t) ways) (grown places links ways trails) ∙ ap₂ (λ m n. m + n) (of_ways t ways) (of_grown ways trails)
+-- of each outcome
+of_grown : (places : List Rows) (links : List Link) (f : List Sides → ℕ) (ways : List Way) (trails : List Trail)
+    → summed f (grown places links ways trails) ≡ summed (below f (moves places links ways)) trails
+of_grown places links f ways [] = refl
+of_grown places links f ways (t ∷ trails) =
+    summed_both f (flat_map (with_way places links t) ways) (grown places links ways trails)
+    ∙ ap₂ (λ m n. m + n) (ap (summed f) (ways_moved places links t ways) ∙ of_moves f t (moves places links ways)) (of_grown places links f ways trails)
 
 each_one : (trails : List Trail) → length trails ≡ summed (λ _. 1) trails
 each_one [] = refl
@@ -96,13 +97,13 @@ pub sides_same : (a b : Sides) → Decides (beq a.old b.old && beq a.new b.new) 
 sides_same a b = search (rules, tests)
 
 -- one choice more
-module _ (places : List Rows) (links : List Link) (f : List Sides → ℕ) (sides : List Sides) (choices : List Choice) (i : ℕ) (x : Choice) (lt : i < length choices) (is : x ≡ get_or choices i x) where
-  pub choice_more : (n old new all : ℕ) (next : Option (List Sides)) → next ≡ if_standing (all_moved places links sides x.fits.items) → new ≡ old + n * some_counted f next
-      → old + n * below places links f (ways_held (drop i choices)) sides ≡ all → new + n * below places links f (ways_held (drop (i + 1) choices)) sides ≡ all
-  choice_more n old new all next moved more were =
-      let later = below places links f (ways_held (drop (i + 1) choices)) sides in
-      ap (λ m. m + n * later) (more ∙ ap (λ o. old + n * some_counted f o) moved) ∙ regroup old n (some_counted f (if_standing (all_moved places links sides x.fits.items))) later
-      ∙ ap (λ cs. old + n * below places links f (ways_held cs) sides) (sym (next_item choices i x lt is)) ∙ were
+module _ (f : List Sides → ℕ) (sides : List Sides) (ms : List MoveHeld) (i : ℕ) (x : MoveHeld) (lt : i < length ms) (is : x ≡ get_or ms i x) where
+  pub choice_more : (n old new all : ℕ) (next : Option (List Sides)) → next ≡ if_standing (all_stepped x.steps.items sides) → new ≡ old + n * some_counted f next
+      → old + n * below f (moves_held (drop i ms)) sides ≡ all → new + n * below f (moves_held (drop (i + 1) ms)) sides ≡ all
+  choice_more n old new all next stepped more were =
+      let later = below f (moves_held (drop (i + 1) ms)) sides in
+      ap (λ m. m + n * later) (more ∙ ap (λ o. old + n * some_counted f o) stepped) ∙ regroup old n (some_counted f (if_standing (all_stepped x.steps.items sides))) later
+      ∙ ap (λ xs. old + n * below f (moves_held xs) sides) (sym (next_item ms i x lt is)) ∙ were
     where
       regroup : (old n here later : ℕ) → old + n * here + n * later ≡ old + n * (here + later)
       regroup old n here later = omega arith
@@ -110,7 +111,7 @@ module _ (places : List Rows) (links : List Link) (f : List Sides → ℕ) (side
 -- one level more
 pub level_more : (places : List Rows) (levels : List Level) (i : ℕ) (x : Level) → i < length levels → x ≡ get_or levels i x
     → (old new : List Crowd) (all : ℕ) → weighed (completions places (parts_held (drop i levels))) old ≡ all
-    → ((f : List Sides → ℕ) → weighed f new ≡ weighed (below places x.links.items f (ways_held x.choices.items)) old)
+    → ((f : List Sides → ℕ) → weighed f new ≡ weighed (below f (moves places x.links.items (ways_held x.choices.items))) old)
     → weighed (completions places (parts_held (drop (i + 1) levels))) new ≡ all
 level_more places levels i x lt is old new all were grown =
     grown (completions places (parts_held (drop (i + 1) levels))) ∙ ap (λ ls. weighed (completions places (parts_held ls)) old) (sym (next_item levels i x lt is)) ∙ were

@@ -1,25 +1,25 @@
 -- The number of outcomes, from what stands alone.
 use Rattle.std.specs.Prelude.{◌+◌, ◌*◌, ℕ, List, [], ◌∷◌, Option, Some, None, option_map, slice_get}
 use Rattle.outcome_walk.specs.declared.crowd.Crowd.{Crowd}
-use Rattle.outcome_walk.specs.declared.level.Link.{Link}
 use Rattle.outcome_walk.specs.declared.level.Rows.{Rows}
 use Rattle.outcome_walk.specs.declared.sides.Sides.{Sides}
-use Rattle.outcome_walk.specs.Walking.{Part, Way, all_moved, if_standing}
+use Rattle.outcome_walk.specs.Steps.{Move, all_stepped, if_standing, moves}
+use Rattle.outcome_walk.specs.Walking.{Part}
 
 -- what a function gives of sides; nothing where none stand
 abbrev pub some_counted : (List Sides → ℕ) → Option (List Sides) → ℕ
 some_counted f None = 0
 some_counted f (Some sides) = f sides
 
--- what it gives of the sides with each way more, together
-abbrev pub below : List Rows → List Link → (List Sides → ℕ) → List Way → List Sides → ℕ
-below places links f [] sides = 0
-below places links f (way ∷ ways) sides = some_counted f (if_standing (all_moved places links sides way.fits)) + below places links f ways sides
+-- what it gives of the sides after each move, together
+abbrev pub below : (List Sides → ℕ) → List Move → List Sides → ℕ
+below f [] sides = 0
+below f (m ∷ ms) sides = some_counted f (if_standing (all_stepped m.steps sides)) + below f ms sides
 
 -- how many outcomes of all parts come of an outcome of those before, where that stands so
 abbrev pub completions : List Rows → List Part → List Sides → ℕ
 completions places [] sides = 1
-completions places (part ∷ parts) sides = below places part.links (completions places parts) part.ways sides
+completions places (part ∷ parts) sides = below (completions places parts) (moves places part.links part.ways) sides
 
 -- what it gives of crowds: of each so many times as there are outcomes
 abbrev pub weighed : (List Sides → ℕ) → List Crowd → ℕ

@@ -31,10 +31,6 @@ all_moved (rows ∷ places) [] sides fits = []
 all_moved (rows ∷ places) (link ∷ links) [] fits = []
 all_moved (rows ∷ places) (link ∷ links) (s ∷ sides) fits = moved rows link s fits ∷ all_moved places links sides fits
 
--- what stands, where that is somewhere
-abbrev pub if_standing : List Sides → Option (List Sides)
-if_standing sides = if list_any stands sides then Some sides else None
-
 -- one way that a part may be found: its text, and for each state whether it is shown there
 pub record Way : Type 0 where
   pub text : List ℕ

@@ -4,10 +4,12 @@ ghost use Rattle.outcome_walk.specs.declared.sides.Sides.{Sides as Standing};
 ghost use Rattle.outcome_walk.specs.Walking.{begun, walked};
 ghost use Rattle.outcome_walk.specs.Holding.{parts_held, ways_held};
 ghost use Rattle.outcome_walk.specs.Counting.{below, weighed};
+ghost use Rattle.outcome_walk.specs.Steps.{moves};
 
 use crate::crowd::Crowd;
 use crate::level::{Choice, Level, Link, Rows};
 use crate::moving::all_standing;
+use crate::steps::moves;
 use crate::tally::Tally;
 use std::alloc::{AllocError, Global};
 
@@ -33,11 +35,12 @@ fn grown(
     choices: &[Choice],
     crowds: &[Crowd],
 ) -> Result<Vec<Crowd>, AllocError>
-    ensures { (f : List Standing → ℕ) → IfOk result (λ next. weighed f next.items ≡ weighed (below places.now links.now f (ways_held choices.now)) crowds.now) }
+    ensures { (f : List Standing → ℕ) → IfOk result (λ next. weighed f next.items ≡ weighed (below f (moves places.now links.now (ways_held choices.now))) crowds.now) }
 {
+    let moves = moves(alloc, places, links, choices)?;
     let mut next = Vec::new(alloc);
     for crowd in crowds {
-        crowd.grow(alloc, places, links, choices, &mut next)?;
+        crowd.grow(alloc, &moves, &mut next)?;
     }
     Ok(next)
 }

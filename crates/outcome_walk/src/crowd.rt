@@ -1,12 +1,12 @@
 // Outcomes that stand alike: only their number matters.
 ghost use Rattle.std.specs.Prelude.{◌≡◌, ◌+◌, ◌*◌, ℕ, IfSome, List, OnOk, Some, option_map};
 ghost use Rattle.outcome_walk.specs.declared.sides.Sides.{Sides as Standing};
-ghost use Rattle.outcome_walk.specs.Holding.{ways_held};
+ghost use Rattle.outcome_walk.specs.Steps.{moves_held};
 ghost use Rattle.outcome_walk.specs.Counting.{below, sides_at, some_counted, weighed};
 
-use crate::level::{Choice, Link, Rows};
-use crate::moving::all_moved;
+use crate::moving::all_stepped;
 use crate::sides::Sides;
+use crate::steps::Move;
 use crate::tally::Tally;
 use std::alloc::{AllocError, Global};
 
@@ -22,16 +22,14 @@ impl Crowd {
     pub fn grow(
         &self,
         alloc: Global,
-        places: &[Rows],
-        links: &[Link],
-        choices: &[Choice],
+        moves: &[Move],
         grown: &mut Vec<Crowd>,
     ) -> Result<(), AllocError>
         ensures { (f : List Standing → ℕ) → OnOk result (weighed f grown.new.items ≡ weighed f grown.old.items
-            + self.now.number * below places.now links.now f (ways_held choices.now) self.now.sides.items) }
+            + self.now.number * below f (moves_held moves.now) self.now.sides.items) }
     {
-        for choice in choices {
-            let sides = all_moved(alloc, places, links, &self.sides, &choice.fits)?;
+        for choice in moves {
+            let sides = all_stepped(alloc, &choice.steps, &self.sides)?;
             add_some(alloc, sides, &self.number, grown)?;
         }
         Ok(())

@@ -1,11 +1,13 @@
 // An outcome of a look, or of its first parts.
 ghost use Rattle.std.specs.Prelude.{◌≡◌, ◌++◌, IfOk, OnOk, flat_map};
-ghost use Rattle.outcome_walk.specs.Walking.{begun, first_standing, with_way};
-ghost use Rattle.outcome_walk.specs.Holding.{some_held, trail_held, trails_held, way_held, ways_held};
+ghost use Rattle.outcome_walk.specs.Walking.{begun, first_standing};
+ghost use Rattle.outcome_walk.specs.Steps.{move_held, moves_held, with_move};
+ghost use Rattle.outcome_walk.specs.Holding.{some_held, trail_held, trails_held};
 
-use crate::level::{Choice, Link, Rows};
-use crate::moving::{all_moved, all_standing};
+use crate::level::Rows;
+use crate::moving::{all_standing, all_stepped};
 use crate::sides::{Sides, first_standing};
+use crate::steps::Move;
 use nvm_base::Bytes;
 use std::alloc::{AllocError, Global};
 
@@ -38,32 +40,24 @@ impl Found {
     pub(crate) fn grow(
         &self,
         alloc: Global,
-        places: &[Rows],
-        links: &[Link],
-        choices: &[Choice],
+        moves: &[Move],
         grown: &mut Vec<Found>,
     ) -> Result<(), AllocError>
         ensures { OnOk result (trails_held grown.new.items ≡ trails_held grown.old.items
-            ++ flat_map (with_way places.now links.now (trail_held self.now)) (ways_held choices.now)) }
+            ++ flat_map (with_move (trail_held self.now)) (moves_held moves.now)) }
     {
-        for choice in choices {
-            let longer = self.with(alloc, places, links, choice)?;
+        for choice in moves {
+            let longer = self.with(alloc, choice)?;
             keep(longer, grown)?;
         }
         Ok(())
     }
 
     // With that choice too, where some place leaves it so.
-    fn with(
-        &self,
-        alloc: Global,
-        places: &[Rows],
-        links: &[Link],
-        choice: &Choice,
-    ) -> Result<Option<Found>, AllocError>
-        ensures { IfOk result (λ longer. some_held longer ≡ with_way places.now links.now (trail_held self.now) (way_held choice.now)) }
+    fn with(&self, alloc: Global, choice: &Move) -> Result<Option<Found>, AllocError>
+        ensures { IfOk result (λ longer. some_held longer ≡ with_move (trail_held self.now) (move_held choice.now)) }
     {
-        let Some(sides) = all_moved(alloc, places, links, &self.sides, &choice.fits)? else {
+        let Some(sides) = all_stepped(alloc, &choice.steps, &self.sides)? else {
             return Ok(None);
         };
         let mut text = Bytes::new(alloc);

@@ -8,6 +8,7 @@ mod found;
 mod level;
 mod moving;
 mod sides;
+mod steps;
 mod tally;
 mod walking;
 

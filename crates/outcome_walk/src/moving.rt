@@ -1,9 +1,11 @@
 // What stands at each place once one part more is found.
 ghost use Rattle.std.specs.Prelude.{◌≡◌, IfOk, option_map, map, true};
-ghost use Rattle.outcome_walk.specs.Walking.{all_moved, both, if_standing, is_shown, moved, stands};
+ghost use Rattle.outcome_walk.specs.Walking.{both, stands};
+ghost use Rattle.outcome_walk.specs.Steps.{all_stepped, if_standing, stepped};
 
 use crate::level::{Link, Rows};
 use crate::sides::Sides;
+use crate::steps::Step;
 use std::alloc::{AllocError, Global};
 
 /// What stands before any part: all.
@@ -20,56 +22,44 @@ pub fn all_standing(alloc: Global, places: &[Rows]) -> Result<Vec<Sides>, AllocE
     Ok(sides)
 }
 
-/// What stands with a choice of the next part; None where that is nowhere.
-pub fn all_moved(
+/// What stands with a choice of the next part, by its steps; None where that is nowhere.
+pub fn all_stepped(
     alloc: Global,
-    places: &[Rows],
-    links: &[Link],
+    steps: &[Step],
     sides: &[Sides],
-    fits: &[bool],
 ) -> Result<Option<Vec<Sides>>, AllocError>
-    ensures { IfOk result (λ next. option_map (λ sides. sides.items) next ≡ if_standing (all_moved places.now links.now sides.now fits.now)) }
+    ensures { IfOk result (λ next. option_map (λ sides. sides.items) next ≡ if_standing (all_stepped steps.now sides.now)) }
 {
-    let count = places.len().min(links.len()).min(sides.len());
+    let count = steps.len().min(sides.len());
     let mut next = Vec::with_capacity(alloc, count)?;
     let mut any = false;
     for i in 0..count {
-        let moved = moved(places[i], links[i], sides[i], fits);
-        any = any || moved.stands();
-        next.push(moved)?;
+        let stepped = stepped(steps[i], sides[i]);
+        any = any || stepped.stands();
+        next.push(stepped)?;
     }
     Ok(any.then_some(next))
 }
 
-fn moved(rows: Rows, link: Link, sides: Sides, fits: &[bool]) -> Sides
-    ensures { result ≡ moved rows link sides fits.now }
+fn stepped(step: Step, sides: Sides) -> Sides
+    ensures { result ≡ stepped step sides }
 {
-    let old = is_shown(fits, rows.old);
-    let new = is_shown(fits, rows.new);
+    let Step { link, shown } = step;
     match link {
         Link::Alone => {
-            let stands = sides.stands() && old;
+            let stands = sides.stands() && shown.old;
             Sides {
                 old: stands,
                 new: stands,
             }
         }
         Link::Opens => Sides {
-            old: sides.stands() && old,
-            new: sides.stands() && new,
+            old: sides.stands() && shown.old,
+            new: sides.stands() && shown.new,
         },
         Link::Joins => Sides {
-            old: sides.old && old,
-            new: sides.new && new,
+            old: sides.old && shown.old,
+            new: sides.new && shown.new,
         },
-    }
-}
-
-fn is_shown(fits: &[bool], state: usize) -> bool
-    ensures { result ≡ is_shown fits.now state }
-{
-    match fits.get(state) {
-        Some(fits) => *fits,
-        None => false,
     }
 }

@@ -5,6 +5,7 @@ ghost use Rattle.outcome_walk.specs.Holding.{parts_held, trails_held, ways_held}
 
 use crate::found::Found;
 use crate::level::{Choice, Level, Link, Rows};
+use crate::steps::moves;
 use std::alloc::{AllocError, Global};
 
 /// Each that some place of a cut leaves, part by part in the order of the choices.
@@ -29,9 +30,10 @@ fn grown(
 ) -> Result<Vec<Found>, AllocError>
     ensures { IfOk result (λ next. trails_held next.items ≡ grown places.now links.now (ways_held choices.now) (trails_held found.now)) }
 {
+    let moves = moves(alloc, places, links, choices)?;
     let mut next = Vec::new(alloc);
     for outcome in found {
-        outcome.grow(alloc, places, links, choices, &mut next)?;
+        outcome.grow(alloc, &moves, &mut next)?;
     }
     Ok(next)
 }

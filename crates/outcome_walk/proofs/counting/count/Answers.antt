@@ -1,6 +1,7 @@
 use Rattle.std.proofs.Common.{◌+◌, ◌*◌, ◌++◌, ◌∷◌, [], ap, ap₂, ◌∙◌}
 use Rattle.outcome_walk.specs.Counting.{below, completions, weighed}
 use Rattle.outcome_walk.specs.Holding.{parts_held, ways_held}
+use Rattle.outcome_walk.specs.Steps.{moves}
 use Rattle.outcome_walk.proofs.CountLemmas.{begun_count, level_more}
 use Rattle.outcome_walk.proofs.counting.count.Goals as goal
 
@@ -17,5 +18,5 @@ pub loop-level-preserved : goal.loop-level-preserved
 loop-level-preserved c =
     level_more c.args.places.now c.args.levels.now c.loop-level.level-index c.level-item.result c.loop-level-test.true c.level-item.is c.loop-level.crowds.items c.in_ok-crowds.crowds.items _
     c.loop-level.invariant (λ f.
-    c.in_ok-crowds.ensures f ∙ ap₂ (λ links choices. weighed (below c.args.places.now links f (ways_held choices)) c.deref-in-loop-level-2.result.now) c.deref.ensures.value c.deref-in-loop-level.ensures.value
-    ∙ ap (weighed (below c.args.places.now c.level-item.result.links.items f (ways_held c.level-item.result.choices.items))) c.deref-in-loop-level-2.ensures.value)
+    c.in_ok-crowds.ensures f ∙ ap₂ (λ links choices. weighed (below f (moves c.args.places.now links (ways_held choices))) c.deref-in-loop-level-2.result.now) c.deref.ensures.value c.deref-in-loop-level.ensures.value
+    ∙ ap (weighed (below f (moves c.args.places.now c.level-item.result.links.items (ways_held c.level-item.result.choices.items)))) c.deref-in-loop-level-2.ensures.value)
