@@ -48,7 +48,7 @@ follows_refused now geo h action follows refused = by_refusal (refusal h action)
 pub record Reaches (program : List (Option Command)) (done : List Bool) (geo : Geometry) (i : ℕ) (now : Sight) (Told : Machine → List (Option Command) → Type 0) : Type 0 where
   pub to : Machine
   pub follows : Follows now geo to
-  pub done : AreDone to (drop i program) (drop i done)
+  pub are_done : AreDone to (drop i program) (drop i done)
   pub told : Told to (drop i program)
 
 suc_is : (n : ℕ) → suc n ≡ n + 1
@@ -56,7 +56,7 @@ suc_is n = omega arith
 
 pub reaches_first : (program : List (Option Command)) (done : List Bool) (geo : Geometry) (now : Sight) (Told : Machine → List (Option Command) → Type 0) (h : Machine)
     → Follows now geo h → AreDone h program done → Told h program → Reaches program done geo 0 now Told
-reaches_first program done geo now Told h follows all told = record { to = h; follows = follows; done = all; told = told }
+reaches_first program done geo now Told h follows all told = record { to = h; follows = follows; are_done = all; told = told }
 
 module _ (program : List (Option Command)) (done : List Bool) (geo : Geometry) (i : ℕ) (now : Sight) (Told : Machine → List (Option Command) → Type 0)
     (reaches : Reaches program done geo i now Told) where
@@ -70,7 +70,7 @@ module _ (program : List (Option Command)) (done : List Bool) (geo : Geometry) (
         drop-cons done i false (omega (arith, lt, same)) ∙ ap (λ b. b ∷ drop (suc i) done) (sym told) ∙ ap (λ n. is_done ∷ drop n done) (suc_is i)
 
     done_from : AreDone reaches.to (line ∷ drop (i + 1) program) (is_done ∷ drop (i + 1) done)
-    done_from = subst (λ lines. AreDone reaches.to lines (is_done ∷ drop (i + 1) done)) lines_next (subst (AreDone reaches.to (drop i program)) done_next reaches.done)
+    done_from = subst (λ lines. AreDone reaches.to lines (is_done ∷ drop (i + 1) done)) lines_next (subst (AreDone reaches.to (drop i program)) done_next reaches.are_done)
 
     told_from : Told reaches.to (line ∷ drop (i + 1) program)
     told_from = subst (Told reaches.to) lines_next reaches.told
@@ -80,7 +80,7 @@ module _ (program : List (Option Command)) (done : List Bool) (geo : Geometry) (
     reaches_past none later = record {
       to = reaches.to;
       follows = reaches.follows;
-      done = subst (λ l. AreDone reaches.to (l ∷ drop (i + 1) program) (is_done ∷ drop (i + 1) done)) none done_from;
+      are_done = subst (λ l. AreDone reaches.to (l ∷ drop (i + 1) program) (is_done ∷ drop (i + 1) done)) none done_from;
       told = later reaches.to (drop (i + 1) program) (subst (λ l. Told reaches.to (l ∷ drop (i + 1) program)) none told_from);
     }
 
@@ -96,7 +96,7 @@ module _ (program : List (Option Command)) (done : List Bool) (geo : Geometry) (
         record {
           to = led_to reaches.to (fate reaches.to (action_of command));
           follows = leads reaches.to reaches.follows of.0;
-          done = of.1;
+          are_done = of.1;
           told = later reaches.to (drop (i + 1) program) reaches.follows of.0 (subst (λ l. Told reaches.to (l ∷ drop (i + 1) program)) some told_from);
         }
 

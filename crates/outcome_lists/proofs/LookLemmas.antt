@@ -1,21 +1,14 @@
 -- The look that a question's reads are.
-use Rattle.std.proofs.Common.{◌≡◌, Option, Some, None, List, [], ◌∷◌, ◌++◌, map, refl, sym, ap, ◌∙◌, append-nil}
-use Rattle.std.specs.Option.{option_map}
-use Rattle.word_tables.specs.declared.geometry.Geometry.{Geometry}
-use Rattle.script_text.specs.declared.command.Command.{Command}
+use Rattle.std.proofs.Common.{◌≡◌, List, [], ◌∷◌, ◌++◌, map, refl, ap, ◌∙◌, append-nil}
 use Rattle.outcomes.specs.Blocks.{BlockRead}
 use Rattle.outcomes.specs.Files.{FileRead}
 use Rattle.outcomes.specs.Pages.{PageRead}
-use Rattle.outcomes.specs.Seen.{Seen, block_reads, file_reads, may_show, volume_reads}
+use Rattle.outcomes.specs.Seen.{Seen, block_reads, file_reads, volume_reads}
 use Rattle.outcomes.specs.Seen.Seen.{of_blocks, of_file, of_volume}
 use Rattle.asked_reads.specs.declared.question.Question.{Question}
 use Rattle.asked_reads.specs.Asking.{IsLook}
-use Rattle.cut_places.specs.declared.place.CutPlace.{CutPlace}
-use Rattle.cut_places.specs.declared.sight.Sight.{Sight}
-use Rattle.cut_places.specs.Following.{IsFirst}
-use Rattle.cut_places.specs.Places.{Stop, first_stop}
 use Rattle.outcome_lists.specs.Asking.{asked}
-use Rattle.outcome_lists.specs.Outcomes.{Asked, look_of, place_of}
+use Rattle.outcome_lists.specs.Outcomes.{Asked, look_of}
 
 -- reads of one kind, before others
 volume_of_volume : (rs : List PageRead) (others : List Seen) → volume_reads (map of_volume rs ++ others) ≡ rs ++ volume_reads others
@@ -76,12 +69,3 @@ files_back a =
 
 pub is_look : (q : Question) → IsLook (look_of (asked q)) q
 is_look q = record { volume = volume_back (asked q); blocks = blocks_back (asked q); files = files_back (asked q) }
-
--- the place that is found is the first
-pub is_place : (lines : List (Option Command)) (look : List Seen) (now : Sight) (geo : Geometry) (stops : List Stop) (found : Option CutPlace)
-    → IsFirst lines look now geo stops found → found ≡ place_of stops look
-is_place lines look now geo stops None none = sym (ap (option_map (λ (stop : Stop). stop.place)) none)
-is_place lines look now geo stops (Some place) first = sym (ap (option_map (λ (stop : Stop). stop.place)) first.1 ∙ ap Some first.2)
-
-pub no_place : (look : List Seen) (stops : List Stop) → None ≡ first_stop (may_show look) stops → None ≡ place_of stops look
-no_place look stops none = ap (option_map (λ (stop : Stop). stop.place)) none

@@ -1,26 +1,24 @@
--- Some of what is looked at.
-use Rattle.std.proofs.Common.{◌≡◌, ◌*◌, ◌≤◌, ◌&&◌, ℕ, zero, suc, true, List, [], ◌∷◌, drop, length, map, take, refl, sym, ap, subst, ◌∙◌}
-use Rattle.std.specs.List.{list_all}
-use Rattle.std.proofs.lemmas.Bool.{and_parts}
+-- What is looked at for one part: its line, its block, or its file.
+use Rattle.std.proofs.Common.{◌≡◌, ℕ, zero, suc, List, [], ◌∷◌, drop, map, take, sym, ap, subst, ◌∙◌, ◌+◌, ◌-◌, ◌/◌, ◌++◌, ap₂, append-nil, arith}
+use Rattle.std.specs.List.{list_all, range_with_len}
 use Rattle.word_tables.specs.declared.geometry.Geometry.{Geometry}
 use Rattle.nvm_model.specs.Cell.{Cell}
 use Rattle.block_sights.specs.Sights.{Sight as BlockSight}
 use Rattle.machine_host.specs.Machine.{Machine}
-use Rattle.outcomes.specs.Blocks.{is_block_reply}
-use Rattle.outcomes.specs.Pages.{is_reply}
-use Rattle.asked_reads.specs.declared.question.Question.{Question}
-use Rattle.asked_reads.specs.Asking.{blocks_of, files_asked, may_be_file_reply, may_be_replies, volume_asked}
-use Rattle.asked_reads.specs.Reads.{block_read, page_read}
 use Rattle.cut_places.specs.declared.sight.Sight.{Sight}
-use Rattle.cut_places.specs.Following.{Follows, IsWhole, IsWithin}
-use Rattle.cut_places.proofs.WithinLemmas.{blocks_within, lines_within}
-use Rattle.cut_places.specs.SeesFiles.{SeesFiles, are_held}
+use Rattle.cut_places.specs.Following.{Follows}
+use Rattle.cut_places.specs.SeesFiles.{SeesFiles, is_held}
 use Rattle.cut_places.specs.FilesState.{FilesState}
 use Rattle.sights.specs.declared.block_seen.BlockSeen.{BlockSeen}
 use Rattle.sights.specs.declared.line_seen.LineSeen.{LineSeen}
 use Rattle.sights.specs.Units.{AreBlocks, AreLines, block_numbers, line_numbers}
-use Rattle.outcome_lists.specs.Asking.{asked}
-use Rattle.outcome_lists.specs.Courses.{AreFirst}
+use Rattle.outcome_lists.specs.Courses.{IsAt}
+use Rattle.asked_reads.specs.declared.read.Read.TheVariants.{Volume, Blocks}
+use Rattle.value_tables.specs.Looking.{IsOf, blocks_touched, lines_touched, none_refused}
+use Rattle.value_tables.specs.Sides.{HasRun}
+use Rattle.outcome_lists.specs.Parts.{IsPart}
+use Rattle.outcome_lists.proofs.MappedLemmas.{map_drop, map_take}
+use Rattle.outcome_lists.proofs.PartAskedLemmas.{one_line_of}
 
 -- the first of them, and those behind the first
 pub lines_taken : (f : ℕ → Cell) (n : ℕ) (lines : List LineSeen) → AreLines f lines → AreLines f (take n lines)
@@ -56,35 +54,6 @@ follows_part all some geo h lines blocks files follows = record {
   };
 }
 
-map_length : {A B : Type 0} (f : A → B) (xs : List A) → length (map f xs) ≡ length xs
-map_length f [] = refl
-map_length f (x ∷ xs) = ap suc (map_length f xs)
-
--- the first lines and blocks are just those of which a question asks
-module _ (all some : Sight) (q : Question) (first : AreFirst all (asked q)) (lines : some.lines.items ≡ take (length q.volume.items) all.lines.items)
-    (blocks : some.blocks.items ≡ take (length q.blocks.items) all.blocks.items) (files : some.files ≡ all.files) where
-  pub whole_first : IsWhole some q
-  whole_first = record {
-    lines = ap line_numbers lines ∙ ap (λ n. line_numbers (take n all.lines.items)) (sym (map_length page_read q.volume.items)) ∙ first.lines;
-    blocks = ap block_numbers blocks ∙ ap (λ n. block_numbers (take n all.blocks.items)) (sym (map_length block_read q.blocks.items)) ∙ first.blocks;
-    files = ap (λ (s : FilesState). are_held s.numbers (files_asked q)) files ∙ first.files;
-  }
-
-  pub within_first : (geo : Geometry) → may_be_replies geo q ≡ true → IsWithin some geo
-  within_first geo may =
-      let parts = and_parts (list_all (is_reply (4096 * geo.vpages)) (volume_asked q)) (list_all (is_block_reply geo.blocks) (blocks_of q) && list_all may_be_file_reply (files_asked q)) may in
-      let others = and_parts (list_all (is_block_reply geo.blocks) (blocks_of q)) (list_all may_be_file_reply (files_asked q)) parts.1 in
-      record {
-        lines = lines_within geo some.lines.items (volume_asked q) whole_first.lines parts.0;
-        blocks = blocks_within geo some.blocks.items (blocks_of q) whole_first.blocks others.0;
-      }
-
-pub room_of_lines : (all : Sight) (q : Question) → AreFirst all (asked q) → length q.volume.items ≤ length all.lines.items
-room_of_lines all q first = subst (λ n. n ≤ length all.lines.items) (map_length page_read q.volume.items) first.lines_there
-
-pub room_of_blocks : (all : Sight) (q : Question) → AreFirst all (asked q) → length q.blocks.items ≤ length all.blocks.items
-room_of_blocks all q first = subst (λ n. n ≤ length all.blocks.items) (map_length block_read q.blocks.items) first.blocks_there
-
 -- what is looked at for one word, or for one block, follows as all of it does
 pub word_follows : (all some : Sight) (geo : Geometry) (h : Machine) (at : ℕ) → some.lines.items ≡ take 1 (drop at all.lines.items) → some.blocks.items ≡ [] → some.files ≡ all.files
     → Follows all geo h → Follows some geo h
@@ -97,3 +66,38 @@ pub block_follows : (all some : Sight) (geo : Geometry) (h : Machine) (at : ℕ)
 block_follows all some geo h at lines blocks files follows =
     follows_part all some geo h (λ f are. subst (AreLines f) (sym lines) tt)
     (λ f are. subst (AreBlocks f) (sym blocks) (blocks_taken f 1 (drop at all.blocks.items) (blocks_left f at all.blocks.items are))) files follows
+
+-- the line and the block at a place
+one_number : {A : Type 0} (f : A → ℕ) (xs : List A) (at n : ℕ) (ns : List ℕ) → HasRun (map f xs) at ns → ns ≡ n ∷ [] → map f (take 1 (drop at xs)) ≡ n ∷ []
+one_number f xs at n ns run one =
+    map_take f 1 (drop at xs) ∙ ap (take 1) (map_drop f at xs ∙ run.is ∙ ap (λ ms. ms ++ run.others) one)
+
+module _ (all : Sight) (geo : Geometry) (lines_before blocks_before : ℕ) (s : Sight) (files : s.files ≡ all.files) where
+  -- what is looked at for a word of the volume, a block, and a word of a file
+  pub sight_of_word : (start len : ℕ) → IsPart geo (Volume start len) → IsAt all (Volume start len) lines_before blocks_before
+      → s.lines.items ≡ take 1 (drop lines_before all.lines.items) → s.blocks.items ≡ [] → IsOf s geo (Volume start len ∷ [])
+  sight_of_word start len is at lines blocks =
+      let touched : lines_touched (Volume start len) ≡ start / 64 ∷ [] = ap (λ n. lines_touched (Volume start n)) is.one.1 ∙ one_line_of start is.one.0 in
+      record {
+        lines = ap line_numbers lines ∙ one_number (λ (l : LineSeen). l.number) all.lines.items lines_before (start / 64) (lines_touched (Volume start len)) at.lines touched
+            ∙ sym (ap (λ o. none_refused o (lines_touched (Volume start len)) ++ []) is.taken ∙ append-nil (lines_touched (Volume start len)) ∙ touched);
+        blocks = ap block_numbers blocks ∙ sym (ap (λ o. none_refused o [] ++ []) is.taken);
+        files = ap (λ o. list_all (is_held s.files.numbers) (none_refused o [] ++ [])) is.taken;
+      }
+
+  pub sight_of_block : (first count : ℕ) → IsPart geo (Blocks first count) → IsAt all (Blocks first count) lines_before blocks_before
+      → s.lines.items ≡ [] → s.blocks.items ≡ take 1 (drop blocks_before all.blocks.items) → IsOf s geo (Blocks first count ∷ [])
+  sight_of_block first count is at lines blocks =
+      let touched : blocks_touched (Blocks first count) ≡ first ∷ [] = ap (range_with_len first) is.one in
+      record {
+        lines = ap line_numbers lines ∙ sym (ap (λ o. none_refused o [] ++ []) is.taken);
+        blocks = ap block_numbers blocks ∙ one_number (λ (b : BlockSeen). b.number) all.blocks.items blocks_before first (blocks_touched (Blocks first count)) at.blocks touched
+            ∙ sym (ap (λ o. none_refused o (blocks_touched (Blocks first count)) ++ []) is.taken ∙ append-nil (blocks_touched (Blocks first count)) ∙ touched);
+        files = ap (λ o. list_all (is_held s.files.numbers) (none_refused o [] ++ [])) is.taken;
+      }
+
+-- a stretch of one
+pub one_of : {A : Type 0} (all xs ys : List A) (at : ℕ) → ys ≡ take (at + 1 - at) (drop at xs) → xs ≡ all → ys ≡ take 1 (drop at all)
+one_of all xs ys at is same =
+    let one : at + 1 - at ≡ 1 = omega arith in
+    is ∙ ap₂ (λ n zs. take n (drop at zs)) one same

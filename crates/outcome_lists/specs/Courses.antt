@@ -1,5 +1,5 @@
 -- A program that was performed, and what is looked at.
-use Rattle.std.specs.Prelude.{◌≡◌, ◌++◌, ◌∷◌, [], ℕ, All, true, List, length}
+use Rattle.std.specs.Prelude.{◌≡◌, ℕ, All, true, List, length}
 use Rattle.std.specs.List.{AllByRecursion, list_all}
 use Rattle.word_tables.specs.Bounds.{IsValid}
 use Rattle.word_tables.specs.declared.geometry.Geometry.{Geometry}
@@ -37,18 +37,12 @@ pub record IsAt (sight : Sight) (part : Read) (lines_before blocks_before : ℕ)
   pub blocks : HasRun (block_numbers sight.blocks.items) blocks_before (blocks_touched part)
   pub files : list_all (is_held sight.files.numbers) (file_lines_touched part) ≡ true
 
--- they are of these parts, a line or a block each, or of a file that is looked at
+-- they are of these parts: of just their lines and blocks, and in files of lines that are looked at
 pub record AreOf (sight : Sight) (geo : Geometry) (parts : List Read) (a : Asked) : Type 0 where
   pub lines : all_lines_read a.volume ≡ lines_looked_at geo parts
-  pub one_line : length a.volume ≡ length (lines_looked_at geo parts)
   pub blocks : all_numbers_read a.blocks ≡ blocks_looked_at geo parts
-  pub one_block : length a.blocks ≡ length (blocks_looked_at geo parts)
   pub files : are_held sight.files.numbers a.files ≡ true
 
 -- with each of these choices they are of these parts
 abbrev pub AllWith : Sight → Geometry → List Read → Asked → List Choice → Type 0
 AllWith sight geo parts a choices = AllByRecursion (λ (c : Choice). AreOf sight geo parts (and_seen a c.seen)) choices
-
--- choices are of a part: behind those of others they are of those and of it
-abbrev pub AreWays : Sight → Geometry → Read → List Choice → Type 0
-AreWays sight geo part choices = (before : List Read) (a : Asked) → AreOf sight geo before a → AllWith sight geo (before ++ part ∷ []) a choices

@@ -1,7 +1,14 @@
 // A program that was performed, with what is looked at as it was before.
-ghost use Rattle.std.specs.Prelude.{◌≡◌, ◌∷◌, [], IfOk};
+ghost use Rattle.std.specs.Prelude.{◌≡◌, ◌∷◌, [], IfOk, IsTrue, List, OnOk, is_none};
+ghost use Rattle.script_text.specs.Action.{action_of};
+ghost use Rattle.script_text.specs.Parsing.{InBounds};
+ghost use Rattle.word_tables.specs.Bounds.{IsValid};
+ghost use Rattle.machine_host.specs.Commands.{fate, refusal};
 ghost use Rattle.machine_host.specs.Machine.{Machine};
-ghost use Rattle.cut_places.specs.Following.{Follows};
+ghost use Rattle.outcomes.specs.Stops.{is_of_program, led_to};
+ghost use Rattle.asked_reads.specs.declared.question.Question.{Question};
+ghost use Rattle.asked_reads.specs.declared.read.Read.{Read as Reading};
+ghost use Rattle.cut_places.specs.Following.{Follows, IsWhole};
 ghost use Rattle.value_tables.specs.Looking.{IsOf};
 ghost use Rattle.outcome_lists.specs.Courses.{IsAt};
 ghost use Rattle.outcome_lists.specs.Parts.{IsPart};
@@ -36,6 +43,7 @@ impl Course<'_> {
         requires part { IsPart self.now.geometry part.now }
         requires at { IsAt self.now.sight.now part.now passed.now.lines passed.now.blocks }
         ensures looks { IfOk result (λ sight. IsOf sight self.now.geometry (part.now ∷ [])) }
+        ensures files { IfOk result (λ sight. sight.files ≡ self.now.sight.now.files) }
         ensures follows { (h : Machine) → Follows self.now.sight.now self.now.geometry h → IfOk result (λ sight. Follows sight self.now.geometry h) }
     {
         let Sight {
@@ -68,4 +76,26 @@ pub fn sight_of(
         blocks: copied(alloc, blocks)?,
         files: files.duplicate()?,
     })
+}
+
+/// What is looked at, from before a command to behind it: it changes where that is done.
+pub fn follow(
+    geometry: Geometry,
+    command: &Command,
+    done: bool,
+    sight: &mut Sight,
+) -> Result<(), AllocError>
+    requires valid { IsValid geometry }
+    requires program { IsTrue (is_of_program (action_of command.now)) }
+    requires bounded { InBounds (action_of command.now) }
+    requires looks { (look : List Reading) × IsOf sight.old geometry look }
+    ensures follows { (h : Machine) → Follows sight.old geometry h → is_none (refusal h (action_of command.now)) ≡ done
+        → OnOk result (Follows sight.new geometry (led_to h (fate h (action_of command.now)))) }
+    ensures looks { (look : List Reading) → IsOf sight.old geometry look → OnOk result (IsOf sight.new geometry look) }
+    ensures whole { (question : Question) → IsWhole sight.old question → OnOk result (IsWhole sight.new question) }
+{
+    if !done {
+        return Ok(());
+    }
+    sight.change(geometry, command)
 }

@@ -1,8 +1,10 @@
 // Which states of a program show a choice alone.
-ghost use Rattle.std.specs.Prelude.{◌≡◌, ◌∷◌, [], IfOk, OnOk, map};
+ghost use Rattle.std.specs.Prelude.{◌≡◌, ◌∷◌, [], IfOk, map};
+ghost use Rattle.word_tables.specs.Bounds.{IsValid};
 ghost use Rattle.machine_host.specs.Machine.{Machine};
 ghost use Rattle.outcomes.specs.Seen.{may_show};
 ghost use Rattle.asked_reads.specs.Program.{inputs_of_lines};
+ghost use Rattle.cut_places.specs.Following.{Follows, IsWhole};
 ghost use Rattle.outcome_walk.specs.Holding.{way_held, ways_held};
 ghost use Rattle.outcome_lists.specs.Asking.{asked, choice_held, choices_held};
 ghost use Rattle.outcome_lists.specs.Choices.{states};
@@ -13,12 +15,14 @@ ghost use Rattle.outcome_lists.specs.Parts.{IsPart};
 
 use crate::choice::Choice;
 use crate::copies::bytes_copy;
-use crate::course::Course;
+use crate::course::{Course, follow};
 use crate::passed::Passed;
 use asked_reads::{Question, Read};
+use cut_places::Sight;
 use outcome_walk::Choice as Fitted;
 use sights::may_be_replies;
 use std::alloc::{AllocError, Global};
+use word_tables::Geometry;
 
 /// The choices of a part, each with the states that show it.
 pub fn fitted(
@@ -84,16 +88,22 @@ fn fits(
         → IfOk result (λ fits. fits.items ≡ map (may_show (look_of (asked question.now))) (states h (inputs_of_lines course.now.program.now))) }
 {
     let mut sight = course.sight_of_part(alloc, part, passed)?;
-    let may = may_be_replies(question, course.geometry);
     let mut fits = Vec::new(alloc);
     for (i, line) in course.program.iter().enumerate() {
         if let Some(command) = line {
-            fits.push(may && sight.shows(question))?;
-            if course.done[i] {
-                sight.change(course.geometry, command)?;
-            }
+            fits.push(shows(&sight, question, course.geometry))?;
+            follow(course.geometry, command, course.done[i], &mut sight)?;
         }
     }
-    fits.push(may && sight.shows(question))?;
+    fits.push(shows(&sight, question, course.geometry))?;
     Ok(fits)
+}
+
+// Whether the state that is looked at does.
+fn shows(sight: &Sight, question: &Question, geometry: Geometry) -> bool
+    requires valid { IsValid geometry }
+    requires whole { IsWhole sight.now question.now }
+    ensures { (h : Machine) → Follows sight.now geometry h → result ≡ may_show (look_of (asked question.now)) h }
+{
+    may_be_replies(question, geometry) && sight.shows(question)
 }

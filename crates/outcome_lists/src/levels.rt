@@ -1,5 +1,5 @@
 // The parts of a look with their choices, and how they go together at each place of a cut.
-ghost use Rattle.std.specs.Prelude.{◌≡◌, IfOk, None, map, option_map};
+ghost use Rattle.std.specs.Prelude.{◌≡◌, ◌∷◌, [], IfOk, None, map, option_map};
 ghost use Rattle.machine_host.specs.Machine.{Machine};
 ghost use Rattle.asked_reads.specs.Program.{inputs_of_lines};
 ghost use Rattle.value_tables.specs.Looking.{IsOf};
@@ -7,9 +7,10 @@ ghost use Rattle.outcome_walk.specs.Holding.{parts_held};
 ghost use Rattle.outcome_lists.specs.declared.place.Place.{Place as CutAt};
 ghost use Rattle.outcome_lists.specs.Asking.{choices_held};
 ghost use Rattle.outcome_lists.specs.Choices.{choices, states};
-ghost use Rattle.outcome_lists.specs.Courses.{AreWays, IsAt, IsCourse, IsFrom};
+ghost use Rattle.outcome_lists.specs.Courses.{AllWith, IsAt, IsCourse, IsFrom};
 ghost use Rattle.outcome_lists.specs.Levels.{levels};
 ghost use Rattle.outcome_lists.specs.Mixing.{link};
+ghost use Rattle.outcome_lists.specs.Outcomes.{nothing};
 ghost use Rattle.outcome_lists.specs.Parts.{AreParts, IsPart};
 
 use crate::choice::Choice;
@@ -58,7 +59,7 @@ fn links(
     before: Option<&Read>,
     part: &Read,
 ) -> Result<Vec<Link>, AllocError>
-    ensures { IfOk result (λ found. found.items ≡ map (λ (place : CutAt). link place.ways (option_map (λ read. read.now) before) part.now) places.now) }
+    ensures { IfOk result (λ found. found.items ≡ map (λ (place : CutAt). link place.ways (option_map (λ read. read.now) before.entry) part.now) places.now) }
 {
     let mut found = Vec::new(alloc);
     for place in places {
@@ -78,7 +79,7 @@ fn choices_of(
     requires part { IsPart course.now.geometry part.now }
     requires at { IsAt course.now.sight.now part.now passed.now.lines passed.now.blocks }
     ensures choices { (h : Machine) → IsFrom course.now h → IfOk result (λ found. choices_held found.items ≡ choices (states h (inputs_of_lines course.now.program.now)) part.now) }
-    ensures ways { IfOk result (λ found. AreWays course.now.sight.now course.now.geometry part.now (choices_held found.items)) }
+    ensures ways { IfOk result (λ found. AllWith course.now.sight.now course.now.geometry (part.now ∷ []) nothing (choices_held found.items)) }
 {
     let mut sight = course.sight_of_part(alloc, part, passed)?;
     let gathered = gather(alloc, course, part, &mut sight)?;

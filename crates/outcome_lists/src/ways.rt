@@ -45,7 +45,7 @@ impl Ways {
 
     /// How a part stands to the one before it.
     pub fn link(self, before: Option<&Read>, part: &Read) -> Link
-        ensures { result ≡ link self (option_map (λ part. part.now) before) part.now }
+        ensures { result ≡ link self (option_map (λ part. part.now) before.entry) part.now }
     {
         let way = match part {
             Read::Volume { .. } => self.lines,
@@ -60,7 +60,7 @@ impl Ways {
 }
 
 fn link_to(way: Way, before: Option<&Read>, part: &Read) -> Link
-    ensures { result ≡ link_to way (option_map (λ part. part.now) before) part.now }
+    ensures { result ≡ link_to way (option_map (λ part. part.now) before.entry) part.now }
 {
     match before {
         Some(before) if go_together(way, before, part) => Link::Joins,

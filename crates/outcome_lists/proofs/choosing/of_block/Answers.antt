@@ -3,7 +3,7 @@ use Rattle.std.proofs.lemmas.List.{map-append}
 use Rattle.asked_reads.specs.declared.read.Read.TheVariants.{Blocks}
 use Rattle.outcome_lists.specs.Asking.{choice_held, choices_held}
 use Rattle.outcome_lists.specs.Choices.{block_choice, head}
-use Rattle.outcome_lists.proofs.OutcomeLemmas.{mapped_next}
+use Rattle.outcome_lists.proofs.MappedLemmas.{mapped_next}
 use Rattle.outcome_lists.proofs.choosing.of_block.Goals as goal
 
 pub loop-block-preserved : goal.loop-block-preserved

@@ -1,5 +1,18 @@
-use Rattle.outcome_lists.proofs.GatherLemmas.{Gathers}
+use Rattle.std.proofs.Common.{◌≡◌, [], ◌∷◌, List, Option}
+use Rattle.script_text.specs.declared.command.Command.{Command}
+use Rattle.machine_host.specs.Machine.{Machine}
+use Rattle.asked_reads.specs.Program.{inputs_of_lines}
+use Rattle.cut_places.specs.Following.{AreDone, Follows}
+use Rattle.value_tables.specs.Looking.{IsOf}
+use Rattle.outcome_lists.specs.Choices.{sights_through, states, values_through}
+use Rattle.outcome_lists.proofs.CourseLemmas.{Reaches}
 use Rattle.outcome_lists.proofs.gathering.gather.Given as goal
 
 abbrev pub invariant-loop-i : goal.invariant-loop-i
-invariant-loop-i l = Gathers l.course.program.now l.course.done.now l.part l.course.geometry l.fn.sight l.i l.sight l.gathered.word.word.values.items l.gathered.blocks.items
+invariant-loop-i l = record {
+  looks : IsOf l.sight l.course.geometry (l.part ∷ []);
+  reaches : (h : Machine) → Follows l.fn.sight l.course.geometry h → AreDone h l.course.program.now l.course.done.now
+      → Reaches l.course.program.now l.course.done.now l.course.geometry l.i l.sight (λ (to : Machine) (lines : List (Option Command)).
+      (values_through l.part l.gathered.word.word.values.items (states to (inputs_of_lines lines)) ≡ values_through l.part [] (states h (inputs_of_lines l.course.program.now)))
+      × (sights_through l.part l.gathered.blocks.items (states to (inputs_of_lines lines)) ≡ sights_through l.part [] (states h (inputs_of_lines l.course.program.now))));
+}

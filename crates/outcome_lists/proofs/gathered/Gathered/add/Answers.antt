@@ -6,7 +6,8 @@ use Rattle.sights.specs.Seeing.{seen}
 use Rattle.value_tables.specs.Sides.{side_at}
 use Rattle.value_tables.specs.Values.{cells_of, history_of, values_with, with_all, with_one}
 use Rattle.outcome_lists.specs.Choices.{sights_through, values_through}
-use Rattle.outcome_lists.proofs.AddLemmas.{first_block, first_line, held_of_word, no_block, no_line, numbers_of_block, numbers_of_word, on_ok, there, gone, side_is}
+use Rattle.outcome_lists.proofs.PartSeenLemmas.{first_block, first_line, gone, held_of_word, no_block, no_line, numbers_of_block, numbers_of_word, side_is, there}
+use Rattle.outcome_lists.proofs.ResultLemmas.{on_ok}
 use Rattle.outcome_lists.proofs.gathered.Gathered.add.Goals as goal
 
 pub returns-in-Some-clause-values : goal.returns-in-Some-clause-values

@@ -1,8 +1,7 @@
--- What is looked at for one part: its line, its block, or its file.
-use Rattle.std.proofs.Common.{◌≡◌, ◌+◌, ◌-◌, ◌*◌, ◌/◌, ◌≤◌, ℕ, zero, suc, true, Option, Some, None, Result, Ok, Err, Bor, List, [], ◌∷◌, ◌++◌, drop, map, refl, sym, take, ap, ap₂, subst, ◌∙◌, append-nil, arith}
+-- The first line or block that is looked at for one part is its own.
+use Rattle.std.proofs.Common.{◌≡◌, ◌+◌, ◌-◌, ◌*◌, ◌/◌, ◌≤◌, ℕ, zero, suc, true, Option, Some, None, Bor, List, [], ◌∷◌, refl, sym, ap, subst, ◌∙◌, append-nil, arith}
 use Rattle.std.specs.Option.{option_copied}
 use Rattle.std.specs.Prelude.{slice_get}
-use Rattle.std.specs.Result.{IfOk, OnOk}
 use Rattle.std.specs.List.{list_all, range_with_len}
 use Rattle.std.proofs.lemmas.Bool.{and_parts}
 use Rattle.word_tables.specs.declared.geometry.Geometry.{Geometry}
@@ -20,11 +19,8 @@ use Rattle.sights.specs.Units.{AreBlocks, AreLines, block_numbers, line_numbers}
 use Rattle.value_tables.specs.Left.{file_side, files_left}
 use Rattle.value_tables.specs.Looking.{IsOf, blocks_touched, file_lines_touched, lines_touched, none_refused}
 use Rattle.value_tables.specs.Rows.{read_refusal}
-use Rattle.value_tables.specs.Sides.{HasRun, side_at}
+use Rattle.value_tables.specs.Sides.{side_at}
 use Rattle.value_tables.proofs.FileSideLemmas.{files_rest}
-use Rattle.outcome_lists.specs.Courses.{IsAt}
-use Rattle.outcome_lists.specs.Parts.{IsPart}
-use Rattle.outcome_lists.proofs.GrowLemmas.{map_take, one_line_of}
 
 -- numbers that begin with one
 pub range_first : (a n : ℕ) → 1 ≤ n → (others : List ℕ) × (range_with_len a n ≡ a ∷ others)
@@ -87,11 +83,6 @@ side_is now geo h name p follows held =
     ∙ sym (files_rest h now.files follows.sees.files follows.ready.settled name p held)
     ∙ ap (λ o. files_left h.mappings o h.files name p) follows.ready.settled
 
--- what is so where a call did well
-pub on_ok : {A E : Type 0} {P Q : Type 0} (result : Result A E) → (P → Q) → OnOk result P → OnOk result Q
-on_ok (Ok x) so is = so is
-on_ok (Err e) so is = tt
-
 -- a list has a first item, or none
 pub there : {A : Type 0} (xs ys : List A) (found : Option (Bor A)) (x : Bor A) → ys ≡ xs → option_copied found ≡ slice_get ys 0 → found ≡ Some x → (rest : List A) × (xs ≡ x.now ∷ rest)
 there [] ys found x same first is = cc (same, first, is)
@@ -100,51 +91,3 @@ there (y ∷ rest) ys found x same first is = (rest, cc (same, first, is))
 pub gone : {A : Type 0} (xs ys : List A) (found : Option (Bor A)) → ys ≡ xs → option_copied found ≡ slice_get ys 0 → found ≡ None → xs ≡ []
 gone [] ys found same first is = refl
 gone (y ∷ rest) ys found same first is = cc (same, first, is)
-
-pub on_ok_all : {A E : Type 0} {P Q R S : Type 0} (result : Result A E) → (P → Q → R → S) → OnOk result P → OnOk result Q → OnOk result R → OnOk result S
-on_ok_all (Ok x) so p q r = so p q r
-on_ok_all (Err e) so p q r = tt
-
-pub on_found_all : {A E : Type 0} {P Q R S : A → Type 0} (result : Result A E) → ((x : A) → P x → Q x → R x → S x) → IfOk result P → IfOk result Q → IfOk result R → IfOk result S
-on_found_all (Ok x) so p q r = so x p q r
-on_found_all (Err e) so p q r = tt
-
--- the line and the block at a place
-map_drop : {A B : Type 0} (f : A → B) (n : ℕ) (xs : List A) → map f (drop n xs) ≡ drop n (map f xs)
-map_drop f zero xs = refl
-map_drop f (suc n) [] = refl
-map_drop f (suc n) (x ∷ xs) = map_drop f n xs
-
-one_number : {A : Type 0} (f : A → ℕ) (xs : List A) (at n : ℕ) (ns : List ℕ) → HasRun (map f xs) at ns → ns ≡ n ∷ [] → map f (take 1 (drop at xs)) ≡ n ∷ []
-one_number f xs at n ns run one =
-    map_take f 1 (drop at xs) ∙ ap (take 1) (map_drop f at xs ∙ run.is ∙ ap (λ ms. ms ++ run.others) one)
-
-module _ (all : Sight) (geo : Geometry) (lines_before blocks_before : ℕ) (s : Sight) (files : s.files ≡ all.files) where
-  -- what is looked at for a word of the volume, a block, and a word of a file
-  pub sight_of_word : (start len : ℕ) → IsPart geo (Volume start len) → IsAt all (Volume start len) lines_before blocks_before
-      → s.lines.items ≡ take 1 (drop lines_before all.lines.items) → s.blocks.items ≡ [] → IsOf s geo (Volume start len ∷ [])
-  sight_of_word start len is at lines blocks =
-      let touched : lines_touched (Volume start len) ≡ start / 64 ∷ [] = ap (λ n. lines_touched (Volume start n)) is.one.1 ∙ one_line_of start is.one.0 in
-      record {
-        lines = ap line_numbers lines ∙ one_number (λ (l : LineSeen). l.number) all.lines.items lines_before (start / 64) (lines_touched (Volume start len)) at.lines touched
-            ∙ sym (ap (λ o. none_refused o (lines_touched (Volume start len)) ++ []) is.taken ∙ append-nil (lines_touched (Volume start len)) ∙ touched);
-        blocks = ap block_numbers blocks ∙ sym (ap (λ o. none_refused o [] ++ []) is.taken);
-        files = ap (λ o. list_all (is_held s.files.numbers) (none_refused o [] ++ [])) is.taken;
-      }
-
-  pub sight_of_block : (first count : ℕ) → IsPart geo (Blocks first count) → IsAt all (Blocks first count) lines_before blocks_before
-      → s.lines.items ≡ [] → s.blocks.items ≡ take 1 (drop blocks_before all.blocks.items) → IsOf s geo (Blocks first count ∷ [])
-  sight_of_block first count is at lines blocks =
-      let touched : blocks_touched (Blocks first count) ≡ first ∷ [] = ap (range_with_len first) is.one in
-      record {
-        lines = ap line_numbers lines ∙ sym (ap (λ o. none_refused o [] ++ []) is.taken);
-        blocks = ap block_numbers blocks ∙ one_number (λ (b : BlockSeen). b.number) all.blocks.items blocks_before first (blocks_touched (Blocks first count)) at.blocks touched
-            ∙ sym (ap (λ o. none_refused o (blocks_touched (Blocks first count)) ++ []) is.taken ∙ append-nil (blocks_touched (Blocks first count)) ∙ touched);
-        files = ap (λ o. list_all (is_held s.files.numbers) (none_refused o [] ++ [])) is.taken;
-      }
-
--- a stretch of one
-pub one_of : {A : Type 0} (all xs ys : List A) (at : ℕ) → ys ≡ take (at + 1 - at) (drop at xs) → xs ≡ all → ys ≡ take 1 (drop at all)
-one_of all xs ys at is same =
-    let one : at + 1 - at ≡ 1 = omega arith in
-    is ∙ ap₂ (λ n zs. take n (drop at zs)) one same

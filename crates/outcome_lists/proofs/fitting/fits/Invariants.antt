@@ -1,0 +1,21 @@
+use Rattle.std.proofs.Common.{◌≡◌, [], ◌∷◌, ◌++◌, List, Option, map}
+use Rattle.script_text.specs.declared.command.Command.{Command}
+use Rattle.machine_host.specs.Machine.{Machine}
+use Rattle.outcomes.specs.Seen.{may_show}
+use Rattle.asked_reads.specs.Program.{inputs_of_lines}
+use Rattle.cut_places.specs.Following.{IsWhole}
+use Rattle.value_tables.specs.Looking.{IsOf}
+use Rattle.outcome_lists.specs.Asking.{asked}
+use Rattle.outcome_lists.specs.Choices.{states}
+use Rattle.outcome_lists.specs.Courses.{IsFrom}
+use Rattle.outcome_lists.specs.Outcomes.{look_of}
+use Rattle.outcome_lists.proofs.CourseLemmas.{Reaches}
+use Rattle.outcome_lists.proofs.fitting.fits.Given as goal
+
+abbrev pub invariant-loop-i : goal.invariant-loop-i
+invariant-loop-i l = record {
+  looks : IsOf l.sight l.course.geometry (l.part ∷ []);
+  whole : IsWhole l.sight l.question;
+  reaches : (h : Machine) → IsFrom l.course h → Reaches l.course.program.now l.course.done.now l.course.geometry l.i l.sight (λ (to : Machine) (lines : List (Option Command)).
+      l.fits.items ++ map (may_show (look_of (asked l.question))) (states to (inputs_of_lines lines)) ≡ map (may_show (look_of (asked l.question))) (states h (inputs_of_lines l.course.program.now)));
+}
