@@ -5,6 +5,8 @@ pub mod SightLemmas
 pub mod PartSeenLemmas
 pub mod PartAskedLemmas
 pub mod CourseLemmas
+pub mod PlaceLemmas
+pub mod PrintLemmas
 pub mod FitLemmas
 pub mod GatherLemmas
 pub mod LevelLemmas
