@@ -61,7 +61,7 @@ blocks_left f (suc n) [] are = tt
 blocks_left f (suc n) (s ∷ blocks) are = blocks_left f n blocks are.1
 
 -- a part of what is looked at follows the state as all of it does
-follows_part : (all some : Sight) (geo : Geometry) (h : Machine) → ((f : ℕ → Cell) → AreLines f all.lines.items → AreLines f some.lines.items)
+pub follows_part : (all some : Sight) (geo : Geometry) (h : Machine) → ((f : ℕ → Cell) → AreLines f all.lines.items → AreLines f some.lines.items)
     → ((f : ℕ → BlockSight) → AreBlocks f all.blocks.items → AreBlocks f some.blocks.items) → some.files ≡ all.files → Follows all geo h → Follows some geo h
 follows_part all some geo h lines blocks files follows = record {
   ready = follows.ready;
