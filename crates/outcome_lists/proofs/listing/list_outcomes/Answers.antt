@@ -6,8 +6,8 @@ use Rattle.value_tables.specs.Looking.{blocks_looked_at, file_lines_looked_at, l
 use Rattle.explorer.proofs.LookingLemmas.{held_read}
 use Rattle.outcome_lists.proofs.listing.list_outcomes.Goals as goal
 
-pub outcomes-requires-clause-looks : goal.outcomes-requires-clause-looks
-outcomes-requires-clause-looks g c =
+pub list_text-requires-clause-looks : goal.list_text-requires-clause-looks
+list_text-requires-clause-looks g c =
     let whole = c.in_ok-sight.ensures.whole.0 in
     let looks = c.in_ok-question.ensures in
     let geo = c.geometry-geometry.result in
