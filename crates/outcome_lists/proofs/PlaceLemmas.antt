@@ -110,11 +110,11 @@ module _ (program : List (Option Command)) (done : List Bool) (geo : Geometry) (
         }
 
     -- the end
-    pub all_found : (found2 : List Place) → length program ≤ i → i ≤ length program → found2 ≡ found ++ before_place (length program + 1) k ∷ []
+    pub all_found : (found2 : List Place) (end : Place) → length program ≤ i → i ≤ length program → end ≡ before_place (length program + 1) k → found2 ≡ found ++ end ∷ []
         → (h : Machine) → Follows began geo h → AreDone h program done → found2 ≡ places h (inputs_of_lines program)
-    all_found found2 ends last adds h follows all =
+    all_found found2 end ends last is adds h follows all =
         let at : length program ≡ i = omega (arith, ends, last) in
-        adds ∙ ap (λ n. found ++ before_place (n + 1) k ∷ []) at
+        adds ∙ ap (λ place. found ++ place ∷ []) (is ∙ ap (λ n. before_place (n + 1) k) at)
         ∙ told_last program done geo i now (AreWhole (places h (inputs_of_lines program)) (i + 1) k found) (so_far.comes h follows all) ends
 
 -- where no line and no block is looked at

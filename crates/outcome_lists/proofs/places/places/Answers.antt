@@ -1,4 +1,4 @@
-use Rattle.std.proofs.Common.{◌++◌, ◌∷◌, [], false, ap, get_or, refl, sym, ◌+◌, ◌∙◌}
+use Rattle.std.proofs.Common.{false, ap, get_or, refl, sym, ◌+◌, ◌∙◌}
 use Rattle.std.specs.Global.{Vec}
 use Rattle.outcome_lists.specs.declared.place.Place.{Place}
 use Rattle.script_text.specs.Action.{action_of}
@@ -53,6 +53,5 @@ returns c =
     let course = c.args.course.now in
     λ h is.
     all_found course.program.now course.done.now course.geometry c.in_ok-seen.seen c.loop-i.i c.loop-i.seen c.loop-i.state c.loop-i.found.items c.loop-i.invariant
-    c.push.new.self.items c.loop-i-test.false c.loop-i.auto.i-end
-    (c.in_ok-push.ensures.items ∙ ap (λ place. c.loop-i.found.items ++ place ∷ []) c.before-2.ensures) h
+    c.push.new.self.items c.before-2.result c.loop-i-test.false c.loop-i.auto.i-end c.before-2.ensures c.in_ok-push.ensures.items h
     (files_follow course.sight.now c.in_ok-seen.seen course.geometry h c.in_ok-seen.ensures.lines c.in_ok-seen.ensures.blocks c.in_ok-seen.ensures.files is.follows) is.done
