@@ -1,5 +1,5 @@
 -- What the choices of a part ask of it: of its line, of its block, or of lines of its file.
-use Rattle.std.proofs.Common.{◌≡◌, ◌+◌, ◌-◌, ◌*◌, ◌/◌, ◌%◌, ℕ, true, None, List, [], ◌∷◌, ◌++◌, map, refl, sym, ap, ◌∙◌, append-nil, arith}
+use Rattle.std.proofs.Common.{◌≡◌, ◌-◌, ◌*◌, ◌/◌, ℕ, true, List, [], ◌∷◌, map, refl, sym, ap, ◌∙◌, append-nil}
 use Rattle.std.specs.Int.{to_le_bytes, w64}
 use Rattle.std.specs.List.{list_all, range_with_len}
 use Rattle.std.proofs.lemmas.Bool.{and_from}
@@ -16,34 +16,20 @@ use Rattle.block_sights.specs.Sights.Sight.{Whole, Scar, BadLine}
 use Rattle.cut_places.specs.declared.sight.Sight.{Sight}
 use Rattle.cut_places.specs.SeesFiles.{is_held}
 use Rattle.value_tables.specs.Listed.{reply_of}
-use Rattle.value_tables.specs.Looking.{blocks_looked_at, blocks_touched, file_lines_touched, lines_looked_at, lines_touched, none_refused}
-use Rattle.value_tables.specs.Rows.{read_refusal}
+use Rattle.value_tables.specs.Looking.{file_lines_touched, lines_touched}
 use Rattle.outcome_lists.specs.Choices.{Choice, choices_from}
 use Rattle.outcome_lists.specs.Courses.{AllWith, AreOf}
 use Rattle.outcome_lists.specs.Outcomes.{and_seen, nothing}
 use Rattle.outcome_lists.specs.Parts.{IsPart}
-
--- a word is in one line
-pub one_line_of : (start : ℕ) → start % 8 ≡ 0 → lines_touched (Volume start 8) ≡ start / 64 ∷ []
-one_line_of start aligned = ap (range_with_len (start / 64)) count
-  where
-    count : (start + 8 - 1) / 64 + 1 - start / 64 ≡ 1
-    count = omega (arith, aligned)
+use Rattle.outcome_lists.proofs.SightLemmas.{blocks_of_part, lines_of_part}
 
 module _ (sight : Sight) (geo : Geometry) where
-  -- a part looks at its own lines and blocks
-  lines_of_part : (part : Read) → read_refusal geo part ≡ None → lines_looked_at geo (part ∷ []) ≡ lines_touched part
-  lines_of_part part taken = ap (λ o. none_refused o (lines_touched part) ++ []) taken ∙ append-nil (lines_touched part)
-
-  blocks_of_part : (part : Read) → read_refusal geo part ≡ None → blocks_looked_at geo (part ∷ []) ≡ blocks_touched part
-  blocks_of_part part taken = ap (λ o. none_refused o (blocks_touched part) ++ []) taken ∙ append-nil (blocks_touched part)
-
   -- a read of the part's word, with a reply that tells of its line
   of_word : (start len : ℕ) (reply : PageReply) → IsPart geo (Volume start len) → lines_read start len reply ≡ lines_touched (Volume start len)
       → AreOf sight geo (Volume start len ∷ []) (and_seen nothing (of_volume (record { start = start; len = len; reply = reply })))
   of_word start len reply is tells = record {
-    lines = append-nil (lines_read start len reply) ∙ tells ∙ sym (lines_of_part (Volume start len) is.taken);
-    blocks = sym (blocks_of_part (Volume start len) is.taken);
+    lines = append-nil (lines_read start len reply) ∙ tells ∙ sym (lines_of_part geo (Volume start len) is.taken);
+    blocks = sym (blocks_of_part geo (Volume start len) is.taken);
     files = refl;
   }
 
@@ -51,8 +37,8 @@ module _ (sight : Sight) (geo : Geometry) where
   of_block : (first count : ℕ) (s : BlockSight) → IsPart geo (Blocks first count)
       → AreOf sight geo (Blocks first count ∷ []) (and_seen nothing (of_blocks (record { first = first; count = 1; reply = reply_of first s })))
   of_block first count s is = record {
-    lines = sym (lines_of_part (Blocks first count) is.taken);
-    blocks = numbers s ∙ sym (blocks_of_part (Blocks first count) is.taken ∙ ap (range_with_len first) is.one);
+    lines = sym (lines_of_part geo (Blocks first count) is.taken);
+    blocks = numbers s ∙ sym (blocks_of_part geo (Blocks first count) is.taken ∙ ap (range_with_len first) is.one);
     files = refl;
   }
     where
@@ -66,8 +52,8 @@ module _ (sight : Sight) (geo : Geometry) where
       → list_all (is_held sight.files.numbers) (lines_read start len reply) ≡ true
       → AreOf sight geo (File name start len ∷ []) (and_seen nothing (of_file (record { name = name; pages = record { start = start; len = len; reply = reply } })))
   of_file_word name start len reply is held = record {
-    lines = sym (lines_of_part (File name start len) is.taken);
-    blocks = sym (blocks_of_part (File name start len) is.taken);
+    lines = sym (lines_of_part geo (File name start len) is.taken);
+    blocks = sym (blocks_of_part geo (File name start len) is.taken);
     files = and_from (list_all (is_held sight.files.numbers) (lines_read start len reply)) true held refl;
   }
 

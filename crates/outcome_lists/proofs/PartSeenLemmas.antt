@@ -17,13 +17,14 @@ use Rattle.sights.specs.declared.block_seen.BlockSeen.{BlockSeen}
 use Rattle.sights.specs.declared.line_seen.LineSeen.{LineSeen}
 use Rattle.sights.specs.Units.{AreBlocks, AreLines, block_numbers, line_numbers}
 use Rattle.value_tables.specs.Left.{file_side, files_left}
-use Rattle.value_tables.specs.Looking.{IsOf, blocks_touched, file_lines_touched, lines_touched, none_refused}
+use Rattle.value_tables.specs.Looking.{IsOf}
 use Rattle.value_tables.specs.Rows.{read_refusal}
 use Rattle.value_tables.specs.Sides.{side_at}
 use Rattle.value_tables.proofs.FileSideLemmas.{files_rest}
+use Rattle.outcome_lists.proofs.SightLemmas.{blocks_of_part, file_lines_of_part, lines_of_part}
 
 -- numbers that begin with one
-pub range_first : (a n : ℕ) → 1 ≤ n → (others : List ℕ) × (range_with_len a n ≡ a ∷ others)
+range_first : (a n : ℕ) → 1 ≤ n → (others : List ℕ) × (range_with_len a n ≡ a ∷ others)
 range_first a zero some = absurd (omega (arith, some))
 range_first a (suc n) some = (range_with_len (a + 1) n, refl)
 
@@ -37,24 +38,21 @@ module _ (now : Sight) (geo : Geometry) where
   numbers_of_word start len taken of =
       let some = (read_within 65536 (4096 * geo.vpages) start len taken).0 in
       let lines = range_first (start / 64) ((start + len - 1) / 64 + 1 - start / 64) (spanned start len 64 some refl) in
-      let touched = lines_touched (Volume start len) in
-      (lines.0, of.lines ∙ append-nil (none_refused (read_refusal geo (Volume start len)) touched) ∙ ap (λ o. none_refused o touched) taken ∙ lines.1)
+      (lines.0, of.lines ∙ lines_of_part geo (Volume start len) taken ∙ lines.1)
 
   pub numbers_of_block : (first count : ℕ) → read_refusal geo (Blocks first count) ≡ None → IsOf now geo (Blocks first count ∷ [])
       → (others : List ℕ) × (block_numbers now.blocks.items ≡ first ∷ others)
   numbers_of_block first count taken of =
       let some = (read_within 128 geo.blocks first count taken).0 in
       let blocks = range_first first count some in
-      let touched = blocks_touched (Blocks first count) in
-      (blocks.0, of.blocks ∙ append-nil (none_refused (read_refusal geo (Blocks first count)) touched) ∙ ap (λ o. none_refused o touched) taken ∙ blocks.1)
+      (blocks.0, of.blocks ∙ blocks_of_part geo (Blocks first count) taken ∙ blocks.1)
 
   pub held_of_word : (name : List ℕ) (start len : ℕ) → read_refusal geo (File name start len) ≡ None → IsOf now geo (File name start len ∷ []) → is_held now.files.numbers (start / 8 / 8) ≡ true
   held_of_word name start len taken of =
       let some = (read_within 65536 (start + len) start len taken).0 in
       let lines = range_first (start / 64) ((start + len - 1) / 64 + 1 - start / 64) (spanned start len 64 some refl) in
-      let touched = file_lines_touched (File name start len) in
       let all : list_all (is_held now.files.numbers) (start / 64 ∷ lines.0) ≡ true =
-      ap (list_all (is_held now.files.numbers)) (sym (append-nil (none_refused (read_refusal geo (File name start len)) touched) ∙ ap (λ o. none_refused o touched) taken ∙ lines.1)) ∙ of.files in
+      ap (list_all (is_held now.files.numbers)) (sym (file_lines_of_part geo (File name start len) taken ∙ lines.1)) ∙ of.files in
       let same : start / 8 / 8 ≡ start / 64 = omega arith in
       ap (is_held now.files.numbers) same ∙ (and_parts (is_held now.files.numbers (start / 64)) (list_all (is_held now.files.numbers) lines.0) all).0
 
