@@ -24,6 +24,7 @@ use Rattle.outcome_lists.specs.Levels.{before_place, inside_places, places, plac
 use Rattle.outcome_lists.specs.Mixing.{ways_inside}
 use Rattle.outcome_lists.proofs.SightLemmas.{follows_part}
 use Rattle.outcome_lists.proofs.CourseLemmas.{Reaches, grown_by, reaches_first, reaches_on, reaches_past, told_last}
+use Rattle.outcome_lists.proofs.MappedLemmas.{suc_is}
 
 -- how a cut leaves files goes by the mappings that are held of them
 way_is : (h : Machine) (files : FilesState) (action : Action) → SeesFiles files h
@@ -57,9 +58,6 @@ pub found_at : (program : List (Option Command)) (done : List Bool) (geo : Geome
 found_at program done geo began i now now2 k k2 found found2 same count more found_so =
     subst (λ ps. AreFound program done geo began i now2 k2 ps) (sym more)
     (subst (λ m. AreFound program done geo began i now2 m found) (sym count) (subst (λ s. AreFound program done geo began i s k found) (sym same) found_so))
-
-suc_is : (n : ℕ) → suc n ≡ n + 1
-suc_is n = omega arith
 
 module _ (program : List (Option Command)) (done : List Bool) (geo : Geometry) (began : Sight) where
   pub found_first : (found : List Place) → IsWithin began geo → found ≡ [] → AreFound program done geo began 0 began 0 found
