@@ -19,7 +19,8 @@ use Rattle.sights.proofs.SizeLemmas.{geometry_stays}
 use Rattle.outcome_lists.proofs.MappedLemmas.{suc_is}
 
 -- what is looked at once a command is done, or refused
-pub follows_done : (now after : Sight) (geo : Geometry) (h : Machine) (action : Action) → Follows now geo h → IsWithin now geo → is_none (refusal h action) ≡ true → IsTrue (is_of_program action)
+pub follows_done : (now after : Sight) (geo : Geometry) (h : Machine) (action : Action) → Follows now geo h → IsWithin now geo → is_none (refusal h action) ≡ true
+    → IsTrue (is_of_program action)
     → after.lines.items ≡ map (line_once_done geo action) now.lines.items → after.blocks.items ≡ map (block_once_done geo action) now.blocks.items
     → after.files ≡ files_once_done action now.files → Follows after geo (led_to h (fate h action))
 follows_done now after geo h action follows within done program lines blocks files =
@@ -38,7 +39,8 @@ follows_done now after geo h action follows within done program lines blocks fil
     allowed : refusal h action ≡ None
     allowed = none_is (refusal h action) done
 
-pub follows_refused : (now : Sight) (geo : Geometry) (h : Machine) (action : Action) → Follows now geo h → is_none (refusal h action) ≡ false → Follows now geo (led_to h (fate h action))
+pub follows_refused : (now : Sight) (geo : Geometry) (h : Machine) (action : Action) → Follows now geo h → is_none (refusal h action) ≡ false
+    → Follows now geo (led_to h (fate h action))
 follows_refused now geo h action follows refused = by_refusal (refusal h action) refused
   where
     by_refusal : (o : Option Answer) → is_none o ≡ false → Follows now geo (led_to h (unless_refused h o ((meaning action).comes h)))
@@ -58,7 +60,8 @@ reaches_first program done geo now Told h follows all told = record { to = h; fo
 
 module _ (program : List (Option Command)) (done : List Bool) (geo : Geometry) (i : ℕ) (now : Sight) (Told : Machine → List (Option Command) → Type 0)
     (reaches : Reaches program done geo i now Told) where
-  module _ (line : Option Command) (is_done : Bool) (lt : i < length program) (same : length done ≡ length program) (is : line ≡ get_or program i line) (told : is_done ≡ get_or done i false)
+  module _ (line : Option Command) (is_done : Bool) (lt : i < length program) (same : length done ≡ length program) (is : line ≡ get_or program i line)
+      (told : is_done ≡ get_or done i false)
       (Later : Machine → List (Option Command) → Type 0) where
     lines_next : drop i program ≡ line ∷ drop (i + 1) program
     lines_next = at_line program i line lt is

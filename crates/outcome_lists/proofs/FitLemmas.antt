@@ -31,7 +31,8 @@ use Rattle.outcome_lists.proofs.CourseLemmas.{grown_by}
 use Rattle.outcome_lists.proofs.LookLemmas.{is_look}
 
 -- a question of some parts asks of all that is looked at for them
-pub whole_of : (all some : Sight) (geo : Geometry) (parts : List Read) (q : Question) → AreOf all geo parts (asked q) → IsOf some geo parts → some.files ≡ all.files → IsWhole some q
+pub whole_of : (all some : Sight) (geo : Geometry) (parts : List Read) (q : Question) → AreOf all geo parts (asked q) → IsOf some geo parts → some.files ≡ all.files
+    → IsWhole some q
 whole_of all some geo parts q are of files = record {
   lines = of.lines ∙ sym are.lines;
   blocks = of.blocks ∙ sym are.blocks;
@@ -46,7 +47,8 @@ shown now geo h q follows whole told is =
     ∙ sym (shows_now h (look_of (asked q)) q now (is_look q) follows.sees whole follows.ready.settled)
 
 -- one state more, before a command
-pub fits_next : (look : List Seen) (found grown all : List Bool) (told : Bool) (h : Machine) (command : Command) (lines : List (Option Command)) → grown ≡ found ++ told ∷ [] → told ≡ may_show look h
+pub fits_next : (look : List Seen) (found grown all : List Bool) (told : Bool) (h : Machine) (command : Command) (lines : List (Option Command)) → grown ≡ found ++ told ∷ []
+    → told ≡ may_show look h
     → found ++ map (may_show look) (states h (inputs_of_lines (Some command ∷ lines))) ≡ all
     → grown ++ map (may_show look) (states (led_to h (fate h (action_of command))) (inputs_of_lines lines)) ≡ all
 fits_next look found grown all told h command lines more is were =
@@ -61,7 +63,8 @@ asks_nothing q volume blocks files =
     ∙ ap (λ rs. record { volume = []; blocks = []; files = map file_read rs }) files
 
 -- a choice with the states that show it, as it is held
-pub way_is : (hs : List Machine) (c : Choice) (a : Asked) (held : Fitted) → a ≡ and_seen nothing c.seen → held.text.items ≡ c.text → held.fits.items ≡ map (may_show (look_of a)) hs → way_held held ≡ fitted hs c
+pub way_is : (hs : List Machine) (c : Choice) (a : Asked) (held : Fitted) → a ≡ and_seen nothing c.seen → held.text.items ≡ c.text
+    → held.fits.items ≡ map (may_show (look_of a)) hs → way_held held ≡ fitted hs c
 way_is hs c a held is text fits = ap₂ way text (fits ∙ ap (λ asks. map (may_show (look_of asks)) hs) is)
   where
     way : List ℕ → List Bool → Way

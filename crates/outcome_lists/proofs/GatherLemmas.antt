@@ -34,7 +34,8 @@ values_next (File name start len) found h hs =
     ap (values_with (start / 8 % 8) found) (cells_of-first (file_side name (start / 8) h.files) sides)
     ∙ values_with-append (start / 8 % 8) (cells_of (file_side name (start / 8) h.files ∷ [])) found (cells_of sides)
 
-sights_next : (part : Read) (found : List BlockSight) (h : Machine) (hs : List Machine) → sights_through part found (h ∷ hs) ≡ sights_through part (sights_through part found (h ∷ [])) hs
+sights_next : (part : Read) (found : List BlockSight) (h : Machine) (hs : List Machine)
+    → sights_through part found (h ∷ hs) ≡ sights_through part (sights_through part found (h ∷ [])) hs
 sights_next (Volume start len) found h hs = refl
 sights_next (Blocks first count) found h hs = refl
 sights_next (File name start len) found h hs = refl

@@ -37,12 +37,16 @@ module _ (sight : Sight) (geo : Geometry) (parts : List Read) (i : ℕ) (lt : i 
 
   module _ (taken : read_refusal geo part ≡ None) where
     -- where it is looked at
-    pub placed : (lines blocks : ℕ) → drop lines (line_numbers sight.lines.items) ≡ lines_looked_at geo (drop i parts) → drop blocks (block_numbers sight.blocks.items) ≡ blocks_looked_at geo (drop i parts)
+    pub placed : (lines blocks : ℕ) → drop lines (line_numbers sight.lines.items) ≡ lines_looked_at geo (drop i parts)
+        → drop blocks (block_numbers sight.blocks.items) ≡ blocks_looked_at geo (drop i parts)
         → list_all (is_held sight.files.numbers) (file_lines_looked_at geo (drop i parts)) ≡ true → IsAt sight part lines blocks
     placed lines blocks at_lines at_blocks held = record {
-      lines = subst (λ o. HasRun (line_numbers sight.lines.items) lines (none_refused o (lines_touched part))) taken (lines_next geo parts i lt part is (line_numbers sight.lines.items) lines at_lines);
-      blocks = subst (λ o. HasRun (block_numbers sight.blocks.items) blocks (none_refused o (blocks_touched part))) taken (blocks_next geo parts i lt part is (block_numbers sight.blocks.items) blocks at_blocks);
-      files = subst (λ o. list_all (is_held sight.files.numbers) (none_refused o (file_lines_touched part)) ≡ true) taken (files_next geo parts i lt part is sight.files.numbers held);
+      lines = subst (λ o. HasRun (line_numbers sight.lines.items) lines (none_refused o (lines_touched part))) taken
+          (lines_next geo parts i lt part is (line_numbers sight.lines.items) lines at_lines);
+      blocks = subst (λ o. HasRun (block_numbers sight.blocks.items) blocks (none_refused o (blocks_touched part))) taken
+          (blocks_next geo parts i lt part is (block_numbers sight.blocks.items) blocks at_blocks);
+      files = subst (λ o. list_all (is_held sight.files.numbers) (none_refused o (file_lines_touched part)) ≡ true) taken
+          (files_next geo parts i lt part is sight.files.numbers held);
     }
 
     -- and what is looked at behind it
@@ -56,12 +60,14 @@ module _ (sight : Sight) (geo : Geometry) (parts : List Read) (i : ℕ) (lt : i 
     blocks_later blocks after at more =
         blocks_after geo parts i lt part is (block_numbers sight.blocks.items) blocks after at (more ∙ ap (λ o. blocks + length (none_refused o (blocks_touched part))) (sym taken))
 
-  pub files_later : list_all (is_held sight.files.numbers) (file_lines_looked_at geo (drop i parts)) ≡ true → list_all (is_held sight.files.numbers) (file_lines_looked_at geo (drop (i + 1) parts)) ≡ true
+  pub files_later : list_all (is_held sight.files.numbers) (file_lines_looked_at geo (drop i parts)) ≡ true
+      → list_all (is_held sight.files.numbers) (file_lines_looked_at geo (drop (i + 1) parts)) ≡ true
   files_later held = files_after geo parts i lt part is sight.files.numbers held
 
   module _ (places : List Place) (hs : List Machine) (before : Option Read) where
     -- its level, as it is held
-    pub level_held : (held : Level) (cs : List Choice) → held.links.items ≡ map (λ (place : Place). link place.ways before part) places → ways_held held.choices.items ≡ map (fitted hs) cs
+    pub level_held : (held : Level) (cs : List Choice) → held.links.items ≡ map (λ (place : Place). link place.ways before part) places
+        → ways_held held.choices.items ≡ map (fitted hs) cs
         → cs ≡ choices hs part → part_held held ≡ level places hs before part
     level_held held cs links ways are = ap₂ part_of links (ways ∙ ap (map (fitted hs)) are)
       where
@@ -69,7 +75,8 @@ module _ (sight : Sight) (geo : Geometry) (parts : List Read) (i : ℕ) (lt : i 
         part_of links ways = record { links = links; ways = ways }
 
     -- stands before those of the parts behind it
-    pub levels_next : (found grown all : List Part) (one : Part) → grown ≡ found ++ one ∷ [] → one ≡ level places hs before part → found ++ levels places hs before (drop i parts) ≡ all
+    pub levels_next : (found grown all : List Part) (one : Part) → grown ≡ found ++ one ∷ [] → one ≡ level places hs before part
+        → found ++ levels places hs before (drop i parts) ≡ all
         → grown ++ levels places hs (Some part) (drop (i + 1) parts) ≡ all
     levels_next found grown all one more same were =
         grown_by found grown (level places hs before part ∷ []) (levels places hs (Some part) (drop (i + 1) parts)) all

@@ -25,7 +25,8 @@ mapped_next f (y ∷ ys) (suc i) x lt is =
     ap (λ n. map f (take n (y ∷ ys))) (sym (suc_is (suc i))) ∙ ap (λ zs. f y ∷ map f (take zs ys)) (suc_is i) ∙ ap (λ zs. f y ∷ zs) (mapped_next f ys i x (omega (arith, lt)) is)
 
 -- and of what is held of them
-pub held_next : {A B C D : Type 0} (held : A → D) (of : B → C) (f : C → D) (xs : List B) (i : ℕ) (x : B) → i < length xs → x ≡ get_or xs i x → (old new : List A) (y : A) → new ≡ old ++ y ∷ []
+pub held_next : {A B C D : Type 0} (held : A → D) (of : B → C) (f : C → D) (xs : List B) (i : ℕ) (x : B) → i < length xs → x ≡ get_or xs i x → (old new : List A) (y : A)
+    → new ≡ old ++ y ∷ []
     → map held old ≡ map f (map of (take i xs)) → held y ≡ f (of x) → map held new ≡ map f (map of (take (i + 1) xs))
 held_next held of f xs i x lt is old new y more were same =
     ap (map held) more ∙ map-append held old (y ∷ []) ∙ ap₂ (λ ds d. ds ++ d ∷ []) were same

@@ -47,7 +47,8 @@ module _ (now : Sight) (geo : Geometry) where
       let blocks = range_first first count some in
       (blocks.0, of.blocks ∙ blocks_of_part geo (Blocks first count) taken ∙ blocks.1)
 
-  pub held_of_word : (name : List ℕ) (start len : ℕ) → read_refusal geo (File name start len) ≡ None → IsOf now geo (File name start len ∷ []) → is_held now.files.numbers (start / 8 / 8) ≡ true
+  pub held_of_word : (name : List ℕ) (start len : ℕ) → read_refusal geo (File name start len) ≡ None → IsOf now geo (File name start len ∷ [])
+      → is_held now.files.numbers (start / 8 / 8) ≡ true
   held_of_word name start len taken of =
       let some = (read_within 65536 (start + len) start len taken).0 in
       let lines = range_first (start / 64) ((start + len - 1) / 64 + 1 - start / 64) (spanned start len 64 some refl) in
@@ -56,7 +57,8 @@ module _ (now : Sight) (geo : Geometry) where
       let same : start / 8 / 8 ≡ start / 64 = omega arith in
       ap (is_held now.files.numbers) same ∙ (and_parts (is_held now.files.numbers (start / 64)) (list_all (is_held now.files.numbers) lines.0) all).0
 
-pub first_line : (f : ℕ → Cell) (lines : List LineSeen) (s : LineSeen) (n : ℕ) (rest : List LineSeen) (others : List ℕ) → lines ≡ s ∷ rest → line_numbers lines ≡ n ∷ others → AreLines f lines → s.line ≡ f n
+pub first_line : (f : ℕ → Cell) (lines : List LineSeen) (s : LineSeen) (n : ℕ) (rest : List LineSeen) (others : List ℕ) → lines ≡ s ∷ rest → line_numbers lines ≡ n ∷ others
+    → AreLines f lines → s.line ≡ f n
 first_line f lines s n rest others is numbers are =
     let parts : AreLines f (s ∷ rest) = subst (AreLines f) is are in
     let same : s.number ≡ n = cc (ap line_numbers (sym is) ∙ numbers) in
@@ -65,7 +67,8 @@ first_line f lines s n rest others is numbers are =
 pub no_line : (lines : List LineSeen) (n : ℕ) (others : List ℕ) → lines ≡ [] → line_numbers lines ≡ n ∷ others → ⊥
 no_line lines n others none numbers = cc (ap line_numbers (sym none) ∙ numbers)
 
-pub first_block : (f : ℕ → BlockSight) (blocks : List BlockSeen) (s : BlockSeen) (n : ℕ) (rest : List BlockSeen) (others : List ℕ) → blocks ≡ s ∷ rest → block_numbers blocks ≡ n ∷ others → AreBlocks f blocks → s.block ≡ f n
+pub first_block : (f : ℕ → BlockSight) (blocks : List BlockSeen) (s : BlockSeen) (n : ℕ) (rest : List BlockSeen) (others : List ℕ) → blocks ≡ s ∷ rest
+    → block_numbers blocks ≡ n ∷ others → AreBlocks f blocks → s.block ≡ f n
 first_block f blocks s n rest others is numbers are =
     let parts : AreBlocks f (s ∷ rest) = subst (AreBlocks f) is are in
     let same : s.number ≡ n = cc (ap block_numbers (sym is) ∙ numbers) in
@@ -75,14 +78,16 @@ pub no_block : (blocks : List BlockSeen) (n : ℕ) (others : List ℕ) → block
 no_block blocks n others none numbers = cc (ap block_numbers (sym none) ∙ numbers)
 
 -- where a word of a file is sought
-pub side_is : (now : Sight) (geo : Geometry) (h : Machine) (name : List ℕ) (p : ℕ) → Follows now geo h → is_held now.files.numbers (p / 8) ≡ true → side_at now.files name p ≡ file_side name p h.files ∷ []
+pub side_is : (now : Sight) (geo : Geometry) (h : Machine) (name : List ℕ) (p : ℕ) → Follows now geo h → is_held now.files.numbers (p / 8) ≡ true
+    → side_at now.files name p ≡ file_side name p h.files ∷ []
 side_is now geo h name p follows held =
     sym (append-nil (side_at now.files name p))
     ∙ sym (files_rest h now.files follows.sees.files follows.ready.settled name p held)
     ∙ ap (λ o. files_left h.mappings o h.files name p) follows.ready.settled
 
 -- a list has a first item, or none
-pub there : {A : Type 0} (xs ys : List A) (found : Option (Bor A)) (x : Bor A) → ys ≡ xs → option_copied found ≡ slice_get ys 0 → found ≡ Some x → (rest : List A) × (xs ≡ x.now ∷ rest)
+pub there : {A : Type 0} (xs ys : List A) (found : Option (Bor A)) (x : Bor A) → ys ≡ xs → option_copied found ≡ slice_get ys 0 → found ≡ Some x
+    → (rest : List A) × (xs ≡ x.now ∷ rest)
 there [] ys found x same first is = cc (same, first, is)
 there (y ∷ rest) ys found x same first is = (rest, cc (same, first, is))
 

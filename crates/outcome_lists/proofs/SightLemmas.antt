@@ -61,7 +61,7 @@ blocks_left f (suc n) [] are = tt
 blocks_left f (suc n) (s ∷ blocks) are = blocks_left f n blocks are.1
 
 -- a part of what is looked at follows the state as all of it does
-follows_part : (all some : Sight) (geo : Geometry) (h : Machine) → ((f : ℕ → Cell) → AreLines f all.lines.items → AreLines f some.lines.items)
+pub follows_part : (all some : Sight) (geo : Geometry) (h : Machine) → ((f : ℕ → Cell) → AreLines f all.lines.items → AreLines f some.lines.items)
     → ((f : ℕ → BlockSight) → AreBlocks f all.blocks.items → AreBlocks f some.blocks.items) → some.files ≡ all.files → Follows all geo h → Follows some geo h
 follows_part all some geo h lines blocks files follows = record {
   ready = follows.ready;
@@ -74,13 +74,15 @@ follows_part all some geo h lines blocks files follows = record {
 }
 
 -- what is looked at for one word, or for one block, follows as all of it does
-pub word_follows : (all some : Sight) (geo : Geometry) (h : Machine) (at : ℕ) → some.lines.items ≡ take 1 (drop at all.lines.items) → some.blocks.items ≡ [] → some.files ≡ all.files
+pub word_follows : (all some : Sight) (geo : Geometry) (h : Machine) (at : ℕ) → some.lines.items ≡ take 1 (drop at all.lines.items) → some.blocks.items ≡ []
+    → some.files ≡ all.files
     → Follows all geo h → Follows some geo h
 word_follows all some geo h at lines blocks files follows =
     follows_part all some geo h (λ f are. subst (AreLines f) (sym lines) (lines_taken f 1 (drop at all.lines.items) (lines_left f at all.lines.items are)))
     (λ f are. subst (AreBlocks f) (sym blocks) tt) files follows
 
-pub block_follows : (all some : Sight) (geo : Geometry) (h : Machine) (at : ℕ) → some.lines.items ≡ [] → some.blocks.items ≡ take 1 (drop at all.blocks.items) → some.files ≡ all.files
+pub block_follows : (all some : Sight) (geo : Geometry) (h : Machine) (at : ℕ) → some.lines.items ≡ [] → some.blocks.items ≡ take 1 (drop at all.blocks.items)
+    → some.files ≡ all.files
     → Follows all geo h → Follows some geo h
 block_follows all some geo h at lines blocks files follows =
     follows_part all some geo h (λ f are. subst (AreLines f) (sym lines) tt)

@@ -15,7 +15,8 @@ returns-clause-follows c = λ h follows is.
     let now = c.args.sight.now in
     let geo = c.args.geometry in
     on_ok_all c.change.result
-    (λ lines blocks files. follows_done now c.change.new.self geo h (action_of c.args.command.now) follows (is_within now geo c.requires.looks.0 c.requires.looks.1) (is ∙ c.if-not-done.false) c.requires.program lines blocks files)
+    (λ lines blocks files. follows_done now c.change.new.self geo h (action_of c.args.command.now) follows (is_within now geo c.requires.looks.0 c.requires.looks.1)
+    (is ∙ c.if-not-done.false) c.requires.program lines blocks files)
     c.change.ensures.lines c.change.ensures.blocks c.change.ensures.files
 
 pub returns-clause-looks : goal.returns-clause-looks

@@ -50,12 +50,14 @@ loop-i-preserved c =
         reaches = λ h from.
             reaches_on program done geo i now _ (were.reaches h from) line is_done c.loop-i-test.true c.requires.course.told c.line-item.is refl _ w.in-Some.command w.in-Some.is
             w.follow.new.sight w.in_ok-follow.ensures.follows
-            (λ to lines follows allowed told. fits_next look c.loop-i.fits.items w.push.new.self.items _ w.shows.result to w.in-Some.command lines w.in_ok-push.ensures.items (w.shows.ensures to follows) told);
+            (λ to lines follows allowed told. fits_next look c.loop-i.fits.items w.push.new.self.items _ w.shows.result to w.in-Some.command lines w.in_ok-push.ensures.items
+            (w.shows.ensures to follows) told);
       })
       | in_default w ↦ rw (w.sight-is, w.fits-is) (record {
         looks = were.looks;
         whole = were.whole;
-        reaches = λ h from. reaches_past program done geo i now _ (were.reaches h from) line is_done c.loop-i-test.true c.requires.course.told c.line-item.is refl _ w.in_default.is (λ to lines told. told);
+        reaches = λ h from. reaches_past program done geo i now _ (were.reaches h from) line is_done c.loop-i-test.true c.requires.course.told c.line-item.is refl _
+            w.in_default.is (λ to lines told. told);
       })
     ]
 

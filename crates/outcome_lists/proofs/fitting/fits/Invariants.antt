@@ -17,5 +17,6 @@ invariant-loop-i l = record {
   looks : IsOf l.sight l.course.geometry (l.part ∷ []);
   whole : IsWhole l.sight l.question;
   reaches : (h : Machine) → IsFrom l.course h → Reaches l.course.program.now l.course.done.now l.course.geometry l.i l.sight (λ (to : Machine) (lines : List (Option Command)).
-      l.fits.items ++ map (may_show (look_of (asked l.question))) (states to (inputs_of_lines lines)) ≡ map (may_show (look_of (asked l.question))) (states h (inputs_of_lines l.course.program.now)));
+      l.fits.items ++ map (may_show (look_of (asked l.question))) (states to (inputs_of_lines lines)) ≡ map (may_show (look_of (asked l.question)))
+      (states h (inputs_of_lines l.course.program.now)));
 }

@@ -26,6 +26,7 @@ loop-choice-preserved c =
     record {
       ways = (subst all (at_line choices i x lt c.choice-item.is) c.loop-choice.invariant.ways).1;
       found = λ h from.
-          held_next way_held choice_held (fitted (states h (inputs_of_lines c.args.course.now.program.now))) choices i x lt c.choice-item.is c.loop-choice.found.items c.push.new.self.items
+          held_next way_held choice_held (fitted (states h (inputs_of_lines c.args.course.now.program.now))) choices i x lt c.choice-item.is c.loop-choice.found.items
+          c.push.new.self.items
           c.in_ok-fitted_one.field-0 c.in_ok-push.ensures.items (c.loop-choice.invariant.found h from) (c.in_ok-fitted_one.ensures h from);
     }

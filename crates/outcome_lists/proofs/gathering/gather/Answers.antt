@@ -42,17 +42,21 @@ loop-i-preserved c =
       | in-Some+in_ok-add+in_ok-follow w ↦ rw (w.sight-is, w.gathered-is) (record {
         looks = w.in_ok-follow.ensures.looks (part ∷ []) c.loop-i.invariant.looks;
         reaches = λ h follows all.
-            reaches_on program done geo i now _ (c.loop-i.invariant.reaches h follows all) line is_done c.loop-i-test.true c.requires.course.told c.line-item.is refl _ w.in-Some.command w.in-Some.is
+            reaches_on program done geo i now _ (c.loop-i.invariant.reaches h follows all) line is_done c.loop-i-test.true c.requires.course.told c.line-item.is refl _
+            w.in-Some.command w.in-Some.is
             w.follow.new.sight w.in_ok-follow.ensures.follows
             (λ to lines follows allowed were. (
-              values_on part to w.in-Some.command lines values w.add.new.self.word.word.values.items _ (w.in_ok-add.ensures.values geo to follows c.requires.taken c.loop-i.invariant.looks) were.0,
-              sights_on part to w.in-Some.command lines blocks w.add.new.self.blocks.items _ (w.in_ok-add.ensures.blocks geo to follows c.requires.taken c.loop-i.invariant.looks) were.1,
+              values_on part to w.in-Some.command lines values w.add.new.self.word.word.values.items _
+                  (w.in_ok-add.ensures.values geo to follows c.requires.taken c.loop-i.invariant.looks) were.0,
+              sights_on part to w.in-Some.command lines blocks w.add.new.self.blocks.items _ (w.in_ok-add.ensures.blocks geo to follows c.requires.taken c.loop-i.invariant.looks)
+                  were.1,
             ));
       })
       | in_default w ↦ rw (w.sight-is, w.gathered-is) (record {
         looks = c.loop-i.invariant.looks;
         reaches = λ h follows all.
-            reaches_past program done geo i now _ (c.loop-i.invariant.reaches h follows all) line is_done c.loop-i-test.true c.requires.course.told c.line-item.is refl _ w.in_default.is (λ to lines were. were);
+            reaches_past program done geo i now _ (c.loop-i.invariant.reaches h follows all) line is_done c.loop-i-test.true c.requires.course.told c.line-item.is refl _
+            w.in_default.is (λ to lines were. were);
       })
     ]
 

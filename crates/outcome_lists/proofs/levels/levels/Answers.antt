@@ -25,7 +25,8 @@ loop-part-init c =
 
 pub choices_of-requires-clause-part : goal.choices_of-requires-clause-part
 choices_of-requires-clause-part c =
-    part_here c.args.course.now.sight.now c.args.course.now.geometry c.args.parts.now c.loop-part.part-index c.loop-part-test.true c.part-item.result c.part-item.is c.loop-part.invariant.parts
+    part_here c.args.course.now.sight.now c.args.course.now.geometry c.args.parts.now c.loop-part.part-index c.loop-part-test.true c.part-item.result c.part-item.is
+    c.loop-part.invariant.parts
 
 pub choices_of-requires-clause-at : goal.choices_of-requires-clause-at
 choices_of-requires-clause-at c =
@@ -33,12 +34,14 @@ choices_of-requires-clause-at c =
     let geo = c.args.course.now.geometry in
     let i = c.loop-part.invariant in
     let is = part_here sight geo c.args.parts.now c.loop-part.part-index c.loop-part-test.true c.part-item.result c.part-item.is i.parts in
-    placed sight geo c.args.parts.now c.loop-part.part-index c.loop-part-test.true c.part-item.result c.part-item.is is.taken c.loop-part.passed.lines c.loop-part.passed.blocks i.lines i.blocks i.files
+    placed sight geo c.args.parts.now c.loop-part.part-index c.loop-part-test.true c.part-item.result c.part-item.is is.taken c.loop-part.passed.lines c.loop-part.passed.blocks
+    i.lines i.blocks i.files
 
 pub pass-requires-clause-part : goal.pass-requires-clause-part
 pass-requires-clause-part c = (
   c.args.course.now.geometry,
-  part_here c.args.course.now.sight.now c.args.course.now.geometry c.args.parts.now c.loop-part.part-index c.loop-part-test.true c.part-item.result c.part-item.is c.loop-part.invariant.parts,
+  part_here c.args.course.now.sight.now c.args.course.now.geometry c.args.parts.now c.loop-part.part-index c.loop-part-test.true c.part-item.result c.part-item.is
+      c.loop-part.invariant.parts,
 )
 
 pub pass-requires-clause-at : goal.pass-requires-clause-at
@@ -48,7 +51,8 @@ pass-requires-clause-at c =
     let i = c.loop-part.invariant in
     let is = part_here sight geo c.args.parts.now c.loop-part.part-index c.loop-part-test.true c.part-item.result c.part-item.is i.parts in (
       sight,
-      placed sight geo c.args.parts.now c.loop-part.part-index c.loop-part-test.true c.part-item.result c.part-item.is is.taken c.loop-part.passed.lines c.loop-part.passed.blocks i.lines i.blocks i.files,
+      placed sight geo c.args.parts.now c.loop-part.part-index c.loop-part-test.true c.part-item.result c.part-item.is is.taken c.loop-part.passed.lines c.loop-part.passed.blocks
+          i.lines i.blocks i.files,
       search rules,
       search rules,
     )
@@ -83,5 +87,6 @@ loop-part-preserved c =
 
 pub returns : goal.returns
 returns c = λ h from.
-    levels_last c.args.places.now (states h (inputs_of_lines c.args.course.now.program.now)) (option_map (λ read. read.now) c.loop-part.before) c.args.parts.now c.loop-part.part-index
+    levels_last c.args.places.now (states h (inputs_of_lines c.args.course.now.program.now)) (option_map (λ read. read.now) c.loop-part.before) c.args.parts.now
+    c.loop-part.part-index
     (parts_held c.loop-part.found.items) _ c.loop-part-test.false (c.loop-part.invariant.found h from)

@@ -25,14 +25,16 @@ returns-in-Some-clause-values c = λ geo h follows taken of.
 pub returns-in-None-clause-values : goal.returns-in-None-clause-values
 returns-in-None-clause-values c = λ geo h follows taken of.
     let numbers = numbers_of_word c.args.sight.now geo c.in-Volume.start c.in-Volume.len (rw c.in-Volume.is at taken) (rw c.in-Volume.is at of) in
-    absurd (no_line c.args.sight.now.lines.items (c.in-Volume.start / 64) numbers.0 (gone c.args.sight.now.lines.items c.deref.result.now c.first.result c.deref.ensures.value c.first.ensures.value c.in-None.is) numbers.1)
+    absurd (no_line c.args.sight.now.lines.items (c.in-Volume.start / 64) numbers.0
+    (gone c.args.sight.now.lines.items c.deref.result.now c.first.result c.deref.ensures.value c.first.ensures.value c.in-None.is) numbers.1)
 
 pub returns-in-Some-first-clause-blocks : goal.returns-in-Some-first-clause-blocks
 returns-in-Some-first-clause-blocks c = λ geo h follows taken of.
     let first = c.in-Blocks.first in
     let now = c.args.sight.now in
     let numbers = numbers_of_block now geo first c.in-Blocks.count (rw c.in-Blocks.is at taken) (rw c.in-Blocks.is at of) in
-    let blocks = there now.blocks.items c.deref-in-Blocks.result.now c.first-in-Blocks.result c.in-Some-first.seen c.deref-in-Blocks.ensures.value c.first-in-Blocks.ensures.value c.in-Some-first.is in
+    let blocks = there now.blocks.items c.deref-in-Blocks.result.now c.first-in-Blocks.result c.in-Some-first.seen c.deref-in-Blocks.ensures.value c.first-in-Blocks.ensures.value
+    c.in-Some-first.is in
     let block = first_block (λ b. sight (nth h.blocks b)) now.blocks.items c.in-Some-first.seen.now first blocks.0 numbers.0 blocks.1 numbers.1 follows.sees.blocks in
     on_ok c.add_block.result
     (λ added. added ∙ ap (with_one same_sight c.args.self.now.blocks.items) block
@@ -42,7 +44,9 @@ returns-in-Some-first-clause-blocks c = λ geo h follows taken of.
 pub returns-in-None-first-clause-blocks : goal.returns-in-None-first-clause-blocks
 returns-in-None-first-clause-blocks c = λ geo h follows taken of.
     let numbers = numbers_of_block c.args.sight.now geo c.in-Blocks.first c.in-Blocks.count (rw c.in-Blocks.is at taken) (rw c.in-Blocks.is at of) in
-    absurd (no_block c.args.sight.now.blocks.items c.in-Blocks.first numbers.0 (gone c.args.sight.now.blocks.items c.deref-in-Blocks.result.now c.first-in-Blocks.result c.deref-in-Blocks.ensures.value c.first-in-Blocks.ensures.value c.in-None-first.is) numbers.1)
+    absurd (no_block c.args.sight.now.blocks.items c.in-Blocks.first numbers.0
+    (gone c.args.sight.now.blocks.items c.deref-in-Blocks.result.now c.first-in-Blocks.result c.deref-in-Blocks.ensures.value c.first-in-Blocks.ensures.value c.in-None-first.is)
+    numbers.1)
 
 pub returns-in-File-clause-values : goal.returns-in-File-clause-values
 returns-in-File-clause-values c = λ geo h follows taken of.
