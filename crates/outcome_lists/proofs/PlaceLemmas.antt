@@ -30,11 +30,14 @@ use Rattle.outcome_lists.proofs.MappedLemmas.{suc_is}
 -- how a cut leaves files goes by the mappings that are held of them
 way_is : (h : Machine) (files : FilesState) (action : Action) → SeesFiles files h
     → way_left (left_by (files_change files.mappings.mappings action)) ≡ way_left ((meaning action).files_left h.mappings)
-way_is h files action sees = ap (λ ms. way_left (left_by (files_change ms action))) sees.mappings ∙ sym (left_same (λ left to. way_left left) h.files (λ to. refl) h.mappings action)
+way_is h files action sees =
+    ap (λ ms. way_left (left_by (files_change ms action))) sees.mappings
+    ∙ sym (left_same (λ left to. way_left left) h.files (λ to. refl) h.mappings action)
 
 -- what a command mixes
 pub ways_are : (h : Machine) (files : FilesState) (action : Action) (lines blocks left : Option Way) → lines ≡ lines_way action → blocks ≡ blocks_way action
-    → left ≡ way_left (left_by (files_change files.mappings.mappings action)) → SeesFiles files h → record { lines = lines; blocks = blocks; files = left } ≡ ways_inside h.mappings action
+    → left ≡ way_left (left_by (files_change files.mappings.mappings action)) → SeesFiles files h
+    → record { lines = lines; blocks = blocks; files = left } ≡ ways_inside h.mappings action
 ways_are h files action lines blocks left of_lines of_blocks of_files sees =
     ap (λ way. record { lines = way; blocks = blocks; files = left }) of_lines
     ∙ ap₂ (λ way others. record { lines = lines_way action; blocks = way; files = others }) of_blocks (of_files ∙ way_is h files action sees)
@@ -53,23 +56,18 @@ pub record AreFound (program : List (Option Command)) (done : List Bool) (geo : 
   pub few : k ≤ i
   pub comes : (h : Machine) → Follows began geo h → AreDone h program done → Reaches program done geo i now (AreWhole (places h (inputs_of_lines program)) (i + 1) k found)
 
--- the same, as it is named behind a line
-pub found_at : (program : List (Option Command)) (done : List Bool) (geo : Geometry) (began : Sight) (i : ℕ) (now now2 : Sight) (k k2 : ℕ) (found found2 : List Place)
-    → now2 ≡ now → k2 ≡ k → found2 ≡ found → AreFound program done geo began i now k found → AreFound program done geo began i now2 k2 found2
-found_at program done geo began i now now2 k k2 found found2 same count more found_so =
-    subst (λ ps. AreFound program done geo began i now2 k2 ps) (sym more)
-    (subst (λ m. AreFound program done geo began i now2 m found) (sym count) (subst (λ s. AreFound program done geo began i s k found) (sym same) found_so))
-
 module _ (program : List (Option Command)) (done : List Bool) (geo : Geometry) (began : Sight) where
   pub found_first : (found : List Place) → IsOf began geo [] → found ≡ [] → AreFound program done geo began 0 began 0 found
   found_first found looks none = record {
     looks = looks;
     few = omega arith;
-    comes = λ h follows all. reaches_first program done geo began (AreWhole (places h (inputs_of_lines program)) 1 0 found) h follows all (ap (λ ps. ps ++ places h (inputs_of_lines program)) none);
+    comes = λ h follows all. reaches_first program done geo began (AreWhole (places h (inputs_of_lines program)) 1 0 found) h follows all
+        (ap (λ ps. ps ++ places h (inputs_of_lines program)) none);
   }
 
   module _ (i : ℕ) (now : Sight) (k : ℕ) (found : List Place) (so_far : AreFound program done geo began i now k found) where
-    module _ (line : Option Command) (is_done : Bool) (lt : i < length program) (same : length done ≡ length program) (is : line ≡ get_or program i line) (told : is_done ≡ get_or done i false) where
+    module _ (line : Option Command) (is_done : Bool) (lt : i < length program) (same : length done ≡ length program) (is : line ≡ get_or program i line)
+        (told : is_done ≡ get_or done i false) where
       -- a line without a command
       pub found_past : line ≡ None → AreFound program done geo began (i + 1) now k found
       found_past none = record {
@@ -120,6 +118,7 @@ module _ (program : List (Option Command)) (done : List Bool) (geo : Geometry) (
 pub files_alone : (seen : Sight) (geo : Geometry) → seen.lines.items ≡ [] → seen.blocks.items ≡ [] → IsOf seen geo []
 files_alone seen geo lines blocks = record { lines = ap line_numbers lines; blocks = ap block_numbers blocks; files = refl }
 
-pub files_follow : (all seen : Sight) (geo : Geometry) (h : Machine) → seen.lines.items ≡ [] → seen.blocks.items ≡ [] → seen.files ≡ all.files → Follows all geo h → Follows seen geo h
+pub files_follow : (all seen : Sight) (geo : Geometry) (h : Machine) → seen.lines.items ≡ [] → seen.blocks.items ≡ [] → seen.files ≡ all.files
+    → Follows all geo h → Follows seen geo h
 files_follow all seen geo h lines blocks files follows =
     follows_part all seen geo h (λ f are. subst (AreLines f) (sym lines) tt) (λ f are. subst (AreBlocks f) (sym blocks) tt) files follows

@@ -1,8 +1,6 @@
-use Rattle.std.proofs.Common.{[], false, ap, get_or, refl, sym, ◌+◌, ◌∙◌}
-use Rattle.std.specs.Global.{Vec}
-use Rattle.outcome_lists.specs.declared.place.Place.{Place}
+use Rattle.std.proofs.Common.{[], false, get_or, refl, sym, ◌+◌, ◌∙◌}
 use Rattle.cut_places.proofs.GoingLemmas.{program_at}
-use Rattle.outcome_lists.proofs.PlaceLemmas.{all_found, files_alone, files_follow, found_at, found_first, found_on, found_past}
+use Rattle.outcome_lists.proofs.PlaceLemmas.{all_found, files_alone, files_follow, found_first, found_on, found_past}
 use Rattle.outcome_lists.proofs.places.places.Goals.{in-Some+in_ok-add_places+in_ok-follow, in_default}
 use Rattle.outcome_lists.proofs.places.places.Goals as goal
 
@@ -32,14 +30,13 @@ loop-i-preserved c =
     let before = c.loop-i.invariant in
     let is_done = get_or done i false in
     elim c.match-line.branch [
-      | in-Some+in_ok-add_places+in_ok-follow w ↦
-          found_at program done geo began (i + 1) w.follow.new.sight c.match-line.seen (c.loop-i.state + 1) c.match-line.state w.add_places.new.found.items c.match-line.found.items w.seen-is w.state-is (ap (λ (v : Vec Place). v.items) w.found-is)
-          (found_on program done geo began i now c.loop-i.state c.loop-i.found.items before line is_done c.loop-i-test.true c.requires.course.told c.line-item.is refl
+      | in-Some+in_ok-add_places+in_ok-follow w ↦ rw (w.seen-is, w.state-is, w.found-is) (
+          found_on program done geo began i now c.loop-i.state c.loop-i.found.items before line is_done c.loop-i-test.true c.requires.course.told c.line-item.is refl
           w.in-Some.command w.in-Some.is w.follow.new.sight (c.loop-i.state + 1) w.add_places.new.found.items refl w.in_ok-add_places.ensures
           (w.in_ok-follow.ensures.looks [] before.looks) w.in_ok-follow.ensures.follows)
-      | in_default w ↦
-          found_at program done geo began (i + 1) now c.match-line.seen c.loop-i.state c.match-line.state c.loop-i.found.items c.match-line.found.items w.seen-is w.state-is (ap (λ (v : Vec Place). v.items) w.found-is)
-          (found_past program done geo began i now c.loop-i.state c.loop-i.found.items before line is_done c.loop-i-test.true c.requires.course.told c.line-item.is refl w.in_default.is)
+      | in_default w ↦ rw (w.seen-is, w.state-is, w.found-is) (
+          found_past program done geo began i now c.loop-i.state c.loop-i.found.items before line is_done c.loop-i-test.true c.requires.course.told c.line-item.is refl
+          w.in_default.is)
     ]
 
 pub returns : goal.returns
@@ -48,4 +45,5 @@ returns c =
     λ h is.
     all_found course.program.now course.done.now course.geometry c.in_ok-seen.seen c.loop-i.i c.loop-i.seen c.loop-i.state c.loop-i.found.items c.loop-i.invariant
     c.push.new.self.items c.before-2.result c.loop-i-test.false c.loop-i.auto.i-end c.before-2.ensures c.in_ok-push.ensures.items h
-    (files_follow course.sight.now c.in_ok-seen.seen course.geometry h c.in_ok-seen.ensures.lines c.in_ok-seen.ensures.blocks c.in_ok-seen.ensures.files is.follows) is.done
+    (files_follow course.sight.now c.in_ok-seen.seen course.geometry h c.in_ok-seen.ensures.lines c.in_ok-seen.ensures.blocks c.in_ok-seen.ensures.files is.follows)
+    is.done
