@@ -16,6 +16,7 @@ use Rattle.cut_places.proofs.GoingLemmas.{at_line}
 use Rattle.cut_places.proofs.StepLemmas.{ready_after, sees_after}
 use Rattle.sights.specs.Units.{block_once_done, line_once_done}
 use Rattle.sights.proofs.SizeLemmas.{geometry_stays}
+use Rattle.outcome_lists.proofs.MappedLemmas.{suc_is}
 
 -- what is looked at once a command is done, or refused
 pub follows_done : (now after : Sight) (geo : Geometry) (h : Machine) (action : Action) → Follows now geo h → IsWithin now geo → is_none (refusal h action) ≡ true
@@ -52,9 +53,6 @@ pub record Reaches (program : List (Option Command)) (done : List Bool) (geo : G
   pub follows : Follows now geo to
   pub are_done : AreDone to (drop i program) (drop i done)
   pub told : Told to (drop i program)
-
-suc_is : (n : ℕ) → suc n ≡ n + 1
-suc_is n = omega arith
 
 pub reaches_first : (program : List (Option Command)) (done : List Bool) (geo : Geometry) (now : Sight) (Told : Machine → List (Option Command) → Type 0) (h : Machine)
     → Follows now geo h → AreDone h program done → Told h program → Reaches program done geo 0 now Told

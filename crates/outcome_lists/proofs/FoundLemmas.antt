@@ -74,12 +74,12 @@ module _ (h : Machine) (program : List Input) where
 
   begun_placed : (x : Outcome) → Contains (begun at) x → IsPlaced at x
   begun_placed x has =
-      let of = begun_is x has in ap (λ (y : Outcome). at (look_of y.asked)) of.1.1 ∙ of.1.0 ∙ sym (ap (λ (y : Outcome). Some y.place) of.1.1)
+      let of = begun_is x has in ap (λ (y : Outcome). at (look_of y.asked)) of.2 ∙ of.1 ∙ sym (ap (λ (y : Outcome). Some y.place) of.2)
 
   pub found : (parts : List Read) (o : Outcome) → Contains (outcomes_of h program parts) o → IsFound h program parts o
   found parts o has =
       let of = made at ways parts (begun at) o has in
-      let is = (begun_is of.before of.among).1.1 in
+      let is = (begun_is of.before of.among).2 in
       let asked : o.asked ≡ asked_with nothing of.picked = of.asked ∙ ap (λ (x : Outcome). asked_with x.asked of.picked) is in
       let text : o.text ≡ text_of of.picked = of.text ∙ ap (λ (x : Outcome). x.text ++ text_of of.picked) is in record {
         picked = of.picked;

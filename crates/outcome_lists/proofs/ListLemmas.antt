@@ -48,7 +48,7 @@ found_there asked text found place is =
 module _ (at : List Seen → Option CutPlace) where
   with_one : (o : Outcome) (c : Choice) (x : Outcome) → Contains (with_choice at o c) x → IsGrown at o c x
   with_one o c x has =
-      let of = found_is (and_seen o.asked c.seen) (o.text ++ c.text) (at (look_of (and_seen o.asked c.seen))) x has in record { place = of.0; first = of.1.0; is = of.1.1 }
+      let of = found_is (and_seen o.asked c.seen) (o.text ++ c.text) (at (look_of (and_seen o.asked c.seen))) x has in record { place = of.0; first = of.1; is = of.2 }
 
   pub one_there : (o : Outcome) (c : Choice) (place : CutPlace) → at (look_of (and_seen o.asked c.seen)) ≡ Some place
       → Contains (with_choice at o c) (record { asked = and_seen o.asked c.seen; text = o.text ++ c.text; place = place })

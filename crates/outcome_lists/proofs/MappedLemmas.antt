@@ -13,7 +13,8 @@ map_drop f zero xs = refl
 map_drop f (suc n) [] = refl
 map_drop f (suc n) (x ∷ xs) = map_drop f n xs
 
-suc_is : (n : ℕ) → suc n ≡ n + 1
+-- a number has a next one
+pub suc_is : (n : ℕ) → suc n ≡ n + 1
 suc_is n = omega arith
 
 -- one item more of a list that is mapped

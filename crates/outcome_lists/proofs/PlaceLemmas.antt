@@ -13,26 +13,31 @@ use Rattle.cut_places.specs.FileChanges.{left_by}
 use Rattle.cut_places.specs.FileCommands.{files_change}
 use Rattle.cut_places.specs.FileMixing.{way_left}
 use Rattle.cut_places.specs.FilesState.{FilesState}
-use Rattle.cut_places.specs.Following.{AreDone, Follows, IsWithin}
+use Rattle.cut_places.specs.Following.{AreDone, Follows}
 use Rattle.cut_places.specs.SeesFiles.{SeesFiles}
 use Rattle.cut_places.proofs.LeftLemmas.{left_same}
 use Rattle.sights.specs.declared.way.Way.{Way}
 use Rattle.sights.specs.Ways.{blocks_way, lines_way}
-use Rattle.sights.specs.Units.{AreAmong, AreBlocks, AreLines, AreWithin}
+use Rattle.sights.specs.Units.{AreBlocks, AreLines, block_numbers, line_numbers}
+use Rattle.value_tables.specs.Looking.{IsOf}
 use Rattle.outcome_lists.specs.declared.place.Place.{Place}
 use Rattle.outcome_lists.specs.Levels.{before_place, inside_places, places, places_from}
 use Rattle.outcome_lists.specs.Mixing.{ways_inside}
 use Rattle.outcome_lists.proofs.SightLemmas.{follows_part}
 use Rattle.outcome_lists.proofs.CourseLemmas.{Reaches, grown_by, reaches_first, reaches_on, reaches_past, told_last}
+use Rattle.outcome_lists.proofs.MappedLemmas.{suc_is}
 
 -- how a cut leaves files goes by the mappings that are held of them
 way_is : (h : Machine) (files : FilesState) (action : Action) → SeesFiles files h
     → way_left (left_by (files_change files.mappings.mappings action)) ≡ way_left ((meaning action).files_left h.mappings)
-way_is h files action sees = ap (λ ms. way_left (left_by (files_change ms action))) sees.mappings ∙ sym (left_same (λ left to. way_left left) h.files (λ to. refl) h.mappings action)
+way_is h files action sees =
+    ap (λ ms. way_left (left_by (files_change ms action))) sees.mappings
+    ∙ sym (left_same (λ left to. way_left left) h.files (λ to. refl) h.mappings action)
 
 -- what a command mixes
 pub ways_are : (h : Machine) (files : FilesState) (action : Action) (lines blocks left : Option Way) → lines ≡ lines_way action → blocks ≡ blocks_way action
-    → left ≡ way_left (left_by (files_change files.mappings.mappings action)) → SeesFiles files h → record { lines = lines; blocks = blocks; files = left } ≡ ways_inside h.mappings action
+    → left ≡ way_left (left_by (files_change files.mappings.mappings action)) → SeesFiles files h
+    → record { lines = lines; blocks = blocks; files = left } ≡ ways_inside h.mappings action
 ways_are h files action lines blocks left of_lines of_blocks of_files sees =
     ap (λ way. record { lines = way; blocks = blocks; files = left }) of_lines
     ∙ ap₂ (λ way others. record { lines = lines_way action; blocks = way; files = others }) of_blocks (of_files ∙ way_is h files action sees)
@@ -47,34 +52,26 @@ AreWhole all n k found to lines = found ++ places_from n k to (inputs_of_lines l
 
 -- The places of the lines up to this one are found, with so many commands among them.
 pub record AreFound (program : List (Option Command)) (done : List Bool) (geo : Geometry) (began : Sight) (i : ℕ) (now : Sight) (k : ℕ) (found : List Place) : Type 0 where
-  pub within : IsWithin now geo
+  pub looks : IsOf now geo []
   pub few : k ≤ i
   pub comes : (h : Machine) → Follows began geo h → AreDone h program done → Reaches program done geo i now (AreWhole (places h (inputs_of_lines program)) (i + 1) k found)
 
--- the same, as it is named behind a line
-pub found_at : (program : List (Option Command)) (done : List Bool) (geo : Geometry) (began : Sight) (i : ℕ) (now now2 : Sight) (k k2 : ℕ) (found found2 : List Place)
-    → now2 ≡ now → k2 ≡ k → found2 ≡ found → AreFound program done geo began i now k found → AreFound program done geo began i now2 k2 found2
-found_at program done geo began i now now2 k k2 found found2 same count more found_so =
-    subst (λ ps. AreFound program done geo began i now2 k2 ps) (sym more)
-    (subst (λ m. AreFound program done geo began i now2 m found) (sym count) (subst (λ s. AreFound program done geo began i s k found) (sym same) found_so))
-
-suc_is : (n : ℕ) → suc n ≡ n + 1
-suc_is n = omega arith
-
 module _ (program : List (Option Command)) (done : List Bool) (geo : Geometry) (began : Sight) where
-  pub found_first : (found : List Place) → IsWithin began geo → found ≡ [] → AreFound program done geo began 0 began 0 found
-  found_first found within none = record {
-    within = within;
+  pub found_first : (found : List Place) → IsOf began geo [] → found ≡ [] → AreFound program done geo began 0 began 0 found
+  found_first found looks none = record {
+    looks = looks;
     few = omega arith;
-    comes = λ h follows all. reaches_first program done geo began (AreWhole (places h (inputs_of_lines program)) 1 0 found) h follows all (ap (λ ps. ps ++ places h (inputs_of_lines program)) none);
+    comes = λ h follows all. reaches_first program done geo began (AreWhole (places h (inputs_of_lines program)) 1 0 found) h follows all
+        (ap (λ ps. ps ++ places h (inputs_of_lines program)) none);
   }
 
   module _ (i : ℕ) (now : Sight) (k : ℕ) (found : List Place) (so_far : AreFound program done geo began i now k found) where
-    module _ (line : Option Command) (is_done : Bool) (lt : i < length program) (same : length done ≡ length program) (is : line ≡ get_or program i line) (told : is_done ≡ get_or done i false) where
+    module _ (line : Option Command) (is_done : Bool) (lt : i < length program) (same : length done ≡ length program) (is : line ≡ get_or program i line)
+        (told : is_done ≡ get_or done i false) where
       -- a line without a command
       pub found_past : line ≡ None → AreFound program done geo began (i + 1) now k found
       found_past none = record {
-        within = so_far.within;
+        looks = so_far.looks;
         few = let few = so_far.few in omega (arith, few);
         comes = λ h follows all.
             let whole = places h (inputs_of_lines program) in
@@ -97,11 +94,11 @@ module _ (program : List (Option Command)) (done : List Bool) (geo : Geometry) (
             (ap (λ b. found ++ (places_of (i + 1) k b to action ++ places_from (suc (i + 1)) (suc k) later inputs)) (sym allowed) ∙ were)
 
         -- a command
-        pub found_on : IsWithin after geo
+        pub found_on : IsOf after geo []
             → ((h : Machine) → Follows now geo h → is_none (refusal h (action_of command)) ≡ is_done → Follows after geo (led_to h (fate h (action_of command))))
             → AreFound program done geo began (i + 1) after k2 found2
-        found_on within leads = record {
-          within = within;
+        found_on looks leads = record {
+          looks = looks;
           few = let few = so_far.few in omega (arith, few, counted);
           comes = λ h follows all.
               let whole = places h (inputs_of_lines program) in
@@ -110,17 +107,18 @@ module _ (program : List (Option Command)) (done : List Bool) (geo : Geometry) (
         }
 
     -- the end
-    pub all_found : (found2 : List Place) → length program ≤ i → i ≤ length program → found2 ≡ found ++ before_place (length program + 1) k ∷ []
+    pub all_found : (found2 : List Place) (end : Place) → length program ≤ i → i ≤ length program → end ≡ before_place (length program + 1) k → found2 ≡ found ++ end ∷ []
         → (h : Machine) → Follows began geo h → AreDone h program done → found2 ≡ places h (inputs_of_lines program)
-    all_found found2 ends last adds h follows all =
+    all_found found2 end ends last is adds h follows all =
         let at : length program ≡ i = omega (arith, ends, last) in
-        adds ∙ ap (λ n. found ++ before_place (n + 1) k ∷ []) at
+        adds ∙ ap (λ place. found ++ place ∷ []) (is ∙ ap (λ n. before_place (n + 1) k) at)
         ∙ told_last program done geo i now (AreWhole (places h (inputs_of_lines program)) (i + 1) k found) (so_far.comes h follows all) ends
 
 -- where no line and no block is looked at
-pub files_alone : (seen : Sight) (geo : Geometry) → seen.lines.items ≡ [] → seen.blocks.items ≡ [] → IsWithin seen geo
-files_alone seen geo lines blocks = record { lines = subst (AreWithin geo) (sym lines) tt; blocks = subst (AreAmong geo) (sym blocks) tt }
+pub files_alone : (seen : Sight) (geo : Geometry) → seen.lines.items ≡ [] → seen.blocks.items ≡ [] → IsOf seen geo []
+files_alone seen geo lines blocks = record { lines = ap line_numbers lines; blocks = ap block_numbers blocks; files = refl }
 
-pub files_follow : (all seen : Sight) (geo : Geometry) (h : Machine) → seen.lines.items ≡ [] → seen.blocks.items ≡ [] → seen.files ≡ all.files → Follows all geo h → Follows seen geo h
+pub files_follow : (all seen : Sight) (geo : Geometry) (h : Machine) → seen.lines.items ≡ [] → seen.blocks.items ≡ [] → seen.files ≡ all.files
+    → Follows all geo h → Follows seen geo h
 files_follow all seen geo h lines blocks files follows =
     follows_part all seen geo h (λ f are. subst (AreLines f) (sym lines) tt) (λ f are. subst (AreBlocks f) (sym blocks) tt) files follows

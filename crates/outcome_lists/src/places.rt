@@ -8,7 +8,7 @@ ghost use Rattle.outcome_lists.specs.Courses.{IsCourse, IsFrom};
 ghost use Rattle.outcome_lists.specs.Levels.{before_place, inside_places, places};
 ghost use Rattle.outcome_lists.specs.Mixing.{ways_inside};
 
-use crate::course::{Course, sight_of};
+use crate::course::{Course, follow, sight_of};
 use crate::place::Place;
 use crate::ways::Ways;
 use cut_places::{CutPlace, FilesSeen};
@@ -29,9 +29,7 @@ pub fn places(alloc: Global, course: &Course<'_>) -> Result<Vec<Place>, AllocErr
             let done = course.done[i];
             add_places(command, done, i as u64 + 1, state, &seen.files, &mut found)?;
             state += 1;
-            if done {
-                seen.change(course.geometry, command)?;
-            }
+            follow(course.geometry, command, done, &mut seen)?;
         }
     }
     found.push(before(course.program.len() as u64 + 1, state))?;

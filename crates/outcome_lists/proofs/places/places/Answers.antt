@@ -1,12 +1,7 @@
-use Rattle.std.proofs.Common.{◌++◌, ◌∷◌, [], false, ap, get_or, refl, sym, ◌+◌, ◌∙◌}
-use Rattle.std.specs.Global.{Vec}
-use Rattle.outcome_lists.specs.declared.place.Place.{Place}
-use Rattle.script_text.specs.Action.{action_of}
+use Rattle.std.proofs.Common.{[], false, get_or, refl, sym, ◌+◌, ◌∙◌}
 use Rattle.cut_places.proofs.GoingLemmas.{program_at}
-use Rattle.cut_places.proofs.StepLemmas.{within_after}
-use Rattle.outcome_lists.proofs.CourseLemmas.{follows_done, follows_refused}
-use Rattle.outcome_lists.proofs.PlaceLemmas.{all_found, files_alone, files_follow, found_at, found_first, found_on, found_past}
-use Rattle.outcome_lists.proofs.places.places.Goals.{in-Some+in_ok-add_places+then-done+in_ok-change, in-Some+in_ok-add_places+else-done, in_default}
+use Rattle.outcome_lists.proofs.PlaceLemmas.{all_found, files_alone, files_follow, found_first, found_on, found_past}
+use Rattle.outcome_lists.proofs.places.places.Goals.{in-Some+in_ok-add_places+in_ok-follow, in_default}
 use Rattle.outcome_lists.proofs.places.places.Goals as goal
 
 pub loop-i-init : goal.loop-i-init
@@ -14,6 +9,13 @@ loop-i-init c =
     let course = c.args.course.now in
     found_first course.program.now course.done.now course.geometry c.in_ok-seen.seen c.new-found.result.items
     (files_alone c.in_ok-seen.seen course.geometry c.in_ok-seen.ensures.lines c.in_ok-seen.ensures.blocks) c.new-found.ensures.items
+
+pub follow-requires-clause-program : goal.follow-requires-clause-program
+follow-requires-clause-program c =
+    program_at c.args.course.now.program.now c.loop-i.i c.in-Some.command c.line-item.result c.loop-i-test.true (sym c.in-Some.is ∙ c.line-item.is) c.requires.course.program
+
+pub follow-requires-clause-looks : goal.follow-requires-clause-looks
+follow-requires-clause-looks c = ([], c.loop-i.invariant.looks)
 
 pub loop-i-preserved : goal.loop-i-preserved
 loop-i-preserved c =
@@ -28,24 +30,13 @@ loop-i-preserved c =
     let before = c.loop-i.invariant in
     let is_done = get_or done i false in
     elim c.match-line.branch [
-      | in-Some+in_ok-add_places+then-done+in_ok-change w ↦
-          let command = w.in-Some.command in
-          let of = program_at program i command line c.loop-i-test.true (sym w.in-Some.is ∙ c.line-item.is) c.requires.course.program in
-          found_at program done geo began (i + 1) w.change.new.self c.match-line.seen (c.loop-i.state + 1) c.match-line.state w.add_places.new.found.items c.match-line.found.items w.seen-is w.state-is (ap (λ (v : Vec Place). v.items) w.found-is)
-          (found_on program done geo began i now c.loop-i.state c.loop-i.found.items before line is_done c.loop-i-test.true c.requires.course.told c.line-item.is refl
-          command w.in-Some.is w.change.new.self (c.loop-i.state + 1) w.add_places.new.found.items refl w.in_ok-add_places.ensures
-          (within_after geo geo (action_of command) now w.change.new.self before.within w.in_ok-change.ensures.lines w.in_ok-change.ensures.blocks)
-          (λ h follows allowed. follows_done now w.change.new.self geo h (action_of command) follows before.within (allowed ∙ w.if-done.true) of
-          w.in_ok-change.ensures.lines w.in_ok-change.ensures.blocks w.in_ok-change.ensures.files))
-      | in-Some+in_ok-add_places+else-done w ↦
-          let command = w.in-Some.command in
-          found_at program done geo began (i + 1) now c.match-line.seen (c.loop-i.state + 1) c.match-line.state w.add_places.new.found.items c.match-line.found.items w.seen-is w.state-is (ap (λ (v : Vec Place). v.items) w.found-is)
-          (found_on program done geo began i now c.loop-i.state c.loop-i.found.items before line is_done c.loop-i-test.true c.requires.course.told c.line-item.is refl
-          command w.in-Some.is now (c.loop-i.state + 1) w.add_places.new.found.items refl w.in_ok-add_places.ensures before.within
-          (λ h follows allowed. follows_refused now geo h (action_of command) follows (allowed ∙ w.if-done.false)))
-      | in_default w ↦
-          found_at program done geo began (i + 1) now c.match-line.seen c.loop-i.state c.match-line.state c.loop-i.found.items c.match-line.found.items w.seen-is w.state-is (ap (λ (v : Vec Place). v.items) w.found-is)
-          (found_past program done geo began i now c.loop-i.state c.loop-i.found.items before line is_done c.loop-i-test.true c.requires.course.told c.line-item.is refl w.in_default.is)
+      | in-Some+in_ok-add_places+in_ok-follow w ↦ rw (w.seen-is, w.state-is, w.found-is) (
+          found_on program done geo began i now c.loop-i.state c.loop-i.found.items before line is_done c.loop-i-test.true c.requires.course.told c.line-item.is refl
+          w.in-Some.command w.in-Some.is w.follow.new.sight (c.loop-i.state + 1) w.add_places.new.found.items refl w.in_ok-add_places.ensures
+          (w.in_ok-follow.ensures.looks [] before.looks) w.in_ok-follow.ensures.follows)
+      | in_default w ↦ rw (w.seen-is, w.state-is, w.found-is) (
+          found_past program done geo began i now c.loop-i.state c.loop-i.found.items before line is_done c.loop-i-test.true c.requires.course.told c.line-item.is refl
+          w.in_default.is)
     ]
 
 pub returns : goal.returns
@@ -53,6 +44,6 @@ returns c =
     let course = c.args.course.now in
     λ h is.
     all_found course.program.now course.done.now course.geometry c.in_ok-seen.seen c.loop-i.i c.loop-i.seen c.loop-i.state c.loop-i.found.items c.loop-i.invariant
-    c.push.new.self.items c.loop-i-test.false c.loop-i.auto.i-end
-    (c.in_ok-push.ensures.items ∙ ap (λ place. c.loop-i.found.items ++ place ∷ []) c.before-2.ensures) h
-    (files_follow course.sight.now c.in_ok-seen.seen course.geometry h c.in_ok-seen.ensures.lines c.in_ok-seen.ensures.blocks c.in_ok-seen.ensures.files is.follows) is.done
+    c.push.new.self.items c.before-2.result c.loop-i-test.false c.loop-i.auto.i-end c.before-2.ensures c.in_ok-push.ensures.items h
+    (files_follow course.sight.now c.in_ok-seen.seen course.geometry h c.in_ok-seen.ensures.lines c.in_ok-seen.ensures.blocks c.in_ok-seen.ensures.files is.follows)
+    is.done
