@@ -1,9 +1,17 @@
-use Rattle.std.proofs.Common.{ap, sym, ◌∙◌}
+use Rattle.std.proofs.Common.{ap, subst, sym, ◌∙◌}
 use Rattle.std.specs.List.{list_all}
 use Rattle.asked_reads.specs.Asking.{files_asked}
+use Rattle.cut_places.specs.Following.{AreDone, Follows}
 use Rattle.cut_places.specs.SeesFiles.{is_held}
 use Rattle.value_tables.specs.Looking.{blocks_looked_at, file_lines_looked_at, lines_looked_at}
 use Rattle.explorer.proofs.LookingLemmas.{held_read}
+use Rattle.word_tables.specs.declared.geometry.Geometry.{Geometry}
+use Rattle.asked_reads.specs.Program.{inputs_of_lines}
+use Rattle.outcomes.specs.Finds.{armed}
+use Rattle.outcome_lists.specs.Lists.{list_text}
+use Rattle.outcome_lists.specs.Outcomes.{outcomes_of}
+use Rattle.outcome_lists.specs.Parts.{parts_of}
+use Rattle.outcome_lists.proofs.BeginLemmas.{sound_begun}
 use Rattle.outcome_lists.proofs.listing.list_outcomes.Goals as goal
 
 pub list_text-requires-clause-looks : goal.list_text-requires-clause-looks
@@ -18,3 +26,14 @@ list_text-requires-clause-looks g c =
       blocks = whole.blocks ∙ looks.blocks ∙ ap (blocks_looked_at geo) same;
       files = ap (λ parts. list_all (is_held numbers) (file_lines_looked_at geo parts)) (sym same) ∙ ap (list_all (is_held numbers)) (sym looks.files) ∙ held_read numbers (files_asked c.in_ok-question.question) ∙ whole.files;
     }
+
+pub returns-clause-text : goal.returns-clause-text
+returns-clause-text g c = λ h stands begins.
+    let inputs = inputs_of_lines c.args.program.now in
+    let geo = c.geometry-geometry.result in
+    let looked = c.in_ok-sight.ensures.follows h stands begins in
+    let follows = subst (λ (sizes : Geometry). Follows c.in_ok-sight.field-0.sight sizes (armed h)) (sym c.geometry-geometry.ensures) looked.0 in
+    let done = subst (λ told. AreDone (armed h) c.args.program.now told) (sym c.deref-2.ensures.value) looked.1 in
+    c.in_ok-list_text.ensures (armed h) (record { follows = follows; done = done }) (sound_begun h begins)
+    ∙ ap (λ parts. list_text (outcomes_of (armed h) inputs parts)) (c.deref-3.ensures.value ∙ c.in_ok-parts.ensures.parts)
+    ∙ ap (λ (sizes : Geometry). list_text (outcomes_of (armed h) inputs (parts_of sizes c.args.reads.now))) (sym follows.sizes)

@@ -20,10 +20,11 @@ use Rattle.nvm_model.specs.Touched.{bad_touched, next_bad_touched, persist_spans
 use Rattle.script_text.specs.Script.{lines_of, words_of, command_action, line_input}
 use Rattle.machine_host.specs.Commands.{refusal}
 use Rattle.machine_host.specs.Restarting.{reading}
+use Rattle.outcome_walk.specs.Numbers.{numeral}
 use Rattle.outcome_lists.proofs.rows.worked_lists.Goals as goal
 
 pub returns : goal.returns
-unfolding digits word_from byte_over word_over reaches number_of runs_of data_within data_text fill put persist discard change_line first_bad_line first_uncovered_line look read_pages words_read lines_of words_of command_action line_input refusal size first_line total_lines volume_line reading restart_events bad_numbers states_read blocks_read listed files_read file_words tables_of slots_of write change look_blocks lose persist_spans bad_touched next_bad_touched rewritten first_lost bytes_by
+unfolding digits word_from byte_over word_over reaches number_of runs_of data_within data_text fill put persist discard change_line first_bad_line first_uncovered_line look read_pages words_read lines_of words_of command_action line_input refusal size first_line total_lines volume_line reading restart_events bad_numbers states_read blocks_read listed files_read file_words tables_of slots_of write change look_blocks lose persist_spans bad_touched next_bad_touched rewritten first_lost bytes_by numeral
 returns c = record {
   record_and_flag = refl;
   two_blocks_written = refl;
