@@ -1,5 +1,5 @@
 -- The state in which an exploration begins is sound.
-use Rattle.std.proofs.Common.{◌≡◌, ◌≤◌, ◌<◌, ℕ, zero, suc, Option, Some, List, [], ◌∷◌, length, inl, inr, refl, sym, ap, subst, ◌∙◌, arith}
+use Rattle.std.proofs.Common.{◌≡◌, ◌≤◌, ℕ, zero, suc, Some, List, [], ◌∷◌, length, inl, inr, sym, ap, subst, ◌∙◌, arith}
 use Rattle.std.specs.Prelude.{slice_get}
 use Rattle.line_device.specs.Word.{word_at}
 use Rattle.nvm_model.specs.Cell.{Cell}
@@ -13,7 +13,7 @@ use Rattle.outcomes.specs.Finds.{armed}
 use Rattle.outcomes.specs.Outcome.{AllHaveValues, HasValues, HaveValues}
 use Rattle.value_tables.specs.Listed.{IsSound}
 use Rattle.value_tables.proofs.FileValueLemmas.{seen_has}
-use Rattle.explorer.specs.Starting.{AreDurable, AreOfBytes, Begins, HaveDurable}
+use Rattle.explorer.specs.Starting.{AreDurable, Begins, HaveDurable}
 
 -- each word of a durable line has one value
 one_each : (f : ℕ → ℕ) (n k w : ℕ) (history : List ℕ) → slice_get (list_from (λ i. f i ∷ []) n k) w ≡ Some history → 1 ≤ length history

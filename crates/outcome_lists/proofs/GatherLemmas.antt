@@ -1,5 +1,5 @@
 -- What a part is in each state of a program, line by line.
-use Rattle.std.proofs.Common.{◌≡◌, ◌==◌, ◌+◌, ◌/◌, ◌%◌, ℕ, Option, Some, List, [], ◌∷◌, ◌++◌, map, refl, sym, ap, ◌∙◌}
+use Rattle.std.proofs.Common.{◌≡◌, ◌==◌, ◌/◌, ◌%◌, ℕ, Option, Some, List, [], ◌∷◌, ◌++◌, map, refl, sym, ap, ◌∙◌}
 use Rattle.block_sights.specs.Sights.{Sight as BlockSight}
 use Rattle.nvm_model.specs.Cell.{Cell}
 use Rattle.script_text.specs.declared.command.Command.{Command}

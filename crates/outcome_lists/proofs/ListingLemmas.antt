@@ -1,5 +1,5 @@
 -- The text of a list, from what is walked.
-use Rattle.std.proofs.Common.{◌≡◌, ◌++◌, ◌<◌, ℕ, List, [], ◌∷◌, None, length, refl, ap, ◌∙◌}
+use Rattle.std.proofs.Common.{◌≡◌, ◌++◌, List, [], ◌∷◌, None, length, ap, ◌∙◌}
 use Rattle.std.specs.Prelude.{codes, flat_map, nat_lt, if◌then◌else◌}
 use Rattle.outcome_walk.specs.Numbers.{numeral}
 use Rattle.outcome_walk.specs.Walking.{Trail}

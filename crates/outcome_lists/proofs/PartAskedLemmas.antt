@@ -1,5 +1,5 @@
 -- What the choices of a part ask of it: of its line, of its block, or of lines of its file.
-use Rattle.std.proofs.Common.{◌≡◌, ◌-◌, ◌*◌, ◌/◌, ℕ, true, List, [], ◌∷◌, map, refl, sym, ap, ◌∙◌, append-nil}
+use Rattle.std.proofs.Common.{◌≡◌, ◌*◌, ◌/◌, ℕ, true, List, [], ◌∷◌, map, refl, sym, ap, ◌∙◌, append-nil}
 use Rattle.std.specs.Int.{to_le_bytes, w64}
 use Rattle.std.specs.List.{list_all, range_with_len}
 use Rattle.std.proofs.lemmas.Bool.{and_from}

@@ -1,4 +1,4 @@
-use Rattle.std.proofs.Common.{◌≡◌, ◌++◌, None, ap, subst, sym, ◌∙◌}
+use Rattle.std.proofs.Common.{◌++◌, None, ap, subst, sym, ◌∙◌}
 use Rattle.word_tables.specs.declared.geometry.Geometry.{Geometry}
 use Rattle.outcome_walk.specs.Holding.{parts_held}
 use Rattle.asked_reads.specs.Program.{inputs_of_lines}
@@ -21,4 +21,4 @@ returns c = λ h from sound.
     c.in_ok-print_outcomes.ensures ∙ ap (λ t. t ++ walk_text c.deref-2.result.now held) c.new-text.ensures
     ∙ ap (λ ps. walk_text ps held) (c.deref-2.ensures.value ∙ c.in_ok-places.ensures h from) ∙ ap (walk_text (places h inputs)) told
     ∙ walk_told each_at_rest groups_inside h inputs parts from.follows.ready sound c.requires.course.program
-      (subst (λ (geo : Geometry). AreParts geo parts) (sym from.follows.sizes) c.requires.parts) c.requires.order
+    (subst (λ (geo : Geometry). AreParts geo parts) (sym from.follows.sizes) c.requires.parts) c.requires.order
