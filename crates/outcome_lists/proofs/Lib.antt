@@ -38,3 +38,5 @@ pub mod InsideLemmas
 pub mod FirstLemmas
 pub mod BeginLemmas
 pub mod ListingLemmas
+pub mod PairLemmas
+pub mod OnceLemmas

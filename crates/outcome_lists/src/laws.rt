@@ -12,7 +12,7 @@ ghost use Rattle.asked_reads.specs.declared.read.Read.TheVariants.{Volume, Block
 ghost use Rattle.cut_places.specs.Places.{Stop, cut_places};
 ghost use Rattle.value_tables.specs.Listed.{IsSized, IsSound, block_read, file_word_read, lists_bytes, lists_sight, reply_of, word_read};
 ghost use Rattle.outcome_lists.specs.Choices.{sights_through, states, values_through};
-ghost use Rattle.outcome_lists.specs.Listing.{IsFound};
+ghost use Rattle.outcome_lists.specs.Listing.{AreOf64Bits, IsFound, StandOnce};
 ghost use Rattle.outcome_lists.specs.Outcomes.{Asked, Outcome, and_seen, look_of, outcomes_of};
 
 /// What may be shown with one read more may be shown without it.
@@ -28,6 +28,11 @@ pub fn each_listed_outcome_is_found()
 /// And whatever choices are found together, one of each part, are an outcome of the list.
 pub fn each_outcome_is_listed()
     ensures { (h : Machine) (program : List Input) (parts : List Read) (o : Outcome) → IsFound h program parts o → Contains (outcomes_of h program parts) o }
+{}
+
+/// No outcome stands twice in a list, where words have values of 64 bits: so its length is how many there are.
+pub fn no_outcome_stands_twice()
+    ensures { (h : Machine) (program : List Input) (parts : List Read) → AreOf64Bits h program parts → StandOnce (outcomes_of h program parts) }
 {}
 
 /// Whatever some place may show of a word or of a block alone is one of its choices: the word has that value, or the block is seen

@@ -28,7 +28,7 @@ pub use apart::{
 };
 pub use laws::{
     a_shorter_look_is_shown, each_listed_outcome_is_found, each_outcome_is_listed,
-    each_way_is_a_choice,
+    each_way_is_a_choice, no_outcome_stands_twice,
 };
 pub use listing::list_outcomes;
 pub use printing::print_place;
