@@ -39,4 +39,7 @@ pub mod FirstLemmas
 pub mod BeginLemmas
 pub mod ListingLemmas
 pub mod PairLemmas
+pub mod BitsLemmas
+pub mod FileBitsLemmas
+pub mod StateBitsLemmas
 pub mod OnceLemmas

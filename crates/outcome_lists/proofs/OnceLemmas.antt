@@ -29,8 +29,12 @@ use Rattle.value_tables.specs.Left.{file_side}
 use Rattle.value_tables.specs.Listed.{reply_of}
 use Rattle.value_tables.specs.Values.{cells_of, history_of, values_with, with_all}
 use Rattle.outcome_lists.specs.Choices.{Choice, block_choice, choices, file_choices, head, sights_through, states, value_choice, values_through, word_choices}
-use Rattle.outcome_lists.specs.Listing.{AreOf64Bits, Pairwise, StandOnce}
+use Rattle.outcome_lists.specs.Listing.{Pairwise, StandOnce}
 use Rattle.outcome_lists.specs.Outcomes.{Asked, Outcome, and_seen, begun, grown, if_found, look_of, nothing, outcomes_from, outcomes_of, place_of, with_choice, with_choices}
+use Rattle.outcome_lists.proofs.BitsLemmas.{Are64}
+use Rattle.outcome_lists.proofs.StateBitsLemmas.{of_64_bits}
+use Rattle.durable.specs.Durable.{BringBytes}
+use Rattle.explorer.specs.Starting.{AreDurable, HaveDurable}
 use Rattle.outcome_lists.proofs.LookLemmas.{blocks_back, files_back, volume_back}
 use Rattle.outcome_lists.proofs.PairLemmas.{Differ, all_joined, all_made, all_once, pairs_joined, pairs_made, pairs_told}
 
@@ -59,7 +63,7 @@ abbrev TellApart : Choice → Choice → Type 0
 TellApart c d = Differ c.seen d.seen
 
 module _ (before : List ℕ) (read : PageReply → Seen) (exact : (r s : PageReply) → read r ≡ read s → r ≡ s) where
-  values_apart : (values : List ℕ) → AllByRecursion (λ v. v < 2 ^ 64) values → Pairwise Differ values → Pairwise TellApart (map (value_choice before read) values)
+  values_apart : (values : List ℕ) → Are64 values → Pairwise Differ values → Pairwise TellApart (map (value_choice before read) values)
   values_apart values small once =
       pairs_made TellApart (λ v. v < 2 ^ 64) Differ (value_choice before read)
       (λ v u below under differ same. differ (same_bytes v u below under (cc (exact (Shows (to_le_bytes w64 v)) (Shows (to_le_bytes w64 u)) same)))) values small once
@@ -69,14 +73,14 @@ module _ (before : List ℕ) (read : PageReply → Seen) (exact : (r s : PageRep
   beside_values r other values =
       all_made (λ (d : Choice). Differ (read r) d.seen) (value_choice before read) (λ v same. other (to_le_bytes w64 v) (exact r (Shows (to_le_bytes w64 v)) same)) values
 
-  words_apart : (start : ℕ) (values : List ℕ) → AllByRecursion (λ v. v < 2 ^ 64) values → Pairwise Differ values → Pairwise TellApart (word_choices before read start values)
+  words_apart : (start : ℕ) (values : List ℕ) → Are64 values → Pairwise Differ values → Pairwise TellApart (word_choices before read start values)
   words_apart start values small once = (beside_values (Poison (64 * (start / 64))) (λ bytes is. cc is) values, values_apart values small once)
 
   refused_beside : (why : Why) (start : ℕ) (values : List ℕ) → AllByRecursion (λ (d : Choice). Differ (read (Refuses why)) d.seen) (word_choices before read start values)
   refused_beside why start values =
       ((λ same. cc (exact (Refuses why) (Poison (64 * (start / 64))) same)), beside_values (Refuses why) (λ bytes is. cc is) values)
 
-  file_apart : (start : ℕ) (values : List ℕ) → AllByRecursion (λ v. v < 2 ^ 64) values → Pairwise Differ values → Pairwise TellApart (file_choices before read start values)
+  file_apart : (start : ℕ) (values : List ℕ) → Are64 values → Pairwise Differ values → Pairwise TellApart (file_choices before read start values)
   file_apart start values small once =
       (((λ same. cc (exact (Refuses Missing) (Refuses Range) same)), refused_beside Missing start values), (refused_beside Range start values, words_apart start values small once))
 
@@ -111,7 +115,7 @@ blocks_apart before b sights once =
     all_of (s ∷ ss) = (tt, all_of ss)
 
 -- no two choices of a part tell the same
-choices_apart : (hs : List Machine) (part : Read) → AllByRecursion (λ v. v < 2 ^ 64) (values_through part [] hs) → Pairwise TellApart (choices hs part)
+choices_apart : (hs : List Machine) (part : Read) → Are64 (values_through part [] hs) → Pairwise TellApart (choices hs part)
 choices_apart hs (Volume start len) small =
     words_apart (head (Volume start len)) (λ reply. of_volume (record { start = start; len = len; reply = reply }))
     (λ r s same. ap (λ (r : PageRead). r.reply) (same_volume same)) start
@@ -139,14 +143,24 @@ abbrev IsOfKind : ℕ → Choice → Type 0
 IsOfKind k c = kind c.seen ≡ k
 
 choices_kind : (hs : List Machine) (part : Read) → AllByRecursion (IsOfKind (kind_of_part part)) (choices hs part)
-choices_kind hs (Volume start len) =
-    (refl, all_made (IsOfKind 0) (value_choice (head (Volume start len)) (λ reply. of_volume (record { start = start; len = len; reply = reply })))
-    (λ v. refl) (values_through (Volume start len) [] hs))
+choices_kind hs (Volume start len) = (
+  refl,
+  all_made (IsOfKind 0) (value_choice (head (Volume start len)) (λ reply. of_volume (record { start = start; len = len; reply = reply })))
+      (λ v. refl) (values_through (Volume start len) [] hs),
+)
 choices_kind hs (Blocks first count) = all_made (IsOfKind 1) (block_choice (head (Blocks first count)) first) (λ s. refl) (sights_through (Blocks first count) [] hs)
-choices_kind hs (File name start len) =
-    (refl, (refl, (refl, all_made (IsOfKind 2) (value_choice (head (File name start len))
-    (λ reply. of_file (record { name = name; pages = record { start = start; len = len; reply = reply } })))
-    (λ v. refl) (values_through (File name start len) [] hs))))
+choices_kind hs (File name start len) = (
+  refl,
+  (
+    refl,
+    (
+      refl,
+      all_made (IsOfKind 2) (value_choice (head (File name start len))
+          (λ reply. of_file (record { name = name; pages = record { start = start; len = len; reply = reply } })))
+          (λ v. refl) (values_through (File name start len) [] hs),
+    ),
+  ),
+)
 
 -- the reads that a look is of
 same_asked : (a b : Asked) → a.volume ≡ b.volume → a.blocks ≡ b.blocks → a.files ≡ b.files → a ≡ b
@@ -238,15 +252,15 @@ module _ (at : List Seen → Option CutPlace) where
         pairs_joined AskApart (with_choices at o cs) (grown at os cs) (choices_once o cs all apart) (grown_once os cs all apart once.1)
         (of_each (λ x. AllByRecursion (AskApart x) (grown at os cs)) (IsOfKind k) o cs (λ c x is of. others_grown o.asked cs all os once.0 x (c.seen, is, of)) all)
 
-  all_parts_once : (hs : List Machine) (parts : List Read) (os : List Outcome) → AllByRecursion (λ part. AllByRecursion (λ v. v < 2 ^ 64) (values_through part [] hs)) parts
+  all_parts_once : (hs : List Machine) (parts : List Read) (os : List Outcome) → AllByRecursion (λ part. Are64 (values_through part [] hs)) parts
       → Pairwise AskApart os → Pairwise AskApart (outcomes_from at (choices hs) os parts)
   all_parts_once hs [] os small once = once
   all_parts_once hs (part ∷ parts) os small once =
       all_parts_once hs parts (grown at os (choices hs part)) small.1
       (grown_once (kind_of_part part) os (choices hs part) (choices_kind hs part) (choices_apart hs part small.0) once)
 
-pub stand_once : (h : Machine) (program : List Input) (parts : List Read) → AreOf64Bits h program parts → StandOnce (outcomes_of h program parts)
-stand_once h program parts small =
+pub stand_once : (h : Machine) (program : List Input) (parts : List Read) → AreDurable h.volume → HaveDurable h.files → BringBytes program → StandOnce (outcomes_of h program parts)
+stand_once h program parts volume files small =
     let at = place_of (cut_places 1 h program) in
     pairs_told AskApart (λ o other. Differ (look_of o.asked) (look_of other.asked)) (λ o other apart same. apart (same_look o.asked other.asked same)) (outcomes_of h program parts)
-    (all_parts_once at (states h program) parts (begun at) small (one_found at nothing [] (at (look_of nothing))))
+    (all_parts_once at (states h program) parts (begun at) (of_64_bits h program parts volume files small) (one_found at nothing [] (at (look_of nothing))))

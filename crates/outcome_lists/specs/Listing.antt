@@ -1,12 +1,12 @@
 -- What a list of outcomes is to have: what some choices are found to be together, one of each part.
-use Rattle.std.specs.Prelude.{◌≡◌, ◌<◌, ◌^◌, ℕ, Contains, List, [], ◌∷◌, Some, flat_map}
+use Rattle.std.specs.Prelude.{◌≡◌, ℕ, Contains, List, [], ◌∷◌, Some, flat_map}
 use Rattle.std.specs.List.{AllByRecursion, AllZip}
 use Rattle.script_text.specs.Script.{Input}
 use Rattle.machine_host.specs.Machine.{Machine}
 use Rattle.asked_reads.specs.declared.read.Read.{Read}
 use Rattle.cut_places.specs.declared.place.CutPlace.{CutPlace}
 use Rattle.cut_places.specs.Places.{cut_places}
-use Rattle.outcome_lists.specs.Choices.{Choice, choices, states, values_through}
+use Rattle.outcome_lists.specs.Choices.{Choice, choices, states}
 use Rattle.outcome_lists.specs.Outcomes.{Asked, Outcome, and_seen, look_of, nothing, place_of}
 
 -- one way of each part, part by part
@@ -41,7 +41,3 @@ Pairwise R (x ∷ xs) = AllByRecursion (R x) xs × Pairwise R xs
 -- no two of them are the same look
 abbrev pub StandOnce : List Outcome → Type 0
 StandOnce os = Pairwise (λ o other. look_of o.asked ≡ look_of other.asked → ⊥) os
-
--- each value that the words of parts have in a program is one of 64 bits
-abbrev pub AreOf64Bits : Machine → List Input → List Read → Type 0
-AreOf64Bits h program parts = AllByRecursion (λ part. AllByRecursion (λ v. v < 2 ^ 64) (values_through part [] (states h program))) parts

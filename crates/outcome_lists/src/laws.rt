@@ -3,6 +3,7 @@ ghost use Rattle.std.specs.Prelude.{◌≡◌, ◌*◌, ◌<◌, ℕ, All, true,
 ghost use Rattle.block_sights.specs.Sights.{Sight};
 ghost use Rattle.script_text.specs.Script.{Input};
 ghost use Rattle.machine_host.specs.Machine.{Machine};
+ghost use Rattle.durable.specs.Durable.{BringBytes};
 ghost use Rattle.outcomes.specs.Finds.{IsReady};
 ghost use Rattle.outcomes.specs.Pages.PageReply.{Shows};
 ghost use Rattle.outcomes.specs.Seen.{Seen, may_show};
@@ -11,8 +12,9 @@ ghost use Rattle.asked_reads.specs.declared.read.Read.{Read};
 ghost use Rattle.asked_reads.specs.declared.read.Read.TheVariants.{Volume, Blocks, File};
 ghost use Rattle.cut_places.specs.Places.{Stop, cut_places};
 ghost use Rattle.value_tables.specs.Listed.{IsSized, IsSound, block_read, file_word_read, lists_bytes, lists_sight, reply_of, word_read};
+ghost use Rattle.explorer.specs.Starting.{AreDurable, HaveDurable};
 ghost use Rattle.outcome_lists.specs.Choices.{sights_through, states, values_through};
-ghost use Rattle.outcome_lists.specs.Listing.{AreOf64Bits, IsFound, StandOnce};
+ghost use Rattle.outcome_lists.specs.Listing.{IsFound, StandOnce};
 ghost use Rattle.outcome_lists.specs.Outcomes.{Asked, Outcome, and_seen, look_of, outcomes_of};
 
 /// What may be shown with one read more may be shown without it.
@@ -30,9 +32,11 @@ pub fn each_outcome_is_listed()
     ensures { (h : Machine) (program : List Input) (parts : List Read) (o : Outcome) → IsFound h program parts o → Contains (outcomes_of h program parts) o }
 {}
 
-/// No outcome stands twice in a list, where words have values of 64 bits: so its length is how many there are.
+/// No outcome stands twice in a list, so that its length is how many there are: where what the program begins in is durable, as in an
+/// image that was opened, and what its commands bring are bytes.
 pub fn no_outcome_stands_twice()
-    ensures { (h : Machine) (program : List Input) (parts : List Read) → AreOf64Bits h program parts → StandOnce (outcomes_of h program parts) }
+    ensures { (h : Machine) (program : List Input) (parts : List Read) → AreDurable h.volume → HaveDurable h.files → BringBytes program
+        → StandOnce (outcomes_of h program parts) }
 {}
 
 /// Whatever some place may show of a word or of a block alone is one of its choices: the word has that value, or the block is seen
