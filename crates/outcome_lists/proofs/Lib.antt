@@ -40,6 +40,5 @@ pub mod BeginLemmas
 pub mod ListingLemmas
 pub mod PairLemmas
 pub mod BitsLemmas
-pub mod FileBitsLemmas
 pub mod StateBitsLemmas
 pub mod OnceLemmas

@@ -2,13 +2,16 @@
 use Rattle.std.proofs.Common.{◌≡◌, inl, inr, ℕ, zero, suc, ◌<◌, ◌^◌, ◌/◌, ◌%◌, ◌==◌, nat_lt, Bool, true, false, cond, Option, Some, None, List, [], ◌∷◌, ◌++◌, map, length, slice_get, refl, sym, subst}
 use Rattle.std.specs.Prelude.{slice_index_or}
 use Rattle.std.specs.List.{AllByRecursion, list_any}
+use Rattle.line_device.specs.Word.{word_at}
 use Rattle.nvm_model.specs.Cell.{Cell}
 use Rattle.nvm_model.specs.Cell.Cell.{Bad, Kept}
 use Rattle.nvm_model.specs.Listing.{file_name, file_of, is_named}
+use Rattle.nvm_model.specs.Numbered.{list_from}
 use Rattle.nvm_model.specs.Page.{Page, cell_of}
 use Rattle.nvm_model.specs.Storage.{File}
 use Rattle.reply_text.specs.Answer.{Answer}
 use Rattle.script_text.specs.Action.{Action}
+use Rattle.script_text.specs.Action.Action.{FAtomic, FMulti, FWrite, Store, VStore}
 use Rattle.script_text.specs.Script.{Input}
 use Rattle.script_text.specs.Script.Input.{Skipped, Malformed, Overlong, Asked}
 use Rattle.machine_host.specs.Machine.{Fate, Machine}
@@ -26,9 +29,29 @@ use Rattle.value_tables.specs.Left.FileSide.{NoFile, PastEnd, OfLine}
 use Rattle.value_tables.specs.Values.{cells_of, history_of, values_with, with_all, with_one}
 use Rattle.explorer.specs.Starting.{AreDurable, HaveDurable}
 use Rattle.outcome_lists.specs.Choices.{states, values_through}
-use Rattle.outcome_lists.proofs.BitsLemmas.{Are64, HasBits, HaveBits, volume_have, zero_has}
-use Rattle.outcome_lists.proofs.FileBitsLemmas.{AllHaveBits, durable_item, files_after_have}
+use Rattle.outcomes.proofs.FileHistoryLemmas.{FilesHold, files_after_hold, item_of}
+use Rattle.outcomes.proofs.HistoryLemmas.{AllHold, Brings, Holds, volume_holds, zero_holds}
+use Rattle.outcome_lists.proofs.BitsLemmas.{Are64, AreSmall, bits_kept, word_of_bytes}
 use Rattle.outcome_lists.proofs.PairLemmas.{all_joined}
+
+-- a line, pages and files have them
+abbrev HasBits : Cell → Type 0
+HasBits cell = Holds Are64 cell
+
+abbrev HaveBits : List Page → Type 0
+HaveBits pages = AllHold Are64 pages
+
+abbrev AllHaveBits : List File → Type 0
+AllHaveBits files = FilesHold Are64 files
+
+-- the bytes of a command are so
+brought : (action : Action) → BringsBytes action → Brings AreSmall action
+brought (VStore offset bytes) small = small
+brought (FWrite name offset bytes) small = small
+brought (FAtomic name offset bytes) small = small
+brought (FMulti name ranges bytes) small = small
+brought (Store handle offset bytes) small = small
+brought action small = tt
 
 -- a state has them
 record StateHasBits (h : Machine) : Type 0 where
@@ -42,8 +65,9 @@ module _ (h : Machine) (action : Action) (small : BringsBytes action) (has : Sta
 
   made : (m : Machine) → m.volume ≡ volume_after h.geometry action h.volume → m.files ≡ files_made h.mappings action h.files → StateHasBits m
   made m volume_is files_is =
-      with_parts m (volume_after h.geometry action h.volume) (files_made h.mappings action h.files) (volume_have h.geometry action h.volume small has.volume)
-      (files_after_have action h.mappings h.files small has.files) volume_is files_is
+      with_parts m (volume_after h.geometry action h.volume) (files_made h.mappings action h.files)
+      (volume_holds Are64 AreSmall bits_kept h.geometry action h.volume (brought action small) has.volume)
+      (files_after_hold Are64 AreSmall bits_kept action h.mappings h.files (brought action small) has.files) volume_is files_is
 
   idle : (m : Machine) → m.volume ≡ h.volume → m.files ≡ h.files → StateHasBits m
   idle m volume_is files_is = with_parts m h.volume h.files has.volume has.files volume_is files_is
@@ -76,7 +100,7 @@ seen_bits : (pages : List Page) (n : ℕ) → HaveBits pages → HasBits (seen p
 seen_bits pages n have = by_line (cell_of pages n) refl
   where
     by_line : (o : Option Cell) → cell_of pages n ≡ o → HasBits (or_zeros o)
-    by_line None is = zero_has
+    by_line None is = zero_holds Are64 AreSmall bits_kept
     by_line (Some cell) is = have n cell is
 
 history_bits : (w : ℕ) (cell : Cell) → HasBits cell → Are64 (history_of w cell)
@@ -148,6 +172,9 @@ parts_bits hs [] all = tt
 parts_bits hs (part ∷ parts) all = (part_bits hs part all, parts_bits hs parts all)
 
 -- where all is durable each word has one value, of eight bytes
+words_of : (bytes : List ℕ) → AreSmall bytes → (w : ℕ) (history : List ℕ) → slice_get (list_from (λ k. word_at bytes k ∷ []) 0 8) w ≡ Some history → Are64 history
+words_of bytes small w history is = let item = item_of (λ k. word_at bytes k ∷ []) 0 8 w history is in subst Are64 item.1 (word_of_bytes bytes item.0 small)
+
 pages_begin : (pages : List Page) → AreDurable pages → HaveBits pages
 pages_begin pages durable n cell is = by_cell cell is
   where
@@ -155,7 +182,7 @@ pages_begin pages durable n cell is = by_cell cell is
     by_cell Bad is = tt
     by_cell (Kept weak words) is =
         let of = durable n weak words is in
-        subst (λ (ws : List (List ℕ)). HasBits (Kept weak ws)) (sym of.are) (durable_item of.bytes of.small)
+        subst (λ (ws : List (List ℕ)). HasBits (Kept weak ws)) (sym of.are) (words_of of.bytes of.small)
 
 files_begin : (files : List File) → HaveDurable files → AllHaveBits files
 files_begin [] durable = tt

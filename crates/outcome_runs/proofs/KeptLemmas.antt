@@ -24,7 +24,7 @@ use Rattle.outcome_runs.proofs.FileValueLemmas.{files_after_have, files_made_hav
 use Rattle.outcome_runs.proofs.LeftLemmas.{BlocksMade}
 use Rattle.outcome_runs.proofs.ListedLeftLemmas.{listed_left}
 use Rattle.outcome_runs.proofs.ListedStepLemmas.{listed_after}
-use Rattle.outcome_runs.proofs.ValueLemmas.{volume_have}
+use Rattle.outcomes.proofs.ValueLemmas.{volume_have}
 
 -- What a command that may be interrupted would make of blocks and files, and may leave of these.
 pub record MakesKept (h : Machine) (action : Action) : Type 0 where

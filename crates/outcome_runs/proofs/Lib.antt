@@ -1,7 +1,6 @@
 mod LookRunLemmas
 mod FollowLemmas
 mod BlockKeptLemmas
-mod ValueLemmas
 pub mod FileValueLemmas
 mod CountLemmas
 mod PageUseLemmas

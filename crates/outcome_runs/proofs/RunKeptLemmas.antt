@@ -43,7 +43,7 @@ use Rattle.outcome_runs.proofs.LeftValueLemmas.{files_left_have, volume_left_has
 use Rattle.outcome_runs.proofs.ListedLemmas.{listed_alike, listed_by, used_room}
 use Rattle.outcome_runs.proofs.ListedStepLemmas.{listed_after}
 use Rattle.outcome_runs.proofs.ReadKeptLemmas.{blocks_whole, files_have, pages_have}
-use Rattle.outcome_runs.proofs.ValueLemmas.{volume_have}
+use Rattle.outcomes.proofs.ValueLemmas.{volume_have}
 
 -- the files that a restart read of files that were left
 abbrev SamePages : File → File → Type 0

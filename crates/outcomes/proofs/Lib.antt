@@ -10,6 +10,8 @@ mod BlockLemmas
 mod FileLemmas
 mod SeenLemmas
 mod FoundLemmas
+pub mod HistoryLemmas
+pub mod FileHistoryLemmas
 pub mod ValueLemmas
 mod PickLemmas
 mod WordLemmas
