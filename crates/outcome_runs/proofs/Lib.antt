@@ -1,5 +1,4 @@
 mod LookRunLemmas
-mod FollowLemmas
 mod BlockKeptLemmas
 mod ValueLemmas
 pub mod FileValueLemmas
