@@ -22,7 +22,7 @@ use native.Mathlib.Nat.{zero-div}
 use Rattle.durable.proofs.WordLemmas.{WordKeeps, word_keeps-flushed, word_keeps-latest, word_keeps-one, word_keeps-stored}
 
 -- a line of zeros has no other byte
-byte_at-zero : (k : ℕ) → byte_at k 0 ≡ 0
+pub byte_at-zero : (k : ℕ) → byte_at k 0 ≡ 0
 byte_at-zero zero = refl
 byte_at-zero (suc k) = ap (λ n. n % 256) (zero-div (256 ^ suc k))
 

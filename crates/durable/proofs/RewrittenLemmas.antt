@@ -29,7 +29,7 @@ use Rattle.durable.proofs.ThereLemmas.{by_pages}
 abbrev pub byte_rewritten : List Span → List ℕ → List Page → ℕ → ℕ
 byte_rewritten ranges bytes pages at = byte_laid ranges bytes at (byte_in pages at)
 
-byte_at-small : (k n : ℕ) → byte_at k n < 256
+pub byte_at-small : (k n : ℕ) → byte_at k n < 256
 byte_at-small zero n = omega arith
 byte_at-small (suc k) n = omega arith
 

@@ -1,5 +1,5 @@
--- What a script stores are bytes.
-use Rattle.std.proofs.Common.{ℕ, ◌<◌, Bool, true, false, cond, Option, Some, None, option_map, option_and_then, Result, Ok, Err, List, [], ◌∷◌, ◌++◌, length, get_or, nat_lt, nat_le}
+-- What a script stores are bytes, and its new names are names.
+use Rattle.std.proofs.Common.{◌≡◌, refl, ℕ, Bool, true, false, cond, Option, Some, None, option_map, option_and_then, Result, Ok, Err, List, [], ◌∷◌, ◌++◌, length, nat_lt, nat_le}
 use Rattle.std.specs.Prelude.{codes}
 use Rattle.std.specs.Io.BufRead.{strip_last}
 use Rattle.std.specs.Str.{bytes_eq}
@@ -8,7 +8,7 @@ use Rattle.nvm_base.specs.declared.reading.TextFault.{TextFault}
 use Rattle.line_device.specs.declared.line.Choice.TheVariants.{Firsts, Lasts, Seed}
 use Rattle.nvm_base.specs.Data.{data_of, data_within}
 use Rattle.nvm_base.specs.Numbers.{number_of}
-use Rattle.nvm_base.specs.Names.{name_of}
+use Rattle.nvm_base.specs.Names.{is_name, name_of}
 use Rattle.nvm_base.specs.declared.files.Kind.{Kind}
 use Rattle.script_text.specs.Action.{Action}
 use Rattle.script_text.specs.Action.Action.{BRead, BWrite, BAtomic, BMulti, BDiscard, BDiscardIf, BExists, BScar, VLoad, VStore, VSync, VRanges, VPSync, VDiscard, VDiscardIf, VExists, Create, Delete, Rename, Resize, ListFiles, FRead, FWrite, FAtomic, FMulti, FDiscard, FSync, Map, Unmap, Load, Store, Sync, Flush, FlushVerify, DeepFlush, NextEvent, CheckFile, PoisonBlock, PoisonVolume, PoisonFile, PoisonMeta, WeakenFile, WeakenVolume, ClearFile, ClearVolume, CutIn, FailIn, Restart, Recover, Attr, Evict}
@@ -18,64 +18,102 @@ use Rattle.script_text.specs.Script.Input.{Skipped, Malformed, Overlong, Asked}
 use Rattle.durable.specs.Durable.{BringBytes, BringsBytes}
 use Rattle.durable.proofs.DataLemmas.{AllBytes, AreBytes, AreSomeBytes, bytes-append, bytes-at, data-bytes, some-bytes}
 
--- the action, if there is one, stores bytes
+-- the data of a command that was read are bytes, and a new name is one
+abbrev pub BringsRead : Action → Type 0
+BringsRead (BWrite block bytes) = AllBytes bytes
+BringsRead (BAtomic block bytes) = AllBytes bytes
+BringsRead (BMulti ranges bytes) = AllBytes bytes
+BringsRead (VStore offset bytes) = AllBytes bytes
+BringsRead (Create name pages) = is_name name ≡ true
+BringsRead (Rename name to) = is_name to ≡ true
+BringsRead (FWrite name offset bytes) = AllBytes bytes
+BringsRead (FAtomic name offset bytes) = AllBytes bytes
+BringsRead (FMulti name ranges bytes) = AllBytes bytes
+BringsRead (Store handle offset bytes) = AllBytes bytes
+BringsRead other = Unit {0}
+
+-- the same of all commands that are asked for
+abbrev pub BringRead : List Input → Type 0
+BringRead [] = Unit {0}
+BringRead (Asked action ∷ inputs) = BringsRead action × BringRead inputs
+BringRead (other ∷ inputs) = BringRead inputs
+
+-- the action, if there is one, is as one that was read
 abbrev Brings : Option Action → Type 0
 Brings None = Unit {0}
-Brings (Some action) = BringsBytes action
+Brings (Some action) = BringsRead action
 
 brings-cond : (b : Bool) (x y : Option Action) → Brings x → Brings y → Brings (cond b x y)
 brings-cond true x y first second = first
 brings-cond false x y first second = second
 
-brings-map : {A : Type 0} (make : A → Action) (o : Option A) → ((a : A) → BringsBytes (make a)) → Brings (option_map make o)
+brings-map : {A : Type 0} (make : A → Action) (o : Option A) → ((a : A) → BringsRead (make a)) → Brings (option_map make o)
 brings-map make None each = tt
 brings-map make (Some a) each = each a
 
-brings-both : {A B : Type 0} (make : A → B → Action) (a : Option A) (b : Option B) → ((a : A) (b : B) → BringsBytes (make a b)) → Brings (of_both make a b)
+brings-both : {A B : Type 0} (make : A → B → Action) (a : Option A) (b : Option B) → ((a : A) (b : B) → BringsRead (make a b)) → Brings (of_both make a b)
 brings-both make None b each = tt
 brings-both make (Some a) None each = tt
 brings-both make (Some a) (Some b) each = each a b
 
-brings-span : (make : ℕ → ℕ → Action) (words : List (List ℕ)) → ((a b : ℕ) → BringsBytes (make a b)) → Brings (span_action make words)
+brings-span : (make : ℕ → ℕ → Action) (words : List (List ℕ)) → ((a b : ℕ) → BringsRead (make a b)) → Brings (span_action make words)
 brings-span make [] each = tt
 brings-span make (x ∷ []) each = tt
 brings-span make (x ∷ y ∷ []) each = brings-both make (number_of x) (number_of y) each
 brings-span make (x ∷ y ∷ z ∷ more) each = tt
 
-brings-number : (make : ℕ → Action) (words : List (List ℕ)) → ((a : ℕ) → BringsBytes (make a)) → Brings (number_action make words)
+brings-number : (make : ℕ → Action) (words : List (List ℕ)) → ((a : ℕ) → BringsRead (make a)) → Brings (number_action make words)
 brings-number make [] each = tt
 brings-number make (x ∷ []) each = brings-map make (number_of x) each
 brings-number make (x ∷ y ∷ more) each = tt
 
-brings-word : (make : List ℕ → Action) (words : List (List ℕ)) → ((a : List ℕ) → BringsBytes (make a)) → Brings (word_action make words)
+brings-word : (make : List ℕ → Action) (words : List (List ℕ)) → ((a : List ℕ) → BringsRead (make a)) → Brings (word_action make words)
 brings-word make [] each = tt
 brings-word make (x ∷ []) each = each x
 brings-word make (x ∷ y ∷ more) each = tt
 
-brings-name : (make : List ℕ → Action) (words : List (List ℕ)) → ((a : List ℕ) → BringsBytes (make a)) → Brings (name_action make words)
+-- names that are there are right
+brings-named_as : (make : List ℕ → Action) (x : List ℕ) → ((a : List ℕ) → is_name a ≡ true → BringsRead (make a)) → Brings (option_map make (name_of x))
+brings-named_as make x each = by_test (is_name x) refl
+  where
+    by_test : (b : Bool) → is_name x ≡ b → Brings (option_map make (cond b (Some x) None))
+    by_test true is = each x is
+    by_test false is = tt
+
+brings-name : (make : List ℕ → Action) (words : List (List ℕ)) → ((a : List ℕ) → is_name a ≡ true → BringsRead (make a)) → Brings (name_action make words)
 brings-name make [] each = tt
-brings-name make (x ∷ []) each = brings-map make (name_of x) each
+brings-name make (x ∷ []) each = brings-named_as make x each
 brings-name make (x ∷ y ∷ more) each = tt
 
-brings-names : (make : List ℕ → List ℕ → Action) (words : List (List ℕ)) → ((a b : List ℕ) → BringsBytes (make a b)) → Brings (names_action make words)
+brings-names : (make : List ℕ → List ℕ → Action) (words : List (List ℕ)) → ((a b : List ℕ) → is_name b ≡ true → BringsRead (make a b)) → Brings (names_action make words)
 brings-names make [] each = tt
 brings-names make (x ∷ []) each = tt
-brings-names make (x ∷ y ∷ []) each = brings-both make (name_of x) (name_of y) each
+brings-names make (x ∷ y ∷ []) each = by_tests (name_of x) (is_name y) refl
+  where
+    by_tests : (o : Option (List ℕ)) (b : Bool) → is_name y ≡ b → Brings (of_both make o (cond b (Some y) None))
+    by_tests None b is = tt
+    by_tests (Some a) true is = each a y is
+    by_tests (Some a) false is = tt
 brings-names make (x ∷ y ∷ z ∷ more) each = tt
 
-brings-sized : (make : List ℕ → ℕ → Action) (words : List (List ℕ)) → ((a : List ℕ) (b : ℕ) → BringsBytes (make a b)) → Brings (sized_action make words)
+brings-sized : (make : List ℕ → ℕ → Action) (words : List (List ℕ)) → ((a : List ℕ) (b : ℕ) → is_name a ≡ true → BringsRead (make a b)) → Brings (sized_action make words)
 brings-sized make [] each = tt
 brings-sized make (x ∷ []) each = tt
-brings-sized make (x ∷ y ∷ []) each = brings-both make (name_of x) (number_of y) each
+brings-sized make (x ∷ y ∷ []) each = by_tests (is_name x) (number_of y) refl
+  where
+    by_tests : (b : Bool) (o : Option ℕ) → is_name x ≡ b → Brings (of_both make (cond b (Some x) None) o)
+    by_tests true None is = tt
+    by_tests true (Some n) is = each x n is
+    by_tests false o is = tt
 brings-sized make (x ∷ y ∷ z ∷ more) each = tt
 
 abbrev BringsData : (ℕ → List ℕ → Action) → Type 0
-BringsData make = (a : ℕ) (bytes : List ℕ) → ((k : ℕ) → get_or bytes k 0 < 256) → BringsBytes (make a bytes)
+BringsData make = (a : ℕ) (bytes : List ℕ) → AllBytes bytes → BringsRead (make a bytes)
 
 brings-of_data : (make : ℕ → List ℕ → Action) (a : Option ℕ) (r : Result (List ℕ) TextFault) → BringsData make → AreBytes r → Brings (of_data make a r)
 brings-of_data make None r each small = tt
 brings-of_data make (Some a) (Err fault) each small = tt
-brings-of_data make (Some a) (Ok bytes) each small = each a bytes (bytes-at bytes small)
+brings-of_data make (Some a) (Ok bytes) each small = each a bytes small
 
 brings-data : (make : ℕ → List ℕ → Action) (words : List (List ℕ)) → BringsData make → Brings (data_action make words)
 brings-data make [] each = tt
@@ -83,7 +121,8 @@ brings-data make (x ∷ []) each = tt
 brings-data make (x ∷ text ∷ []) each = brings-of_data make (number_of x) (data_within 65536 text) each (data-bytes 65536 text)
 brings-data make (x ∷ text ∷ z ∷ more) each = tt
 
-brings-named : (more : List ℕ → List (List ℕ) → Option Action) (words : List (List ℕ)) → ((name : List ℕ) (rest : List (List ℕ)) → Brings (more name rest)) → Brings (named_action more words)
+brings-named : (more : List ℕ → List (List ℕ) → Option Action) (words : List (List ℕ)) → ((name : List ℕ) (rest : List (List ℕ)) → Brings (more name rest))
+    → Brings (named_action more words)
 brings-named more [] each = tt
 brings-named more (x ∷ words) each = by_name (name_of x)
   where
@@ -99,7 +138,7 @@ brings-numbered more (x ∷ words) each = by_number (number_of x)
     by_number None = tt
     by_number (Some n) = each n words
 
-brings-kind : (make : Kind → Action) (words : List (List ℕ)) → ((kind : Kind) → BringsBytes (make kind)) → Brings (kind_action make words)
+brings-kind : (make : Kind → Action) (words : List (List ℕ)) → ((kind : Kind) → BringsRead (make kind)) → Brings (kind_action make words)
 brings-kind make [] each = tt
 brings-kind make (x ∷ []) each = brings-map make (kind_of x) each
 brings-kind make (x ∷ y ∷ words) each = tt
@@ -111,12 +150,12 @@ brings-shown name words =
     brings-numbered (λ len. kind_action (Map name (record { start = start; len = len }))) rest
     (λ len last. brings-kind (Map name (record { start = start; len = len })) last (λ kind. tt)))
 
-brings-spans : (make : List Span → Action) (words : List (List ℕ)) → ((spans : List Span) → BringsBytes (make spans)) → Brings (spans_action make words)
+brings-spans : (make : List Span → Action) (words : List (List ℕ)) → ((spans : List Span) → BringsRead (make spans)) → Brings (spans_action make words)
 brings-spans make [] each = tt
 brings-spans make (x ∷ words) each = brings-map make (spans_of (x ∷ words)) each
 
 abbrev BringsRanges : (List Span → List ℕ → Action) → Type 0
-BringsRanges make = (ranges : List Span) (bytes : List ℕ) → ((k : ℕ) → get_or bytes k 0 < 256) → BringsBytes (make ranges bytes)
+BringsRanges make = (ranges : List Span) (bytes : List ℕ) → AllBytes bytes → BringsRead (make ranges bytes)
 
 -- ranges, and bytes
 abbrev AreRangeBytes : Option (List Span × List ℕ) → Type 0
@@ -144,7 +183,7 @@ bytes-fitting room (Some p) small = by_room (nat_le (length p.1) room)
 
 brings-of_ranges : (make : List Span → List ℕ → Action) (o : Option (List Span × List ℕ)) → BringsRanges make → AreRangeBytes o → Brings (option_map (λ p. make p.0 p.1) o)
 brings-of_ranges make None each small = tt
-brings-of_ranges make (Some p) each small = each p.0 p.1 (bytes-at p.1 small)
+brings-of_ranges make (Some p) each small = each p.0 p.1 small
 
 brings-ranges : (make : List Span → List ℕ → Action) (words : List (List ℕ)) → BringsRanges make → Brings (ranges_action make words)
 brings-ranges make [] each = tt
@@ -159,7 +198,7 @@ brings-fail : (words : List (List ℕ)) → Brings (fail_action words)
 brings-fail [] = tt
 brings-fail (x ∷ words) = brings-cond (bytes_eq x (codes "in")) (number_action FailIn words) None (brings-number FailIn words (λ a. tt)) tt
 
-brings-bare : (action : Action) (words : List (List ℕ)) → BringsBytes action → Brings (bare_action action words)
+brings-bare : (action : Action) (words : List (List ℕ)) → BringsRead action → Brings (bare_action action words)
 brings-bare action [] small = small
 brings-bare action (x ∷ words) small = tt
 
@@ -170,8 +209,8 @@ brings-restart (x ∷ words) =
     (brings-cond (bytes_eq x (codes "all")) (bare_action (Restart Lasts) words) _ (brings-bare (Restart Lasts) words tt)
     (brings-cond (bytes_eq x (codes "seed")) (number_action (λ n. Restart (Seed n)) words) None (brings-number (λ n. Restart (Seed n)) words (λ n. tt)) tt))
 
-brings-placed : (in_file : List ℕ → ℕ → Action) (in_volume : ℕ → Action) (words : List (List ℕ)) → ((a : List ℕ) (b : ℕ) → BringsBytes (in_file a b))
-    → ((a : ℕ) → BringsBytes (in_volume a)) → Brings (placed_action in_file in_volume words)
+brings-placed : (in_file : List ℕ → ℕ → Action) (in_volume : ℕ → Action) (words : List (List ℕ)) → ((a : List ℕ) (b : ℕ) → is_name a ≡ true → BringsRead (in_file a b))
+    → ((a : ℕ) → BringsRead (in_volume a)) → Brings (placed_action in_file in_volume words)
 brings-placed in_file in_volume [] file volume = tt
 brings-placed in_file in_volume (x ∷ words) file volume =
     brings-cond (bytes_eq x (codes "file")) (sized_action in_file words) _ (brings-sized in_file words file)
@@ -181,7 +220,7 @@ brings-poison : (words : List (List ℕ)) → Brings (poison_action words)
 brings-poison [] = tt
 brings-poison (x ∷ words) =
     brings-cond (bytes_eq x (codes "block")) (span_action PoisonBlock words) _ (brings-span PoisonBlock words (λ a b. tt))
-    (brings-cond (bytes_eq x (codes "file")) (sized_action PoisonFile words) _ (brings-sized PoisonFile words (λ a b. tt))
+    (brings-cond (bytes_eq x (codes "file")) (sized_action PoisonFile words) _ (brings-sized PoisonFile words (λ a b right. tt))
     (brings-cond (bytes_eq x (codes "volume")) (number_action PoisonVolume words) _ (brings-number PoisonVolume words (λ a. tt))
     (brings-cond (bytes_eq x (codes "meta")) (number_action PoisonMeta words) None (brings-number PoisonMeta words (λ a. tt)) tt)))
 
@@ -196,8 +235,8 @@ brings-power name words =
 brings-media : (name : List ℕ) (words : List (List ℕ)) → Brings (media_action name words)
 brings-media name words =
     brings-cond (bytes_eq name (codes "poison")) (poison_action words) _ (brings-poison words)
-    (brings-cond (bytes_eq name (codes "weaken")) (placed_action WeakenFile WeakenVolume words) _ (brings-placed WeakenFile WeakenVolume words (λ a b. tt) (λ a. tt))
-    (brings-cond (bytes_eq name (codes "clear")) (placed_action ClearFile ClearVolume words) _ (brings-placed ClearFile ClearVolume words (λ a b. tt) (λ a. tt))
+    (brings-cond (bytes_eq name (codes "weaken")) (placed_action WeakenFile WeakenVolume words) _ (brings-placed WeakenFile WeakenVolume words (λ a b right. tt) (λ a. tt))
+    (brings-cond (bytes_eq name (codes "clear")) (placed_action ClearFile ClearVolume words) _ (brings-placed ClearFile ClearVolume words (λ a b right. tt) (λ a. tt))
     (brings-cond (bytes_eq name (codes "check")) (named_action (λ file. span_action (CheckFile file)) words) _
     (brings-named (λ file. span_action (CheckFile file)) words (λ file rest. brings-span (CheckFile file) rest (λ a b. tt))) (brings-power name words))))
 
@@ -213,16 +252,16 @@ brings-mapped name words =
 
 brings-files : (name : List ℕ) (words : List (List ℕ)) → Brings (files_action name words)
 brings-files name words =
-    brings-cond (bytes_eq name (codes "create")) (sized_action Create words) _ (brings-sized Create words (λ a b. tt))
-    (brings-cond (bytes_eq name (codes "delete")) (name_action Delete words) _ (brings-name Delete words (λ a. tt))
-    (brings-cond (bytes_eq name (codes "rename")) (names_action Rename words) _ (brings-names Rename words (λ a b. tt))
-    (brings-cond (bytes_eq name (codes "resize")) (sized_action Resize words) _ (brings-sized Resize words (λ a b. tt))
+    brings-cond (bytes_eq name (codes "create")) (sized_action Create words) _ (brings-sized Create words (λ a b right. right))
+    (brings-cond (bytes_eq name (codes "delete")) (name_action Delete words) _ (brings-name Delete words (λ a right. tt))
+    (brings-cond (bytes_eq name (codes "rename")) (names_action Rename words) _ (brings-names Rename words (λ a b right. right))
+    (brings-cond (bytes_eq name (codes "resize")) (sized_action Resize words) _ (brings-sized Resize words (λ a b right. tt))
     (brings-cond (bytes_eq name (codes "list")) (bare_action ListFiles words) _ (brings-bare ListFiles words tt)
     (brings-cond (bytes_eq name (codes "fread")) (named_action (λ file. span_action (FRead file)) words) _
     (brings-named (λ file. span_action (FRead file)) words (λ file rest. brings-span (FRead file) rest (λ a b. tt)))
     (brings-cond (bytes_eq name (codes "fdiscard")) (named_action (λ file. span_action (FDiscard file)) words) _
     (brings-named (λ file. span_action (FDiscard file)) words (λ file rest. brings-span (FDiscard file) rest (λ a b. tt)))
-    (brings-cond (bytes_eq name (codes "fsync")) (name_action FSync words) _ (brings-name FSync words (λ a. tt)) (brings-mapped name words))))))))
+    (brings-cond (bytes_eq name (codes "fsync")) (name_action FSync words) _ (brings-name FSync words (λ a right. tt)) (brings-mapped name words))))))))
 
 brings-volume : (name : List ℕ) (words : List (List ℕ)) → Brings (volume_action name words)
 brings-volume name words =
@@ -267,37 +306,62 @@ brings-writing name words =
 brings-command : (name : List ℕ) (words : List (List ℕ)) → Brings (command_action name words)
 unfolding command_action
 brings-command name words =
-    brings-cond (bytes_eq name (codes "bwrite")) (data_action BWrite words) _ (brings-data BWrite words (λ a bytes small. tt))
+    brings-cond (bytes_eq name (codes "bwrite")) (data_action BWrite words) _ (brings-data BWrite words (λ a bytes small. small))
     (brings-cond (bytes_eq name (codes "vstore")) (data_action VStore words) _ (brings-data VStore words (λ a bytes small. small))
     (brings-cond (bytes_eq name (codes "bscar")) (spans_action BScar words) _ (brings-spans BScar words (λ spans. tt))
-    (brings-cond (bytes_eq name (codes "batomic")) (data_action BAtomic words) _ (brings-data BAtomic words (λ a bytes small. tt))
-    (brings-cond (bytes_eq name (codes "bmulti")) (ranges_action BMulti words) _ (brings-ranges BMulti words (λ ranges bytes small. tt))
+    (brings-cond (bytes_eq name (codes "batomic")) (data_action BAtomic words) _ (brings-data BAtomic words (λ a bytes small. small))
+    (brings-cond (bytes_eq name (codes "bmulti")) (ranges_action BMulti words) _ (brings-ranges BMulti words (λ ranges bytes small. small))
     (brings-cond (bytes_eq name (codes "attr")) (word_action Attr words) _ (brings-word Attr words (λ word. tt)) (brings-writing name words))))))
 
 -- one input before others that do
-bring-asked : (o : Option Action) (rest : List Input) → Brings o → BringBytes rest → BringBytes (asked o ∷ rest)
+bring-asked : (o : Option Action) (rest : List Input) → Brings o → BringRead rest → BringRead (asked o ∷ rest)
 bring-asked None rest one more = more
 bring-asked (Some action) rest one more = (one, more)
 
-bring-words : (words : List (List ℕ)) (rest : List Input) → BringBytes rest → BringBytes (words_input words ∷ rest)
+bring-words : (words : List (List ℕ)) (rest : List Input) → BringRead rest → BringRead (words_input words ∷ rest)
 bring-words [] rest more = more
 bring-words (name ∷ words) rest more = by_test (is_comment name)
   where
-    by_test : (b : Bool) → BringBytes (cond b Skipped (asked (command_action name words)) ∷ rest)
+    by_test : (b : Bool) → BringRead (cond b Skipped (asked (command_action name words)) ∷ rest)
     by_test true = more
     by_test false = bring-asked (command_action name words) rest (brings-command name words) more
 
-bring-line : (line : List ℕ) (rest : List Input) → BringBytes rest → BringBytes (line_input line ∷ rest)
+bring-line : (line : List ℕ) (rest : List Input) → BringRead rest → BringRead (line_input line ∷ rest)
 unfolding line_input
 bring-line line rest more = by_test (nat_lt 65536 (length line))
   where
-    by_test : (b : Bool) → BringBytes (cond b Overlong (words_input (words_of (strip_last 13 line))) ∷ rest)
+    by_test : (b : Bool) → BringRead (cond b Overlong (words_input (words_of (strip_last 13 line))) ∷ rest)
     by_test true = more
     by_test false = bring-words (words_of (strip_last 13 line)) rest more
 
+read-lines : (lines : List (List ℕ)) → BringRead (inputs_of lines)
+read-lines [] = tt
+read-lines (line ∷ lines) = bring-line line (inputs_of lines) (read-lines lines)
+
+pub read-script : (script : List ℕ) → BringRead (inputs script)
+read-script script = read-lines (lines_of script)
+
+-- so what it stores are bytes
+bytes-action : (action : Action) → BringsRead action → BringsBytes action
+bytes-action (VStore offset bytes) small = bytes-at bytes small
+bytes-action (FWrite name offset bytes) small = bytes-at bytes small
+bytes-action (FAtomic name offset bytes) small = bytes-at bytes small
+bytes-action (FMulti name ranges bytes) small = bytes-at bytes small
+bytes-action (Store handle offset bytes) small = bytes-at bytes small
+bytes-action other read = tt
+
+bytes-inputs : (inputs : List Input) → BringRead inputs → BringBytes inputs
+bytes-inputs [] read = tt
+bytes-inputs (Asked action ∷ inputs) read = (bytes-action action read.0, bytes-inputs inputs read.1)
+bytes-inputs (Skipped ∷ inputs) read = bytes-inputs inputs read
+bytes-inputs (Malformed ∷ inputs) read = bytes-inputs inputs read
+bytes-inputs (Overlong ∷ inputs) read = bytes-inputs inputs read
+
 pub bring-lines : (lines : List (List ℕ)) → BringBytes (inputs_of lines)
-bring-lines [] = tt
-bring-lines (line ∷ lines) = bring-line line (inputs_of lines) (bring-lines lines)
+bring-lines lines = bytes-inputs (inputs_of lines) (read-lines lines)
+
+pub bring-script : (script : List ℕ) → BringBytes (inputs script)
+bring-script script = bring-lines (lines_of script)
 
 -- so do those that come after one of them
 pub bring-rest : (before : List Input) (action : Action) (after : List Input) → BringBytes (before ++ Asked action ∷ after) → BringBytes after
@@ -306,6 +370,3 @@ bring-rest (Skipped ∷ before) action after all = bring-rest before action afte
 bring-rest (Malformed ∷ before) action after all = bring-rest before action after all
 bring-rest (Overlong ∷ before) action after all = bring-rest before action after all
 bring-rest (Asked first ∷ before) action after all = bring-rest before action after all.1
-
-pub bring-script : (script : List ℕ) → BringBytes (inputs script)
-bring-script script = bring-lines (lines_of script)

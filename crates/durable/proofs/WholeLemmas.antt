@@ -62,7 +62,7 @@ pages-altered geo (WeakenVolume offset) pages = length-change_line weaken_cell (
 pages-altered geo action pages = pages-made geo action pages
 
 -- and those that an interruption leaves
-pages-there : (old new : List Page) → presence_of new ≡ presence_of old → length new ≡ length old
+pub pages-there : (old new : List Page) → presence_of new ≡ presence_of old → length new ≡ length old
 pages-there old new there = sym (length-map new is_present) ∙ ap length there ∙ length-map old is_present
 
 pages-leaves : (left : VolumeLeft) (pages to new : List Page) → length to ≡ length pages → LeavesVolume left pages to new → length new ≡ length pages
@@ -75,7 +75,7 @@ pages-leaves AllOrNone pages to new same (inl is) = ap length is
 pages-leaves AllOrNone pages to new same (inr is) = ap length is ∙ same
 pages-leaves PageByPage pages to new same may = may.length
 
-pages-left : (geo : Geometry) (o : Option Action) (pages new : List Page) → MayLeaveVolume geo o pages new → length new ≡ length pages
+pub pages-left : (geo : Geometry) (o : Option Action) (pages new : List Page) → MayLeaveVolume geo o pages new → length new ≡ length pages
 pages-left geo None pages new is = ap length is
 pages-left geo (Some action) pages new may =
     pages-leaves ((meaning action).volume_left geo) pages ((meaning action).volume geo pages) new (pages-made geo action pages) may
@@ -117,7 +117,7 @@ length-leaves Either old to new same (inl is) = ap length is
 length-leaves Either old to new same (inr is) = ap length is ∙ same
 length-leaves Mixed old to new same may = may.length
 
-length-left : (o : Option Action) (old new : List Block) → MayLeaveBlocks o old new → length new ≡ length old
+pub length-left : (o : Option Action) (old new : List Block) → MayLeaveBlocks o old new → length new ≡ length old
 length-left None old new is = ap length is
 length-left (Some action) old new may = length-leaves (meaning action).blocks_left old ((meaning action).blocks old) new (length-made action old) may
 

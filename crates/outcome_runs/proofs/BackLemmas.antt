@@ -20,7 +20,7 @@ use Rattle.machine_host.specs.Settling.{disarmed}
 use Rattle.durable.specs.Durable.{HasNothing, IsComplete, IsCounted}
 use Rattle.durable.proofs.FileThereLemmas.{lines-files_left}
 use Rattle.durable.proofs.ThereLemmas.{lines-left}
-use Rattle.durable.proofs.WholeLemmas.{whole-run}
+use Rattle.durable.proofs.WholeLemmas.{length-left, pages-left, whole-run}
 use Rattle.outcomes.specs.Blocks.{BlockRead}
 use Rattle.outcomes.specs.Files.{FileRead}
 use Rattle.outcomes.specs.Finds.{Finds, IsReady, armed, may_find}
@@ -36,7 +36,7 @@ use Rattle.state_images.proofs.ShapeLemmas.{files-stored, volume-stored}
 use Rattle.outcome_runs.specs.Brings.{BringRight}
 use Rattle.outcome_runs.specs.Kept.{IsKept}
 use Rattle.outcome_runs.proofs.KeptLemmas.{MayMake, blocks_made, left_listed, values_made}
-use Rattle.outcome_runs.proofs.LeftLemmas.{blocks_left, blocks_number, eight_words, files_shape, pages_number}
+use Rattle.outcome_runs.proofs.LeftLemmas.{blocks_left, eight_words, files_shape}
 use Rattle.outcome_runs.proofs.LookRunLemmas.{look_heard}
 use Rattle.outcome_runs.proofs.StopRunLemmas.{GoesOn, Stopped, stopped}
 use Rattle.outcome_runs.proofs.TrimLemmas.{trim, trim_survives, trim_whole}
@@ -71,11 +71,11 @@ module _ (off : Machine) where
         let count = counted whole good in
         record {
           of_blocks = record {
-            all = blocks_number off.interrupted off.blocks blocks.left blocks.may ∙ count.blocks;
+            all = length-left off.interrupted off.blocks blocks.left blocks.may ∙ count.blocks;
             whole = blocks_left off.interrupted off.blocks blocks.left kept.blocks (blocks_made off off.interrupted makes) blocks.may;
           };
           of_volume = volume-stored off.geometry volume.left (trim volume.volume)
-              (record { all = pages_number off.geometry off.interrupted off.volume volume.left volume.may ∙ count.pages; words = eight_words volume.left lines })
+              (record { all = pages-left off.geometry off.interrupted off.volume volume.left volume.may ∙ count.pages; words = eight_words volume.left lines })
               (trim_survives volume.left volume.volume volume.kept) (trim_whole volume.left volume.volume lines volume.kept);
           of_files = files-stored off.geometry files.left (trim_files files.files)
               (files_shape off.geometry files.left (left_listed off off.interrupted files.left kept.listed makes files.may) file_lines)

@@ -1,5 +1,4 @@
 mod LookRunLemmas
-mod FollowLemmas
 mod BlockKeptLemmas
 pub mod FileValueLemmas
 mod CountLemmas

@@ -4,6 +4,7 @@ use Rattle.std.proofs.lemmas.Bool.{both_ways, eq-eqb}
 use Rattle.std.proofs.lemmas.Bool.Decides.{nat_tests}
 use Rattle.std.proofs.lemmas.List.{length-append, length-replicate, length-take}
 use Rattle.nvm_base.specs.declared.units.Span.{Span}
+use Rattle.nvm_base.proofs.FirstLemmas.{not_mapped}
 use Rattle.word_tables.specs.declared.geometry.Geometry.{Geometry}
 use Rattle.nvm_model.specs.Blocks.{first_there}
 use Rattle.nvm_model.specs.Cell.{Cell, clear_cell, lose_cell, weaken_cell}
@@ -66,10 +67,6 @@ full_none h action none =
 unset : (b : Bool) (answer : Answer) → cond b (Some answer) None ≡ None → b ≡ false
 unset true answer none = cc none
 unset false answer none = refl
-
-allowed : {A B : Type 0} (f : A → B) (o : Option A) → option_map f o ≡ None → o ≡ None
-allowed f None none = refl
-allowed f (Some x) none = cc none
 
 empty_not : (b : Bool) (why : PageRefusal) → cond b (Some why) None ≡ None → b ≡ false
 empty_not true why none = cc none
@@ -145,7 +142,7 @@ handle_reasons h handle offset bytes o =
 handle_room : (h : Machine) (handle offset : ℕ) (bytes : List ℕ) → AreListed h.geometry h.files → refusal h (Store handle offset bytes) ≡ None
     → (m : Mapping) → mapping_of handle h.mappings ≡ Some m → is_shared m.kind ≡ true → all_used (stored_in m.name (m.start + offset) bytes h.files) ≤ h.geometry.fpages
 handle_room h handle offset bytes listed none m is shared =
-    stored_room h m.name (m.start + offset) bytes listed (span_allowed m.len offset (length bytes) (allowed Refused (span_refusal m.len offset (length bytes)) places)).0 full
+    stored_room h m.name (m.start + offset) bytes listed (span_allowed m.len offset (length bytes) (not_mapped Refused (span_refusal m.len offset (length bytes)) places)).0 full
   where
     places : option_map Refused (span_refusal m.len offset (length bytes)) ≡ None
     places = sym (ap (λ o. (handle_reasons h handle offset bytes o).places) is) ∙ places_none h (Store handle offset bytes) none
@@ -178,7 +175,9 @@ listed_made h (Resize name pages) listed right none =
     (λ x was. omega (arith, few, length-append (take pages x.pages) (replicate (pages - length x.pages) Absent), length-take pages x.pages, length-replicate (pages - length x.pages) Absent))
     (λ x. used_resized pages x.pages) listed
 listed_made h (FWrite name offset bytes) listed right none =
-    let some = some_bytes (length (pages_named name h.files)) offset (length bytes) (allowed (page_answer name) (bytes_refusal (length (pages_named name h.files)) offset (length bytes)) (places_none h (FWrite name offset bytes) none)) in
+    let count = length (pages_named name h.files) in
+    let allowed = not_mapped (page_answer name) (bytes_refusal count offset (length bytes)) (places_none h (FWrite name offset bytes) none) in
+    let some = some_bytes count offset (length bytes) allowed in
     listed_stored h.geometry name offset bytes h.files listed (stored_room h name offset bytes listed some (full_none h (FWrite name offset bytes) none))
 listed_made h (FAtomic name offset bytes) listed right none =
     let ranges : List Span = record { start = offset; len = length bytes } ∷ [] in

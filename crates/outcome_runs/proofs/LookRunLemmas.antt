@@ -9,12 +9,7 @@ use Rattle.machine_host.specs.Commands.{meaning, spending, unless_refused}
 use Rattle.machine_host.specs.Run.{Hears, Run, Takes, Transcript, answered, followed_by, silence, worked}
 use Rattle.outcomes.specs.Outcome.{AllShown, Shown, bytes_seen}
 use Rattle.outcomes.specs.Seen.{Seen, answer, answers, asked, command}
-use Rattle.outcomes.specs.Seen.Seen.{of_volume, of_blocks, of_file}
-
-reads : (g : Machine) (seen : Seen) → (meaning (command seen)).comes g ≡ Works (Bytes (bytes_seen g seen)) g
-reads g (of_volume r) = refl
-reads g (of_blocks r) = refl
-reads g (of_file r) = refl
+use Rattle.outcomes.proofs.LookLemmas.{comes_of}
 
 -- one read
 heard : (g : Machine) (seen : Seen) → Shown g seen → (said : Transcript) × (said.answers ≡ answer seen ∷ []) × Hears g (Asked (command seen)) said g
@@ -30,7 +25,7 @@ heard g seen (inr shown) =
       said,
       ap (λ (a : Answer). a ∷ []) (sym shown.1),
       subst (λ (o : Option Answer). Takes g (command seen) (unless_refused g o ((meaning (command seen)).comes g)) said g) (sym shown.0)
-          (subst (λ (f : Fate). Takes g (command seen) f said g) (sym (reads g seen)) took),
+          (subst (λ (f : Fate). Takes g (command seen) f said g) (sym (comes_of g seen)) took),
     )
 
 -- all of them

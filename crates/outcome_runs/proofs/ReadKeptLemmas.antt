@@ -1,6 +1,5 @@
 -- Storage that is read from an image is kept.
 use Rattle.std.proofs.Common.{◌≡◌, ℕ, zero, suc, ◌+◌, ◌*◌, ◌/◌, ◌%◌, ◌<◌, ◌≤◌, Bool, true, false, cond, ◌&&◌, Option, Some, None, option_map, List, [], ◌∷◌, is_some, length, map, slice_get, refl, sym, ap, ap₂, subst, ◌∙◌, arith}
-use Rattle.std.specs.Int.{byte_at}
 use Rattle.std.specs.List.{list_all}
 use Rattle.std.proofs.lemmas.List.{length-map}
 use Rattle.std.proofs.lemmas.Option.{same_Some}
@@ -36,14 +35,11 @@ use Rattle.outcome_runs.specs.Kept.{AreListed, HaveNames}
 use Rattle.outcome_runs.proofs.BlockKeptLemmas.{bytes_from, lines_from}
 use Rattle.outcome_runs.proofs.CountLemmas.{pages_are_used}
 use Rattle.outcome_runs.proofs.ListedLemmas.{listed_by}
+use Rattle.durable.proofs.RewrittenLemmas.{byte_at-small}
 
 -- blocks
-low_byte : (k n : ℕ) → byte_at k n < 256
-low_byte zero n = omega arith
-low_byte (suc k) n = omega arith
-
 byte_low : (word : ℕ → ℕ) (i : ℕ) → byte_of word i < 256
-byte_low word i = low_byte (i % 8) (word (i / 8))
+byte_low word i = byte_at-small (i % 8) (word (i / 8))
 
 line_whole : (bad : ℕ → Bool) (word : ℕ → ℕ) (n : ℕ) → IsLineOfBytes (line_read bad word n)
 line_whole bad word n = by_mark (bad n)

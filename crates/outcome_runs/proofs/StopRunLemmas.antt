@@ -1,5 +1,5 @@
 -- Where a test of the places of a cut is true, a run comes to one where the power went and the test is true.
-use Rattle.std.proofs.Common.{◌≡◌, ◌⊎◌, inl, inr, Bool, true, false, ◌||◌, Option, Some, None, List, [], ◌∷◌, ◌++◌, refl, sym, ap, subst, ◌∙◌}
+use Rattle.std.proofs.Common.{◌≡◌, inl, inr, Bool, true, false, ◌||◌, Option, Some, None, List, [], ◌∷◌, ◌++◌, refl, sym, ap, subst, ◌∙◌}
 use Rattle.std.specs.List.{list_any}
 use Rattle.line_words.specs.declared.interruption.Interruption.TheVariants.{PowerLost as Lost}
 use Rattle.reply_text.specs.declared.reply.Why.TheVariants as because
@@ -10,21 +10,22 @@ use Rattle.script_text.specs.Action.{Action}
 use Rattle.script_text.specs.Action.Action.{Cut}
 use Rattle.script_text.specs.Script.{Input}
 use Rattle.script_text.specs.Script.Input.{Skipped, Malformed, Overlong, Asked}
-use Rattle.machine_host.specs.declared.mode.Mode.TheVariants.{On, Off}
+use Rattle.machine_host.specs.declared.mode.Mode.TheVariants.{Off}
 use Rattle.machine_host.specs.Machine.{Machine, Fate}
 use Rattle.machine_host.specs.Machine.Fate.{Gives, Works, Orders, Cuts, Restarts, Recovers}
 use Rattle.machine_host.specs.Commands.{meaning, refusal, spending, unless_refused, while_interrupted}
 use Rattle.machine_host.specs.Interrupted.{Interrupts}
 use Rattle.machine_host.specs.Meaning.{first_reason, mode_refusal}
 use Rattle.machine_host.specs.Run.{Hears, Run, Takes, Transcript, answered, followed_by, silence, with_cut, with_order, worked}
-use Rattle.durable.specs.Durable.{IsComplete}
 use Rattle.durable.proofs.WholeLemmas.{whole-heard}
 use Rattle.outcomes.specs.Finds.{IsReady}
 use Rattle.outcomes.specs.Seen.{Seen, may_show}
 use Rattle.outcomes.specs.Stops.{IsProgram, inside, led_to, stops}
+use Rattle.outcomes.proofs.ChooseLemmas.{either}
+use Rattle.outcomes.proofs.FollowLemmas.{Follows, Keeps, of_program}
+use Rattle.outcomes.proofs.StopLemmas.{on_cut, ready_at}
 use Rattle.outcome_runs.specs.Brings.{BringRight}
 use Rattle.outcome_runs.specs.Kept.{IsKept}
-use Rattle.outcome_runs.proofs.FollowLemmas.{Follows, Keeps, follows}
 use Rattle.outcome_runs.proofs.KeptLemmas.{MakesKept, MayMake, kept_step, makes_kept}
 
 -- a state in which a program goes on, while the power may go
@@ -61,10 +62,6 @@ done_heard h action f said next done comes took =
 abbrev without_power : Machine → Machine
 without_power h = record h { mode = Off; cut_armed = false; fail_armed = false }
 
-on_cut : (h : Machine) → h.mode ≡ On → refusal h Cut ≡ None
-unfolding refusal
-on_cut h on = ap (λ m. first_reason (mode_refusal m h.bad_meta (meaning Cut).needs) h.bad_meta ((meaning Cut).reasons h)) on
-
 off_cut : (h : Machine) → h.mode ≡ Off → refusal h Cut ≡ Some (Refused because.Off)
 unfolding refusal
 off_cut h off = ap (λ m. first_reason (mode_refusal m h.bad_meta (meaning Cut).needs) h.bad_meta ((meaning Cut).reasons h)) off
@@ -74,19 +71,6 @@ kept_off h kept = record { valid = kept.valid; blocks = kept.blocks; values = ke
 
 kept_inside : (h : Machine) (action : Action) → IsKept h → IsKept (without_power (while_interrupted h action))
 kept_inside h action kept = record { valid = kept.valid; blocks = kept.blocks; values = kept.values; file_values = kept.file_values; listed = kept.listed }
-
-ready_at : (h to : Machine) → IsReady h → IsComplete to → Keeps h to → IsReady to
-ready_at h to ready whole kept = record {
-  whole = whole;
-  mode = kept.mode ∙ ready.mode;
-  settled = kept.interrupted ∙ ready.settled;
-  metadata = kept.metadata ∙ ready.metadata;
-  failures = kept.failures ∙ ready.failures;
-}
-
-either : (a b : Bool) → (a || b) ≡ true → (a ≡ true) ⊎ (b ≡ true)
-either true b is = inl refl
-either false b is = inr is
 
 module _ (look : List Seen) where
   -- the power goes before the next command
@@ -211,7 +195,7 @@ module _ (look : List Seen) where
       by_refusal : Others → (o : Option Answer) → refusal h action ≡ o
           → list_any (may_show look) (h ∷ inside h action (unless_refused h o ((meaning action).comes h)) ++ stops (led_to h (unless_refused h o ((meaning action).comes h))) rest) ≡ true
           → Stopped look h (Asked action ∷ rest)
-      by_refusal others None is some = by_fate others is ((meaning action).comes h) refl (follows h action program.0) some
+      by_refusal others None is some = by_fate others is ((meaning action).comes h) refl (of_program h action program.0).0 some
       by_refusal others (Some answer) is some = elim (either (may_show look h) (list_any (may_show look) (stops h rest)) some) as (λ _. Stopped look h (Asked action ∷ rest)) [
         | inl here ↦ at_cut h (Asked action ∷ rest) goes here
         | inr there ↦ later h (Asked action) (answered answer) h rest (refused_heard h action answer is) (others h goes there)

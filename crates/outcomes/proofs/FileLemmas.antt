@@ -11,10 +11,11 @@ use Rattle.line_device.specs.declared.line.Choice.{Choice}
 use Rattle.word_tables.specs.declared.geometry.Geometry.{Geometry}
 use Rattle.nvm_model.specs.Files.{OneFileLeft}
 use Rattle.nvm_model.specs.Interrupted.{MayStore, MaySyncAll}
-use Rattle.nvm_model.specs.Listing.{AreAlike, file_name, has_file}
+use Rattle.nvm_model.specs.Listing.{file_name, has_file}
 use Rattle.nvm_model.specs.Page.{Page, cell_of, fill, is_present, presence_of}
 use Rattle.nvm_model.specs.Storage.{File, Mapping}
 use Rattle.nvm_model.proofs.PageLemmas.{length-fill, length-read_pages}
+use Rattle.nvm_model.proofs.AlikeLemmas.{alike-has}
 use Rattle.file_journal.specs.Reading.{tables_read}
 use Rattle.file_journal.specs.Files.{UnitFile, files_of, unit_file_name}
 use Rattle.file_journal.specs.Standing.{KeepsFile, KeepsFiles, file_read, files_read}
@@ -24,34 +25,23 @@ use Rattle.machine_host.specs.Meaning.{FilesLeft}
 use Rattle.machine_host.specs.Meaning.FilesLeft.{Unchanged, OldOrNew, StoredInPart, SyncedInPart}
 use Rattle.machine_host.specs.OnPages.{pages_named}
 use Rattle.durable.proofs.NamedPageLemmas.{named-left, named-read}
+use Rattle.durable.proofs.WholeLemmas.{pages-there}
 use Rattle.outcomes.specs.Files.{FileRead, all_but, each_file, file_fits, files_fit, is_file_reply, is_reply_of, reads_of}
 use Rattle.outcomes.specs.Left.{files_may_pass, files_pass, stored_file, synced_file}
 use Rattle.outcomes.specs.Pages.{PageRead, all_lines_read, line_fits}
 use Rattle.outcomes.proofs.LeftLemmas.{as_one, stored_pass, synced_pass}
 use Rattle.outcomes.proofs.TestLemmas.{all_more, each_all}
 
--- lists of files that are alike have the same names
-pub alike_has : {A B : Type 0} (name : A → List ℕ) (other : B → List ℕ) (R : A → B → Type 0) (text : List ℕ) (xs : List A) (ys : List B)
-    → AreAlike name other R xs ys → has_file name text xs ≡ has_file other text ys
-alike_has name other R text [] [] alike = refl
-alike_has name other R text [] (y ∷ ys) alike = absurd alike
-alike_has name other R text (x ∷ xs) [] alike = absurd alike
-alike_has name other R text (x ∷ xs) (y ∷ ys) alike =
-    ap (λ n. bytes_eq n text || has_file name text xs) alike.0 ∙ ap (λ b. bytes_eq (other y) text || b) (alike_has name other R text xs ys alike.2)
-
--- so do those that a restart read
+-- the files that a restart read have the same names
 pub read_has : (choice : Choice) (geo : Geometry) (image : Image) (text : List ℕ) (left : List File) → KeepsFiles choice geo image left
     → has_file file_name text (files_read geo image) ≡ has_file file_name text left
 unfolding files_read
 read_has choice geo image text left keeps =
-    same_names (files_of (tables_read geo image.word)) ∙ alike_has unit_file_name file_name (KeepsFile choice geo image) text (files_of (tables_read geo image.word)) left keeps
+    same_names (files_of (tables_read geo image.word)) ∙ alike-has unit_file_name file_name (KeepsFile choice geo image) text (files_of (tables_read geo image.word)) left keeps
   where
     same_names : (xs : List UnitFile) → has_file file_name text (map (file_read geo image) xs) ≡ has_file unit_file_name text xs
     same_names [] = refl
     same_names (x ∷ xs) = ap (λ b. bytes_eq x.name text || b) (same_names xs)
-
-pub length_there : (a b : List Page) → presence_of a ≡ presence_of b → length a ≡ length b
-length_there a b same = sym (length-map a is_present) ∙ ap length same ∙ length-map b is_present
 
 -- and files of as many pages
 pub read_length : (choice : Choice) (geo : Geometry) (image : Image) (name : List ℕ) (left : List File) → KeepsFiles choice geo image left
@@ -96,7 +86,7 @@ module _ (reads : List FileRead) (left : List File) (right : list_all (is_file_r
       → ((name : List ℕ) → (pages_named name left ≡ pages_named name old) ⊎ R (pages_named name old) (pages_named name left) → test (reads_of name reads) (pages_named name old) ≡ true)
       → files_fit (all_but text test) reads old ≡ true
   all_but_one text R test old may size passes =
-      fit_at old (all_but text test) (λ name. sym (alike_has file_name file_name _ name old left may)) sizes tests
+      fit_at old (all_but text test) (λ name. sym (alike-has file_name file_name _ name old left may)) sizes tests
     where
       sizes : (name : List ℕ) → length (pages_named name left) ≡ length (pages_named name old)
       sizes name = elim (named-left text R name old left may) as (λ _. length (pages_named name left) ≡ length (pages_named name old)) [
@@ -119,7 +109,7 @@ module _ (reads : List FileRead) (left : List File) (right : list_all (is_file_r
 
   stored_size : (at : ℕ) (bytes : List ℕ) (a b : List Page) → MayStore at bytes a b → length b ≡ length a
   stored_size at bytes a b (inl is) = ap length is
-  stored_size at bytes a b (inr may) = length_there b (fill at (length bytes) a) may.there ∙ length-fill at (length bytes) a
+  stored_size at bytes a b (inr may) = pages-there (fill at (length bytes) a) b may.there ∙ length-fill at (length bytes) a
 
   leaves_pass : (kind : FilesLeft) (old to : List File) → LeavesFiles kind old to left → files_pass kind reads old to ≡ true
   leaves_pass Unchanged old to is = all_files old is
@@ -134,7 +124,7 @@ module _ (reads : List FileRead) (left : List File) (right : list_all (is_file_r
       stored name (inl same) = inl same
       stored name (inr may) = may
   leaves_pass (SyncedInPart text spans) old to may =
-      all_but_one text (MaySyncAll spans) (synced_file spans) old may (λ a b part. length_there b a part.there) (λ name part. synced name part)
+      all_but_one text (MaySyncAll spans) (synced_file spans) old may (λ a b part. pages-there a b part.there) (λ name part. synced name part)
     where
       synced : (name : List ℕ) → (pages_named name left ≡ pages_named name old) ⊎ MaySyncAll spans (pages_named name old) (pages_named name left)
           → synced_file spans (reads_of name reads) (pages_named name old) ≡ true

@@ -17,6 +17,7 @@ use Rattle.nvm_model.specs.Touched.{persist_spans, persist_touched, touches_any}
 use Rattle.nvm_model.proofs.NumberedLemmas.{length-map_from}
 use Rattle.nvm_model.proofs.PageLemmas.{cell_of-map, cell_of-put, length-fill}
 use Rattle.nvm_model.proofs.SeveralLemmas.{cell_of-spans}
+use Rattle.nvm_model.proofs.AlikeLemmas.{alike-has}
 use Rattle.script_text.specs.Action.{Action}
 use Rattle.machine_host.specs.Commands.{LeavesFiles, MayLeaveFiles, meaning}
 use Rattle.machine_host.specs.Meaning.{FilesLeft}
@@ -30,7 +31,7 @@ use Rattle.outcomes.specs.Pages.{PageRead, all_lines_read, line_fits}
 use Rattle.outcomes.specs.Ways.{all_pass, each_passes}
 use Rattle.outcomes.proofs.AmongLemmas.{IsAmong, all_from, all_of}
 use Rattle.outcomes.proofs.ChooseLemmas.{either, keep, keep_fits, keep_has, keep_lines, may_leave, may_put}
-use Rattle.outcomes.proofs.FileLemmas.{alike_has, replies_at}
+use Rattle.outcomes.proofs.FileLemmas.{replies_at}
 use Rattle.outcomes.proofs.PickLemmas.{pages_survive, picked_none, picked_pages, picked_size}
 use Rattle.outcomes.proofs.ValueLemmas.{all_map, fill_have, flushed_has, put_has}
 
@@ -226,7 +227,7 @@ module _ (reads : List FileRead) where
     one_changed May files may_be have passes = record {
       left = changed files;
       may = may_be;
-      right = replies_at reads files (changed files) (λ name. alike_has file_name file_name (FileLeft text R) name files (changed files) (one_left files)) (changed_size files)
+      right = replies_at reads files (changed files) (λ name. alike-has file_name file_name (FileLeft text R) name files (changed files) (one_left files)) (changed_size files)
           (replies_of (all_but text test) files passes);
       fit = λ r among n at. by_test r n at (bytes_eq text r.name) refl (bytes_eq-Decides text r.name) (of_read (all_but text test) files passes r among).1;
       values = changed_values files have;

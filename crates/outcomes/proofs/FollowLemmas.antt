@@ -1,11 +1,11 @@
--- What a command of a program leaves of mode, metadata and failures, whatever it does to the storage.
+-- What a command of a program leaves of mode, metadata and what is armed, whatever it does to the storage.
 use Rattle.std.proofs.Common.{◌≡◌, ◌⊎◌, inl, inr, ℕ, ◌+◌, Bool, true, false, Option, Some, None, List, [], ◌∷◌, IsTrue, refl, if◌then◌else◌}
 use Rattle.nvm_base.specs.declared.units.Span.{Span}
 use Rattle.nvm_model.specs.Mappings.{is_shared, mapping_of}
 use Rattle.nvm_model.specs.Storage.{Mapping}
 use Rattle.reply_text.specs.Answer.Answer.{Done, Handle}
 use Rattle.script_text.specs.Action.{Action}
-use Rattle.script_text.specs.Action.Action.{BRead, BWrite, BAtomic, BMulti, BDiscard, BDiscardIf, BExists, BScar, VLoad, VStore, VSync, VRanges, VPSync, VDiscard, VDiscardIf, VExists, Create, Delete, Rename, Resize, ListFiles, FRead, FWrite, FAtomic, FMulti, FDiscard, FSync, Map, Unmap, Load, Store, Sync, Flush, FlushVerify, DeepFlush, NextEvent, CheckFile, PoisonBlock, PoisonVolume, PoisonFile, PoisonMeta, WeakenFile, WeakenVolume, ClearFile, ClearVolume, Cut, CutIn, FailIn, Restart, Recover, Attr, Evict}
+use Rattle.script_text.specs.Action.Action.{Map, Load, Store, Sync, Flush, FlushVerify, DeepFlush, PoisonMeta, Cut, CutIn, FailIn, Restart, Recover, Attr}
 use Rattle.machine_host.specs.declared.look.Look.{Look}
 use Rattle.machine_host.specs.declared.look.Look.TheVariants.{Once, Again}
 use Rattle.machine_host.specs.declared.needs.Needs.TheVariants.{Usable}
@@ -17,12 +17,13 @@ use Rattle.machine_host.specs.OnMappings.{load_through, read_copy, store_through
 use Rattle.machine_host.specs.OnPages.{fread, fwrite}
 use Rattle.outcomes.specs.Stops.{is_of_program}
 
--- it is on still, nothing is interrupted, no metadata is bad, and no failure is armed, where it was so before
+-- it is on still, nothing is interrupted, no metadata is bad, no failure is armed, and a cut is, where it was so before
 pub record Keeps (h to : Machine) : Type 0 where
   pub mode : to.mode ≡ h.mode
   pub interrupted : to.interrupted ≡ h.interrupted
   pub metadata : to.bad_meta ≡ h.bad_meta
   pub failures : to.fail_armed ≡ h.fail_armed
+  pub armed : h.cut_armed ≡ true → to.cut_armed ≡ true
 
 -- all of storage is as it was
 pub record Rests (h to : Machine) : Type 0 where
@@ -55,8 +56,9 @@ Idles h Recovers = ⊥
 abbrev pub OfProgram : Machine → Action → Type 0
 OfProgram h action = Follows h ((meaning action).comes h) × (((meaning action).needs ≡ Usable) ⊎ Idles h ((meaning action).comes h))
 
-keeps : (h to : Machine) → to.mode ≡ h.mode → to.interrupted ≡ h.interrupted → to.bad_meta ≡ h.bad_meta → to.fail_armed ≡ h.fail_armed → Keeps h to
-keeps h to mode interrupted metadata failures = record { mode = mode; interrupted = interrupted; metadata = metadata; failures = failures }
+keeps : (h to : Machine) → to.mode ≡ h.mode → to.interrupted ≡ h.interrupted → to.bad_meta ≡ h.bad_meta → to.fail_armed ≡ h.fail_armed
+    → (h.cut_armed ≡ true → to.cut_armed ≡ true) → Keeps h to
+keeps h to mode interrupted metadata failures armed = record { mode = mode; interrupted = interrupted; metadata = metadata; failures = failures; armed = armed }
 
 pub rests : (h : Machine) → Rests h h
 rests h = record { geometry = refl; blocks = refl; volume = refl; files = refl; mappings = refl; interrupted = refl; metadata = refl; mode = refl }
@@ -66,86 +68,52 @@ flush_follows : (h : Machine) (look : Look) (handle : ℕ) (spans : List Span) �
 flush_follows h look handle spans = by_mapping (mapping_of handle h.mappings)
   where
     by_kind : (m : Mapping) (shared : Bool) → Follows h ((if shared then flush_file look m.name (all_moved m.start spans) else nothing_done).comes h)
-    by_kind m true = keeps h _ refl refl refl refl
-    by_kind m false = keeps h h refl refl refl refl
+    by_kind m true = keeps h _ refl refl refl refl (λ on. on)
+    by_kind m false = keeps h h refl refl refl refl (λ on. on)
 
     by_mapping : (o : Option Mapping) → Follows h (elim o [ None ↦ Gives Done h | Some m ↦ (flush_through look spans m).comes h ])
-    by_mapping None = keeps h h refl refl refl refl
+    by_mapping None = keeps h h refl refl refl refl (λ on. on)
     by_mapping (Some m) = by_kind m (is_shared m.kind)
 
 pub of_program : (h : Machine) (action : Action) → IsTrue (is_of_program action) → OfProgram h action
-of_program h (BRead block count) is = (keeps h h refl refl refl refl, inl refl)
-of_program h (BWrite block bytes) is = (keeps h _ refl refl refl refl, inl refl)
-of_program h (BAtomic block bytes) is = (keeps h _ refl refl refl refl, inl refl)
-of_program h (BMulti ranges bytes) is = (keeps h _ refl refl refl refl, inl refl)
-of_program h (BDiscard block count) is = (keeps h _ refl refl refl refl, inl refl)
-of_program h (BDiscardIf block count) is = (keeps h _ refl refl refl refl, inl refl)
-of_program h (BExists block) is = (keeps h h refl refl refl refl, inl refl)
-of_program h (BScar ranges) is = (keeps h _ refl refl refl refl, inl refl)
-of_program h (VLoad offset len) is = (keeps h h refl refl refl refl, inl refl)
-of_program h (VStore offset bytes) is = (keeps h _ refl refl refl refl, inl refl)
-of_program h (VSync offset len) is = (keeps h _ refl refl refl refl, inl refl)
-of_program h VRanges is = (keeps h h refl refl refl refl, inl refl)
-of_program h (VPSync address len) is = (keeps h _ refl refl refl refl, inl refl)
-of_program h (VDiscard page count) is = (keeps h _ refl refl refl refl, inl refl)
-of_program h (VDiscardIf page count) is = (keeps h _ refl refl refl refl, inl refl)
-of_program h (VExists page) is = (keeps h h refl refl refl refl, inl refl)
-of_program h (Create name pages) is = (keeps h _ refl refl refl refl, inl refl)
-of_program h (Delete name) is = (keeps h _ refl refl refl refl, inl refl)
-of_program h (Rename name to) is = (keeps h _ refl refl refl refl, inl refl)
-of_program h (Resize name pages) is = (keeps h _ refl refl refl refl, inl refl)
-of_program h ListFiles is = (keeps h h refl refl refl refl, inl refl)
-of_program h (FRead name offset len) is = (keeps h h refl refl refl refl, inl refl)
-of_program h (FWrite name offset bytes) is = (keeps h _ refl refl refl refl, inl refl)
-of_program h (FAtomic name offset bytes) is = (keeps h _ refl refl refl refl, inl refl)
-of_program h (FMulti name ranges bytes) is = (keeps h _ refl refl refl refl, inl refl)
-of_program h (FDiscard name page count) is = (keeps h _ refl refl refl refl, inl refl)
-of_program h (FSync name) is = (keeps h _ refl refl refl refl, inl refl)
 of_program h (Map name span kind) is = (by_kind (is_shared kind), inl refl)
   where
     to : Machine
     to = with_mapping name span kind h
 
     by_kind : (shared : Bool) → Follows h (if shared then Gives (Handle h.next_handle) to else Works (Handle h.next_handle) to)
-    by_kind true = keeps h to refl refl refl refl
-    by_kind false = keeps h to refl refl refl refl
-of_program h (Unmap handle) is = (keeps h _ refl refl refl refl, inl refl)
+    by_kind true = keeps h to refl refl refl refl (λ on. on)
+    by_kind false = keeps h to refl refl refl refl (λ on. on)
 of_program h (Load handle offset len) is = (by_mapping (mapping_of handle h.mappings), inl refl)
   where
     by_kind : (m : Mapping) (shared : Bool) → Follows h ((if shared then fread m.name (m.start + offset) len else read_copy m offset len).comes h)
-    by_kind m true = keeps h h refl refl refl refl
-    by_kind m false = keeps h h refl refl refl refl
+    by_kind m true = keeps h h refl refl refl refl (λ on. on)
+    by_kind m false = keeps h h refl refl refl refl (λ on. on)
 
     by_mapping : (o : Option Mapping) → Follows h (elim o [ None ↦ Gives Done h | Some m ↦ (load_through offset len m).comes h ])
-    by_mapping None = keeps h h refl refl refl refl
+    by_mapping None = keeps h h refl refl refl refl (λ on. on)
     by_mapping (Some m) = by_kind m (is_shared m.kind)
 of_program h (Store handle offset bytes) is = (by_mapping (mapping_of handle h.mappings), inl refl)
   where
     by_kind : (m : Mapping) (shared : Bool) → Follows h ((if shared then fwrite m.name (m.start + offset) bytes else write_copy handle offset bytes).comes h)
-    by_kind m true = keeps h _ refl refl refl refl
-    by_kind m false = keeps h _ refl refl refl refl
+    by_kind m true = keeps h _ refl refl refl refl (λ on. on)
+    by_kind m false = keeps h _ refl refl refl refl (λ on. on)
 
     by_mapping : (o : Option Mapping) → Follows h (elim o [ None ↦ Gives Done h | Some m ↦ (store_through handle offset bytes m).comes h ])
-    by_mapping None = keeps h h refl refl refl refl
+    by_mapping None = keeps h h refl refl refl refl (λ on. on)
     by_mapping (Some m) = by_kind m (is_shared m.kind)
 of_program h (Sync handle offset len) is = (flush_follows h Once handle (record { start = offset; len = len } ∷ []), inl refl)
 of_program h (Flush handle spans) is = (flush_follows h Once handle spans, inl refl)
 of_program h (FlushVerify handle spans) is = (flush_follows h Again handle spans, inl refl)
 of_program h (DeepFlush handle spans) is = (flush_follows h Once handle spans, inl refl)
-of_program h NextEvent is = (keeps h _ refl refl refl refl, inl refl)
-of_program h (CheckFile name offset len) is = (keeps h h refl refl refl refl, inl refl)
-of_program h (PoisonBlock block line) is = (keeps h _ refl refl refl refl, inl refl)
-of_program h (PoisonVolume offset) is = (keeps h _ refl refl refl refl, inl refl)
-of_program h (PoisonFile name offset) is = (keeps h _ refl refl refl refl, inl refl)
 of_program h (PoisonMeta line) is = cc is
-of_program h (WeakenFile name offset) is = (keeps h _ refl refl refl refl, inl refl)
-of_program h (WeakenVolume offset) is = (keeps h _ refl refl refl refl, inl refl)
-of_program h (ClearFile name offset) is = (keeps h _ refl refl refl refl, inl refl)
-of_program h (ClearVolume offset) is = (keeps h _ refl refl refl refl, inl refl)
 of_program h Cut is = cc is
-of_program h (CutIn calls) is = (keeps h _ refl refl refl refl, inr (record { geometry = refl; blocks = refl; volume = refl; files = refl; mappings = refl; interrupted = refl; metadata = refl; mode = refl }))
+of_program h (CutIn calls) is = (
+  keeps h _ refl refl refl refl (λ on. refl),
+  inr (record { geometry = refl; blocks = refl; volume = refl; files = refl; mappings = refl; interrupted = refl; metadata = refl; mode = refl }),
+)
 of_program h (FailIn calls) is = cc is
 of_program h (Restart choice) is = cc is
 of_program h Recover is = cc is
-of_program h (Attr name) is = (keeps h h refl refl refl refl, inr (rests h))
-of_program h (Evict lines) is = (keeps h h refl refl refl refl, inl refl)
+of_program h (Attr name) is = (keeps h h refl refl refl refl (λ on. on), inr (rests h))
+of_program h action is = (keeps h _ refl refl refl refl (λ on. on), inl refl)

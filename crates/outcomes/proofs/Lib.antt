@@ -1,8 +1,8 @@
 mod TestLemmas
 mod AmongLemmas
 pub mod FollowLemmas
-mod StopLemmas
-mod LookLemmas
+pub mod StopLemmas
+pub mod LookLemmas
 mod LineLemmas
 mod LeftLemmas
 mod RestLemmas
@@ -16,7 +16,7 @@ pub mod ValueLemmas
 mod PickLemmas
 mod WordLemmas
 mod TellLemmas
-mod ChooseLemmas
+pub mod ChooseLemmas
 mod VolumeLemmas
 mod BlockTellLemmas
 mod BlocksShownLemmas

@@ -1,5 +1,5 @@
 -- A line that a restart left is read as its replies tell, so it fits them.
-use Rattle.std.proofs.Common.{◌≡◌, inl, ℕ, zero, suc, ◌+◌, ◌-◌, ◌*◌, ◌/◌, ◌%◌, ◌^◌, ◌<◌, ◌≤◌, ◌==◌, Bool, true, false, not, ◌&&◌, ◌||◌, nat_lt, Option, Some, None, option_map, List, [], ◌∷◌, replicate, slice_index_or, position, refl, sym, ap, subst, ◌∙◌, arith}
+use Rattle.std.proofs.Common.{◌≡◌, inl, ℕ, ◌+◌, ◌-◌, ◌*◌, ◌/◌, ◌%◌, ◌<◌, ◌≤◌, ◌==◌, Bool, true, false, not, ◌&&◌, ◌||◌, nat_lt, Option, Some, None, option_map, List, [], ◌∷◌, replicate, slice_index_or, position, refl, sym, ap, subst, ◌∙◌, arith}
 use Rattle.std.specs.Prelude.{slice_index}
 use Rattle.std.specs.Int.{byte_at}
 use Rattle.std.specs.List.{list_all, list_any, range_with_len}
@@ -7,7 +7,6 @@ use Rattle.std.proofs.lemmas.Bool.{and_from, and_parts, both_ways, eq-eqb, eqb-t
 use Rattle.std.proofs.lemmas.Bool.Decides.{nat_tests}
 use Rattle.std.proofs.lemmas.List.{get_or-replicate}
 use Rattle.std.proofs.lemmas.Option.{get_or_from_slice_get}
-use native.Mathlib.Nat.{zero-div}
 use Rattle.line_device.specs.History.{IsIn, newest}
 use Rattle.line_words.proofs.PositionLemmas.{one_found}
 use Rattle.nvm_model.specs.Cell.{Cell, cell_byte, touches}
@@ -19,6 +18,7 @@ use Rattle.page_lines.proofs.LoopLemmas.{touches-within, within-touches}
 use Rattle.pm_volume.proofs.BadLemmas.{none_touched}
 use Rattle.reply_text.specs.declared.reply.Why.{Why}
 use Rattle.durable.specs.Naming.{IsLowestBad}
+use Rattle.durable.proofs.LineLemmas.{byte_at-zero}
 use Rattle.outcomes.specs.Pages.{PageRead, agrees, all_agree, all_allow_good, allows_bad, allows_good, line_fits, words_fit}
 use Rattle.outcomes.specs.Pages.PageReply.{Shows, Poison, Refuses}
 use Rattle.outcomes.proofs.TestLemmas.{any_in, below_all, range_all}
@@ -44,10 +44,6 @@ pub data Answered (pages : List Page) (r : PageRead) : Type 0 where
 abbrev pub AllAnswered : List Page → List PageRead → Type 0
 AllAnswered pages [] = Unit {0}
 AllAnswered pages (r ∷ reads) = Answered pages r × AllAnswered pages reads
-
-pub byte_at-zero : (k : ℕ) → byte_at k 0 ≡ 0
-byte_at-zero zero = refl
-byte_at-zero (suc k) = ap (λ n. n % 256) (zero-div (256 ^ suc k))
 
 -- the line that a search names is bad, and none before it is
 pub lowest_of : (pages : List Page) (start len n : ℕ) → 1 ≤ len → first_bad_line pages start len ≡ Some n → IsLowestBad pages start len n

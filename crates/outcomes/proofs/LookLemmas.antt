@@ -29,7 +29,7 @@ use Rattle.outcomes.specs.Seen.Seen.{of_volume, of_blocks, of_file}
 abbrev pub held : Machine → Image → Machine
 held h image = read_with [] h.geometry image
 
-comes_of : (g : Machine) (seen : Seen) → (meaning (command seen)).comes g ≡ Works (Bytes (bytes_seen g seen)) g
+pub comes_of : (g : Machine) (seen : Seen) → (meaning (command seen)).comes g ≡ Works (Bytes (bytes_seen g seen)) g
 comes_of g (of_volume r) = refl
 comes_of g (of_blocks r) = refl
 comes_of g (of_file r) = refl

@@ -111,7 +111,7 @@ off_run (Asked action ∷ before) after h said next off program run =
     then_rests h run.2 next one (off_run before after run.2 run.1 next (one.mode ∙ off) program.1 run.5)
 
 -- a cut between two commands
-on_cut : (h : Machine) → h.mode ≡ On → refusal h Cut ≡ None
+pub on_cut : (h : Machine) → h.mode ≡ On → refusal h Cut ≡ None
 unfolding refusal
 on_cut h on = ap (λ m. first_reason (mode_refusal m h.bad_meta (meaning Cut).needs) h.bad_meta ((meaning Cut).reasons h)) on
 
@@ -144,7 +144,7 @@ lost_leaves h next off action ready lost at = record {
   mode = at.mode ∙ ap (λ m. m.mode) lost.state;
 }
 
-ready_at : (h to : Machine) → IsReady h → IsComplete to → Keeps h to → IsReady to
+pub ready_at : (h to : Machine) → IsReady h → IsComplete to → Keeps h to → IsReady to
 ready_at h to ready whole kept = record {
   whole = whole;
   mode = kept.mode ∙ ready.mode;
@@ -219,4 +219,4 @@ module _ (test : Machine → Bool) where
       by_refusal : Others → (o : Option Answer) → Takes h action (unless_refused h o ((meaning action).comes h)) run.0 next
           → list_any test (h ∷ inside h action (unless_refused h o ((meaning action).comes h)) ++ stops (led_to h (unless_refused h o ((meaning action).comes h))) (before ++ after)) ≡ true
       by_refusal others None takes = by_fate others ((meaning action).comes h) (of_program h action program.0).0 takes
-      by_refusal others (Some answer) takes = by_fate others (Gives answer h) (record { mode = refl; interrupted = refl; metadata = refl; failures = refl }) takes
+      by_refusal others (Some answer) takes = by_fate others (Gives answer h) (record { mode = refl; interrupted = refl; metadata = refl; failures = refl; armed = λ on. on }) takes

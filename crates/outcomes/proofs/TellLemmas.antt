@@ -17,10 +17,11 @@ use Rattle.reply_text.specs.declared.reply.Why.{Why}
 use Rattle.machine_host.specs.Meaning.{most_refusal}
 use Rattle.machine_host.proofs.RefusalLemmas.{read_within}
 use Rattle.durable.specs.Naming.{IsLowestBad}
+use Rattle.durable.proofs.LineLemmas.{byte_at-zero}
 use Rattle.outcomes.specs.Pages.{PageRead, PageReply, agrees, all_agree, all_allow_good, all_lines_read, allows_bad, allows_good, is_given, is_refused_for, is_reply, is_reply_by, line_fits, lines_read, words_fit}
 use Rattle.outcomes.specs.Pages.PageReply.{Shows, Poison, Refuses}
 use Rattle.outcomes.proofs.AmongLemmas.{IsAmong, all_of, among_back, among_front, among_range}
-use Rattle.outcomes.proofs.LineLemmas.{byte_of_line, byte_at-zero, kept_byte, lowest_of, none_bad}
+use Rattle.outcomes.proofs.LineLemmas.{byte_of_line, kept_byte, lowest_of, none_bad}
 use Rattle.outcomes.proofs.PickLemmas.{cell_of-picked, chosen, chosen-agrees, picked, picked_pages, picked_word}
 use Rattle.outcomes.proofs.TestLemmas.{below_each, range_each}
 use Rattle.outcomes.proofs.WordLemmas.{same_word}
