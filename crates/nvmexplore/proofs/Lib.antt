@@ -7,3 +7,4 @@ mod BeginLemmas
 mod CauseLemmas
 mod AnswerLemmas
 mod CallLemmas
+mod UnfailingLemmas

@@ -1,6 +1,8 @@
 // The top call: the words, the device, the images, the script, the answers, the status.
 ghost use Rattle.std.specs.Prelude.{◌≡◌, ◌≤◌, ◌⊎◌, ℕ, List, [], ◌∷◌, map};
 ghost use Rattle.std.specs.String.{string_bytes};
+ghost use Rattle.program_base.specs.Opening.{DeviceFailed};
+ghost use Rattle.program_base.specs.Unfailing.{HoldsRight, NothingFailed};
 ghost use Rattle.program_base.specs.World.{world};
 ghost use Rattle.nvmexplore.specs.Calls.{Answers, EndsEarly, IsNoCall, Outcome};
 ghost use Rattle.nvmexplore.specs.Stops.{stop_status};
@@ -37,6 +39,15 @@ pub fn nvmexplore<D: LineDevice, F: Images, T: Source, K: Sink>(
         → EndsEarly name result
         (world (D.state device.old) (F.held images.old) (F.count images.old) (T.left script.old) (T.count script.old) (K.written answers.old) (K.count answers.old))
         (world (D.state device.new) (F.held images.new) (F.count images.new) (T.left script.new) (T.count script.new) (K.written answers.new) (K.count answers.new)) }
+
+    // Where nothing failed, the device neither, and a right image is held under the name, it ends well or for want of memory, or its
+    // script is not taken or too long.
+    ensures completeness { (name : List ℕ) → map (λ word. string_bytes word) words.now ≡ name ∷ [] → HoldsRight name (F.held images.old)
+        → NothingFailed
+        (world (D.state device.old) (F.held images.old) (F.count images.old) (T.left script.old) (T.count script.old) (K.written answers.old) (K.count answers.old))
+        (world (D.state device.new) (F.held images.new) (F.count images.new) (T.left script.new) (T.count script.new) (K.written answers.new) (K.count answers.new))
+        → (DeviceFailed (D.state device.old).panel (D.state device.new).panel → ⊥)
+        → (result ≤ 1) ⊎ (result ≡ 6) ⊎ (result ≡ 7) }
 
     // Words that don't name one image leave all but the answers alone.
     ensures usage { result ≡ 2 → (name : List ℕ) → map (λ word. string_bytes word) words.now ≡ name ∷ [] → ⊥ }

@@ -1,37 +1,9 @@
--- When nothing failed, and what was asked for can be done.
-use Rattle.std.specs.Prelude.{◌≡◌, ◌⊎◌, ◌≤◌, List, ℕ, length, Option, None, Some}
-use Rattle.nvm_base.specs.Counts.{Rose}
+-- When what was asked for can be done, and how a call ends then where nothing failed.
+use Rattle.std.specs.Prelude.{◌≡◌, ◌⊎◌, ℕ, Option}
 use Rattle.command_line.specs.Words.{Form}
 use Rattle.command_line.specs.Words.Form.{of_new, of_run, of_check, of_bench}
 use Rattle.host_io.specs.Images.{Held}
-use Rattle.image_file.specs.Devices.{medium_of}
-use Rattle.image_file.specs.WrongField.{first_wrong_offset}
-use Rattle.line_device.specs.declared.line.LineState.{LineState}
-use Rattle.recovery.specs.Findings.{first_finding}
-use Rattle.program_base.specs.Ending.{most_bytes}
-use Rattle.program_base.specs.Opening.{IsHeld}
-use Rattle.program_base.specs.World.{World}
-
--- No count of failures rose: of reads and writes, of the images, of setting up; nor the device's own, where nothing was read.
-pub record NothingFailed (old new : World) : Type 0 where
-  pub reads : Rose old.reads new.reads → ⊥
-  pub writes : Rose old.writes new.writes → ⊥
-  pub fetches : Rose old.images.fetch_faults new.images.fetch_faults → ⊥
-  pub replaces : Rose old.images.replace_faults new.images.replace_faults → ⊥
-  pub setups : Rose old.device.panel.counts.setups new.device.panel.counts.setups → ⊥
-  pub device : new.left ≡ old.left
-      → Rose old.device.panel.counts.faults new.device.panel.counts.faults ⊎ Rose old.device.panel.counts.cuts new.device.panel.counts.cuts → ⊥
-
--- An image is held under the name: no field of its bytes is wrong, and they are not too many; and nothing is found that is wrong
--- with the device that it tells of.
-pub record HoldsRight (name : List ℕ) (held : Option Held) : Type 0 where
-  pub look : Held
-  pub told : held ≡ Some look
-  pub bytes : List ℕ
-  pub there : look name ≡ Some bytes
-  pub image : first_wrong_offset bytes ≡ None
-  pub few : length bytes ≤ most_bytes
-  pub right : (lines : List LineState) → IsHeld name held lines → first_finding (medium_of lines) ≡ None
+use Rattle.program_base.specs.Unfailing.{HoldsRight}
 
 -- the form finds what it begins with
 abbrev pub CanBegin : Form → Option Held → Type 0

@@ -9,7 +9,8 @@ ghost use Rattle.program_base.specs.declared.ending.Ending.{Ending as Early};
 ghost use Rattle.program_base.specs.declared.ending.Ending.TheVariants.{Usage, Memory};
 ghost use Rattle.program_base.specs.Ending.{status};
 ghost use Rattle.nvmhost.specs.Forms.{Does, EndsEarly, IsNoForm, Outcome};
-ghost use Rattle.nvmhost.specs.Unfailing.{CanBegin, EndsWell, NothingFailed};
+ghost use Rattle.nvmhost.specs.Unfailing.{CanBegin, EndsWell};
+ghost use Rattle.program_base.specs.Unfailing.{NothingFailed};
 ghost use Rattle.program_base.specs.World.{world};
 
 use crate::bench::bench;

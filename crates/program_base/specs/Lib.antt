@@ -3,3 +3,4 @@ pub mod World
 pub mod Begins
 pub mod Opening
 pub mod Writing
+pub mod Unfailing
