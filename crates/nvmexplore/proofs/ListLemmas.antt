@@ -16,7 +16,7 @@ use Rattle.value_tables.specs.Listed.{IsSized, IsSound, block_read, file_word_re
 use Rattle.cut_places.specs.declared.place.CutPlace.{CutPlace}
 use Rattle.cut_places.specs.Places.{Stop, cut_places, first_stop, found_stop}
 use Rattle.outcome_lists.specs.Choices.{sights_through, states, values_through}
-use Rattle.outcome_lists.specs.Listing.{IsFound, asked_with, outcome_at}
+use Rattle.outcome_lists.specs.Listing.{IsFound, StandOnce, asked_with, outcome_at}
 use Rattle.outcome_lists.specs.Outcomes.{Outcome, look_of, nothing, outcomes_of, place_of}
 use Rattle.nvmexplore.specs.Lists.{ListsRuns}
 use Rattle.nvmexplore.proofs.FoundLemmas.{found_may}
@@ -44,6 +44,7 @@ first_so test is (stop ∷ stops) some all =
 pub record Lists (h : Machine) (program : List Input) : Type 0 where
   pub listed : (parts : List Read) (o : Outcome) → Contains (outcomes_of h program parts) o → IsFound h program parts o
   pub every : (parts : List Read) (o : Outcome) → IsFound h program parts o → Contains (outcomes_of h program parts) o
+  pub once : (parts : List Read) → StandOnce (outcomes_of h program parts)
   pub words : (p : ℕ) (bytes : List ℕ) → IsReady h → IsSound h → IsProgram program → p < 512 * h.geometry.vpages → length bytes ≡ 8
       → All (λ (stop : Stop). may_show (word_read p (Shows bytes)) stop.state ≡ true → lists_bytes bytes (values_through (Volume (8 * p) 8) [] (states h program)) ≡ true) (cut_places 1 h program)
   pub blocks : (b : ℕ) (sight : Sight) → IsReady h → IsSound h → IsProgram program → b < h.geometry.blocks → IsSized sight
@@ -69,6 +70,7 @@ module _ (h : Machine) (program : List Input) (tells : (look : List Seen) → (m
           let look = look_of (asked_with nothing picked) in
           let there = place_there (found_stop h program look) (found_may h program look ∙ (tells look).1 finds) in
           (there.0, list.every parts (outcome_at there.0 picked) (record { picked = picked; ways = ways; place = there.0; first = there.1; is = refl }));
+      once = list.once;
       words = λ p bytes within long finds. finds_so (word_read p (Shows bytes)) _ finds (list.words p bytes ready sound is_program within long);
       blocks = λ b sight within sized finds. finds_so (block_read b (reply_of b sight)) _ finds (list.blocks b sight ready sound is_program within sized);
       file_words = λ name p bytes long finds. finds_so (file_word_read name p (Shows bytes)) _ finds (list.file_words name p bytes ready sound is_program long);

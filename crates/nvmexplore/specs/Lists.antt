@@ -10,7 +10,7 @@ use Rattle.asked_reads.specs.declared.read.Read.TheVariants.{Volume, Blocks, Fil
 use Rattle.cut_places.specs.declared.place.CutPlace.{CutPlace}
 use Rattle.value_tables.specs.Listed.{IsSized, block_read, file_word_read, lists_bytes, lists_sight, reply_of, word_read}
 use Rattle.outcome_lists.specs.Choices.{Choice, choices, sights_through, states, values_through}
-use Rattle.outcome_lists.specs.Listing.{Picks, asked_with, outcome_at}
+use Rattle.outcome_lists.specs.Listing.{Picks, StandOnce, asked_with, outcome_at}
 use Rattle.outcome_lists.specs.Outcomes.{Outcome, look_of, nothing, outcomes_of}
 
 -- So it is of the outcomes of any parts.
@@ -18,6 +18,8 @@ pub record ListsRuns (h : Machine) (program : List Input) : Type 0 where
   pub found : (parts : List Read) (o : Outcome) → Contains (outcomes_of (armed h) program parts) o → Finds h program (look_of o.asked)
   pub every : (parts : List Read) (picked : List Choice) → Picks (choices (states (armed h) program)) parts picked → Finds h program (look_of (asked_with nothing picked))
       → (place : CutPlace) × Contains (outcomes_of (armed h) program parts) (outcome_at place picked)
+  -- no two of them are alike, so their number is how many there are
+  pub once : (parts : List Read) → StandOnce (outcomes_of (armed h) program parts)
   -- and what a run finds of one word or block alone is one of its choices
   pub words : (p : ℕ) (bytes : List ℕ) → p < 512 * h.geometry.vpages → length bytes ≡ 8 → Finds h program (word_read p (Shows bytes))
       → lists_bytes bytes (values_through (Volume (8 * p) 8) [] (states (armed h) program)) ≡ true

@@ -1,8 +1,6 @@
 // What an answer rests on: functions without code.
-ghost use Rattle.std.specs.Prelude.{◌≡◌, ℕ, List, map, None};
-ghost use Rattle.image_file.specs.Devices.{medium_of};
+ghost use Rattle.std.specs.Prelude.{◌≡◌, ℕ, List, map};
 ghost use Rattle.line_device.specs.declared.line.LineState.{LineState};
-ghost use Rattle.recovery.specs.Findings.{first_finding};
 ghost use Rattle.outcomes.specs.Stops.{IsProgram};
 ghost use Rattle.asked_reads.specs.Program.{asks_for};
 ghost use Rattle.exploration.specs.Exploration.{Exploration, script_of};
@@ -11,7 +9,11 @@ ghost use Rattle.explorer.specs.Starting.{Begins};
 ghost use Rattle.program_base.specs.Opening.{opened};
 ghost use Rattle.nvmexplore.specs.Calls.{AreMountable, AreTheorems};
 
-use outcome_lists::{each_listed_outcome_is_found, each_outcome_is_listed, each_way_is_a_choice};
+use durable::what_was_made_durable_stays;
+use outcome_lists::{
+    each_listed_outcome_is_found, each_outcome_is_listed, each_way_is_a_choice,
+    no_outcome_stands_twice,
+};
 use outcome_runs::{runs_keep_states, scripts_bring_right, the_test_tells_what_is_found};
 use value_tables::{a_value_is_listed_where_it_may_be_shown, each_place_is_sound};
 
@@ -24,7 +26,7 @@ pub fn images_begin()
 
 /// Law: each answer about a script is a theorem about the machine's runs, and so are its table and its list.
 pub fn answers_are_theorems()
-    ensures { (lines : List LineState) (script : List ℕ) (e : Exploration) → first_finding (medium_of lines) ≡ None
+    ensures { (lines : List LineState) (script : List ℕ) (e : Exploration) → AreMountable lines
         → script_of script ≡ Taken e → IsProgram (map asks_for e.program)
         → AreTheorems (opened lines) (map asks_for e.program) }
 {
@@ -36,4 +38,6 @@ pub fn answers_are_theorems()
     each_listed_outcome_is_found();
     each_outcome_is_listed();
     each_way_is_a_choice();
+    what_was_made_durable_stays();
+    no_outcome_stands_twice();
 }

@@ -1,8 +1,9 @@
-use Rattle.std.proofs.Common.{Ok, Err, inr, refl, subst}
+use Rattle.std.proofs.Common.{Ok, Err, inr, refl, rules, subst}
 use Rattle.std.proofs.lemmas.Result.{err_from_is_err_and}
 use Rattle.exploration.specs.Exploration.{script_of}
 use Rattle.exploration.specs.Reading.{ReadsScript}
 use Rattle.program_base.specs.World.{world}
+use Rattle.nvmexplore.specs.Calls.{AreMountable}
 use Rattle.nvmexplore.proofs.CallLemmas.{behind_shown, halts_unread, halts_untaken, no_shown, outcome_read}
 use Rattle.nvmexplore.proofs.top.answer_script.Goals as goal
 
@@ -34,11 +35,12 @@ returns-in_err-show g c =
     let text = c.in_ok-text.ensures in
     let lines = c.in_ok-image.image.lines.items in
     let right = c.in_ok-start.ensures.mounts.right in
+    let mountable : AreMountable lines = record { image = search rules; bytes = fetched.bytes; right = right } in
     let opens = c.in_ok-start.ensures.opens in
     rw (p.1, p.2) (outcome_read c.args.name.now lines old new fetched.there right (record { held = fetched.held; counts = fetched.counts }) c.in_ok-text.text.items c.in_ok-exploration.exploration (Err c.in_err-show.field-0.0)
     (g.D.Lines.state c.start.new.device).panel (record { setups = opens.setups; faults = opens.faults; cuts = opens.cuts }) text.0 text.1 text.2
     (subst (λ script. ReadsScript (script_of script) (Ok c.in_ok-exploration.exploration)) c.as_slice.ensures c.in_ok-exploration.ensures.script)
-    c.in_ok-exploration.ensures.program (λ e is program. c.answers_are_theorems.ensures lines c.in_ok-text.text.items e right is program)
+    c.in_ok-exploration.ensures.program (λ e is program. c.answers_are_theorems.ensures lines c.in_ok-text.text.items e mountable is program)
     (λ looks ask. no_shown _ _ looks c.in_err-show.field-0.0 _ _ _ _ _ _ c.in_err-show.ensures.tells))
 
 pub returns : goal.returns
@@ -49,10 +51,11 @@ returns g c =
     let text = c.in_ok-text.ensures in
     let lines = c.in_ok-image.image.lines.items in
     let right = c.in_ok-start.ensures.mounts.right in
+    let mountable : AreMountable lines = record { image = search rules; bytes = fetched.bytes; right = right } in
     let opens = c.in_ok-start.ensures.opens in
     outcome_read c.args.name.now lines old new fetched.there right (record { held = fetched.held; counts = fetched.counts }) c.in_ok-text.text.items c.in_ok-exploration.exploration c.answer_all.result
     (g.D.Lines.state c.start.new.device).panel (record { setups = opens.setups; faults = opens.faults; cuts = opens.cuts }) text.0 text.1 text.2
     (subst (λ script. ReadsScript (script_of script) (Ok c.in_ok-exploration.exploration)) c.as_slice.ensures c.in_ok-exploration.ensures.script)
-    c.in_ok-exploration.ensures.program (λ e is program. c.answers_are_theorems.ensures lines c.in_ok-text.text.items e right is program)
+    c.in_ok-exploration.ensures.program (λ e is program. c.answers_are_theorems.ensures lines c.in_ok-text.text.items e mountable is program)
     (λ looks ask. behind_shown _ _ looks c.answer_all.result _ (g.K.Sink.written c.show.new.answers) _ _ (g.K.Sink.count c.show.new.answers) _ _ (g.D.Lines.state c.show.new.device).panel _
     c.in_ok-show.ensures.tells c.show.ensures.later c.in_ok-show.ensures.counts (c.answer_all.ensures looks ask))
